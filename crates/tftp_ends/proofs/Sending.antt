@@ -2,6 +2,7 @@
 use Rattle.std.proofs.Common.{◌≡◌, ℕ, Bool, true, false, List, Some, refl, sym, ap, subst, ◌∙◌}
 use Rattle.tftp_negotiate.specs.declared.limits.TheConstants.{DEFAULT_BLOCK}
 use Rattle.tftp_file.specs.Source.{SourceMeaning}
+use Rattle.tftp_ends.specs.declared.action.Action.TheVariants.{Send}
 use Rattle.tftp_ends.specs.declared.endpoint.Endpoint.{Endpoint}
 use Rattle.tftp_ends.specs.declared.error_reply.ErrorReply.TheVariants.{FileChanged}
 use Rattle.tftp_ends.specs.declared.outcome.Outcome.TheVariants.{SourceFault}
@@ -10,11 +11,12 @@ use Rattle.tftp_ends.specs.declared.outgoing.Outgoing.TheVariants.{LastSent, Err
 use Rattle.tftp_ends.specs.declared.phase.Phase.TheVariants.{Sending}
 use Rattle.tftp_ends.specs.declared.phase.Terms.{Terms}
 use Rattle.tftp_ends.specs.End.{EndState}
+use Rattle.tftp_ends.specs.OneFile.{SenderActs}
 use Rattle.tftp_ends.specs.Opening.{FailsToStart}
 use Rattle.tftp_ends.specs.Phase.{refused}
 use Rattle.tftp_ends.specs.Room.{ReadsData}
-use Rattle.tftp_ends.specs.Step.{Turn, Sends, Lends, in_phase, having_sent, with_position, data_bytes, sent_turn}
-use Rattle.tftp_ends.specs.Step.{refused_turn, filled_turn, block_length}
+use Rattle.tftp_ends.specs.Step.{Turn, Sends, AcksAgain, Lends, in_phase, having_sent, with_position, data_bytes}
+use Rattle.tftp_ends.specs.Step.{sent_turn, refused_turn, filled_turn, block_length}
 
 -- without DATA 1 a read cannot be served, and the source has the bytes left that the fill left
 pub fails_to_start : {S : Type 0} (sources : SourceMeaning S) (length : ℕ) (source source' : S) (buffer : List ℕ) →
@@ -51,7 +53,8 @@ module _ {S : Type 0} (sources : SourceMeaning S) (terms : Terms) (number : ℕ)
   -- a sender's step for an action that sends, and the bytes that the call lends
   abbrev pub IsSent : EndState → Outgoing → Type 0
   IsSent e' outgoing =
-      (turn : Turn) × Sends sources terms number from e source turn source' × Lends e turn e' (Some from) outgoing
+      (turn : Turn) × SenderActs sources (Send terms number) from e source turn source'
+      × AcksAgain e turn (Send terms number) × Lends e turn e' (Some from) outgoing
 
   -- the step, by its turn
   abbrev pub step_at : (is_whole : Bool) → (o : ReadsNext is_whole) →
@@ -82,6 +85,7 @@ module _ {S : Type 0} (sources : SourceMeaning S) (terms : Terms) (number : ℕ)
       record { state = state; goes = refl; bytes = ap (λ (x : EndState). x.position.last_sent) state } in (
         filled_turn terms number from o.piece e o.answer,
         step_at true o,
+        tt,
         subst (λ (t : Turn). Lends e t e' (Some from) LastSent) (sym is) lends,
       )
 
@@ -96,5 +100,6 @@ module _ {S : Type 0} (sources : SourceMeaning S) (terms : Terms) (number : ℕ)
       record { state = s; goes = refl; bytes = refl } in (
         filled_turn terms number from o.piece e o.answer,
         step_at false o,
+        tt,
         subst (λ (t : Turn). Lends e t e' (Some from) (Error FileChanged)) (sym is) lends,
       )

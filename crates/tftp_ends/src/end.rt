@@ -13,7 +13,6 @@ ghost use Rattle.tftp_wire.specs.Borrowed.{owned};
 ghost use Rattle.tftp_wire.specs.declared.packet.Packet.{Packet};
 
 use crate::action::{Action, Response};
-use crate::decoding::decode_packet;
 use crate::endpoint::Endpoint;
 use crate::error_reply::ErrorReply;
 use crate::fault::EndFault;
@@ -28,7 +27,7 @@ use crate::waiting::{reader_action, writer_action};
 use std::marker::Model;
 use tftp_file::{Files, NetDecoder, Sink, Source};
 use tftp_negotiate::DEFAULT_BLOCK;
-use tftp_wire::{PacketRef, has_error_opcode};
+use tftp_wire::{PacketRef, decode_ref, has_error_opcode};
 
 /// One end of a transfer.
 ///
@@ -202,7 +201,7 @@ impl End {
         ensures fits { ActionFits self.now result }
         ensures bytes { BytesFit self.now bytes.now result }
     {
-        let decoded = decode_packet(bytes);
+        let decoded = decode_ref(bytes).ok();
         let is_error = has_error_opcode(bytes);
         if self.is_wrong_peer(from) {
             return Action::Respond(if is_error {

@@ -1,9 +1,9 @@
-//! How an end carries out an action: its next phase, and the datagram to send.
+//! How an end carries out a response, and a receiver an action: the next phase, and the datagram to
+//! send.
 
-ghost use Rattle.std.specs.Prelude.{ℕ, ◌≡◌, ◌≤◌, List, drop, true, false, length, OnErr, IfOk};
-ghost use Rattle.tftp_ends.specs.Files.{KeepsSource, KeepsSink};
-ghost use Rattle.tftp_ends.specs.OneFile.{SenderActs, SenderActLacksMemory, ReceiverActs};
-ghost use Rattle.tftp_ends.specs.OneFile.{ReceiverActLacksMemory};
+ghost use Rattle.std.specs.Prelude.{◌≡◌, ◌≤◌, drop, false, length, OnErr, IfOk};
+ghost use Rattle.tftp_ends.specs.Files.{KeepsSink};
+ghost use Rattle.tftp_ends.specs.OneFile.{ReceiverActs, ReceiverActLacksMemory};
 ghost use Rattle.tftp_ends.specs.Step.{Turn, AcksAgain, Lends, UsesFile, ack_bytes};
 ghost use Rattle.tftp_ends.specs.Step.{having_sent, in_phase, response_turn, with_position};
 ghost use Rattle.tftp_ends.specs.Step.{lent};
@@ -21,7 +21,7 @@ use crate::outgoing::Outgoing;
 use crate::phase::Phase;
 use crate::reply::MAX_ERROR;
 use std::alloc::AllocError;
-use tftp_file::{Sink, Source};
+use tftp_file::Sink;
 use tftp_wire::append_ack;
 
 /// The data of a DATA packet, after its opcode and number.
@@ -138,39 +138,6 @@ impl End {
                 self.go_into(self.phase.completed());
                 (None, Outgoing::Nothing)
             }
-        }
-    }
-
-    /// A sender carries out an action. Returns the destination and the datagram to send.
-    pub(crate) fn act_as_sender<S: Source>(
-        &mut self,
-        action: Action,
-        source: &mut S,
-        from: Endpoint,
-    ) -> Result<(Option<Endpoint>, Outgoing), AllocError>
-        requires action { ActionFits self.old action }
-        requires fits { (bytes : List ℕ) × BytesFit self.old bytes action }
-        requires sender { is_sender self.old.role.side ≡ true }
-        ensures acts { IfOk result (λ answer. (turn : Turn)
-            × SenderActs S.meaning action from self.old source.old turn source.new
-            × AcksAgain self.old turn action
-            × Lends self.old turn self.new answer.0 answer.1) }
-        ensures room { IfOk result (λ answer.
-            length (lent answer.1 self.new) ≤ room_of self.old action) }
-        ensures uses { OnErr result (UsesFile action) }
-        ensures why { OnErr result (SenderActLacksMemory S.meaning action self.old
-            source.old source.new) }
-        ensures err { OnErr result ((self.new ≡ self.old)
-            × KeepsSource S.meaning source.old source.new) }
-        ensures same { S.is_same source.old source.new }
-    {
-        match action {
-            Action::Respond(response) => Ok(self.respond(response, from)),
-            Action::Send { terms, number } => {
-                let outgoing = self.send(terms, number, source, from)?;
-                Ok((Some(from), outgoing))
-            }
-            Action::Store { .. } => unreachable!(),
         }
     }
 

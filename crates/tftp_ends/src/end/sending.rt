@@ -1,17 +1,18 @@
-//! How a sender sends a block: it builds DATA in the spare buffer, and swaps that with the buffer
-//! of the last datagram sent.
+//! How a sender carries out an action: it builds DATA in the spare buffer, and swaps that with the
+//! buffer of the last datagram sent.
 
-ghost use Rattle.std.specs.Prelude.{◌≡◌, ◌≤◌, ◌<◌, ◌+◌, [], length, OnOk, OnErr, IfOk, Some};
-ghost use Rattle.std.specs.Prelude.{vec_len, vec_capacity};
+ghost use Rattle.std.specs.Prelude.{ℕ, ◌≡◌, ◌≤◌, ◌<◌, ◌+◌, List, [], true, length, OnOk, OnErr};
+ghost use Rattle.std.specs.Prelude.{IfOk, Some, vec_len, vec_capacity};
 ghost use Rattle.tftp_ends.specs.BlockRead.{is_whole};
+ghost use Rattle.tftp_ends.specs.End.{is_sender};
 ghost use Rattle.tftp_ends.specs.Files.{KeepsSource};
+ghost use Rattle.tftp_ends.specs.Fits.{ActionFits, BytesFit, SentFits};
+ghost use Rattle.tftp_ends.specs.OneFile.{SenderActs, SenderActLacksMemory};
 ghost use Rattle.tftp_ends.specs.Phase.{refused};
-ghost use Rattle.tftp_ends.specs.Step.{Turn, Lends, Sends, block_length, in_phase, lent};
-ghost use Rattle.tftp_ends.specs.Step.{with_position};
 ghost use Rattle.tftp_ends.specs.Room.{ReadsData, room_of};
-ghost use Rattle.tftp_ends.specs.Shortage.{FillLacksMemory, SendLacksMemory};
-ghost use Rattle.tftp_ends.specs.Sound.{IsSending};
-ghost use Rattle.tftp_ends.specs.Fits.{SentFits};
+ghost use Rattle.tftp_ends.specs.Shortage.{FillLacksMemory};
+ghost use Rattle.tftp_ends.specs.Step.{Turn, AcksAgain, Lends, UsesFile, block_length, in_phase};
+ghost use Rattle.tftp_ends.specs.Step.{lent, with_position};
 
 use crate::action::Action;
 use crate::end::End;
@@ -108,43 +109,51 @@ pub(crate) fn read_data<S: Source>(
 }
 
 impl End {
-    /// Sends DATA of this number, or an ERROR if the source does not give the block.
-    pub(crate) fn send<S: Source>(
+    /// A sender carries out an action. Returns the destination and the datagram to send: DATA, or an
+    /// ERROR if the source does not give the block.
+    pub(crate) fn act_as_sender<S: Source>(
         &mut self,
-        terms: Terms,
-        number: u16,
+        action: Action,
         source: &mut S,
         from: Endpoint,
-    ) -> Result<Outgoing, AllocError>
-        requires sends { IsSending self.old terms }
-        requires sent { SentFits self.old (Some terms) }
-        ensures sends { IfOk result (λ outgoing. (turn : Turn)
-            × Sends S.meaning terms number from self.old source.old turn source.new
-            × Lends self.old turn self.new (Some from) outgoing) }
-        ensures room { IfOk result (λ outgoing.
-            length (lent outgoing self.new) ≤ room_of self.old (Action.Send terms number)) }
+    ) -> Result<(Option<Endpoint>, Outgoing), AllocError>
+        requires action { ActionFits self.old action }
+        requires fits { (bytes : List ℕ) × BytesFit self.old bytes action }
+        requires sender { is_sender self.old.role.side ≡ true }
+        ensures acts { IfOk result (λ answer. (turn : Turn)
+            × SenderActs S.meaning action from self.old source.old turn source.new
+            × AcksAgain self.old turn action
+            × Lends self.old turn self.new answer.0 answer.1) }
+        ensures room { IfOk result (λ answer.
+            length (lent answer.1 self.new) ≤ room_of self.old action) }
+        ensures uses { OnErr result (UsesFile action) }
+        ensures why { OnErr result (SenderActLacksMemory S.meaning action self.old
+            source.old source.new) }
         ensures err { OnErr result ((self.new ≡ self.old)
             × KeepsSource S.meaning source.old source.new) }
-        ensures why { OnErr result (SendLacksMemory S.meaning
-            (block_length self.old.role.length terms.size number) self.old
-            source.old source.new) }
         ensures same { S.is_same source.old source.new }
     {
-        let want = block_length(self.role.length, terms.size, number);
-        reserve_datagram(&mut self.last_sent, &mut self.spare, HEADER + want)?;
-        match read_data(source, number, want, &mut self.spare)? {
-            BlockRead::Whole => {
-                mem::swap(&mut self.last_sent, &mut self.spare);
-                self.spare.clear();
-                self.last_sent_to = from;
-                let phase = Phase::Sending { terms, number };
-                self.retries_left = self
-                    .phase
-                    .retries_left(phase, self.role.retries, self.retries_left);
-                self.phase = phase;
-                Ok(Outgoing::LastSent)
+        match action {
+            Action::Respond(response) => Ok(self.respond(response, from)),
+            Action::Send { terms, number } => {
+                let want = block_length(self.role.length, terms.size, number);
+                reserve_datagram(&mut self.last_sent, &mut self.spare, HEADER + want)?;
+                match read_data(source, number, want, &mut self.spare)? {
+                    BlockRead::Whole => {
+                        mem::swap(&mut self.last_sent, &mut self.spare);
+                        self.spare.clear();
+                        self.last_sent_to = from;
+                        let phase = Phase::Sending { terms, number };
+                        self.retries_left = self
+                            .phase
+                            .retries_left(phase, self.role.retries, self.retries_left);
+                        self.phase = phase;
+                        Ok((Some(from), Outgoing::LastSent))
+                    }
+                    BlockRead::Changed => Ok((Some(from), self.close_changed(terms))),
+                }
             }
-            BlockRead::Changed => Ok(self.close_changed(terms)),
+            Action::Store { .. } => unreachable!(),
         }
     }
 
