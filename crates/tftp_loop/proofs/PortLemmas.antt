@@ -1,7 +1,8 @@
 -- A server's calls and its socket's datagrams, as steps at a port.
 use Rattle.std.proofs.Common.{◌≡◌, ℕ, Bool, true, false, List, [], ◌∷◌, cond, Option, Some, None, IsSome, refl, sym, ap}
 use Rattle.std.proofs.Common.{subst, ◌∙◌, Bor}
-use Rattle.std.specs.Prelude.{option_map, unwrap_or, is_some, if◌then◌else◌}
+use Rattle.std.specs.Prelude.{option_map, is_some, if◌then◌else◌}
+use Rattle.std.specs.Option.{UnwrapsOrElse}
 use Rattle.std.specs.Map.{lookup, set_value}
 use Rattle.std.specs.BTreeMap.{is_at}
 use Rattle.std.specs.Ordering.{nat_cmp}
@@ -46,10 +47,11 @@ module _ {T : Type 0} (test : ℕ → Bool) (was next : T) where
       (λ h. set_found held (ap (λ (c : Bool). cond c (Some e.1) (lookup test held)) (sym h) ∙ found))
 
 -- the bytes that were lent, or none
-pub bytes_lent : (o : Option (Bor (List ℕ))) (d r : Bor (List ℕ)) (m : Option (List ℕ)) (xs : List ℕ)
-    → option_map (λ (b : Bor (List ℕ)). b.now) o ≡ m → m ≡ Some xs → r ≡ unwrap_or o d → r.now ≡ xs
-bytes_lent None d r m xs e f u = absurd (none-some xs (e ∙ f))
-bytes_lent (Some b) d r m xs e f u = ap (λ (x : Bor (List ℕ)). x.now) u ∙ same_Some b.now xs (e ∙ f)
+pub bytes_lent : (o : Option (Bor (List ℕ))) (P : Bor (List ℕ) → Type 0) (r : Bor (List ℕ)) (m : Option (List ℕ))
+    (xs : List ℕ)
+    → option_map (λ (b : Bor (List ℕ)). b.now) o ≡ m → m ≡ Some xs → UnwrapsOrElse o P r → r.now ≡ xs
+bytes_lent None P r m xs e f u = absurd (none-some xs (e ∙ f))
+bytes_lent (Some b) P r m xs e f u = ap (λ (x : Bor (List ℕ)). x.now) u ∙ same_Some b.now xs (e ∙ f)
 
 module _ {F D : Type 0} where
   -- a transfer that closed can be taken

@@ -1,17 +1,19 @@
 -- A visit of the port of a transfer, call by call.
-use Rattle.std.proofs.Common.{arith, ◌≡◌, ◌≤◌, ◌+◌, ℕ, List, ◌∷◌, MutBor, refl, ap, subst, ◌∙◌}
+use Rattle.std.proofs.Common.{arith, ◌≡◌, ◌≤◌, ◌+◌, ℕ, true, List, ◌∷◌, MutBor, refl, sym, ap, subst, ◌∙◌}
 use Rattle.tftp_file.specs.Source.{SourceMeaning}
 use Rattle.tftp_store.specs.Store.{StoreMeaning}
 use Rattle.tftp_sockets.specs.declared.journal.Journal.{Journal}
 use Rattle.tftp_sockets.specs.Journal.{SocketEvent, QuietEvent}
 use Rattle.tftp_sockets.specs.Journal.SocketEvent.{Elapsed, Received, Quiet}
+use Rattle.tftp_sockets.specs.Quiet.{was_tried}
 use Rattle.tftp_loop.specs.declared.datagram.Datagram.{Datagram}
 use Rattle.tftp_loop.specs.declared.port_visit.PortVisit.{PortVisit}
 use Rattle.tftp_loop.specs.Fair.{ReceivesAtMost, received_in}
-use Rattle.tftp_loop.specs.PortVisit.{AnswersReceived, IsSameVisit, ServesVisit, at_visit}
+use Rattle.tftp_loop.specs.PortVisit.{AnswersReceived, IsSameVisit, IsTried, ServesVisit, at_visit}
 use Rattle.tftp_loop.specs.Run.{Run}
 use Rattle.tftp_loop.specs.Run.Run.{Start}
 use Rattle.tftp_loop.specs.Steps.{PortStep}
+use Rattle.tftp_loop.proofs.PortStays.{received_tried, stays_along}
 use Rattle.tftp_loop.proofs.RunLemmas.{onward}
 
 -- an event that is no datagram
@@ -77,3 +79,13 @@ module _ {S F D : Type 0} where
           serves = answers.serves old.journal.now.events noted;
           received = omega (arith, one, none);
         }
+
+    -- and so the port was read
+    pub tried_received : (datagram : Datagram) (old new : PortVisit S F D) (journal : MutBor Journal) →
+        journal.now.events ≡ Received old.port.now.socket.udp.port datagram.from datagram.bytes.now ∷ old.journal.now.events
+        → AnswersReceived meaning sources datagram (record old { journal = journal }) new → IsTried new
+    tried_received datagram old new journal noted answers =
+        let same = (stays_along meaning sources old.now _ _ (answers.serves old.journal.now.events noted)).port in
+        subst (λ (p : ℕ). was_tried p new.journal.now.events ≡ true) (sym same)
+        (received_tried old.port.now.socket.udp.port datagram.from datagram.bytes.now old.journal.now.events
+        journal.now.events new.journal.now.events noted answers.tries)

@@ -6,10 +6,10 @@ ghost use Rattle.tftp_server.specs.State.{at, is_open, taken_of};
 ghost use Rattle.tftp_loop.specs.Fair.{ReceivesAtMost};
 ghost use Rattle.tftp_loop.specs.PortVisit.{AnswersReceived, HasStatus, IsTried, ServesVisit};
 ghost use Rattle.tftp_loop.specs.PortVisit.{at_visit};
-ghost use Rattle.tftp_loop.specs.Steps.{AnswersDatagram, AnswersTimeout, LosesDatagram};
+ghost use Rattle.tftp_loop.specs.Steps.{AnswersTimeout};
 ghost use Rattle.tftp_loop.specs.Steps.{Timer, WorksAtPort, most_in_round, restarted, timer_after};
 ghost use Rattle.tftp_loop.specs.LoopStates.{OnlyServesPort, at_port, timer_of};
-ghost use Rattle.tftp_loop.specs.MayWait.{IsNotVisited, IsTimed, IsUnclosedBy, KeepsTries};
+ghost use Rattle.tftp_loop.specs.MayWait.{IsNotVisited, IsTimed, IsUnclosedBy};
 ghost use Rattle.tftp_loop.specs.MayWait.{LeavesTimer};
 ghost use Rattle.tftp_loop.specs.MayWait.{StaysOpen, UnlessClosed, leaves_by, leaves_timed};
 
@@ -18,7 +18,7 @@ use crate::log_entry::LogEntry;
 use crate::transfer_port::{
     TransferPort, mark_empty, mark_ready, note_received, note_step, reply, restart, work_at,
 };
-use tftp_ends::{Endpoint, Step};
+use tftp_ends::Step;
 use tftp_lines::Reason;
 use tftp_server::{Server, Store};
 use tftp_sockets::{Journal, Receipt, ServerSocket, is_due};
@@ -146,7 +146,7 @@ impl<S: Store> PortVisit<'_, S> {
         self.time_out_if_due()
     }
 
-    /// Handles datagrams, until the transfer advances or closes, or none is left.
+    /// Receives datagrams and handles them, until the transfer advances or closes, or none is left.
     fn take_datagrams(&mut self, buffer: &mut [u8]) -> PortStatus
         requires { self.old.port.now.socket.received ≤ MOST_AT_ONCE }
         ensures serves { ServesVisit S.meaning S.Source.meaning MOST_AT_ONCE self.old self.new }
@@ -155,43 +155,30 @@ impl<S: Store> PortVisit<'_, S> {
         ensures open { UnlessClosed result (StaysOpen (at_visit self.old) (at_visit self.new)) }
     {
         for count in 0..MOST_AT_ONCE {
-            match self.take_datagram(buffer) {
-                PortStatus::Unfinished => {}
-                status => return status,
+            match self.port.socket.udp.receive(self.journal, buffer) {
+                Receipt::Datagram(from, length) => {
+                    let bytes = &buffer[..length];
+                    match self.answer(Datagram { from, bytes }) {
+                        PortStatus::Unfinished => {}
+                        status => return status,
+                    }
+                }
+                Receipt::Nothing => {
+                    mark_empty(self.port);
+                    return PortStatus::Empty;
+                }
+                Receipt::Failed => {
+                    mark_ready(self.port);
+                    return PortStatus::Empty;
+                }
             }
         }
         PortStatus::Unfinished
     }
 
-    /// Receives a datagram, if there is one, and handles it. It is lost when out of memory.
-    fn take_datagram(&mut self, buffer: &mut [u8]) -> PortStatus
-        requires { self.old.port.now.socket.received < most_in_round }
-        ensures serves { ServesVisit S.meaning S.Source.meaning 1 self.old self.new }
-        ensures status { HasStatus result self.new }
-        ensures tried { IsTried self.new }
-        ensures counted { self.new.port.now.socket.received
-            ≤ self.old.port.now.socket.received + 1 }
-        ensures open { UnlessClosed result (StaysOpen (at_visit self.old) (at_visit self.new)) }
-    {
-        match self.port.socket.udp.receive(self.journal, buffer) {
-            Receipt::Datagram(from, count) => {
-                let bytes = &buffer[..count];
-                self.answer(Datagram { from, bytes })
-            }
-            Receipt::Nothing => {
-                mark_empty(self.port);
-                PortStatus::Empty
-            }
-            Receipt::Failed => {
-                mark_ready(self.port);
-                PortStatus::Empty
-            }
-        }
-    }
-
     /// Handles a datagram that was received at the port, and sends the answer. After that the file
     /// reads ahead or is written back. Once the transfer is over age the datagram is dropped: so
-    /// its timeouts run out.
+    /// its timeouts run out. It is lost when out of memory, or if no transfer is open.
     fn answer(&mut self, datagram: Datagram<'_>) -> PortStatus
         requires { self.old.port.now.socket.received < most_in_round }
         ensures answers { AnswersReceived S.meaning S.Source.meaning datagram.entry self.old
@@ -205,19 +192,17 @@ impl<S: Store> PortVisit<'_, S> {
             note_received(self.port);
             return PortStatus::Unfinished;
         }
+        let Datagram { from, bytes } = datagram;
         let tid = self.port.socket.udp.port();
         let socket = &mut self.port.socket;
-        let Some(step) = handle(
-            self.server,
-            tid,
-            &socket.udp,
-            &mut socket.log_entry,
-            self.journal,
-            datagram,
-        ) else {
+        let Ok((step, outgoing)) = self.server.handle_datagram(tid, from, bytes) else {
             note_received(self.port);
             return PortStatus::Unfinished;
         };
+        let answer = self.server.bytes_of(tid, outgoing).unwrap_or_default();
+        let sent = reply(&socket.udp, self.journal, step.to, answer);
+        keep_unsent(&socket.log_entry, sent);
+        add_step(&mut socket.log_entry, bytes, &step, answer);
         note_step(self.port, self.now, &step);
         work_after(self.server, self.port, &step, self.active);
         status_of(&step)
@@ -255,39 +240,6 @@ impl<S: Store> PortVisit<'_, S> {
         let step = time_out(self.server, &socket.udp, &socket.log_entry, self.journal);
         status_of_timeout(step)
     }
-}
-
-/// Handles a datagram for the transfer at the socket's port, and sends the answer. `None` when out
-/// of memory, or if no transfer is open.
-fn handle<S: Store>(
-    server: &mut Server<S>,
-    tid: u16,
-    udp: &ServerSocket,
-    log_entry: &mut Option<LogEntry>,
-    journal: &mut Journal,
-    datagram: Datagram<'_>,
-) -> Option<Step>
-    requires { tid ≡ udp.now.port }
-    ensures handled { MatchOption result
-        (LosesDatagram S.meaning S.Source.meaning udp.now.port datagram.entry.from
-        datagram.entry.bytes.now server.old server.new × (journal.new.events ≡ journal.old.events))
-        (λ step. AnswersDatagram S.meaning S.Source.meaning udp.now.port datagram.entry.from
-        datagram.entry.bytes.now server.old server.new journal.old.events journal.new.events step) }
-    ensures closed { IfSome result (λ step. IsSome step.closed
-        → IsSome (taken_of (at udp.now.port server.new.held))) }
-    ensures open { IsUnclosedBy result udp.now.port server.old.held server.new.held }
-    ensures tries { KeepsTries journal.old.events journal.new.events }
-    ensures received { ReceivesAtMost 0 journal.old.events journal.new.events }
-{
-    let Datagram { from, bytes } = datagram;
-    let Ok((step, outgoing)) = server.handle_datagram(tid, from, bytes) else {
-        return None;
-    };
-    let answer = server.bytes_of(tid, outgoing).unwrap_or(&[]);
-    let sent = reply(udp, journal, step.to, answer);
-    keep_unsent(log_entry, sent);
-    add_step(log_entry, bytes, &step, answer);
-    Some(step)
 }
 
 /// Adds a datagram, its step and its answer to the log entry, if there is a log.
@@ -380,7 +332,7 @@ fn time_out<S: Store>(
     let Ok((step, outgoing)) = server.handle_timeout(tid) else {
         return None;
     };
-    let answer = server.bytes_of(tid, outgoing).unwrap_or(&[]);
+    let answer = server.bytes_of(tid, outgoing).unwrap_or_default();
     let sent = reply(udp, journal, step.to, answer);
     keep_unsent(log_entry, sent);
     count_again(log_entry, &step);

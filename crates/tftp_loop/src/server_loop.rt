@@ -10,13 +10,13 @@ ghost use Rattle.tftp_loop.specs.LoopStates.{OnlyServes, OnlyWorks, ServesRounds
 ghost use Rattle.tftp_loop.specs.LoopStates.{WorksRound};
 ghost use Rattle.tftp_loop.specs.MayWait.{ClosesPort, Finishes, HasRead, HasSlept, HasWoken};
 ghost use Rattle.tftp_loop.specs.MayWait.{AwaitVisit, HasFew, WereVisited, before_visit};
-ghost use Rattle.tftp_loop.specs.MayWait.{IsOpenAt, IsSurveyOf, UnlessClosed};
-ghost use Rattle.tftp_loop.specs.MayWait.{IsSettled, IsTended, VisitsPort, leaves_by};
+ghost use Rattle.tftp_loop.specs.MayWait.{IsSurveyOf};
+ghost use Rattle.tftp_loop.specs.MayWait.{IsSettled, IsTended};
 ghost use Rattle.tftp_loop.specs.MayWait.{millis_of, reads_of, timers_of};
 
 use crate::drain::{Drain, DrainSignal};
 use crate::log::Log;
-use crate::port_visit::{Moment, Pass, PortStatus, is_visited, visit_port};
+use crate::port_visit::{Moment, Pass, is_visited, visit_port};
 use crate::report::{log_drain, log_unsent, record_of_closed, report_close};
 use crate::reserved::Reserved;
 use crate::server_udp::ServerUdp;
@@ -493,37 +493,24 @@ impl<S: ServedStore<Reason> + Drop> ServerLoop<S> {
         if !is_visited(pass, self.sockets.watch.now, &self.ports[index]) {
             return Ok(());
         }
-        let status = self.visit_at(pass, index, buffer);
-        log_unsent(rt, &self.ports[index]);
-        if !status.is_closed() {
-            return Ok(());
-        }
-        self.finish(rt, index)
-    }
-
-    /// Visits the port at this index.
-    fn visit_at(&mut self, pass: Pass, index: usize, buffer: &mut [u8]) -> PortStatus
-        requires within { index < length self.old.ports.items }
-        requires settled { IsSettled self.old }
-        requires waiting { AwaitVisit pass (index + 1) self.old }
-        ensures visits { VisitsPort S.meaning S.Source.meaning (leaves_by pass) index self.old
-            self.new }
-        ensures open { UnlessClosed result (IsOpenAt index self.new) }
-        ensures room { HasRoom self.old → HasRoom self.new }
-    {
         let moment = Moment {
             now: self.sockets.watch.now,
             active: self.active,
         };
         let port = &mut self.ports[index];
-        visit_port(
+        let status = visit_port(
             &mut self.server,
             port,
             &mut self.journal,
             moment,
             pass,
             buffer,
-        )
+        );
+        log_unsent(rt, &self.ports[index]);
+        if !status.is_closed() {
+            return Ok(());
+        }
+        self.finish(rt, index)
     }
 
     /// Removes the transfer at this index with its port, if it has closed, and prints its outcome:

@@ -11,11 +11,11 @@ returns-clause-steps g c =
     let found =
     found_timed c.port-tid.result c.args.server.now c.handle_timeout.new.self c.in-Ok.step c.in-Ok.outgoing t in
     let sent =
-    bytes_lent c.bytes_of.result _ c.unwrap_or-answer.result _ (lent c.in-Ok.outgoing t.end) c.bytes_of.ensures
-    (ap (option_map (λ held. lent c.in-Ok.outgoing held.end)) found) c.unwrap_or-answer.ensures in
+    bytes_lent c.bytes_of.result _ c.unwrap_or_default-answer.result _ (lent c.in-Ok.outgoing t.end) c.bytes_of.ensures
+    (ap (option_map (λ held. lent c.in-Ok.outgoing held.end)) found) c.unwrap_or_default-answer.ensures in
     timed_out c.port-tid.result c.args.server.now c.handle_timeout.new.self c.in-Ok.step c.in-Ok.outgoing
     c.args.udp.now.port
-    c.args.journal.now.events c.reply-sent.new.journal.events c.unwrap_or-answer.result.now c.port-tid.ensures t
+    c.args.journal.now.events c.reply-sent.new.journal.events c.unwrap_or_default-answer.result.now c.port-tid.ensures t
     c.in-Ok.ensures.rest sent c.reply-sent.ensures.events
 
 pub returns-clause-open : goal.returns-clause-open

@@ -1,10 +1,14 @@
-use Rattle.std.proofs.Common.{arith, ◌≡◌, ℕ, refl, sym, ap, subst, ◌∙◌}
+use Rattle.std.proofs.Common.{arith, ◌≡◌, ℕ, refl, sym, ap, subst, ◌∙◌, IsSome}
+use Rattle.std.specs.Prelude.{option_map, Err}
+use Rattle.tftp_ends.specs.Step.{lent}
+use Rattle.tftp_server.specs.State.{at, taken_of}
 use Rattle.tftp_loop.specs.Steps.{Timer}
 use Rattle.tftp_loop.specs.LoopStates.{timer_of}
+use Rattle.tftp_loop.specs.MayWait.{IsUnclosed, KeepsTries, LeavesTimer}
+use Rattle.tftp_loop.proofs.PortLemmas.{bytes_lent, closed_by, found_next, handled, lost}
 use Rattle.tftp_loop.proofs.PortRuns.{here, receives, receives_late, receives_lost, then_works}
-use Rattle.tftp_loop.specs.MayWait.{IsUnclosed}
-use Rattle.tftp_loop.proofs.PortStays.{after_port, after_received}
-use Rattle.tftp_loop.proofs.Unclosed.{open_after, unless_map}
+use Rattle.tftp_loop.proofs.PortStays.{after_port, after_received, replied_tries}
+use Rattle.tftp_loop.proofs.Unclosed.{lost_open, open_after, open_by, unless_map}
 use Rattle.tftp_loop.proofs.port_visit.PortVisit.answer.Goals as goal
 
 pub returns-then-self-clause-answers : goal.returns-then-self-clause-answers
@@ -37,32 +41,67 @@ returns-in_default-clause-answers g c =
       same = record { server = refl; port = refl; journal = refl; now = refl; active = refl };
       serves =
           λ events noted.
-          receives_lost g.S.Store.meaning g.S.Source.Source.meaning old.now old.server.now c.handle.new.server
+          receives_lost g.S.Store.meaning g.S.Source.Source.meaning old.now old.server.now c.handle_datagram.new.self
           (timer_of old.port.now) (timer_of c.note_received-in_default.new.port)
-          events old.journal.now.events c.handle.new.journal.events c.args.datagram.from c.args.datagram.bytes.now
-          (omega (arith)) c.requires noted c.in_default.ensures.handled.0 c.in_default.ensures.handled.1 c.note_received-in_default.ensures;
-      tries = c.handle.ensures.tries;
-      received = c.handle.ensures.received;
+          events old.journal.now.events old.journal.now.events c.args.datagram.from c.args.datagram.bytes.now
+          (omega (arith)) c.requires noted
+          (lost g.S.Store.meaning g.S.Source.Source.meaning _ old.port.now.socket.udp.port c.args.datagram.from
+          c.args.datagram.bytes.now old.server.now c.handle_datagram.new.self c.in_default.field-0 (cc)
+          c.in_default.ensures.fault (λ e. c.in_default.ensures.why (ap Err e)) c.in_default.ensures.err
+          c.in_default.ensures.rest) refl c.note_received-in_default.ensures;
+      tries = λ q h. h;
+      received = omega arith;
     }
 
 pub returns-clause-answers : goal.returns-clause-answers
 returns-clause-answers g c =
     let old = c.args.self.now in
+    let takes = c.in-Ok.ensures.takes in
+    let found = found_next g.S.Store.meaning g.S.Source.Source.meaning _ old.server.now c.handle_datagram.new.self
+    c.in-Ok.step c.in-Ok.outgoing c.args.datagram.from c.args.datagram.bytes.now takes in
+    let sent =
+    bytes_lent c.bytes_of.result _ c.unwrap_or_default-answer.result _ (lent c.in-Ok.outgoing takes.next.end)
+    c.bytes_of.ensures (ap (option_map (λ held. lent c.in-Ok.outgoing held.end)) found) c.unwrap_or_default-answer.ensures in
     record {
       same = record { server = refl; port = refl; journal = refl; now = refl; active = refl };
       serves =
           λ events noted.
           then_works g.S.Store.meaning g.S.Source.Source.meaning old.now
           (here g.S.Store.meaning g.S.Source.Source.meaning old.now old.server.now (timer_of old.port.now) events)
-          c.handle.new.server c.work_after.new.server (timer_of c.note_step.new.port) c.handle.new.journal.events
+          c.handle_datagram.new.self c.work_after.new.server (timer_of c.note_step.new.port) c.reply-sent.new.journal.events
           c.note_step.new.port.socket.udp.port
-          (receives g.S.Store.meaning g.S.Source.Source.meaning old.now old.server.now c.handle.new.server
+          (receives g.S.Store.meaning g.S.Source.Source.meaning old.now old.server.now c.handle_datagram.new.self
           (timer_of old.port.now) (timer_of c.note_step.new.port)
-          events old.journal.now.events c.handle.new.journal.events c.args.datagram.from c.args.datagram.bytes.now
-          c.in-Some.step (omega (arith)) c.requires noted c.in-Some.ensures.handled c.note_step.ensures)
+          events old.journal.now.events c.reply-sent.new.journal.events c.args.datagram.from c.args.datagram.bytes.now
+          c.in-Ok.step (omega (arith)) c.requires noted
+          (handled g.S.Store.meaning g.S.Source.Source.meaning _ old.server.now c.handle_datagram.new.self
+          c.in-Ok.step c.in-Ok.outgoing old.port.now.socket.udp.port c.args.datagram.from c.args.datagram.bytes.now
+          old.journal.now.events c.reply-sent.new.journal.events c.unwrap_or_default-answer.result.now (cc) takes
+          c.in-Ok.ensures.rest sent c.reply-sent.ensures.events) c.note_step.ensures)
           refl c.work_after.ensures.works;
-      tries = c.handle.ensures.tries;
-      received = c.handle.ensures.received;
+      tries =
+          subst (KeepsTries old.journal.now.events) (sym c.reply-sent.ensures.events)
+          (replied_tries _ c.in-Ok.step.to c.unwrap_or_default-answer.result.now old.journal.now.events);
+      received = c.reply-sent.ensures.received;
+    }
+
+pub returns-clause-status : goal.returns-clause-status
+returns-clause-status g c =
+    let old = c.args.self.now in
+    let same : c.note_step.new.port.socket.udp.port ≡ old.port.now.socket.udp.port =
+    ap (λ (t : Timer). t.port) c.note_step.ensures
+    ∙ after_port old.now c.in-Ok.step.progress (timer_of old.port.now) in
+    record {
+      closed = λ is.
+          let some = c.status_of.ensures.closed is in
+          subst (λ p. IsSome (taken_of (at p c.work_after.new.server.held))) (sym same)
+          (subst (λ s. IsSome (taken_of (at old.port.now.socket.udp.port s.held))) (sym (c.work_after.ensures.closed some))
+          (closed_by g.S.Store.meaning g.S.Source.Source.meaning _ old.server.now c.handle_datagram.new.self
+          c.in-Ok.step c.in-Ok.outgoing old.port.now.socket.udp.port c.args.datagram.from c.args.datagram.bytes.now (cc)
+          c.in-Ok.ensures.takes some));
+      timer =
+          subst (LeavesTimer c.status_of.result old.now) (sym c.note_step.ensures)
+          (c.status_of.ensures.timer old.now (timer_of old.port.now));
     }
 
 pub returns-in_default-clause-counted : goal.returns-in_default-clause-counted
@@ -72,13 +111,16 @@ pub returns-clause-counted : goal.returns-clause-counted
 returns-clause-counted g c =
     let old = c.args.self.now in
     ap (λ (t : Timer). t.received) c.note_step.ensures
-    ∙ after_received old.now c.in-Some.step.progress (timer_of old.port.now)
+    ∙ after_received old.now c.in-Ok.step.progress (timer_of old.port.now)
 
 pub returns-in_default-clause-open : goal.returns-in_default-clause-open
 returns-in_default-clause-open g c =
+    let old = c.args.self.now in
     λ unclosed.
-    subst (λ (p : ℕ). IsUnclosed p c.handle.new.server.held)
-    (sym (ap (λ (t : Timer). t.port) c.note_received-in_default.ensures)) (c.in_default.ensures.open unclosed)
+    subst (λ (p : ℕ). IsUnclosed p c.handle_datagram.new.self.held)
+    (sym (ap (λ (t : Timer). t.port) c.note_received-in_default.ensures))
+    (lost_open g.S.Store.meaning g.S.Source.Source.meaning _ old.port.now.socket.udp.port old.server.now
+    c.handle_datagram.new.self (cc) c.in_default.ensures.err unclosed)
 
 pub returns-clause-open : goal.returns-clause-open
 returns-clause-open g c =
@@ -86,10 +128,13 @@ returns-clause-open g c =
     let port = c.note_step.new.port.socket.udp.port in
     let same : port ≡ old.port.now.socket.udp.port =
     ap (λ (t : Timer). t.port) c.note_step.ensures
-    ∙ after_port old.now c.in-Some.step.progress (timer_of old.port.now) in
+    ∙ after_port old.now c.in-Ok.step.progress (timer_of old.port.now) in
     unless_map c.status_of.result
     (λ none unclosed.
-    open_after g.S.Store.meaning g.S.Source.Source.meaning port c.handle.new.server c.work_after.new.server
+    open_after g.S.Store.meaning g.S.Source.Source.meaning port c.handle_datagram.new.self c.work_after.new.server
     c.work_after.ensures.works
-    (subst (λ (p : ℕ). IsUnclosed p c.handle.new.server.held) (sym same) (c.in-Some.ensures.open none)))
+    (subst (λ (p : ℕ). IsUnclosed p c.handle_datagram.new.self.held) (sym same)
+    (open_by g.S.Store.meaning g.S.Source.Source.meaning _ old.server.now c.handle_datagram.new.self
+    c.in-Ok.step c.in-Ok.outgoing old.port.now.socket.udp.port c.args.datagram.from c.args.datagram.bytes.now (cc)
+    c.in-Ok.ensures.takes none)))
     c.status_of.ensures.open

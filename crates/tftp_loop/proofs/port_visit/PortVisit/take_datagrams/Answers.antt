@@ -1,6 +1,11 @@
-use Rattle.std.proofs.Common.{arith, refl, inl, inr, ◌+◌}
+use Rattle.std.proofs.Common.{arith, ℕ, refl, sym, ap, subst, inl, inr, ◌+◌}
+use Rattle.tftp_sockets.specs.Journal.QuietEvent.{Empty, Failed}
 use Rattle.tftp_loop.specs.declared.port_visit.TheConstants.{MOST_AT_ONCE}
-use Rattle.tftp_loop.proofs.VisitLemmas.{idles, serves_onward}
+use Rattle.tftp_loop.specs.Steps.{Timer}
+use Rattle.tftp_loop.specs.LoopStates.{timer_of}
+use Rattle.tftp_loop.specs.MayWait.{IsUnclosed}
+use Rattle.tftp_loop.proofs.PortRuns.{finds_nothing, fails_to_receive}
+use Rattle.tftp_loop.proofs.VisitLemmas.{idles, receives_none, serves_onward, serves_received, tried_received}
 use Rattle.tftp_loop.proofs.Unclosed.{unless_map}
 use Rattle.tftp_loop.proofs.port_visit.PortVisit.take_datagrams.Goals as goal
 
@@ -8,27 +13,83 @@ pub loop-count-init : goal.loop-count-init
 loop-count-init g c = (idles g.S.Store.meaning g.S.Source.Source.meaning 0 _, omega arith, inl refl, λ unclosed. unclosed)
 
 pub loop-count-preserved : goal.loop-count-preserved
-loop-count-preserved g c = (
-  serves_onward g.S.Store.meaning g.S.Source.Source.meaning c.loop-count.count 1 (c.loop-count.count + 1) _ _ _
-      (omega arith)
-      c.loop-count.invariant.0 c.take_datagram.ensures.serves,
-  let before = c.loop-count.invariant.1 in let one = c.take_datagram.ensures.counted in omega (arith, before, one),
-  inr (c.take_datagram.ensures.tried, c.in-Unfinished.ensures.status.timer),
-  λ unclosed. c.in-Unfinished.ensures.open (c.loop-count.invariant.3 unclosed),
-)
+loop-count-preserved g c =
+    let noted = c.in-Datagram.ensures.noted in
+    let answers = c.answer.ensures.answers in (
+      serves_onward g.S.Store.meaning g.S.Source.Source.meaning c.loop-count.count 1 (c.loop-count.count + 1) _ _ _
+          (omega arith) c.loop-count.invariant.0
+          (serves_received g.S.Store.meaning g.S.Source.Source.meaning _ c.loop-count.self _ _ refl noted answers),
+      let before = c.loop-count.invariant.1 in let one = c.answer.ensures.counted in omega (arith, before, one),
+      inr (
+        tried_received g.S.Store.meaning g.S.Source.Source.meaning _ c.loop-count.self _ _ noted answers,
+        c.in-Unfinished.ensures.status.timer,
+      ),
+      λ unclosed. c.in-Unfinished.ensures.open (c.loop-count.invariant.3 unclosed),
+    )
 
-pub returns-in_default-clause-serves : goal.returns-in_default-clause-serves
-returns-in_default-clause-serves g c =
-    serves_onward g.S.Store.meaning g.S.Source.Source.meaning c.loop-count.count 1 MOST_AT_ONCE _ _ _ (omega arith)
-    c.loop-count.invariant.0 c.take_datagram.ensures.serves
-
-pub take_datagram-requires : goal.take_datagram-requires
-take_datagram-requires g c =
+pub answer-requires : goal.answer-requires
+answer-requires g c =
     let before = c.loop-count.invariant.1 in
     let few = c.requires in
     omega (arith, before, few)
 
+pub returns-in_default-clause-serves : goal.returns-in_default-clause-serves
+returns-in_default-clause-serves g c =
+    serves_onward g.S.Store.meaning g.S.Source.Source.meaning c.loop-count.count 1 MOST_AT_ONCE _ _ _ (omega arith)
+    c.loop-count.invariant.0
+    (serves_received g.S.Store.meaning g.S.Source.Source.meaning _ c.loop-count.self _ _ refl
+    c.in-Datagram.ensures.noted c.answer.ensures.answers)
+
+pub returns-in_default-clause-tried : goal.returns-in_default-clause-tried
+returns-in_default-clause-tried g c =
+    tried_received g.S.Store.meaning g.S.Source.Source.meaning _ c.loop-count.self _ _ c.in-Datagram.ensures.noted
+    c.answer.ensures.answers
+
 pub returns-in_default-clause-open : goal.returns-in_default-clause-open
 returns-in_default-clause-open g c =
-    unless_map c.take_datagram.result (λ stays unclosed. stays (c.loop-count.invariant.3 unclosed))
-    c.take_datagram.ensures.open
+    unless_map c.answer.result (λ stays unclosed. stays (c.loop-count.invariant.3 unclosed)) c.answer.ensures.open
+
+pub returns-in-Nothing-clause-serves : goal.returns-in-Nothing-clause-serves
+returns-in-Nothing-clause-serves g c =
+    let visit = c.loop-count.self in
+    let noted = c.in-Nothing.ensures.noted in
+    serves_onward g.S.Store.meaning g.S.Source.Source.meaning c.loop-count.count 0 MOST_AT_ONCE _ _ _ (omega arith)
+    c.loop-count.invariant.0 (record {
+      same = record { server = refl; port = refl; journal = refl; now = refl; active = refl };
+      serves =
+          finds_nothing g.S.Store.meaning g.S.Source.Source.meaning visit.now visit.server.now (timer_of visit.port.now)
+          (timer_of c.mark_empty.new.port) visit.journal.now.events c.receive.new.journal.events noted
+          c.mark_empty.ensures;
+      received =
+          receives_none
+          (Empty visit.port.now.socket.udp.port) 0 visit.journal.now.events c.receive.new.journal.events noted;
+    })
+
+pub returns-in-Failed-clause-serves : goal.returns-in-Failed-clause-serves
+returns-in-Failed-clause-serves g c =
+    let visit = c.loop-count.self in
+    let noted = c.in-Failed.ensures.noted in
+    serves_onward g.S.Store.meaning g.S.Source.Source.meaning c.loop-count.count 0 MOST_AT_ONCE _ _ _ (omega arith)
+    c.loop-count.invariant.0 (record {
+      same = record { server = refl; port = refl; journal = refl; now = refl; active = refl };
+      serves =
+          fails_to_receive g.S.Store.meaning g.S.Source.Source.meaning visit.now visit.server.now
+          (timer_of visit.port.now)
+          (timer_of c.mark_ready.new.port) visit.journal.now.events c.receive.new.journal.events noted
+          c.mark_ready.ensures;
+      received =
+          receives_none
+          (Failed visit.port.now.socket.udp.port) 0 visit.journal.now.events c.receive.new.journal.events noted;
+    })
+
+pub returns-in-Nothing-clause-open : goal.returns-in-Nothing-clause-open
+returns-in-Nothing-clause-open g c =
+    λ unclosed.
+    subst (λ (p : ℕ). IsUnclosed p c.loop-count.self.server.now.held)
+    (sym (ap (λ (t : Timer). t.port) c.mark_empty.ensures)) (c.loop-count.invariant.3 unclosed)
+
+pub returns-in-Failed-clause-open : goal.returns-in-Failed-clause-open
+returns-in-Failed-clause-open g c =
+    λ unclosed.
+    subst (λ (p : ℕ). IsUnclosed p c.loop-count.self.server.now.held)
+    (sym (ap (λ (t : Timer). t.port) c.mark_ready.ensures)) (c.loop-count.invariant.3 unclosed)

@@ -1,9 +1,47 @@
-use Rattle.std.proofs.Common.{arith, refl}
+use Rattle.std.proofs.Common.{arith, rules, ◌≡◌, ◌<◌, ℕ, length, refl, sym, subst}
+use Rattle.std.specs.Prelude.{slice_index_or}
+use Rattle.std.specs.Vec.{with_item}
+use Rattle.tftp_file.specs.Source.{SourceMeaning}
+use Rattle.tftp_store.specs.Store.{StoreMeaning}
+use Rattle.tftp_server.specs.State.{ServerState}
+use Rattle.tftp_sockets.specs.declared.journal.Journal.{Journal}
+use Rattle.tftp_sockets.specs.declared.port.Port.{Port}
+use Rattle.tftp_loop.specs.declared.port_visit.TheConstants.{MOST_AT_ONCE}
+use Rattle.tftp_loop.specs.declared.server_loop.ServerLoop.{ServerLoop}
+use Rattle.tftp_loop.specs.declared.transfer_port.TransferSocket.{TransferSocket}
+use Rattle.tftp_loop.specs.Fair.{ReceivesAtMost}
 use Rattle.tftp_loop.specs.Run.Run.{Start}
-use Rattle.tftp_loop.specs.MayWait.{ReceivedFew, Stays, before_visit}
-use Rattle.tftp_loop.proofs.Visits.{before, visit_settled, works_after, visited_after}
-use Rattle.tftp_loop.proofs.Unclosed.{idle_visited, unless_not}
+use Rattle.tftp_loop.specs.Steps.{PortState}
+use Rattle.tftp_loop.specs.LoopStates.{OnlyServesPort, at_port, timer_of}
+use Rattle.tftp_loop.specs.MayWait.{IsHeld, ReceivedFew, Stays, VisitsPort, before_visit, leaves_by}
+use Rattle.tftp_loop.proofs.ListLemmas.{map_is, map_within}
+use Rattle.tftp_loop.proofs.PortEnds.{config_along}
+use Rattle.tftp_loop.proofs.Reserving.{room_same}
+use Rattle.tftp_loop.proofs.Visits.{before, few_before, visit_settled, visited_after, works_after}
+use Rattle.tftp_loop.proofs.Unclosed.{idle_visited, open_at, unless_not}
 use Rattle.tftp_loop.proofs.server_loop.ServerLoop.visit.Goals as goal
+
+-- a visit by what it leaves of the server, the port and the journal
+visits_by : {S F D : Type 0} (meaning : StoreMeaning S D) (sources : SourceMeaning F)
+    (leaves : PortState S F D → ℕ → Type 0) (index : ℕ) (old : ServerLoop S F D) (port next : Port TransferSocket)
+    (server : ServerState S F D) (journal : Journal) → index < length old.ports.items
+    → port ≡ slice_index_or old.ports.items index port
+    → OnlyServesPort meaning sources old.sockets.watch.now old.server port old.journal server next journal
+    → leaves (at_port server next journal) old.sockets.watch.now
+    → ReceivesAtMost MOST_AT_ONCE old.journal.events journal.events
+    → VisitsPort meaning sources leaves index old
+    (record old { server = server; ports = with_item old.ports index next; journal = journal })
+visits_by meaning sources leaves index old port next server journal within is_port serves left few = record {
+  port = port;
+  next = next;
+  within = within;
+  is_port = is_port;
+  serves = serves;
+  leaves_it = left;
+  few = few;
+  items = refl;
+  rest = refl;
+}
 
 pub returns-then-index-len-clause-works : goal.returns-then-index-len-clause-works
 returns-then-index-len-clause-works g c = λ buffer. Start
@@ -25,50 +63,76 @@ returns-then-not-is_visited-clause-visited g c =
 pub returns-then-not-is_visited-clause-waiting : goal.returns-then-not-is_visited-clause-waiting
 returns-then-not-is_visited-clause-waiting g c = λ k d l h. c.requires.waiting k d (omega (arith, l)) h
 
-pub returns-then-not-is_closed-clause-works : goal.returns-then-not-is_closed-clause-works
-returns-then-not-is_closed-clause-works g c =
-    let visit = c.visit_at-status in
-    works_after g.S.Store.meaning g.S.Source.Source.meaning visit.ensures.visits
-    (Stays refl (unless_not visit.result (c.is_closed.ensures c.if-not-is_closed.true) visit.ensures.open))
+pub visit_port-status-requires : goal.visit_port-status-requires
+visit_port-status-requires g c =
+    let ports = c.args.self.now.ports in
+    let port = c.index_mut-port.result.now in
+    let within =
+    map_within timer_of ports.items c.args.index (omega (arith, ports.ok.0, c.len.ensures, c.if-index-len.false)) in
+    let is = sym (map_is timer_of ports.items c.args.index port c.index_mut-port.ensures.value) in
+    record {
+      due =
+          (subst (IsHeld c.args.self.now.server.held) is
+          (c.requires.settled.kept.each c.args.index (timer_of port) within)).look;
+      few =
+          few_before c.args.pass (timer_of port)
+          (subst (ReceivedFew (before_visit c.args.pass)) is
+          (c.requires.waiting c.args.index (timer_of port) (omega arith) within));
+    }
 
-pub returns-then-not-is_closed-clause-settled : goal.returns-then-not-is_closed-clause-settled
-returns-then-not-is_closed-clause-settled g c =
-    let visit = c.visit_at-status in
-    visit_settled g.S.Store.meaning g.S.Source.Source.meaning visit.ensures.visits
-    (Stays refl (unless_not visit.result (c.is_closed.ensures c.if-not-is_closed.true) visit.ensures.open))
-    c.requires.settled
+pub returns-then-not-is_closed : goal.returns-then-not-is_closed
+returns-then-not-is_closed g c =
+    let old = c.args.self.now in
+    let visit = c.visit_port-status in
+    let within : c.args.index < length old.ports.items =
+    omega (arith, old.ports.ok.0, c.len.ensures, c.if-index-len.false) in
+    let visits =
+    visits_by g.S.Store.meaning g.S.Source.Source.meaning (leaves_by c.args.pass) c.args.index old
+    c.index_mut-port.result.now visit.new.port visit.new.server visit.new.journal within
+    c.index_mut-port.ensures.value visit.ensures.serves visit.ensures.leaves visit.ensures.received in
+    let stays =
+    Stays refl (open_at old c.args.index c.index_mut-port.result.now visit.new.port visit.new.server.held _ within
+    c.index_mut-port.ensures.value refl c.requires.settled
+    (unless_not visit.result (c.is_closed.ensures c.if-not-is_closed.true) visit.ensures.open)) in
+    record {
+      works = works_after g.S.Store.meaning g.S.Source.Source.meaning visits stays;
+      settled = visit_settled g.S.Store.meaning g.S.Source.Source.meaning visits stays c.requires.settled;
+      visited = λ visited.
+          visited_after g.S.Store.meaning g.S.Source.Source.meaning c.args.pass visits stays c.requires.waiting visited;
+      waiting =
+          before g.S.Store.meaning g.S.Source.Source.meaning visits stays (ReceivedFew (before_visit c.args.pass))
+          c.requires.waiting;
+      asked = refl;
+      rounds = refl;
+      fault = search rules;
+      room = λ room.
+          room_same (config_along g.S.Store.meaning g.S.Source.Source.meaning old.sockets.watch.now _ _
+          visit.ensures.serves) room;
+    }
 
-pub returns-then-not-is_closed-clause-visited : goal.returns-then-not-is_closed-clause-visited
-returns-then-not-is_closed-clause-visited g c =
-    let visit = c.visit_at-status in
-    λ visited.
-    visited_after g.S.Store.meaning g.S.Source.Source.meaning c.args.pass visit.ensures.visits
-    (Stays refl (unless_not visit.result (c.is_closed.ensures c.if-not-is_closed.true) visit.ensures.open))
-    c.requires.waiting visited
-
-pub returns-then-not-is_closed-clause-waiting : goal.returns-then-not-is_closed-clause-waiting
-returns-then-not-is_closed-clause-waiting g c =
-    let visit = c.visit_at-status in
-    before g.S.Store.meaning g.S.Source.Source.meaning visit.ensures.visits
-    (Stays refl (unless_not visit.result (c.is_closed.ensures c.if-not-is_closed.true) visit.ensures.open))
-    (ReceivedFew (before_visit c.args.pass)) c.requires.waiting
-
-pub returns-clause-works : goal.returns-clause-works
-returns-clause-works g c =
-    works_after g.S.Store.meaning g.S.Source.Source.meaning c.visit_at-status.ensures.visits
-    c.finish.ensures.finishes
-
-pub returns-clause-settled : goal.returns-clause-settled
-returns-clause-settled g c =
-    visit_settled g.S.Store.meaning g.S.Source.Source.meaning c.visit_at-status.ensures.visits
-    c.finish.ensures.finishes c.requires.settled
-
-pub returns-clause-visited : goal.returns-clause-visited
-returns-clause-visited g c = λ visited.
-    visited_after g.S.Store.meaning g.S.Source.Source.meaning c.args.pass c.visit_at-status.ensures.visits
-    c.finish.ensures.finishes c.requires.waiting visited
-
-pub returns-clause-waiting : goal.returns-clause-waiting
-returns-clause-waiting g c =
-    before g.S.Store.meaning g.S.Source.Source.meaning c.visit_at-status.ensures.visits c.finish.ensures.finishes
-    (ReceivedFew (before_visit c.args.pass)) c.requires.waiting
+pub returns : goal.returns
+returns g c =
+    let old = c.args.self.now in
+    let visit = c.visit_port-status in
+    let visits =
+    visits_by g.S.Store.meaning g.S.Source.Source.meaning (leaves_by c.args.pass) c.args.index old
+    c.index_mut-port.result.now visit.new.port visit.new.server visit.new.journal
+    (omega (arith, old.ports.ok.0, c.len.ensures, c.if-index-len.false))
+    c.index_mut-port.ensures.value visit.ensures.serves visit.ensures.leaves visit.ensures.received in
+    let ends = c.finish.ensures in
+    record {
+      works = works_after g.S.Store.meaning g.S.Source.Source.meaning visits ends.finishes;
+      settled = visit_settled g.S.Store.meaning g.S.Source.Source.meaning visits ends.finishes c.requires.settled;
+      visited = λ visited.
+          visited_after g.S.Store.meaning g.S.Source.Source.meaning c.args.pass visits ends.finishes c.requires.waiting
+          visited;
+      waiting =
+          before g.S.Store.meaning g.S.Source.Source.meaning visits ends.finishes
+          (ReceivedFew (before_visit c.args.pass)) c.requires.waiting;
+      asked = ends.asked;
+      rounds = ends.rounds;
+      fault = ends.fault;
+      room = λ room.
+          ends.room (room_same (config_along g.S.Store.meaning g.S.Source.Source.meaning old.sockets.watch.now _ _
+          visit.ensures.serves) room);
+    }
