@@ -14,12 +14,14 @@ use Rattle.tftp_folder.specs.Begin.{draft_name, BeginsNone}
 use Rattle.tftp_folder.specs.Changing.{limits_of, Admits, AreChanges, BeginStaysWithin, BeginsOwn, CommitStaysWithin, IsGiven}
 use Rattle.tftp_folder.specs.Changing.{IsOwn, IsWithin, KeepsWithin, Limits, ReadOnlyChangesNothing}
 use Rattle.tftp_folder.specs.Commit.{Names, RefusesName, RemovesNew}
-use Rattle.tftp_folder.specs.Draft.{LosesName, NamesNothingIn, SameNames}
+use Rattle.tftp_folder.specs.Draft.{IsDraftBelow, LosesName, NamesNothingIn, SameNames}
 use Rattle.tftp_folder.specs.Effects.{changes_of, folder_meaning, HasBegun, HasCommitted}
+use Rattle.tftp_folder.specs.Inside.{AreInside, IsInside, StaysInside}
 use Rattle.tftp_folder.specs.Settings.{AsksNothing, SameSettings}
 use Rattle.tftp_folder.specs.declared.folder_draft.FolderDraft.{FolderDraft}
 use Rattle.tftp_folder.specs.declared.folder_store.FolderStore.{FolderStore}
 use Rattle.tftp_file.specs.declared.fault.StoreFault.{StoreFault}
+use Rattle.tftp_folder.proofs.InsideLemmas.{in_folder}
 
 along : (limits : Limits) (before after : List DiskEvent) → after ≡ before → AreChanges limits before
     → AreChanges limits after
@@ -185,6 +187,8 @@ module _ {R G H : Type 0} where
   asks_within limits before after within asks = record {
     has = same_limits before after asks.settings ∙ within.has;
     changed = along limits (changes_of before) (changes_of after) (ap changes asks.calls) within.changed;
+    drafts = within.drafts;
+    inside = subst (AreInside limits.root) (sym asks.calls) within.inside;
   }
 
 module _ {F : Type 0} where
@@ -194,6 +198,14 @@ module _ {F : Type 0} where
   own_stays limits draft draft' names own =
       subst (λ (t : List ℕ). IsOwn limits (string_bytes draft'.draft) t) (sym (ap string_bytes names.target))
       (subst (λ (d : List ℕ). IsOwn limits d (string_bytes draft.target)) (sym (ap string_bytes names.draft)) own)
+
+  -- the store's drafts and their places are below the root, if its folder of drafts is inside it
+  own_below : (limits : Limits) (draft : FolderDraft F) → IsInside limits.root limits.drafts
+      → IsOwn limits (string_bytes draft.draft) (string_bytes draft.target) → IsDraftBelow limits.root draft
+  own_below limits draft inside own = record {
+    path = in_folder limits.root limits.drafts _ inside (_, own.is_draft.1);
+    target = (own.is_target.path, own.is_target.place);
+  }
 
   abbrev IsOwnDraft : Limits → FolderDraft F → Type 0
   IsOwnDraft limits draft = IsOwn limits (string_bytes draft.draft) (string_bytes draft.target)
@@ -206,24 +218,28 @@ module _ {R G H F : Type 0} where
       no_writes before.is_read_only (λ yes. let refused = begun.read_only yes in cc)
 
   begun_within : (path : List ℕ) (before after : FolderStore R G H) (result : Result (FolderDraft F) StoreFault)
-      → AreChanges (limits_of before) (changes_of before) → HasBegun path before after result
+      → IsWithin (limits_of before) before → HasBegun path before after result
       → IsWithin (limits_of before) after × IfOk result (IsOwnDraft (limits_of before))
-  begun_within path before after (Ok draft) changed begun = (
+  begun_within path before after (Ok draft) within begun = (
     record {
       has = same_limits before after begun.settings;
       changed =
           begin_stays_within (limits_of before) before.port (changes_of before) (changes_of after) begun.untouched
-          (inr (Ok tt, begun.made.made)) changed;
+          (inr (Ok tt, begun.made.made)) within.changed;
+      drafts = within.drafts;
+      inside = begun.inside within.drafts within.inside;
     },
     begins_own draft (limits_of before) before.port path (changes_of before) (changes_of after) begun.is_path
         (writes_admitted path before after draft begun) begun.uploads begun.made,
   )
-  begun_within path before after (Err fault) changed begun = (
+  begun_within path before after (Err fault) within begun = (
     record {
       has = same_limits before after begun.settings;
       changed =
           begin_stays_within (limits_of before) before.port (changes_of before) (changes_of after) begun.untouched
-          begun.not_made changed;
+          begun.not_made within.changed;
+      drafts = within.drafts;
+      inside = begun.inside within.drafts within.inside;
     },
     tt,
   )
@@ -237,12 +253,19 @@ module _ {R G H F : Type 0} where
   committed_within limits before after draft draft' replaces (Some fault) own does changed =
       commit_stays_within draft' limits replaces (changes_of before) (changes_of after) own (inr does.not_named) changed
 
+  commits_inside : (limits : Limits) (before after : FolderStore R G H) (draft draft' : FolderDraft F)
+      (replaces : Bool) (fault : Option StoreFault) → IsWithin limits before → IsOwnDraft limits draft
+      → HasCommitted before draft replaces after draft' fault → AreInside limits.root after.journal.events
+  commits_inside limits before after draft draft' replaces fault within own does =
+      let same : string_bytes before.folder.root ≡ limits.root = ap (λ (l : Limits). l.root) within.has in
+      subst (λ (r : List ℕ). IsDraftBelow r draft → StaysInside r before.journal.events after.journal.events) same
+      does.inside (own_below limits draft within.drafts own) within.inside
+
   pub keeps_within : KeepsWithin (folder_meaning {R = R} {G = G} {H = H} {F = F})
   keeps_within limits = record {
     begun = λ path replace before after result within does.
         subst (λ (l : Limits). IsWithin l after × IfOk result (IsOwnDraft l)) within.has
-        (begun_within path before after result
-        (subst (λ (l : Limits). AreChanges l (changes_of before)) (sym within.has) within.changed) does);
+        (begun_within path before after result (subst (λ (l : Limits). IsWithin l before) (sym within.has) within) does);
     appended = λ bytes before after draft draft' fault within own does. (
       asks_within limits before after within does.store,
       own_stays limits draft draft' does.names own,
@@ -252,6 +275,8 @@ module _ {R G H F : Type 0} where
           record {
             has = same_limits before after does.settings ∙ within.has;
             changed = committed_within limits before after draft draft' replace fault own' does within.changed;
+            drafts = within.drafts;
+            inside = commits_inside limits before after draft draft' replace fault within own does;
           },
           own',
         );

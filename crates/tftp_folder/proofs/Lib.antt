@@ -1,4 +1,5 @@
 pub mod ChangingLemmas
+mod InsideLemmas
 mod NamingLemmas
 pub mod SourceLemmas
 pub mod StoredLemmas

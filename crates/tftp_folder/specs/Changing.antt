@@ -11,6 +11,7 @@ use Rattle.tftp_store.specs.Store.{StoreMeaning}
 use Rattle.tftp_folder.specs.Begin.{draft_name, BeginsNone}
 use Rattle.tftp_folder.specs.Draft.{BeginsAt, GivesName, NamesNothing}
 use Rattle.tftp_folder.specs.Effects.{changes_of}
+use Rattle.tftp_folder.specs.Inside.{AreInside, IsInside}
 use Rattle.tftp_folder.specs.Uploads.{IsBelow, path_below}
 use Rattle.tftp_folder.specs.declared.folder_draft.FolderDraft.{FolderDraft}
 use Rattle.tftp_folder.specs.declared.folder_store.FolderStore.{FolderStore}
@@ -110,10 +111,13 @@ module _ {F : Type 0} where
       → AreChanges limits before → AreChanges limits after
 
 module _ {R G H : Type 0} where
-  -- a store has these limits, and has changed nothing beyond them
+  -- a store has these limits, and has changed nothing beyond them; it passed no path outside its
+  -- root to the system, and its folder of drafts is inside the root
   pub record IsWithin (limits : Limits) (store : FolderStore R G H) : Type 0 where
     pub has : limits_of store ≡ limits
     pub changed : AreChanges limits (changes_of store)
+    pub drafts : IsInside limits.root limits.drafts
+    pub inside : AreInside limits.root store.journal.events
 
 module _ {R G H F : Type 0} where
   -- each call of a store that is within its limits keeps it so, and its drafts its own

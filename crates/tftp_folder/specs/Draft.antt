@@ -10,6 +10,7 @@ use Rattle.tftp_disk.specs.declared.calls.DiskFolder.{DiskFolder}
 use Rattle.tftp_disk.specs.DiskJournal.DiskEvent.{Renamed}
 use Rattle.tftp_folder.specs.Begin.{MakesDraft}
 use Rattle.tftp_folder.specs.Commit.{Names, RefusesName, MayRemove, RemovesNew}
+use Rattle.tftp_folder.specs.Uploads.{IsBelow}
 use Rattle.tftp_folder.specs.declared.folder_draft.FolderDraft.{FolderDraft}
 
 module _ {F : Type 0} where
@@ -27,6 +28,11 @@ module _ {F : Type 0} where
     pub target : after.target ≡ before.target
     pub folder : after.folder ≡ before.folder
     pub port : after.port ≡ before.port
+
+  -- the paths of a draft are below the root
+  pub record IsDraftBelow (root : List ℕ) (draft : FolderDraft F) : Type 0 where
+    pub path : IsBelow root (string_bytes draft.draft)
+    pub target : IsBelow root (string_bytes draft.target)
 
   -- all that is in its file is synced, and no sync of it failed
   pub record IsDone (draft : FolderDraft F) : Type 0 where

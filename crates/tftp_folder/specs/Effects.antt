@@ -11,7 +11,9 @@ use Rattle.tftp_disk.specs.DiskJournal.{DiskEvent}
 use Rattle.tftp_store.specs.Store.{StoreMeaning}
 use Rattle.tftp_folder.specs.Begin.{draft_name, BeginsNone}
 use Rattle.tftp_folder.specs.Commit.{LooksThenRenames}
-use Rattle.tftp_folder.specs.Draft.{bytes_of, BeginsAt, GivesName, IsWhole, NamesNothing, SameNames}
+use Rattle.tftp_folder.specs.Draft.{bytes_of, BeginsAt, GivesName, IsDraftBelow, IsWhole}
+use Rattle.tftp_folder.specs.Draft.{NamesNothing, SameNames}
+use Rattle.tftp_folder.specs.Inside.{IsInside, StaysInside}
 use Rattle.tftp_folder.specs.Settings.{AsksNothing, SameSettings}
 use Rattle.tftp_folder.specs.Uploads.{IsBelow, path_below}
 use Rattle.tftp_folder.specs.declared.folder_draft.FolderDraft.{FolderDraft}
@@ -36,7 +38,8 @@ module _ {R G H F : Type 0} where
   -- a draft of the path was begun, or refused: the settings stay, a store that refuses all writes
   -- has refused it, and changed nothing; it was begun only for a path that a client can name, below
   -- the folder of uploads, if there is one. It was made for that place of the root, and is empty;
-  -- if it was refused, nothing else changed
+  -- if it was refused, nothing else changed. No path outside the root was passed to the system, if
+  -- the folder of the drafts is inside it
   pub record HasBegun (path : List ℕ) (before after : FolderStore R G H)
       (result : Result (FolderDraft F) StoreFault) : Type 0 where
     pub settings : SameSettings before after
@@ -49,6 +52,9 @@ module _ {R G H F : Type 0} where
         (changes_of after))
     pub not_made : OnErr result
         (BeginsNone (draft_of before) (changes_of before) (changes_of after))
+    pub inside : IsInside (string_bytes before.folder.root) (string_bytes before.folder.drafts)
+        → StaysInside (string_bytes before.folder.root) before.journal.events
+        after.journal.events
 
   -- bytes were appended to a draft, or refused: it was handed them after all earlier ones, or none
   -- of them, and has its names; the store asked nothing of the disk on a path
@@ -62,7 +68,8 @@ module _ {R G H F : Type 0} where
 
   -- a draft was committed: by then all that it was handed was in its file and synced, and then it
   -- got its name; or that was refused, and it got none, or lost it. A rename to the name
-  -- came just after a look at what had it. The settings stay
+  -- came just after a look at what had it. The settings stay. No path outside the root was passed to
+  -- the system, if those of the draft are below it
   pub record HasCommitted (before : FolderStore R G H) (draft : FolderDraft F) (replaces : Bool)
       (after : FolderStore R G H) (draft' : FolderDraft F) (fault : Option StoreFault)
       : Type 0 where
@@ -74,6 +81,9 @@ module _ {R G H F : Type 0} where
     pub not_named : OnSome fault
         (NamesNothing draft' (changes_of before) replaces (changes_of after))
     pub over : LooksThenRenames replaces (string_bytes draft.target) before.journal.events
+        after.journal.events
+    pub inside : IsDraftBelow (string_bytes before.folder.root) draft
+        → StaysInside (string_bytes before.folder.root) before.journal.events
         after.journal.events
 
   -- the model of a store over a folder: what its calls return, and their effect. Of what its files

@@ -1,8 +1,10 @@
 pub mod Begin
 pub mod Changing
 pub mod Commit
+pub mod Counted
 pub mod Draft
 pub mod Effects
+pub mod Inside
 pub mod Opened
 pub mod Settings
 pub mod Source

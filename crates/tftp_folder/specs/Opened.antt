@@ -1,6 +1,6 @@
 -- How a store over a folder finds and opens a file to be read (ours).
 use Rattle.std.specs.Prelude.{ℕ, ◌≡◌, ◌≤◌, ◌⊎◌, true, max, List, []}
-use Rattle.std.specs.Prelude.{◌∷◌, ◌++◌, length, Option, Some, IfSome, Ok, codes}
+use Rattle.std.specs.Prelude.{◌∷◌, length, Option, Some, IfSome, Ok}
 use Rattle.tftp_disk.specs.DiskJournal.{DiskEvent}
 use Rattle.tftp_disk.specs.DiskJournal.DiskEvent.{Looked, Followed, Resolved, Opened}
 use Rattle.tftp_disk.specs.Given.{examined, opened_at}
@@ -9,6 +9,7 @@ use Rattle.tftp_disk.specs.Found.{is_same_file}
 use Rattle.tftp_disk.specs.declared.found.FileId.{FileId}
 use Rattle.tftp_disk.specs.declared.found.Found.{Found}
 use Rattle.tftp_disk.specs.declared.found.Kind.TheVariants.{Regular, Folder}
+use Rattle.tftp_folder.specs.Inside.{IsRootText}
 use Rattle.tftp_folder.specs.Uploads.{IsBelow, path_below}
 
 -- the root is the folder that the system resolved the operator's path to, without its last slash
@@ -17,7 +18,7 @@ pub record IsRootOf (path root : List ℕ) (after : List DiskEvent) : Type 0 whe
   pub found : Found
   pub looked : after ≡ Followed text (Ok found) ∷ Resolved path (Ok text) ∷ []
   pub is_folder : found.kind ≡ Folder
-  pub whole : (text ≡ root) ⊎ (text ≡ root ++ codes "/")
+  pub whole : IsRootText root text
 
 -- the path and each above it, up to the root, was looked at, and is a folder and no link
 pub data AreFolders (root : List ℕ) : List ℕ → List DiskEvent → List DiskEvent → Type 0 where

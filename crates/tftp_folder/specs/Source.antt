@@ -1,7 +1,9 @@
 -- The file of a source of a folder, and how long its text is (ours).
 use Rattle.std.specs.Prelude.{ℕ, ◌≡◌, ◌+◌, ◌<◌, ◌≤◌, min, List, [], Some}
+use Rattle.std.specs.Option.{option_map_or}
 use Rattle.tftp_wire.specs.declared.mode.Mode.{Mode}
-use Rattle.tftp_wire.specs.declared.mode.Mode.TheVariants.{Octet}
+use Rattle.tftp_wire.specs.declared.mode.Mode.TheVariants.{Octet, Netascii}
+use Rattle.tftp_disk.specs.Changes.{changes}
 use Rattle.tftp_disk.specs.DiskJournal.{DiskEvent}
 use Rattle.tftp_disk.specs.DiskSource.{IsUnread, source_calls}
 use Rattle.tftp_disk.specs.DiskSourceLaws.{GivenInOrder}
@@ -11,7 +13,10 @@ use Rattle.tftp_disk.specs.declared.found.Found.{Found}
 use Rattle.tftp_file.specs.Source.{GivesInTurn, SourceMeaning}
 use Rattle.tftp_file.specs.declared.length.TheConstants.{MAX_WIRE}
 use Rattle.tftp_store.specs.declared.store.Opening.{Opening}
+use Rattle.tftp_folder.specs.Counted.{IsCounted}
+use Rattle.tftp_folder.specs.Inside.{AreInside}
 use Rattle.tftp_folder.specs.Opened.{OpensAt}
+use Rattle.tftp_folder.specs.declared.measured.StatedLength.{StatedLength}
 use Rattle.tftp_folder.specs.declared.folder_source.FolderSource.{FolderSource}
 
 module _ {F : Type 0} where
@@ -23,20 +28,31 @@ module _ {F : Type 0} where
   abbrev pub calls_of : FolderSource F → List DiskEvent
   calls_of source = source_calls source.text
 
+-- the calls on the file whose text was counted: none if none was
+abbrev pub counted_by : StatedLength → List DiskEvent
+counted_by stated = option_map_or (λ measured. measured.value.calls.value.events) stated.counted []
+
 -- how long a file is said to be that was found so, if the longest that can be sent is so long: in
--- octet as long as the system says, and in each mode too long if it is so by that
-pub record StatesLength (longest : ℕ) (mode : Mode) (found : Found) (stated : ℕ) : Type 0 where
+-- octet as long as the system says, in netascii as one pass over it counted, by these calls, and in
+-- each mode too long if it is so by what the system says
+pub record StatesLength (longest : ℕ) (mode : Mode) (found : Found) (calls : List DiskEvent)
+    (stated : ℕ) : Type 0 where
   pub long : min longest MAX_WIRE < found.bytes → stated ≡ MAX_WIRE + 1
   pub octet : mode ≡ Octet → found.bytes ≤ min longest MAX_WIRE → stated ≡ found.bytes
+  pub netascii : mode ≡ Netascii → found.bytes ≤ min longest MAX_WIRE
+      → IsCounted found calls stated
 
 module _ {F : Type 0} where
   -- the source of a file that was found at the path of a request and opened there, in this mode: it
-  -- begins with the first byte, and has read nothing since
+  -- begins with the first byte, and has read nothing since. The calls that found the file changed
+  -- nothing, and no path outside the root was passed to the system
   pub record OpensSource (root path : List ℕ) (mode : Mode) (source : FolderSource F) : Type 0 where
     pub opened : Found
     pub opens : OpensAt root path opened source.found.events (calls_of source)
     pub start : given (calls_of source) ≡ []
     pub unread : IsUnread mode (text_of source)
+    pub looks : changes source.found.events ≡ []
+    pub inside : AreInside root source.found.events
 
   -- the model of a source of a folder: that of its text, and how a store opens it
   abbrev pub folder_source : SourceMeaning (DiskSource F) → SourceMeaning (FolderSource F)
@@ -49,12 +65,14 @@ module _ {F : Type 0} where
         opens = OpensSource;
       }
 
-  -- the length of an opened file is stated by what the system said of it
+  -- the length of an opened file is stated by what the system said of it, and in netascii by one
+  -- pass, of which the source has the calls
   pub record StatesOpened (longest : ℕ) (mode : Mode) (opening : Opening (FolderSource F))
       : Type 0 where
     pub found : Found
     pub told : examined (calls_of opening.source) ≡ Some found
-    pub states : StatesLength longest mode found opening.length
+    pub states : StatesLength longest mode found (counted_by opening.source.stated.value)
+        opening.length
 
   -- whatever calls there are of a source since it was opened, what they gave is a beginning of the
   -- wire text of what reads of that file returned, in order and each byte once, and it is all of it

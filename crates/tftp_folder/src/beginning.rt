@@ -7,6 +7,7 @@ ghost use Rattle.tftp_disk.specs.Changes.{changes};
 ghost use Rattle.tftp_disk.specs.DiskFault.{MayNotName, is_replaced};
 ghost use Rattle.tftp_folder.specs.Begin.{draft_name, MakesDraft, BeginsNone};
 ghost use Rattle.tftp_folder.specs.Draft.{bytes_of};
+ghost use Rattle.tftp_folder.specs.Inside.{IsInside, StaysInside};
 ghost use Rattle.tftp_folder.specs.Uploads.{path_below};
 
 use crate::folder_draft::FolderDraft;
@@ -73,6 +74,10 @@ pub(crate) fn begin_draft<R: Files + Drop>(
         (changes journal.new.events)) }
     ensures err { OnErr result (BeginsNone (string_bytes memory.draft)
         (changes journal.old.events) (changes journal.new.events)) }
+    ensures inside { IsInside (string_bytes served.now.root) (string_bytes served.now.drafts)
+        → IsInside (string_bytes served.now.root) (string_bytes memory.draft)
+        → IsInside (string_bytes served.now.root) (string_bytes memory.target)
+        → StaysInside (string_bytes served.now.root) journal.old.events journal.new.events }
 {
     let DraftMemory {
         target,

@@ -1,5 +1,6 @@
 //! Finds the files of a folder on the system.
 
+ghost use Rattle.std.specs.Prelude.{ℕ, List};
 ghost use Rattle.std.specs.Prelude.{◌≡◌, ◌⊎◌, ◌∷◌, [], true, Ok, Err, IfErr, IfOk, OnErr, IfSome};
 ghost use Rattle.std.specs.String.{string_bytes};
 ghost use Rattle.tftp_file.specs.Path.{IsPath};
@@ -12,7 +13,8 @@ ghost use Rattle.tftp_folder.specs.Opened.{FindsAt, FollowsTo, LooksLast, IsStil
 ghost use Rattle.tftp_disk.specs.Given.{given};
 ghost use Rattle.tftp_folder.specs.Opened.{OpensSeen};
 ghost use Rattle.tftp_folder.specs.Begin.{draft_name, MakesDraft};
-ghost use Rattle.tftp_folder.specs.Uploads.{path_below};
+ghost use Rattle.tftp_folder.specs.Inside.{IsInside, StaysInside};
+ghost use Rattle.tftp_folder.specs.Uploads.{IsBelow, path_below};
 ghost use Rattle.tftp_disk.specs.DiskFault.{MayNotOpen, MayNotStore, MayNotName, is_replaced};
 
 use crate::below::is_below;
@@ -103,6 +105,8 @@ impl<R: Files + Drop> ServedFolder<R> {
         ensures found { IfOk result (λ location. LooksLast (string_bytes target) location.found
             journal.new.events) }
         ensures looks { changes journal.new.events ≡ changes journal.old.events }
+        ensures inside { IsInside (string_bytes self.now.root) (string_bytes target)
+            → StaysInside (string_bytes self.now.root) journal.old.events journal.new.events }
     {
         let above = self.walk_folders(journal, path, target.as_str())?;
         match tftp_disk::look(&self.files, journal, target.as_str()) {
@@ -136,6 +140,8 @@ impl<R: Files + Drop> ServedFolder<R> {
     ) -> Result<Above, StoreFault>
         ensures fault { IfErr result MayNotOpen }
         ensures looks { changes journal.new.events ≡ changes journal.old.events }
+        ensures inside { IsInside (string_bytes self.now.root) target.now
+            → StaysInside (string_bytes self.now.root) journal.old.events journal.new.events }
     {
         let mut above = Above {
             has_link: false,
@@ -174,6 +180,11 @@ impl<R: Files + Drop> ServedFolder<R> {
         ensures fault { IfErr result MayNotOpen }
         ensures ok { IfOk result (λ location. FollowsTo (string_bytes self.now.root) path.now
             (string_bytes location.path) location.found journal.new.events) }
+        ensures below { IfOk result (λ location. IsBelow (string_bytes self.now.root)
+            (string_bytes location.path)) }
+        ensures looks { changes journal.new.events ≡ changes journal.old.events }
+        ensures inside { IsInside (string_bytes self.now.root) path.now
+            → StaysInside (string_bytes self.now.root) journal.old.events journal.new.events }
     {
         let canonical = match tftp_disk::resolve(&self.files, journal, alloc, path) {
             Ok(canonical) => canonical,
@@ -204,6 +215,11 @@ impl<R: Files + Drop> ServedFolder<R> {
         ensures fault { IfErr result MayNotOpen }
         ensures ok { IfOk result (λ location. FindsAt (string_bytes self.now.root) path.now
             (string_bytes location.path) location.found journal.new.events) }
+        ensures below { IfOk result (λ location. IsBelow (string_bytes self.now.root)
+            (string_bytes location.path)) }
+        ensures looks { changes journal.new.events ≡ changes journal.old.events }
+        ensures inside { StaysInside (string_bytes self.now.root) journal.old.events
+            journal.new.events }
     {
         let target = self.path_of(alloc, path)?;
         let location = self.walk(journal, path, target)?;
@@ -227,6 +243,9 @@ impl<R: Files + Drop> ServedFolder<R> {
         ensures opens { IfOk result (λ opened. OpensAt (string_bytes self.now.root) path.now
             opened.found journal.new.events opened.file.journal.events) }
         ensures start { IfOk result (λ opened. given opened.file.journal.events ≡ []) }
+        ensures looks { changes journal.new.events ≡ changes journal.old.events }
+        ensures inside { StaysInside (string_bytes self.now.root) journal.old.events
+            journal.new.events }
     {
         for _ in 0..MOST_LOOKS {
             match self.open_found(journal, alloc, path) {
@@ -252,6 +271,9 @@ impl<R: Files + Drop> ServedFolder<R> {
             file.file.journal.events)) }
         ensures start { IfOk result (λ opened. IfSome opened (λ file.
             given file.file.journal.events ≡ [])) }
+        ensures looks { changes journal.new.events ≡ changes journal.old.events }
+        ensures inside { StaysInside (string_bytes self.now.root) journal.old.events
+            journal.new.events }
     {
         let location = self.locate(journal, alloc, path)?;
         let Some(found) = location.found else {
@@ -277,6 +299,9 @@ impl<R: Files + Drop> ServedFolder<R> {
             journal.new.events)) }
         ensures file { IfOk result (λ opened. IfSome opened (λ file. file.file.journal.events
             ≡ Examined (Ok file.found) ∷ Opened path.now (Ok tt) ∷ [])) }
+        ensures looks { changes journal.new.events ≡ changes journal.old.events }
+        ensures inside { IsBelow (string_bytes self.now.root) path.now
+            → StaysInside (string_bytes self.now.root) journal.old.events journal.new.events }
     {
         let mut file = match tftp_disk::open(&self.files, journal, path) {
             Ok(file) => file,
@@ -295,8 +320,11 @@ impl<R: Files + Drop> ServedFolder<R> {
 
     /// Whether the file still is at the path, below folders alone.
     fn is_still(&self, journal: &mut DiskJournal, path: &str, id: FileId) -> bool
-        ensures { result ≡ true → IsStill (string_bytes self.now.root) path.now id
+        ensures still { result ≡ true → IsStill (string_bytes self.now.root) path.now id
             journal.old.events journal.new.events }
+        ensures looks { changes journal.new.events ≡ changes journal.old.events }
+        ensures inside { IsBelow (string_bytes self.now.root) path.now
+            → StaysInside (string_bytes self.now.root) journal.old.events journal.new.events }
     {
         has_no_link(&self.files, journal, self.root.as_str(), folder_of(path))
             && self.is_at(journal, path, id)
@@ -304,9 +332,12 @@ impl<R: Files + Drop> ServedFolder<R> {
 
     /// Whether the file is at the path.
     fn is_at(&self, journal: &mut DiskJournal, path: &str, id: FileId) -> bool
-        ensures { result ≡ true → (again : Found)
+        ensures again { result ≡ true → (again : Found)
             × (journal.new.events ≡ Looked path.now (Ok again) ∷ journal.old.events)
             × (is_same_file id again.id ≡ true) }
+        ensures looks { changes journal.new.events ≡ changes journal.old.events }
+        ensures inside { IsInside (string_bytes self.now.root) path.now
+            → StaysInside (string_bytes self.now.root) journal.old.events journal.new.events }
     {
         match tftp_disk::look(&self.files, journal, path) {
             Ok(found) => id.is(found.id),
@@ -327,6 +358,9 @@ impl<R: Files + Drop> ServedFolder<R> {
         ensures fault { IfErr result (MayNotName (is_replaced existing)) }
         ensures place { IfOk result (λ place. place.path ≡ target) }
         ensures looks { changes journal.new.events ≡ changes journal.old.events }
+        ensures inside { IsInside (string_bytes self.now.root) (string_bytes self.now.drafts)
+            → IsInside (string_bytes self.now.root) (string_bytes target)
+            → StaysInside (string_bytes self.now.root) journal.old.events journal.new.events }
     {
         let location = match self.walk(journal, path, target) {
             Ok(location) => location,
@@ -362,6 +396,8 @@ impl<R: Files + Drop> ServedFolder<R> {
     ) -> Result<(), StoreFault>
         ensures fault { IfErr result MayNotStore }
         ensures looks { changes journal.new.events ≡ changes journal.old.events }
+        ensures inside { IsInside (string_bytes self.now.root) path.now
+            → StaysInside (string_bytes self.now.root) journal.old.events journal.new.events }
     {
         match check_replaced(&self.files, journal, path, found) {
             Ok(()) => Ok(()),
@@ -379,12 +415,11 @@ impl<R: Files + Drop> ServedFolder<R> {
     ) -> Result<FileId, StoreFault>
         ensures fault { IfErr result MayNotStore }
         ensures looks { changes journal.new.events ≡ changes journal.old.events }
+        ensures inside { IsInside (string_bytes self.now.root) (string_bytes self.now.drafts)
+            → StaysInside (string_bytes self.now.root) journal.old.events journal.new.events }
     {
-        let folder = match found {
-            Some(folder) => folder,
-            None => self.id_of(journal, folder_or_root(self.root.as_str()))?,
-        };
-        let drafts = self.id_of(journal, folder_or_root(self.drafts.as_str()))?;
+        let folder = self.found_or_root(journal, found)?;
+        let drafts = self.id_of(journal, self.drafts.as_str())?;
         if folder.device == drafts.device {
             Ok(folder)
         } else {
@@ -392,12 +427,31 @@ impl<R: Files + Drop> ServedFolder<R> {
         }
     }
 
-    /// The folder at a path.
-    fn id_of(&self, journal: &mut DiskJournal, folder: &str) -> Result<FileId, StoreFault>
+    /// The folder that was found, or else the root.
+    fn found_or_root(
+        &self,
+        journal: &mut DiskJournal,
+        found: Option<FileId>,
+    ) -> Result<FileId, StoreFault>
         ensures fault { IfErr result MayNotStore }
         ensures looks { changes journal.new.events ≡ changes journal.old.events }
+        ensures inside { StaysInside (string_bytes self.now.root) journal.old.events
+            journal.new.events }
     {
-        match tftp_disk::look(&self.files, journal, folder) {
+        match found {
+            Some(folder) => Ok(folder),
+            None => self.id_of(journal, self.root.as_str()),
+        }
+    }
+
+    /// The folder at a path, without a trailing slash.
+    fn id_of(&self, journal: &mut DiskJournal, path: &str) -> Result<FileId, StoreFault>
+        ensures fault { IfErr result MayNotStore }
+        ensures looks { changes journal.new.events ≡ changes journal.old.events }
+        ensures inside { IsInside (string_bytes self.now.root) path.now
+            → StaysInside (string_bytes self.now.root) journal.old.events journal.new.events }
+    {
+        match tftp_disk::look(&self.files, journal, folder_or_root(path)) {
             Ok(found) => Ok(found.id),
             Err(error) => Err(self.write_refused(&error)),
         }
@@ -424,6 +478,8 @@ impl<R: Files + Drop> ServedFolder<R> {
             (changes journal.new.events)) }
         ensures err { OnErr result ((answer : Done) × MakesDraft draft.now
             (changes journal.old.events) answer (changes journal.new.events)) }
+        ensures inside { IsInside (string_bytes self.now.root) draft.now
+            → StaysInside (string_bytes self.now.root) journal.old.events journal.new.events }
     {
         match make_again(&self.files, journal, draft) {
             Ok(file) => Ok(file),
@@ -443,6 +499,8 @@ fn make_again<R: Files>(
         (changes journal.new.events)) }
     ensures err { IfErr result (λ error. MakesDraft draft.now (changes journal.old.events)
         (Err error) (changes journal.new.events)) }
+    ensures inside { (root : List ℕ) → IsInside root draft.now
+        → StaysInside root journal.old.events journal.new.events }
 {
     let _ = tftp_disk::remove(files, journal, draft);
     match tftp_disk::make(files, journal, draft) {

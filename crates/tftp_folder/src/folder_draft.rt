@@ -1,10 +1,12 @@
 //! A file that is being written to a folder.
 
-ghost use Rattle.std.specs.Prelude.{◌≡◌, ◌++◌, [], Some, None, true, false, OnOk, OnErr};
+ghost use Rattle.std.specs.Prelude.{ℕ, ◌≡◌, List, ◌++◌, [], Some, None, true, false, OnOk};
+ghost use Rattle.std.specs.Prelude.{OnErr};
 ghost use Rattle.std.specs.String.{string_bytes};
 ghost use Rattle.tftp_disk.specs.Changes.{changes, renames};
 ghost use Rattle.tftp_disk.specs.DiskJournal.{made_at, is_synced, sync_failed, state_of};
 ghost use Rattle.tftp_disk.specs.DiskWriter.{calls_of, handed};
+ghost use Rattle.tftp_folder.specs.Inside.{IsInside, StaysInside};
 
 use crate::finding::DraftPlace;
 use crate::replacing::permissions_of;
@@ -209,6 +211,8 @@ impl<F: Write + OpenFile> FolderDraft<F> {
         ensures stays { StaysDone self.old self.new }
         ensures looks { changes journal.new.events ≡ changes journal.old.events }
         ensures renames { renames journal.new.events ≡ renames journal.old.events }
+        ensures inside { (root : List ℕ) → IsInside root (string_bytes self.old.draft)
+            → StaysInside root journal.old.events journal.new.events }
     {
         is_at(&mut self.writer, files, journal, self.draft.as_str())
     }
@@ -218,6 +222,8 @@ impl<F: Write + OpenFile> FolderDraft<F> {
         ensures stays { StaysDone self.old self.new }
         ensures looks { changes journal.new.events ≡ changes journal.old.events }
         ensures renames { renames journal.new.events ≡ renames journal.old.events }
+        ensures inside { (root : List ℕ) → IsInside root (string_bytes self.old.target)
+            → StaysInside root journal.old.events journal.new.events }
     {
         is_at(&mut self.writer, files, journal, self.target.as_str())
     }
@@ -234,6 +240,8 @@ fn is_at<R: Files, F: OpenFile>(
     ensures buffer { writer.new.buffer ≡ writer.old.buffer }
     ensures looks { changes journal.new.events ≡ changes journal.old.events }
     ensures renames { renames journal.new.events ≡ renames journal.old.events }
+    ensures inside { (root : List ℕ) → IsInside root path.now
+        → StaysInside root journal.old.events journal.new.events }
 {
     let opened = writer.examine();
     let found = tftp_disk::look(files, journal, path);

@@ -4,10 +4,12 @@ ghost use Rattle.std.specs.Prelude.{◌≡◌, [], IfOk};
 ghost use Rattle.tftp_disk.specs.DiskSource.{IsUnread};
 ghost use Rattle.tftp_folder.specs.Source.{calls_of, text_of};
 
+use crate::measured::StatedLength;
 use std::alloc::{AllocError, Global};
 use std::cell::Cell;
 use std::io::Read;
 use std::rc::Rc;
+use std::snapshot::Snapshot;
 use tftp_disk::{DiskFile, DiskJournal, DiskSource};
 use tftp_file::{FileFault, Source};
 use tftp_lines::{Reason, reason_of};
@@ -58,6 +60,8 @@ pub struct FolderSource<F: Read + Drop> {
     text: DiskSource<F>,
     /// The calls that found the file.
     found: DiskJournal,
+    /// How long its text is said to be. Only clauses read it: it uses no memory.
+    stated: Snapshot<StatedLength>,
     /// The reason of the store.
     reason: SharedReason,
 }
@@ -69,18 +73,20 @@ impl<F: Read + Drop> FolderSource<F> {
         file: DiskFile<F>,
         found: DiskJournal,
         mode: Mode,
-        length: u64,
+        length: &StatedLength,
         reason: SharedReason,
     ) -> Result<FolderSource<F>, AllocError>
         ensures unread { IfOk result (λ source. IsUnread mode (text_of source)) }
         ensures calls { IfOk result (λ source. calls_of source ≡ file.journal.events) }
         ensures found { IfOk result (λ source. source.found ≡ found) }
+        ensures stated { IfOk result (λ source. source.stated.value ≡ length.now) }
     {
-        let room = length.min(READ_BUFFER) as usize;
+        let room = length.bytes.min(READ_BUFFER) as usize;
         match DiskSource::new(alloc, file, mode, room) {
             Ok(text) => Ok(FolderSource {
                 text,
                 found,
+                stated: Snapshot::of(length),
                 reason,
             }),
             Err(error) => Err(error),

@@ -7,19 +7,22 @@ ghost use Rattle.std.specs.String.{string_bytes};
 ghost use Rattle.tftp_file.specs.Path.{path_of_name};
 ghost use Rattle.tftp_disk.specs.Changes.{changes};
 ghost use Rattle.tftp_disk.specs.DiskFault.{MayNotOpen, MayNotStore, MayNotName, is_replaced};
-ghost use Rattle.tftp_disk.specs.Given.{given};
+ghost use Rattle.tftp_disk.specs.Given.{examined, given};
 ghost use Rattle.tftp_disk.specs.Measuring.{calls_on, StaysOpen};
+ghost use Rattle.tftp_folder.specs.Inside.{AreInside, StaysInside};
 ghost use Rattle.tftp_folder.specs.Opened.{IsRootOf};
 ghost use Rattle.tftp_folder.specs.Commit.{LooksThenRenames};
-ghost use Rattle.tftp_folder.specs.Draft.{bytes_of, GivesName, IsWhole, NamesNothing, SameNames};
+ghost use Rattle.tftp_folder.specs.Draft.{bytes_of, GivesName, IsDraftBelow, IsWhole};
+ghost use Rattle.tftp_folder.specs.Draft.{NamesNothing, SameNames};
 ghost use Rattle.tftp_folder.specs.Settings.{AsksNothing, SameSettings};
-ghost use Rattle.tftp_folder.specs.Source.{StatesLength};
+ghost use Rattle.tftp_folder.specs.Source.{StatesLength, counted_by};
 ghost use Rattle.tftp_folder.specs.Uploads.{IsBelow, path_below};
 
 use crate::beginning::{DraftMemory, begin_draft};
 use crate::below::is_below;
 use crate::folder_draft::FolderDraft;
 use crate::folder_source::{FolderSource, SharedReason};
+use crate::measured::StatedLength;
 use crate::naming::{NameFault, give_name, has_no_link};
 use crate::served_folder::ServedFolder;
 use crate::wire_lengths::{WireLengths, check_empty};
@@ -28,7 +31,7 @@ use std::cell::Cell;
 use std::io::{self, ErrorKind};
 use std::rt::Files;
 use tftp_disk::{DiskFile, DiskJournal, Existing, Found, Kind};
-use tftp_file::{MAX_WIRE, Path, PathFault, StoreFault, path_of};
+use tftp_file::{Path, PathFault, StoreFault, path_of};
 use tftp_lines::{Reason, reason_of};
 use tftp_store::{Opening, ServedStore, Store};
 use tftp_wire::Mode;
@@ -73,6 +76,8 @@ impl<R: Files + Drop> FolderStore<R> {
             store.journal.events) }
         ensures drafts { IfOk result (λ store. string_bytes store.folder.drafts
             ≡ string_bytes store.folder.root) }
+        ensures inside { IfOk result (λ store. AreInside (string_bytes store.folder.root)
+            store.journal.events) }
     {
         let mut journal = DiskJournal::new();
         let root = resolve_root(&files, &mut journal, alloc, root)?;
@@ -121,6 +126,8 @@ impl<R: Files + Drop> FolderStore<R> {
           journal = self.new.journal;
         }) }
         ensures looks { changes self.new.journal.events ≡ changes self.old.journal.events }
+        ensures inside { StaysInside (string_bytes self.old.folder.root) self.old.journal.events
+            self.new.journal.events }
     {
         let path = match path_of(alloc, folder.as_bytes()) {
             Ok(path) => path,
@@ -137,17 +144,19 @@ impl<R: Files + Drop> FolderStore<R> {
         }
     }
 
-    /// The length of an opened file on the wire, or `MAX_WIRE + 1` if it is longer. `Io` if the
-    /// file cannot be read, or has a byte though its length is 0.
+    /// The length of an opened file on the wire. `Io` if the file cannot be read, or has a byte
+    /// though its length is 0.
     fn measure(
         &self,
         file: &mut DiskFile<R::File>,
         found: &Found,
         mode: Mode,
-    ) -> Result<u64, StoreFault>
-        requires { given (calls_on file.old) ≡ [] }
+    ) -> Result<StatedLength, StoreFault>
+        requires start { given (calls_on file.old) ≡ [] }
+        requires told { examined (calls_on file.old) ≡ Some found.now }
         ensures fault { IfErr result MayNotOpen }
-        ensures stated { IfOk result (StatesLength self.now.lengths.longest mode found.now) }
+        ensures stated { IfOk result (λ stated. StatesLength self.now.lengths.longest mode found.now
+            (counted_by stated) stated.bytes) }
         ensures start { OnOk result (given (calls_on file.new) ≡ []) }
         ensures stays { StaysOpen file.old file.new }
     {
@@ -155,8 +164,7 @@ impl<R: Files + Drop> FolderStore<R> {
             return Err(self.not_empty(&error));
         }
         match self.lengths.length_of(file, found, mode) {
-            Ok(Some(length)) => Ok(length),
-            Ok(None) => Ok(MAX_WIRE + 1),
+            Ok(stated) => Ok(stated),
             Err(error) => Err(self.folder.refused(reason_of(&error))),
         }
     }
@@ -207,6 +215,9 @@ impl<R: Files + Drop> FolderStore<R> {
             replace (changes self.new.journal.events)) }
         ensures over { LooksThenRenames replace (string_bytes draft.old.target)
             self.old.journal.events self.new.journal.events }
+        ensures inside { IsDraftBelow (string_bytes self.old.folder.root) draft.old
+            → StaysInside (string_bytes self.old.folder.root) self.old.journal.events
+            self.new.journal.events }
     {
         if let Err(error) = draft.finish() {
             return Err(self.folder.write_refused(&error));
@@ -264,6 +275,8 @@ fn folder_below<R: Files + Drop>(
     ensures ok { IfOk result (λ folder.
         string_bytes folder ≡ path_below (string_bytes served.now.root) name.now) }
     ensures looks { changes journal.new.events ≡ changes journal.old.events }
+    ensures inside { StaysInside (string_bytes served.now.root) journal.old.events
+        journal.new.events }
 {
     let Ok(name) = str::from_utf8(name) else {
         return Err(io::Error::from_raw_os_error(ENOENT));
@@ -345,10 +358,13 @@ impl<R: Files + Drop> Store for FolderStore<R> {
         let mut journal = DiskJournal::new();
         let opened = self.folder.open_file(&mut journal, alloc, path)?;
         let mut file = opened.file;
-        let length = self.measure(&mut file, &opened.found, mode)?;
+        let stated = self.measure(&mut file, &opened.found, mode)?;
         let reason = self.folder.reason.share()?;
-        match FolderSource::new(alloc, file, journal, mode, length, reason) {
-            Ok(source) => Ok(Opening { source, length }),
+        match FolderSource::new(alloc, file, journal, mode, &stated, reason) {
+            Ok(source) => Ok(Opening {
+                source,
+                length: stated.bytes,
+            }),
             Err(_) => Err(StoreFault::Memory),
         }
     }

@@ -45,8 +45,8 @@ pub fn stores_what_it_took<R: Files + Drop>()
     ensures { StoresWhatItTook ⟦<FolderStore<R> as Store>⟧.meaning }
 {}
 
-/// Each call of a store that has changed nothing beyond its limits keeps it so, and its drafts its
-/// own.
+/// Each call of a store that has changed nothing beyond its limits, and has passed no path outside
+/// its root to the system, keeps it so, and its drafts its own.
 pub fn keeps_within_its_limits<R: Files + Drop>()
     ensures { KeepsWithin ⟦<FolderStore<R> as Store>⟧.meaning }
 {}

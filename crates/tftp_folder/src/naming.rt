@@ -1,16 +1,18 @@
 //! Gives a draft its name on the disk, in the folder that its request named.
 
-ghost use Rattle.std.specs.Prelude.{◌≡◌, ◌∷◌, true, false, Ok, OnOk, OnErr};
+ghost use Rattle.std.specs.Prelude.{ℕ, ◌≡◌, List, ◌∷◌, true, false, Ok, OnOk, OnErr, IfSome};
 ghost use Rattle.tftp_disk.specs.Changes.{changes, renames};
 ghost use Rattle.tftp_disk.specs.DiskJournal.DiskEvent.{Looked};
 ghost use Rattle.tftp_disk.specs.declared.found.Found.{Found};
 ghost use Rattle.tftp_folder.specs.Opened.{AreFolders};
 ghost use Rattle.tftp_disk.specs.DiskFault.{is_replaced};
+ghost use Rattle.tftp_disk.specs.NamedFolder.{path_in};
 ghost use Rattle.tftp_folder.specs.Draft.{IsDone, StaysDone, KeepsDone, NamesDraft, RenamesDraft};
 ghost use Rattle.std.specs.String.{string_bytes};
 ghost use Rattle.tftp_folder.specs.Commit.{IsFree, MayRemove, RemovesNew, LooksThenRenames};
 ghost use Rattle.tftp_folder.specs.Draft.{NamesIn, GivesName, NamesNothing, NamesNothingIn, SameNames};
-ghost use Rattle.tftp_folder.specs.Draft.{RefusesDraft, RenamesNoDraft};
+ghost use Rattle.tftp_folder.specs.Draft.{IsDraftBelow, RefusesDraft, RenamesNoDraft};
+ghost use Rattle.tftp_folder.specs.Inside.{IsInside, StaysInside};
 
 use crate::folder_draft::FolderDraft;
 use crate::replacing::rename_over;
@@ -59,6 +61,8 @@ pub(crate) fn give_name<R: Files>(
         (is_replaced existing) (changes journal.new.events)) }
     ensures over { LooksThenRenames (is_replaced existing) (string_bytes draft.old.target)
         journal.old.events journal.new.events }
+    ensures inside { IsDraftBelow root.now draft.old
+        → StaysInside root.now journal.old.events journal.new.events }
 {
     if !draft.is_at_draft(files, journal) {
         return Err(NameFault::Rule(Reason::DraftReplaced));
@@ -96,6 +100,9 @@ fn name_in<R: Files>(
         (changes journal.old.events) (is_replaced existing) (changes journal.new.events)) }
     ensures over { LooksThenRenames (is_replaced existing) (string_bytes draft.old.target)
         journal.old.events journal.new.events }
+    ensures inside { IfSome (path_in folder.now.folder) (IsInside root.now)
+        → IsDraftBelow root.now draft.old
+        → StaysInside root.now journal.old.events journal.new.events }
 {
     match put_name(files, journal, draft, existing) {
         Ok(()) => {}
@@ -119,6 +126,8 @@ fn remove_new<R: Files>(files: &R, journal: &mut DiskJournal, name: &str, existi
     ensures removed { RemovesNew name.now (changes journal.old.events) (is_replaced existing)
         (changes journal.new.events) }
     ensures renames { renames journal.new.events ≡ renames journal.old.events }
+    ensures inside { (root : List ℕ) → IsInside root name.now
+        → StaysInside root journal.old.events journal.new.events }
 {
     match existing {
         Existing::Refused => {
@@ -144,6 +153,8 @@ fn put_name<R: Files>(
         (is_replaced existing) (changes journal.new.events)) }
     ensures over { LooksThenRenames (is_replaced existing) (string_bytes draft.old.target)
         journal.old.events journal.new.events }
+    ensures inside { (root : List ℕ) → IsDraftBelow root draft.old
+        → StaysInside root journal.old.events journal.new.events }
 {
     match existing {
         Existing::Refused => match name_new(files, journal, draft) {
@@ -168,6 +179,8 @@ fn look_again<R: Files>(
     ensures ok { OnOk result (changes journal.new.events ≡ changes journal.old.events) }
     ensures err { OnErr result (MayRemove (string_bytes draft.new.target)
         (changes journal.old.events) (changes journal.new.events)) }
+    ensures inside { IsDraftBelow root.now draft.old
+        → StaysInside root.now journal.old.events journal.new.events }
 {
     let folder = folder_of(draft.target.as_str());
     let is_in_place = leads_to(files, journal, root, folder, draft.folder);
@@ -195,6 +208,8 @@ fn leads_to<R: Files>(
 ) -> bool
     ensures looks { changes journal.new.events ≡ changes journal.old.events }
     ensures renames { renames journal.new.events ≡ renames journal.old.events }
+    ensures inside { IsInside root.now folder.now
+        → StaysInside root.now journal.old.events journal.new.events }
 {
     match tftp_disk::look(files, journal, folder) {
         Ok(found) => {
@@ -217,6 +232,8 @@ pub(crate) fn has_no_link<R: Files>(
     ensures renames { renames journal.new.events ≡ renames journal.old.events }
     ensures folders { result ≡ true → AreFolders root.now folder.now journal.old.events
         journal.new.events }
+    ensures inside { IsInside root.now folder.now
+        → StaysInside root.now journal.old.events journal.new.events }
 {
     let mut folder = folder;
     for _ in 0..MOST_FOLDERS {
@@ -238,6 +255,8 @@ fn is_folder<R: Files>(files: &R, journal: &mut DiskJournal, path: &str) -> bool
     ensures folder { result ≡ true → (found : Found)
         × (journal.new.events ≡ Looked path.now (Ok found) ∷ journal.old.events)
         × (found.kind ≡ Kind.Folder) }
+    ensures inside { (root : List ℕ) → IsInside root path.now
+        → StaysInside root journal.old.events journal.new.events }
 {
     match tftp_disk::look(files, journal, path) {
         Ok(found) => found.kind == Kind::Folder,
@@ -258,6 +277,8 @@ fn name_new<R: Files>(
         (changes journal.new.events)) }
     ensures over { LooksThenRenames false (string_bytes draft.now.target) journal.old.events
         journal.new.events }
+    ensures inside { (root : List ℕ) → IsDraftBelow root draft.now
+        → StaysInside root journal.old.events journal.new.events }
 {
     let (path, target) = (draft.draft.as_str(), draft.target.as_str());
     match tftp_disk::link(files, journal, draft.file(), path, target) {
@@ -289,6 +310,8 @@ fn rename_new<R: Files>(
         (changes journal.new.events)) }
     ensures over { LooksThenRenames false (string_bytes draft.now.target) journal.old.events
         journal.new.events }
+    ensures inside { (root : List ℕ) → IsDraftBelow root draft.now
+        → StaysInside root journal.old.events journal.new.events }
 {
     let (path, target) = (draft.draft.as_str(), draft.target.as_str());
     match check_free(files, journal, target) {
@@ -306,6 +329,8 @@ fn check_free<R: Files>(files: &R, journal: &mut DiskJournal, name: &str) -> io:
     ensures looks { changes journal.new.events ≡ changes journal.old.events }
     ensures renames { renames journal.new.events ≡ renames journal.old.events }
     ensures free { OnOk result (IsFree name.now journal.new.events) }
+    ensures inside { (root : List ℕ) → IsInside root name.now
+        → StaysInside root journal.old.events journal.new.events }
 {
     match tftp_disk::look(files, journal, name) {
         Ok(_) => Err(io::Error::from(ErrorKind::AlreadyExists)),

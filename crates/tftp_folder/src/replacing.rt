@@ -1,11 +1,14 @@
 //! Which files a draft may replace, and what it has of them.
 
-ghost use Rattle.std.specs.Prelude.{◌≡◌, ◌∷◌, true, Ok, OnOk, OnErr};
+ghost use Rattle.std.specs.Prelude.{ℕ, ◌≡◌, List, ◌∷◌, true, Ok, OnOk, OnErr};
 ghost use Rattle.std.specs.String.{string_bytes};
 ghost use Rattle.tftp_disk.specs.Changes.{changes, renames};
 ghost use Rattle.tftp_disk.specs.DiskJournal.DiskEvent.{Tried};
 ghost use Rattle.tftp_folder.specs.Commit.{MayBeReplaced, LooksThenRenames};
-ghost use Rattle.tftp_folder.specs.Draft.{IsDone, KeepsDone, NamesDraft, RefusesDraft, SameNames};
+ghost use Rattle.tftp_folder.specs.Draft.{IsDone, IsDraftBelow, KeepsDone, NamesDraft, RefusesDraft};
+ghost use Rattle.tftp_folder.specs.Draft.{SameNames};
+ghost use Rattle.tftp_folder.specs.Inside.{IsInside, StaysInside};
+ghost use Rattle.tftp_folder.specs.Uploads.{IsBelow};
 
 use crate::folder_draft::FolderDraft;
 use crate::naming::NameFault;
@@ -35,6 +38,8 @@ pub(crate) fn check_replaced<R: Files>(
     ensures regular { OnOk result (found.now.kind ≡ Kind.Regular) }
     ensures tried { OnOk result (journal.new.events ≡ Tried path.now (Ok tt)
         ∷ journal.old.events) }
+    ensures inside { (root : List ℕ) → IsInside root path.now
+        → StaysInside root journal.old.events journal.new.events }
 {
     match found.kind {
         Kind::Regular => match tftp_disk::try_to_write(files, journal, path) {
@@ -63,6 +68,8 @@ pub(crate) fn rename_over<R: Files>(
         (changes journal.new.events)) }
     ensures over { LooksThenRenames true (string_bytes draft.old.target) journal.old.events
         journal.new.events }
+    ensures inside { (root : List ℕ) → IsDraftBelow root draft.old
+        → StaysInside root journal.old.events journal.new.events }
 {
     match check_named(files, journal, draft) {
         Ok(()) => {}
@@ -88,6 +95,8 @@ fn check_named<R: Files>(
     ensures looks { changes journal.new.events ≡ changes journal.old.events }
     ensures renames { renames journal.new.events ≡ renames journal.old.events }
     ensures over { OnOk result (MayBeReplaced (string_bytes draft.old.target) journal.new.events) }
+    ensures inside { (root : List ℕ) → IsBelow root (string_bytes draft.old.target)
+        → StaysInside root journal.old.events journal.new.events }
 {
     match tftp_disk::look(files, journal, draft.target.as_str()) {
         Ok(found) => {

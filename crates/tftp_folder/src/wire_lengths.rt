@@ -1,49 +1,30 @@
 //! The lengths of files in netascii, each measured once.
 
-ghost use Rattle.std.specs.Prelude.{◌≡◌, ◌<◌, min, [], Ok, None, OnOk};
-ghost use Rattle.tftp_file.specs.Length.{up_to};
-ghost use Rattle.tftp_wire.specs.declared.mode.Mode.TheVariants.{Octet};
-ghost use Rattle.tftp_disk.specs.Given.{given};
+ghost use Rattle.std.specs.Prelude.{◌≡◌, ◌≤◌, min, [], Some, IfErr, IfOk, IfSome, OnOk};
+ghost use Rattle.tftp_wire.specs.declared.mode.Mode.TheVariants.{Netascii};
+ghost use Rattle.tftp_disk.specs.Given.{examined, given};
 ghost use Rattle.tftp_disk.specs.Measuring.{calls_on, StaysOpen};
+ghost use Rattle.tftp_folder.specs.Counted.{IsCounted};
+ghost use Rattle.tftp_folder.specs.Source.{StatesLength, counted_by};
 
+use crate::measured::{Measured, StatedLength};
 use lru::LruCache;
 use std::alloc::{AllocError, Global};
 use std::cell::RefCell;
 use std::io::{self, ErrorKind, Read, Seek, SeekFrom};
 use std::num::NonZeroUsize;
-use tftp_disk::{DiskFile, FileId, Found, count_netascii};
+use tftp_disk::{DiskFile, FileId, Found};
 use tftp_file::MAX_WIRE;
 use tftp_wire::Mode;
 
 /// How many lengths are remembered.
 const MOST_LENGTHS: usize = 1_024;
 
-/// Identifies the contents of a file: another file, or a changed one, has another value.
-#[derive(Clone, Copy, PartialEq, Eq, Hash)]
-struct Contents {
-    id: FileId,
-    bytes: u64,
-    changed: i64,
-    changed_nanos: i64,
-}
-
-impl Contents {
-    /// The contents of the file of which this was found.
-    fn of(found: &Found) -> Contents {
-        Contents {
-            id: found.id,
-            bytes: found.bytes,
-            changed: found.changed,
-            changed_nanos: found.changed_nanos,
-        }
-    }
-}
-
 /// The measured lengths, and the longest length that can be sent.
 #[derive(Drop)]
 pub(crate) struct WireLengths {
-    /// The length of each in bytes, or `None` if no block size can serve it.
-    measured: RefCell<LruCache<Contents, Option<u64>>>,
+    /// What was measured of each file last. It is its length as long as the file is not changed.
+    measured: RefCell<LruCache<FileId, Measured>>,
     /// The longest length on the wire that can be sent, in bytes.
     longest: u64,
 }
@@ -63,28 +44,30 @@ impl WireLengths {
         self.longest = bytes;
     }
 
-    /// The length of an open file on the wire, or `None` if it is too long to be sent. In octet it is
-    /// what the system states. In netascii a file is read to its end once, whatever the block size,
-    /// and again after a change. The length on the wire is at least that of the file, so a file that
-    /// is too long by its own length is not read.
+    /// The length of an open file on the wire, or `MAX_WIRE + 1` if it is too long to be sent. In
+    /// octet it is what the system states. In netascii a file is read to its end once, whatever the
+    /// block size, and again after a change. The length on the wire is at least that of the file,
+    /// so a file that is too long by its own length is not read.
     pub(crate) fn length_of<F: Read + Seek + Drop>(
         &self,
         file: &mut DiskFile<F>,
         found: &Found,
         mode: Mode,
-    ) -> io::Result<Option<u64>>
-        requires { given (calls_on file.old) ≡ [] }
-        ensures long { min self.now.longest MAX_WIRE < found.now.bytes → result ≡ Ok None }
-        ensures octet { mode ≡ Octet
-            → result ≡ Ok (up_to (min self.now.longest MAX_WIRE) found.now.bytes) }
+    ) -> io::Result<StatedLength>
+        requires start { given (calls_on file.old) ≡ [] }
+        requires told { examined (calls_on file.old) ≡ Some found.now }
+        ensures stated { IfOk result (λ stated. StatesLength self.now.longest mode found.now
+            (counted_by stated) stated.bytes) }
+        ensures unread { IfErr result (λ _. (mode ≡ Netascii)
+            × (found.now.bytes ≤ min self.now.longest MAX_WIRE)) }
         ensures start { OnOk result (given (calls_on file.new) ≡ []) }
         ensures stays { StaysOpen file.old file.new }
     {
         if found.bytes > self.longest.min(MAX_WIRE) {
-            return Ok(None);
+            return Ok(StatedLength::uncounted(MAX_WIRE + 1));
         }
         match mode {
-            Mode::Octet => Ok(Some(found.bytes)),
+            Mode::Octet => Ok(StatedLength::uncounted(found.bytes)),
             Mode::Netascii => self.netascii_length(file, found),
         }
     }
@@ -94,40 +77,45 @@ impl WireLengths {
         &self,
         file: &mut DiskFile<F>,
         found: &Found,
-    ) -> io::Result<Option<u64>>
-        requires { given (calls_on file.old) ≡ [] }
+    ) -> io::Result<StatedLength>
+        requires start { given (calls_on file.old) ≡ [] }
+        requires told { examined (calls_on file.old) ≡ Some found.now }
+        ensures counted { IfOk result (λ stated. IsCounted found.now (counted_by stated)
+            stated.bytes) }
         ensures start { OnOk result (given (calls_on file.new) ≡ []) }
         ensures stays { StaysOpen file.old file.new }
     {
-        let contents = Contents::of(found);
-        if let Some(length) = self.recall(contents) {
-            return Ok(length);
+        if let Some(stated) = self.recall(found) {
+            return Ok(stated);
         }
-        let length = match count_netascii(file)? {
-            Some(text) => Some(text.wire_bytes),
-            None => None,
-        };
+        let measured = Measured::of(file, found)?;
         match file.seek(SeekFrom::Start(0)) {
             Ok(_) => {
-                self.remember(contents, length);
-                Ok(length)
+                let stated = measured.stated();
+                self.remember(measured);
+                Ok(stated)
             }
             Err(error) => Err(error),
         }
     }
 
-    /// The remembered length of these contents.
-    fn recall(&self, contents: Contents) -> Option<Option<u64>> {
+    /// What is remembered of the length of a file that was not changed since.
+    fn recall(&self, found: &Found) -> Option<StatedLength>
+        ensures { IfSome result (λ stated. IsCounted found.now (counted_by stated) stated.bytes) }
+    {
         match self.measured.try_borrow_mut() {
-            Ok(mut measured) => measured.get(&contents).copied(),
+            Ok(mut lengths) => match lengths.get(&found.id) {
+                Some(measured) => measured.stated_of(found),
+                None => None,
+            },
             Err(_) => None,
         }
     }
 
     /// Remembers a length. When out of memory, it is measured again later.
-    fn remember(&self, contents: Contents, length: Option<u64>) {
-        if let Ok(mut measured) = self.measured.try_borrow_mut() {
-            let _ = measured.put(contents, length);
+    fn remember(&self, measured: Measured) {
+        if let Ok(mut lengths) = self.measured.try_borrow_mut() {
+            let _ = lengths.put(measured.id(), measured);
         }
     }
 }

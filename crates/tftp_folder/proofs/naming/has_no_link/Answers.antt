@@ -1,8 +1,9 @@
 -- The path is no longer than the root, or it is a folder, and those above it follow.
-use Rattle.std.proofs.Common.{◌∙◌, ◌≤◌, ℕ, List, length, subst}
+use Rattle.std.proofs.Common.{◌∙◌, ◌≤◌, ◌<◌, ℕ, List, length, refl, subst}
 use Rattle.tftp_disk.specs.DiskJournal.{DiskEvent}
 use Rattle.tftp_folder.specs.Opened.{AreFolders}
 use Rattle.tftp_folder.specs.Opened.AreFolders.{Above, Then}
+use Rattle.tftp_folder.proofs.InsideLemmas.{above_inside, longer_below}
 use Rattle.tftp_folder.proofs.naming.has_no_link.Goals as goal
 
 pub returns-then-folder-max-clause-folders : goal.returns-then-folder-max-clause-folders
@@ -20,4 +21,15 @@ loop-preserved g c =
           (Then found.2 c.folder_of-folder.ensures
           (subst (λ (events : List DiskEvent). AreFolders c.args.root.now c.folder_of-folder.result.now events after)
           found.1 above)),
+      λ inside. above_inside c.args.root.now c.loop.folder.now c.loop.folder.now
+          c.folder_of-folder.result.now refl
+          (longer_below c.args.root.now c.loop.folder.now (c.loop.invariant.4 inside)
+          (subst (λ (n : ℕ). n < length c.loop.folder.now) c.max.ensures c.if-folder-max.false))
+          c.folder_of-folder.ensures,
+      λ inside all. c.is_folder.ensures.inside c.args.root.now (c.loop.invariant.4 inside)
+          (c.loop.invariant.5 inside all),
     )
+
+pub returns-then-not-is_folder-clause-inside : goal.returns-then-not-is_folder-clause-inside
+returns-then-not-is_folder-clause-inside g c = λ inside all.
+    c.is_folder.ensures.inside c.args.root.now (c.loop.invariant.4 inside) (c.loop.invariant.5 inside all)

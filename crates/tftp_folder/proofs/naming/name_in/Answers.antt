@@ -1,10 +1,12 @@
 -- The draft had got its name, as it is now.
-use Rattle.std.proofs.Common.{◌∙◌, List, ℕ, inl, inr, subst}
+use Rattle.std.proofs.Common.{◌∙◌, List, ℕ, inl, inr, subst, sym}
 use Rattle.tftp_disk.specs.DiskJournal.{DiskEvent}
 use Rattle.tftp_disk.specs.NamedFolder.{SyncsNoFolder}
 use Rattle.tftp_disk.specs.Changes.{changes}
 use Rattle.tftp_disk.specs.DiskFault.{is_replaced}
 use Rattle.tftp_folder.specs.Commit.{RemovesNew}
+use Rattle.tftp_folder.specs.Inside.{IsInside}
+use Rattle.tftp_folder.proofs.InsideLemmas.{stays_below, syncs_inside}
 use Rattle.tftp_folder.proofs.NamingLemmas.{names_stay, renames_then}
 use Rattle.tftp_folder.proofs.naming.name_in.Goals as goal
 
@@ -54,3 +56,33 @@ returns-in-Err-sync-clause-over g c =
     renames_then _ _ c.args.journal.now.events c.put_name.new.journal.events c.remove_new.new.journal.events
     c.in-Ok.ensures.over
     (c.remove_new.ensures.renames ∙ c.sync.ensures.renames ∙ c.look_again.ensures.renames)
+
+pub returns-in-Err-clause-inside : goal.returns-in-Err-clause-inside
+returns-in-Err-clause-inside g c = λ fits. c.put_name.ensures.inside c.args.root.now
+
+pub returns-in-Err-look_again-clause-inside : goal.returns-in-Err-look_again-clause-inside
+returns-in-Err-look_again-clause-inside g c = λ fits below all.
+    c.look_again.ensures.inside
+    (stays_below c.args.root.now c.args.draft.now c.put_name.new.draft c.put_name.ensures.names below)
+    (c.put_name.ensures.inside c.args.root.now below all)
+
+pub returns-in-Ok-sync-clause-inside : goal.returns-in-Ok-sync-clause-inside
+returns-in-Ok-sync-clause-inside g c = λ fits below all.
+    syncs_inside c.args.root.now c.args.folder.now.folder c.look_again.new.journal.events c.sync.new.journal.events fits
+    c.sync.ensures.calls
+    (c.look_again.ensures.inside
+    (stays_below c.args.root.now c.args.draft.now c.put_name.new.draft c.put_name.ensures.names below)
+    (c.put_name.ensures.inside c.args.root.now below all))
+
+pub returns-in-Err-sync-clause-inside : goal.returns-in-Err-sync-clause-inside
+returns-in-Err-sync-clause-inside g c = λ fits below all.
+    let named = stays_below c.args.root.now c.args.draft.now c.put_name.new.draft c.put_name.ensures.names below in
+    let looked =
+    stays_below c.args.root.now c.put_name.new.draft c.look_again.new.draft c.look_again.ensures.stays.names named in
+    c.remove_new.ensures.inside c.args.root.now
+    (subst (IsInside c.args.root.now) (sym c.as_str.ensures.value) (inr looked.target))
+    (syncs_inside c.args.root.now c.args.folder.now.folder c.look_again.new.journal.events c.sync.new.journal.events fits
+    c.sync.ensures.calls
+    (c.look_again.ensures.inside
+    (stays_below c.args.root.now c.args.draft.now c.put_name.new.draft c.put_name.ensures.names below)
+    (c.put_name.ensures.inside c.args.root.now below all)))

@@ -1,7 +1,9 @@
 -- No file was found at the name just before.
-use Rattle.std.proofs.Common.{ℕ, List, false, Ok, Err, subst}
+use Rattle.std.proofs.Common.{ℕ, List, false, Ok, Err, inr, subst, sym}
 use Rattle.tftp_disk.specs.DiskJournal.{state_of}
 use Rattle.tftp_folder.specs.Commit.{IsFree}
+use Rattle.tftp_folder.specs.Uploads.{IsBelow}
+use Rattle.tftp_folder.proofs.InsideLemmas.{rename_inside}
 use Rattle.tftp_folder.proofs.NamingLemmas.{renamed}
 use Rattle.tftp_folder.proofs.naming.rename_new.Goals as goal
 
@@ -18,3 +20,24 @@ returns-in-Err-rename-clause-over g c =
     c.as_str-path.result.now c.as_str-target.result.now (Err c.in-Err-rename.error) c.in-Ok.ensures.renames
     (subst (λ (t : List ℕ). IsFree t c.check_free.new.journal.events) c.as_str-target.ensures.value c.in-Ok.ensures.free)
     c.in-Err-rename.ensures c.as_str-target.ensures.value
+
+pub returns-in-Err-clause-inside : goal.returns-in-Err-clause-inside
+returns-in-Err-clause-inside g c = λ root below.
+    c.check_free.ensures.inside root
+    (inr (subst (IsBelow root) (sym c.as_str-target.ensures.value) below.target))
+
+pub returns-in-Ok-rename-clause-inside : goal.returns-in-Ok-rename-clause-inside
+returns-in-Ok-rename-clause-inside g c = λ root below all.
+    rename_inside root c.args.draft.now (state_of c.file.result.now.journal.events) c.as_str-path.result.now
+    c.as_str-target.result.now (Ok tt) c.check_free.new.journal.events _ c.as_str-path.ensures.value
+    c.as_str-target.ensures.value c.in-Ok-rename.ensures below
+    (c.check_free.ensures.inside root
+    (inr (subst (IsBelow root) (sym c.as_str-target.ensures.value) below.target)) all)
+
+pub returns-in-Err-rename-clause-inside : goal.returns-in-Err-rename-clause-inside
+returns-in-Err-rename-clause-inside g c = λ root below all.
+    rename_inside root c.args.draft.now (state_of c.file.result.now.journal.events) c.as_str-path.result.now
+    c.as_str-target.result.now (Err c.in-Err-rename.error) c.check_free.new.journal.events _ c.as_str-path.ensures.value
+    c.as_str-target.ensures.value c.in-Err-rename.ensures below
+    (c.check_free.ensures.inside root
+    (inr (subst (IsBelow root) (sym c.as_str-target.ensures.value) below.target)) all)

@@ -3,6 +3,7 @@ use Rattle.std.proofs.Common.{ap, Bool, subst}
 use Rattle.std.specs.String.{string_bytes}
 use Rattle.tftp_disk.specs.Changes.{changes}
 use Rattle.tftp_folder.specs.Draft.{NamesNothing}
+use Rattle.tftp_folder.proofs.InsideLemmas.{names_inside}
 use Rattle.tftp_folder.proofs.NamingLemmas.{looks_as}
 use Rattle.tftp_folder.proofs.folder_store.FolderStore.name_draft.Goals as goal
 
@@ -32,3 +33,21 @@ pub returns-in-Err-Rule-clause-over : goal.returns-in-Err-Rule-clause-over
 returns-in-Err-Rule-clause-over g c =
     looks_as _ _ _ _ c.args.self.now.journal.events c.give_name.new.journal.events c.of-existing.ensures
     (ap string_bytes c.finish.ensures.names.target) c.give_name.ensures.over
+
+pub returns-in-Ok-clause-inside : goal.returns-in-Ok-clause-inside
+returns-in-Ok-clause-inside g c =
+    names_inside c.args.draft.now c.finish.new.self c.as_str.result.now (string_bytes c.args.self.now.folder.root)
+    c.args.self.now.journal.events c.give_name.new.journal.events c.finish.ensures.names c.as_str.ensures.value
+    c.give_name.ensures.inside
+
+pub returns-in-Err-System-clause-inside : goal.returns-in-Err-System-clause-inside
+returns-in-Err-System-clause-inside g c =
+    names_inside c.args.draft.now c.finish.new.self c.as_str.result.now (string_bytes c.args.self.now.folder.root)
+    c.args.self.now.journal.events c.give_name.new.journal.events c.finish.ensures.names c.as_str.ensures.value
+    c.give_name.ensures.inside
+
+pub returns-in-Err-Rule-clause-inside : goal.returns-in-Err-Rule-clause-inside
+returns-in-Err-Rule-clause-inside g c =
+    names_inside c.args.draft.now c.finish.new.self c.as_str.result.now (string_bytes c.args.self.now.folder.root)
+    c.args.self.now.journal.events c.give_name.new.journal.events c.finish.ensures.names c.as_str.ensures.value
+    c.give_name.ensures.inside
