@@ -100,7 +100,8 @@ renewed progress time s =
     record {
       end = s.end;
       now = time;
-      deadline = deadline_after progress time (interval_of (terms_of s.end.position.phase)) s.deadline;
+      deadline =
+          deadline_after progress time (interval_of (terms_of s.end.position.phase)) s.deadline;
       events = Watched time ∷ s.events;
     }
 

@@ -150,7 +150,8 @@ impl Conversation {
     }
 
     /// Runs the end of a complete transfer until it closes, or for so many waits. For two timeouts
-    /// a receiver acknowledges its last block again whenever that is repeated (RFC 1350, section 6).
+    /// a receiver acknowledges its last block again whenever that is repeated (RFC 1350,
+    /// section 6).
     pub(crate) fn dally<C: Clock, S: Source, K: Sink>(
         &mut self,
         clock: &C,

@@ -1,13 +1,26 @@
 -- An append leaves the name, and a file with another content is not committed.
-use Rattle.std.proofs.Common.{rules, ◌≡◌, ◌≢◌, ℕ, Bool, true, false, List, [], append-nil, Option, Some, Err, refl, sym, ap, ◌∙◌}
+use Rattle.std.proofs.Common.{◌≡◌, ◌≢◌, ℕ, Bool, true, false, List, [], append-nil, Option, Some, Err, refl, sym, ap, ◌∙◌}
 use Rattle.std.proofs.lemmas.Bool.{true≢false}
 use Rattle.tftp_disk.specs.Changes.{changes}
-use Rattle.tftp_file.specs.Sink.{AppendsFreely, Holding, UnlessArmed}
+use Rattle.tftp_file.specs.Sink.{AppendsFreely, Holding, KeptPrefix, UnlessArmed}
 use Rattle.tftp_file.specs.declared.fault.StoreFault.{StoreFault}
 use Rattle.tftp_file.specs.declared.fault.StoreFault.TheVariants.{Missing, Exists, Full, Io, Memory}
 use Rattle.tftp_client.specs.Written.{paths_of}
 use Rattle.tftp_client.proofs.Changing.{still_named, still_own}
 use Rattle.tftp_client.proofs.local.LocalFileSink.append.Goals as goal
+
+-- a file that holds what it held has kept no byte of the piece
+kept_none : (before : Holding) (after : Option Holding) (piece : List ℕ) → after ≡ Some before
+    → KeptPrefix before after piece
+kept_none before after piece same = record {
+  holding = before;
+  leaves = same;
+  kept = [];
+  prefix = (piece, refl);
+  bytes = sym (append-nil before.bytes);
+  uncommitted = λ _. refl;
+  refuses = refl;
+}
 
 -- an append that is refused leaves what the file holds
 refused : (fault : StoreFault) (armed : Bool) (before : Holding) (after : Option Holding) (piece : List ℕ)
@@ -15,42 +28,10 @@ refused : (fault : StoreFault) (armed : Bool) (before : Holding) (after : Option
     → UnlessArmed {A = Unit {0}} armed before after (Err fault) (AppendsFreely {A = Unit {0}} before after piece (Err fault))
 refused fault true before after piece off other same = absurd (true≢false off)
 refused Memory false before after piece off other same = absurd (other refl)
-refused Missing false before after piece off other same = record {
-  holding = before;
-  leaves = same;
-  kept = [];
-  prefix = (piece, refl);
-  bytes = sym (append-nil before.bytes);
-  uncommitted = λ _. refl;
-  refuses = refl;
-}
-refused Exists false before after piece off other same = record {
-  holding = before;
-  leaves = same;
-  kept = [];
-  prefix = (piece, refl);
-  bytes = sym (append-nil before.bytes);
-  uncommitted = λ _. refl;
-  refuses = refl;
-}
-refused Full false before after piece off other same = record {
-  holding = before;
-  leaves = same;
-  kept = [];
-  prefix = (piece, refl);
-  bytes = sym (append-nil before.bytes);
-  uncommitted = λ _. refl;
-  refuses = refl;
-}
-refused Io false before after piece off other same = record {
-  holding = before;
-  leaves = same;
-  kept = [];
-  prefix = (piece, refl);
-  bytes = sym (append-nil before.bytes);
-  uncommitted = λ _. refl;
-  refuses = refl;
-}
+refused Missing false before after piece off other same = kept_none before after piece same
+refused Exists false before after piece off other same = kept_none before after piece same
+refused Full false before after piece off other same = kept_none before after piece same
+refused Io false before after piece off other same = kept_none before after piece same
 
 pub returns-in-Err-clause-appends : goal.returns-in-Err-clause-appends
 returns-in-Err-clause-appends g c =
