@@ -16,6 +16,7 @@ use Rattle.tftp_server.specs.State.{TransferState, draft_of}
 use Rattle.tftp_folder.specs.Changing.{AreChanges, IsChange, IsDraftIn, IsTarget, KeepsWithin, Limits, ReadOnlyChangesNothing}
 use Rattle.tftp_folder.specs.Changing.{IsWithin, limits_of}
 use Rattle.tftp_folder.specs.Effects.{changes_of}
+use Rattle.tftp_folder.specs.Inside.{IsInside}
 use Rattle.tftp_folder.specs.Uploads.{IsBelow, path_below}
 use Rattle.tftp_folder.specs.declared.folder_draft.FolderDraft.{FolderDraft}
 use Rattle.tftp_folder.specs.declared.folder_store.FolderStore.{FolderStore}
@@ -84,6 +85,11 @@ module _ (limits : Limits) (folder : List ℕ) (uploads : limits.uploads ≡ Som
 
 -- ---- what a run keeps
 
+drafts_inside : (root drafts : List ℕ) (uploads : Option (List ℕ)) → drafts ≡ drafts_in root uploads
+    → IsInside root drafts
+drafts_inside root drafts None is = inl is
+drafts_inside root drafts (Some folder) is = inr (folder, is)
+
 module _ {R G H F E : Type 0} (meaning : StoreMeaning (FolderStore R G H) (FolderDraft E))
     (sources : SourceMeaning F) where
   pub stays_within : KeepsWithin meaning → RunStaysWithin meaning sources
@@ -91,7 +97,12 @@ module _ {R G H F E : Type 0} (meaning : StoreMeaning (FolderStore R G H) (Folde
       let limits = limits_of first.server.store in
       run_keeps (IsWithin limits) (IsOwnDraft limits) meaning sources (keeps limits) first last runs.run
       (record {
-        store = record { has = refl; changed = subst (AreChanges limits) (sym runs.is_server.unchanged) tt };
+        store = record {
+          has = refl;
+          changed = subst (AreChanges limits) (sym runs.is_server.unchanged) tt;
+          drafts = drafts_inside limits.root limits.drafts limits.uploads runs.is_server.drafts;
+          inside = runs.is_server.inside;
+        };
         drafts =
             none_held (λ transfer. IfSome (draft_of transfer.files) (IsOwnDraft limits)) first.server.held
             runs.is_server.empty;

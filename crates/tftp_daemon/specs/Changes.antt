@@ -52,7 +52,8 @@ module _ {R G H F E : Type 0} (meaning : StoreMeaning (FolderStore R G H) (Folde
 
   -- whatever the words, the server keeps the limits that it began with, which are those of its
   -- configuration (`IsServerOf`): nothing was made, removed or named but its drafts and the places
-  -- that clients can name, and each of its drafts is one that it may begin
+  -- that clients can name, no path outside its root was passed to the system, and each of its drafts
+  -- is one that it may begin
   abbrev pub RunStaysWithin : Type 0
   RunStaysWithin =
       (config : DaemonConfig) (first last : LoopState (FolderStore R G H) F (FolderDraft E))

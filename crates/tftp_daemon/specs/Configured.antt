@@ -18,6 +18,7 @@ use Rattle.tftp_daemon.specs.declared.daemon.DaemonConfig.{DaemonConfig}
 use Rattle.tftp_daemon.specs.declared.listen.Listen.{Listen}
 use Rattle.tftp_daemon.specs.declared.listen.Listen.TheVariants.{At, Handed}
 use Rattle.tftp_folder.specs.Effects.{changes_of}
+use Rattle.tftp_folder.specs.Inside.{AreInside}
 use Rattle.tftp_folder.specs.Opened.{IsRootOf}
 use Rattle.tftp_folder.specs.Uploads.{path_below}
 use Rattle.tftp_folder.specs.declared.folder_store.FolderStore.{FolderStore}
@@ -71,7 +72,7 @@ IsRootAt path root = (events : _) × IsRootOf path root events
 module _ {R G H F D : Type 0} where
   -- the server of a configuration, which is valid, without transfers: its limits, and a store over
   -- its folder that refuses writes, or takes them below one folder alone, as it says, has its drafts
-  -- there, and has changed nothing on the disk
+  -- there, has changed nothing on the disk, and has passed no path outside its root to the system
   pub record IsServerOf (config : DaemonConfig) (server : ServerState (FolderStore R G H) F D)
       : Type 0 where
     pub valid : IsConfig config.config
@@ -83,6 +84,7 @@ module _ {R G H F D : Type 0} where
     pub drafts : string_bytes server.store.folder.drafts
         ≡ drafts_in (string_bytes server.store.folder.root) server.store.uploads
     pub unchanged : changes_of server.store ≡ []
+    pub inside : AreInside (string_bytes server.store.folder.root) server.store.journal.events
 
   module _ (meaning : StoreMeaning (FolderStore R G H) D) (sources : SourceMeaning F) where
     -- a server ran over UDP, from one journal to the other, and its result has this status

@@ -4,6 +4,7 @@ ghost use Rattle.std.specs.Prelude.{◌≡◌, ◌≤◌, [], IfOk, None, false,
 ghost use Rattle.std.specs.String.{string_bytes};
 ghost use Rattle.tftp_server.specs.Config.{IsConfig};
 ghost use Rattle.tftp_folder.specs.Effects.{changes_of};
+ghost use Rattle.tftp_folder.specs.Inside.{AreInside};
 ghost use Rattle.tftp_folder.specs.Opened.{IsRootOf};
 ghost use Rattle.tftp_daemon.specs.Configured.{IsRootAt, IsServerOf, IsUploads, ListensAt};
 ghost use Rattle.tftp_daemon.specs.Configured.{MayServe, RunsService, drafts_in, service_at};
@@ -276,6 +277,8 @@ fn open_store<R: Files + Drop>(
     ensures drafts { IfOk result (λ store. string_bytes store.folder.drafts
         ≡ drafts_in (string_bytes store.folder.root) store.uploads) }
     ensures unchanged { IfOk result (λ store. changes_of store ≡ []) }
+    ensures inside { IfOk result (λ store. AreInside (string_bytes store.folder.root)
+        store.journal.events) }
 {
     let mut store = match open_root(files, alloc, config) {
         Ok(store) => store,
@@ -304,6 +307,8 @@ fn open_root<R: Files + Drop>(
         × (store.uploads ≡ None)) }
     ensures drafts { IfOk result (λ store. string_bytes store.folder.drafts
         ≡ string_bytes store.folder.root) }
+    ensures inside { IfOk result (λ store. AreInside (string_bytes store.folder.root)
+        store.journal.events) }
 {
     match FolderStore::new(files, alloc, config.root) {
         Ok(store) => Ok(store),

@@ -39,7 +39,14 @@ pub fn uploads_stay_in_their_folder<R: Files + Drop>()
 /// A run changes nothing on the disk but within the limits of its store, which are those of the
 /// configuration: drafts at the server's own names are made and removed, and get the names of paths
 /// that clients can spell, and what got such a name may lose it. No other file is made, named,
-/// replaced or removed, whatever datagrams come and whatever the system answers.
+/// replaced or removed, whatever datagrams come and whatever the system answers. Each path that the
+/// store passed to the system, also to look at it, is the root or below it, but the operator's path,
+/// which the system resolved to the root.
+///
+/// The calls that open a file are in no journal of the store. Those of an opening that succeeds are
+/// in that of its source: they change nothing, and keep to such paths (`OpensSource` of
+/// `tftp_folder`). Those of one that fails are seen by no caller; the clauses of `open_file` there
+/// state the same of them.
 pub fn a_run_stays_within_its_limits<R: Files + Drop>()
     ensures { RunStaysWithin ⟦<FolderStore<R> as Store>⟧.meaning
         ⟦<FolderSource<R::File> as Source>⟧.meaning }

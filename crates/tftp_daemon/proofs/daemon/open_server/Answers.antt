@@ -2,6 +2,7 @@
 use Rattle.std.proofs.Common.{◌≡◌, ◌∙◌, [], ap, subst, sym, option_map}
 use Rattle.std.specs.String.{string_bytes}
 use Rattle.tftp_folder.specs.Effects.{changes_of}
+use Rattle.tftp_folder.specs.Inside.{AreInside}
 use Rattle.tftp_folder.specs.declared.folder_store.FolderStore.{FolderStore}
 use Rattle.tftp_daemon.specs.Configured.{IsRootAt, IsServerOf, IsUploads, drafts_in}
 use Rattle.tftp_daemon.proofs.daemon.open_server.Goals as goal
@@ -29,4 +30,7 @@ returns-in-Ok-new g c =
           c.in-Ok-open_store.ensures.drafts;
       unchanged =
           subst (λ (s : FolderStore _ _ _). changes_of s ≡ []) same c.in-Ok-open_store.ensures.unchanged;
+      inside =
+          subst (λ (s : FolderStore _ _ _). AreInside (string_bytes s.folder.root) s.journal.events) same
+          c.in-Ok-open_store.ensures.inside;
     }
