@@ -62,7 +62,9 @@ class Bench(many.Bench):
         name = "new" if row.is_put else str(row.length)
         words = [self.many, many.SERVER, "69", name, str(row.block), many.FIRST, str(row.clients), str(os.cpu_count())]
         words = self.client.words(*words, f"{self.room}/{row.length}", *row.words)
-        done = subprocess.run(words, capture_output=True, text=True, check=True)
+        done = subprocess.run(words, capture_output=True, text=True)
+        if done.returncode != 0:
+            sys.exit(f"together: {row.title}: clients that end with status {done.returncode}: {done.stderr.strip()}")
         return list(map(float, done.stdout.split()))
 
     def wait_until_bound(self, is_bound) -> None:
