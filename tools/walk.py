@@ -1,7 +1,7 @@
 #!/usr/bin/env python3
 """The calls of tftpd's own functions from a received ACK to the block that answers it: walk.py [FUNCTION]
 
-It reads the sources, and follows each call from FUNCTION on (`PortVisit::take_datagram`, which receives, by default)
+It reads the sources, and follows each call from FUNCTION on (`PortVisit::take_datagrams`, which receives, by default)
 until the answer is sent: in octet, of a block that was read ahead. A line is a function, indented by its depth, where it
 is called first, or deeper than before. The last line counts them. Its status is 1 if it does not come to the send.
 """
@@ -13,7 +13,7 @@ from typing import Optional
 CRATES = Path(__file__).resolve().parent.parent / "crates"
 # Crates without a part in tftpd, whose functions have the names of some that have one
 LEFT_OUT = {"tftp_c", "tftp_play", "tftp_player", "tftp_script", "tftp_rules", "tftp_client"}
-FIRST, LAST = "PortVisit::take_datagram", "ServerSocket::send"
+FIRST, LAST = "PortVisit::take_datagrams", "ServerSocket::send"
 # What tftpd has for a trait, a name without a type of its own, and an alias
 TYPES = {"Source": "FolderSource", "Store": "FolderStore", "ServedStore": "FolderStore", "transfer": "Transfer",
          "terms": "Terms", "visit": "PortVisit", "before": "Phase", "TransferPort": "Port"}
