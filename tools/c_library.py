@@ -29,7 +29,7 @@ from lib.programs import TOP, programs
 from lib.stalls import LIMIT as STALL, Stalls
 
 sys.path.append(str(TOP / "tools" / "loopback"))
-from datagrams import ack, expect, is_bound  # noqa: E402
+from datagrams import ack, expect, free_ports, is_bound  # noqa: E402
 from scene import Scene, next_line  # noqa: E402
 
 PATIENCE = 120
@@ -156,10 +156,8 @@ def in_netascii(scene, built, server) -> None:
 # ---- the example that serves files in memory
 
 def serving_port(scene) -> "At":
-    """A port of the scene's address that nothing is bound to."""
-    port = scene.port()
-    port.close()
-    return At(*port.address)
+    """A port of the scene's address that nothing is bound to, and that the system chooses for no other socket meanwhile."""
+    return At(scene.address, free_ports(1))
 
 
 def serves(scene, built) -> tuple[Any, Any]:
