@@ -1,9 +1,10 @@
 #!/usr/bin/env python3
 """Measures tftpd, alone and with --servers 4, beside the other servers at all processors: together.py TFTPD [ROUNDS [ROW..]]
 
-Clients and servers are two hosts in network namespaces, as in many.py; nothing is pinned to a processor. ROW is a word of a
-row's title. A transfer that fails is counted: one that is refused (`server busy`), has other bytes, or has no end. It
-takes about six minutes with three rounds, and needs root, cc, ip and nft. README.md says which servers are looked for.
+Clients and servers are two hosts in network namespaces, as in many.py; nothing is pinned to a processor, and nothing has
+priority, since of more processes with priority than processors some do not run at all: leave the machine alone. ROW is a
+word of a row's title. A transfer that fails is counted: one that is refused (`server busy`), has other bytes, or has no end.
+It takes about six minutes with three rounds, and needs root, cc, ip and nft. README.md says which servers are looked for.
 """
 import os
 import re
@@ -134,9 +135,6 @@ def main() -> None:
         sys.exit(subprocess.run([*apart, sys.executable, __file__, *words]).returncode)
     rounds, wanted = int(sys.argv[2]), sys.argv[3:-1]
     rows = [row for row in ROWS if not wanted or any(word in row.title for word in wanted)]
-    # all that is measured inherits this
-    if not os.environ.get("QUIETLY"):
-        os.sched_setscheduler(0, os.SCHED_FIFO, os.sched_param(1))
     with tempfile.TemporaryDirectory(dir="/dev/shm") as room, ExitStack() as stack:
         os.chmod(room, 0o777)
         for length in {row.length for row in rows}:
