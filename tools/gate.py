@@ -69,11 +69,17 @@ def counted(lines: Sequence[str]) -> tuple[int, int]:
     return (int(counts[-1][1]), int(counts[-1][2])) if counts else (0, 1)
 
 
+def refused_in(lines: Sequence[str]) -> int:
+    """How many edits `rt ci` says were refused: by a line for each edit, or by a count at its end, as its kit has it."""
+    named = {match[1] for line in lines if (match := re.search(r"must-fail (\S+\.edit): refused", line))}
+    counts = [int(match[1]) for line in lines if (match := re.search(r"must-fail edits: (\d+) refused", line))]
+    return max(len(named), sum(counts))
+
+
 def faults_of(lines: Sequence[str], edits: int) -> list[str]:
     """What `rt ci` has said and counts as no failure: edits that are bad, and fewer that were refused than there are."""
     found = [line for line in lines if "BAD EDIT" in line or "NOT TRIED" in line]
-    refused = [re.search(r"must-fail edits: (\d+) refused", line) for line in lines]
-    count = sum(int(match[1]) for match in refused if match)
+    count = refused_in(lines)
     if count < edits:
         found.append(f"rt ci: {count} of {edits} edits were refused")
     return found

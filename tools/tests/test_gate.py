@@ -8,7 +8,10 @@ import unittest
 from pathlib import Path
 
 TOP = Path(__file__).resolve().parent.parent.parent
+# A kit says how many edits were refused in a count at the end, or in a line for each edit
 SAID = "rt: ok; handles allowed: Net; must-fail edits: {} refused; every proof and must-fail edit was done in this run"
+REFUSED = "rt: must-fail a/{}.edit: refused, as it must be: src/lib.rt:3:5: error: the goal is open"
+OK = "rt: ok; handles allowed: Net"
 
 
 class Gate(unittest.TestCase):
@@ -59,6 +62,16 @@ class Gate(unittest.TestCase):
 
     def test_an_edit_was_not_tried(self) -> None:
         self.ends([SAID.format(1), "39 passed, 0 failed"], ["./good"], 1, "41 passed, 1 failed")
+
+    def test_each_refused_edit_has_a_line(self) -> None:
+        each = [REFUSED.format("one"), REFUSED.format("two"), OK]
+        self.ends([*each, "40 passed, 0 failed"], ["./good"], 0, "42 passed, 0 failed")
+
+    def test_an_edit_has_no_line(self) -> None:
+        # (a line that comes again is no other edit)
+        said = self.ends([REFUSED.format("one"), REFUSED.format("one"), OK, "39 passed, 0 failed"], ["./good"], 1,
+                         "41 passed, 1 failed")
+        self.assertIn("FAILED: rt ci: 1 of 2 edits were refused", said)
 
     def test_nothing_may_be_skipped(self) -> None:
         said = self.ends([SAID.format(2), "40 passed, 0 failed"], ["./some"], 1, "42 passed, 1 failed", REQUIRE_ALL="1")
