@@ -30,6 +30,11 @@ crates_below() {
     crates_of "$1" | grep -v "^$1\$"
 }
 
+# the line of a crate in crates.txt: words, as `staticlib`, may stand behind its name
+line_of() {
+    grep -E "^$1( [^:]*)?:" crates.txt
+}
+
 # one more crate is done: says the rest of its line
 say() {
     (
@@ -85,13 +90,13 @@ build_apart() {
     mkdir -p "$room/crates/$1/out"
     cp HANDLES "$room"
     for crate in $(crates_below "$1"); do
-        grep "^$crate:" crates.txt >> "$room/crates.txt"
+        line_of "$crate" >> "$room/crates.txt"
         mkdir -p "$room/crates/$crate/out"
         for part in src specs proofs out/rlib; do
             test ! -d "crates/$crate/$part" || cp -al "crates/$crate/$part" "$room/crates/$crate/$part"
         done
     done
-    grep "^$1:" crates.txt >> "$room/crates.txt"
+    line_of "$1" >> "$room/crates.txt"
     for part in src specs proofs out; do
         test ! -d "crates/$1/$part" || cp -al "crates/$1/$part/." "$room/crates/$1/$part"
     done
