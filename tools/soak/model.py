@@ -473,6 +473,10 @@ class RequestPort:
         self.held.append((opened, (client, packet)))
         return opened.newest, opened
 
+    def has_unreported(self) -> bool:
+        """Whether a transfer has ended and is not removed: when a server does that, no datagram shows."""
+        return any(end.outcome for end, _ in self.held)
+
     def has_closed(self, end) -> None:
         """The transfer is removed."""
         self.held = [each for each in self.held if each[0] is not end]

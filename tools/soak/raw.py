@@ -162,9 +162,10 @@ class Trial:
 
     def ask(self) -> None:
         """A burst at the request port. A request may come twice, and other datagrams with it. Where a client may be told
-        that the server is busy, no transfer closes meanwhile."""
+        that the server is busy, no transfer closes meanwhile: none is near its end, and each that has ended has its line.
+        (The last datagram of a burst may be read half a second after the one before it, which advanced the transfer.)"""
         self.is_near = len(self.port.held) + MOST_ASKED > self.port.cap
-        if self.is_near and any(each.may_close(STALL) for each in self.live):
+        if self.is_near and (self.port.has_unreported() or any(each.may_close(STALL) for each in self.live)):
             return
         for _ in range(self.rng.randrange(1, 4)):
             live, datagram = Live(Port()), self.request()
