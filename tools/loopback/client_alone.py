@@ -319,6 +319,33 @@ def test_progress_is_shown_on_a_terminal(scene) -> None:
     is_got(scene, "--progress")
 
 
+def test_progress_goes_by_the_clock(scene) -> None:
+    """A line is shown each tenth of a second at most, and its speed is that of the bytes by the clock of their sender."""
+    shown, terminal = pty.openpty()
+    requests, asks = scene.port(), {"blksize": 65_464, **PATIENT}
+    client = scene.tftp("get", requests.word, "a", "local", "--no-dally", "--progress", "--blksize", "65464", *PATIENTLY,
+                        stderr=terminal)
+    os.close(terminal)
+    begun = time.monotonic()
+    end = asked(scene, requests, rrq("a", **asks))
+    end.is_answered(oack(**asks), ack(0))
+    answered = time.monotonic()
+    for number in range(1, 31):
+        end.is_answered(data(number, bytes(65_464)), ack(number))
+        time.sleep(0.02)
+    sent = time.monotonic()
+    end.is_answered(data(31, b"ABC"), ack(31))
+    length = 30 * 65_464 + 3
+    client.ends(0, f"complete {length}\n", None)
+    lasted = time.monotonic() - begun
+    lines = re.findall(r"\r(\d+) bytes, (\d+\.\d) MB/s", written_to(shown).decode())
+    # (the last one is shown in any case)
+    expect(2 <= len(lines) <= lasted / 0.1 + 3, True, f"whether {len(lines)} lines are those of {lasted:.2f} s")
+    count, speed = lines[-1]
+    least, most = length / lasted / 1e6 - 0.1, length / (sent - answered) / 1e6 + 0.1
+    expect((count, least <= float(speed) <= most), (f"{length}", True), f"the bytes, and whether {speed} MB/s is their speed")
+
+
 def test_falls_back(scene) -> None:
     """After ERROR 8 the client retries without options (RFC 2347), from a new port: the system may choose the old one
     again, and hardly does in each of three runs."""

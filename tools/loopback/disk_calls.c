@@ -37,6 +37,8 @@ struct control {
     int lacks_links; /* hard links fail with EPERM */
     int is_busy;     /* a poll that found nothing repeats what the last one found */
     int exchanges;   /* before the next call on a path that ends with `name`, `path` is moved to `away` and is a link */
+    int only;        /* the letter of the calls that fail, if it is none of 0; */
+    int after;       /* so many of those that would fail do not, first */
     char name[256], path[512], away[512], target[256];
     char elsewhere[256]; /* a path that ends so is on another device, if it is not empty */
     int count;
@@ -64,6 +66,12 @@ static void note(char letter) {
 
 /* notes a call; whether it is refused */
 static int is_refused(char letter, int error) {
+    if (control->only && control->only != letter)
+        error = 0;
+    if (error && control->after > 0) {
+        control->after--;
+        error = 0;
+    }
     note(error ? letter - 'a' + 'A' : letter);
     if (error)
         *__errno_location() = error;

@@ -3,9 +3,9 @@
 
 Without words it takes the programs of bin/, or else those that `rt ci` built, and runs every test, some at the same time.
 Tests of one server run over two at one port as well, by `--servers 2`: `TEST.2`. Each wait has a limit, and so have each test and the whole; a test that hangs is named, with where it waits. It uses
-addresses of 127.0.0.0/8 alone, one for each test, and one temporary folder. A test that fails while this host stalled is
-run once more, alone, and that is said. The last line is a count; the status is 1 if a test failed, or if fewer tests than
-known ran.
+addresses of 127.0.0.0/8 alone, one for each test, and one temporary folder. A test that fails is run again, alone: once if
+this host stalled meanwhile, and else twice, of which neither may fail; that is said. The last line is a count; the status is
+1 if a test failed, or if fewer tests than known ran.
 """
 import os
 import queue
@@ -20,6 +20,7 @@ from contextlib import suppress
 from pathlib import Path
 from typing import Any, Optional
 
+import at_length
 import both_programs
 import client_alone
 import command_lines
@@ -41,9 +42,11 @@ from lib.stalls import LIMIT as STALL, Stalls
 HERE = Path(__file__).resolve()
 # of one server each
 OF_SERVERS = [both_programs, server_alone, server_loop, served_folder, served_disk, options, handed_over, draining]
-MODULES = [*OF_SERVERS, client_alone, command_lines, several_servers, repeated_requests]
+MODULES = [*OF_SERVERS, client_alone, command_lines, several_servers, repeated_requests, at_length]
 TESTS_AT_LEAST = 194
 AT_ONCE = 8
+# The most tests that are run again; none where LOOPBACK_ONCE is in the environment, as where a fault is to be noticed
+MOST_REPEATED = 6
 # The longest time of a test, and of all together, in seconds, however slow the host is
 TEST_LIMIT = float(os.environ.get("LOOPBACK_SECONDS", "600"))
 LIMIT = 1_200
@@ -104,13 +107,18 @@ class Run:
                 if fault:
                     self.faults[name] = fault
                     print(f"{name}: {fault}", flush=True)
-                    self.again += [(name, stall)] * (stall > STALL)
+                    self.again.append((name, stall))
 
     def repeat(self) -> None:
-        """Each test that failed while the host stalled, alone."""
-        for at, (name, stall) in enumerate(self.again):
-            fault, _ = self.run(name, self.tests[name], f"{self.network}.{201 + at % 50}", f"{name}.again")
-            print(f"{name}: once more, since the host stalled for {stall:.1f} s: {fault or 'passed'}", flush=True)
+        """Each test that failed, alone, if it is no whole suite that fails."""
+        is_wanted = len(self.again) <= MOST_REPEATED and "LOOPBACK_ONCE" not in os.environ
+        for at, (name, stall) in enumerate(self.again if is_wanted else []):
+            runs = 1 if stall > STALL else 2
+            faults = [self.run(name, self.tests[name], f"{self.network}.{201 + at % 50}", f"{name}.again{run}")[0]
+                      for run in range(runs)]
+            fault = next(filter(None, faults), None)
+            why = f"once more, since the host stalled for {stall:.1f} s" if runs == 1 else "once more, and once more"
+            print(f"{name}: {why}: {fault or 'passed'}", flush=True)
             if not fault:
                 del self.faults[name]
 

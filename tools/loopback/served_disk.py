@@ -11,8 +11,8 @@ from served_folder import LAST, TOO_LARGE, drafts, writing
 from server_alone import ACCESS_VIOLATION, DISK_FULL, FILE_EXISTS, is_refused, opened
 
 # the parts of `struct control` in disk_calls.c: what a call fails by, whether links do, whether polls repeat what they
-# found and whether a path is exchanged; then the texts, and how many letters there are
-FLAGS, TEXTS = struct.Struct("iiii"), struct.Struct("256s512s512s256s256s")
+# found, whether a path is exchanged, which calls fail and behind how many; then the texts, and how many letters there are
+FLAGS, TEXTS = struct.Struct("iiiiii"), struct.Struct("256s512s512s256s256s")
 COUNT, LETTERS = struct.Struct("i"), 4_000
 
 
@@ -26,15 +26,18 @@ class Disk:
             self.memory = mmap.mmap(file.fileno(), 0)
         scene.ending.callback(self.memory.close)
 
-    def orders(self, error=0, lacks_links=False, is_busy=False, exchange=None, elsewhere="") -> None:
+    def orders(self, error=0, lacks_links=False, is_busy=False, exchange=None, elsewhere="", only="", after=0) -> None:
         """From now on calls fail by this number of an error, and so on; none without words. `exchange` is the end of the
-        path of a call, the path that is exchanged before it, and the target of the link that is there then."""
+        path of a call, the path that is exchanged before it, and the target of the link that is there then. `only` is the
+        letter of the calls that fail, once there were so many `after` which they do."""
         name, path, target = exchange or ("", "", "")
         texts = [name, path, f"{path}-away", target, elsewhere]
         # the order to exchange is the last that is given: the server may look at any time
-        FLAGS.pack_into(self.memory, 0, 0, 0, 0, 0)
+        FLAGS.pack_into(self.memory, 0, 0, 0, 0, 0, 0, 0)
         TEXTS.pack_into(self.memory, FLAGS.size, *[str(text).encode() for text in texts])
-        FLAGS.pack_into(self.memory, 0, error, lacks_links, is_busy, exchange is not None)
+        # (and what decides about an error comes before it)
+        FLAGS.pack_into(self.memory, 0, 0, lacks_links, is_busy, exchange is not None, ord(only or "\0"), after)
+        FLAGS.pack_into(self.memory, 0, error, lacks_links, is_busy, exchange is not None, ord(only or "\0"), after)
 
     def calls(self) -> str:
         """The letters of the calls since the last `forget`."""
@@ -128,6 +131,33 @@ def test_a_name_is_synced(scene) -> None:
         end.is_answered(LAST, ack(1))
         expect(disk.calls(), calls, f"the calls of a commit with {words}")
         server.kill()
+
+
+def test_each_kind_of_sync_that_fails(scene) -> None:
+    """A sync on the way, that of a whole draft, or that of the folder behind the name, each alone: the put fails, and no
+    file has its name."""
+    asked, block = {"blksize": 65_464, **PATIENT}, bytes(65_464)
+    server, disk = serve(scene, "--max-block", "65464", "--log", "--transfers", "100")
+    for only, after, calls in [("s", 0, "wS"), ("s", 1, "wsolS")]:
+        end = writing(scene, server, "n")
+        disk.orders(error=5, only=only, after=after)
+        disk.forget()
+        end.is_answered(LAST, DISK_FULL)
+        expect(disk.calls(), calls, "the calls of a commit whose sync fails")
+        disk.orders()
+        scene.lacks("n")
+    end = opened(scene, server, wrq("n", **asked), oack(**asked))
+    disk.orders(error=5, only="d")
+    disk.forget()
+    for number in range(1, 21):
+        end.is_answered(data(number, block), ack(number))
+    # (no datagram comes, so that the draft is synced)
+    disk.has("D")
+    disk.orders()
+    end.is_answered(data(21, b"last"), DISK_FULL)
+    scene.lacks("n")
+    log = [line for line in server.has_logged(6) if line.startswith("closed")]
+    server.logs(log, [r".* StoreFault, input or output error"] * 3)
 
 
 def test_without_hard_links(scene) -> None:

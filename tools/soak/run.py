@@ -7,8 +7,8 @@ numbers of its own from the seed: raw clients at five servers, hostile servers, 
 longest file, and faults of the host. It uses 127.0.0.0/8 alone and one temporary folder; each process has a limit, and
 is ended by its number. Prints what was tried; on a failure the seed, and the last datagrams as lines for tftp-show.
 
-A trial that fails while this host let a process wait for longer than its tests in real time can bear is run once more,
-and that is said last. Nothing else is repeated.
+A trial that fails is run again by its seed, with nothing beside it: once if this host let a process wait for longer than
+tests in real time can bear, and else twice, of which neither may fail. That is said last, and what failed is shown.
 """
 import random
 import subprocess
@@ -119,21 +119,25 @@ def main() -> int:
     vectors.small_parts()
     vectors.exchanges()
     names = sys.argv[5:] or [*TRIALS, *(LONG if seconds >= LONG_TRIAL else [])]
-    texts, failed, repeated, began = [], [], [], time.monotonic()
+    texts, statuses, failed, repeated, began = [], [], [], [], time.monotonic()
     with tempfile.TemporaryDirectory(prefix="soak") as folder:
         trials = [Trial(name, at, seed, seconds, words, f"{folder}/{at}") for at, name in enumerate(names)]
         for at, trial in enumerate(trials):
             status, printed = trial.ended()
             print(printed, end="", flush=True)
             texts.append(printed)
-            if status == 3:
-                repeated.append(trial.name)
-                status, printed = Trial(trial.name, at, seed, seconds, words, f"{folder}/{at}.again").ended()
-                print(f"once more, since the host stalled: {printed}", end="", flush=True)
-            failed += [trial.name] * (status != 0)
+            statuses.append(status)
+        for at, trial in [(at, trial) for at, trial in enumerate(trials) if statuses[at]]:
+            stalled = statuses[at] == 3
+            repeated.append(trial.name)
+            for run in range(1 if stalled else 2):
+                status, printed = Trial(trial.name, at, seed, seconds, words, f"{folder}/{at}.again{run}").ended()
+                print(f"once more{', since the host stalled' * stalled}: {printed}", end="", flush=True)
+                failed += [trial.name] * (status != 0)
+    failed = list(dict.fromkeys(failed))
     if not sys.argv[5:] and not failed:
         failed += [f"no ERROR `{text}`" for text in unseen("".join(texts))]
-    more = f"; repeated where the host stalled: {', '.join(repeated)}" if repeated else ""
+    more = f"; once more: {', '.join(repeated)}" if repeated else ""
     print(f"soak: seed {seed}, {time.monotonic() - began:.0f} s; {len(names) - len(failed)} passed, {len(failed)} failed"
           f"{': ' if failed else ''}{', '.join(failed)}{more}")
     return bool(failed)
