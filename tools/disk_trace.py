@@ -4,7 +4,8 @@
 Each call that touches ROOT, or the folder of LOCAL, is one that `tftp_disk/src/calls.rt` makes and notes: `CALLS` says which
 call of the system each function there is, with its flags. The calls of a get, a put, an overwrite, puts and gets that fail,
 and texts are then those of the tables below, with these paths and results and in this order, and no others; what is read
-and written are the bytes of the file. It is skipped without strace. The status is 1 if a call is missing or beside them.
+and written are the bytes of the file. Between them stands where the last ACK is sent: behind all that a commit does. It is
+skipped without strace. The status is 1 if a call is missing or beside them.
 """
 import difflib
 import os
@@ -50,6 +51,8 @@ CALLS = {
     "rename": ("rename", ""),
     "remove": ("unlink", ""),
 }
+# The ACK of the last of three blocks, and its line
+LAST_ACK, ACKNOWLEDGED = b"\0\4\0\3", "send the last ACK"
 # The functions that no case here calls for certain: a long put is synced on its way once no datagram waits
 UNTRIED = {"sync_data"}
 
@@ -152,6 +155,7 @@ look HERE/got.part: file
 link HERE/got.part HERE/got: ok
 sync HERE: ok
 remove HERE/got.part: ok
+send the last ACK
 """
 GOT_OVER = """
 look HERE/file: file
@@ -169,6 +173,7 @@ look HERE/file: file
 examine HERE/file.part: file
 rename HERE/file.part HERE/file: ok
 sync HERE: ok
+send the last ACK
 """
 OFFERED = """
 follow HERE/file: file
@@ -185,13 +190,20 @@ CASES = {
     "get that replaces": Case([], ["get", "a", "HERE/file", "--no-dally", "--replace"], 0, OPENED + "read ROOT/a: all",
                               GOT_OVER),
     "get of no file": Case([], ["get", "none", "HERE/got"], 1, "look ROOT/none: ENOENT", ASKED),
-    "put": Case([], PUT, 0, BEGUN + FINISHED + NAMED, OFFERED + SENT),
-    "put of a text": Case([], [*PUT, "--netascii"], 0, BEGUN + FINISHED + NAMED, OFFERED + SENT_TEXT, TEXT),
-    "overwrite": Case(["--overwrite"], ["put", "HERE/file", "old"], 0, BEGUN_OVER + FINISHED + NAMED_OVER, OFFERED + SENT),
+    "put": Case([], PUT, 0, BEGUN + FINISHED + NAMED + ACKNOWLEDGED, OFFERED + SENT),
+    "put of a text": Case([], [*PUT, "--netascii"], 0, BEGUN + FINISHED + NAMED + ACKNOWLEDGED, OFFERED + SENT_TEXT, TEXT),
+    "overwrite": Case(["--overwrite"], ["put", "HERE/file", "old"], 0, BEGUN_OVER + FINISHED + NAMED_OVER + ACKNOWLEDGED,
+                      OFFERED + SENT),
     "put of a name that is there": Case([], ["put", "HERE/file", "old"], 1, "look ROOT/old: file", OFFERED),
     # a write is cut short, and the next one fails: no name is given
     "put to a full disk": Case([], PUT, 1, BEGUN + "write DRAFT: 512 bytes\nwrite DRAFT: EFBIG", OFFERED + SENT, limit="1"),
 }
+
+
+def text_of(words: str) -> bytes:
+    """The bytes that a call moves, as strace shows them."""
+    text = re.search(r'"((?:[^"\\]|\\.)*)"', words)
+    return text[1].encode().decode("unicode_escape").encode("latin-1") if text else b""
 
 
 class Trace:
@@ -208,6 +220,11 @@ class Trace:
         if not found or found[1] in ("execve", "close"):
             return
         call, words, result = found.groups()
+        if call == "sendto":
+            sent = text_of(words)
+            # (where the host is slow it is sent again)
+            self.lines += [ACKNOWLEDGED] * (sent == LAST_ACK and ACKNOWLEDGED not in self.lines)
+            return
         opened = re.match(r"(\d+)<([^>]*)>", words)
         paths = [opened[2]] if opened else re.findall(r'"([^"]*)"', words)
         if not any(path.startswith(tuple(self.names)) for path in paths):
@@ -244,13 +261,12 @@ class Trace:
 
     def move(self, function: str, path: str, words: str, result: str) -> None:
         """A read or a write. Those of a file in a row are one line, with all bytes."""
-        text = re.search(r'"((?:[^"\\]|\\.)*)"', words)
         count = int(result.split()[0])
         line = f"{function} {self.named(path)}"
         if count < 0:
             self.lines.append(f"{line}: {self.answer(result, words)}")
             return
-        moved = text[1].encode().decode("unicode_escape").encode("latin-1")[:count] if text else b""
+        moved = text_of(words)[:count]
         at = len(self.lines) - 1
         if at not in self.moved or self.lines[at] != line:
             self.lines.append(line)
@@ -267,8 +283,10 @@ class Trace:
 
 def traced(log: Path, words: list[str], **how) -> "subprocess.Popen[str]":
     """Starts a program under strace."""
-    strace = ["strace", "-f", "-y", "-s", "100000", "-e", "trace=%file,%desc", "-o", str(log)]
-    return subprocess.Popen([*strace, *words], text=True, stdout=subprocess.PIPE, stderr=subprocess.STDOUT, **how)
+    strace = ["strace", "-f", "-y", "-s", "100000", "-e", "trace=%file,%desc,sendto", "-o", str(log)]
+    # (a program that `rt try` compiled looks for leaks at its end, which it may not under strace)
+    env = {**os.environ, "ASAN_OPTIONS": "detect_leaks=0"}
+    return subprocess.Popen([*strace, *words], text=True, stdout=subprocess.PIPE, stderr=subprocess.STDOUT, env=env, **how)
 
 
 def end(process: "subprocess.Popen[str]") -> None:
