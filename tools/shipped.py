@@ -2,10 +2,10 @@
 """Puts into bin/ what `make` would build, over what `rt ci` has just proved: shipped.py [FOLDER]
 
 `make` builds tftp, tftpd and the library for C for every processor of x86-64 (tools/build.sh), and `rt ci` all programs
-for x86-64-v2. So the two programs are compiled here once more, over the libraries that `rt ci` left, by the prover,
-which proves the functions of the program's own crate again; tftp-show and tftp-play are those of `rt ci`. What comes
+for x86-64-v2. So these three are compiled here once more, over the libraries that `rt ci` left, by the prover, which
+proves the functions of their own crates again, and none below; tftp-show and tftp-play are those of `rt ci`. What comes
 out is the same, byte for byte, as what `make` builds. Where checks of this checkout have left libraries of their own,
-of the same text, those are used; and where of another, tools/build.sh proves them again.
+of the same text, those are used; and where of another, `rt` proves them again.
 """
 import shutil
 import subprocess
@@ -18,15 +18,15 @@ from typing import Any
 from lib.programs import NAMES, TOP, of_crate
 
 # what is for every processor of x86-64, and the word that says so
-PLAIN, FLAG = ("tftp", "tftpd"), "--cpu=x86-64"
+PLAIN, FLAG, LIBRARY = ("tftp", "tftpd"), "--cpu=x86-64", "tftp_c"
 KIT = Path(shutil.which("rt") or sys.exit("shipped: rt is not on the PATH")).resolve().parent.parent
 sys.path.append(str(KIT / "bin"))
 import rtlib
 
 
 def crate_of(name) -> Any:
-    """The crate of a program, as rt has it."""
-    wanted = name.replace("-", "_") + "_main"
+    """The crate of a program or of the library for C, as rt has it."""
+    wanted = LIBRARY if name == LIBRARY else name.replace("-", "_") + "_main"
     return next(crate for crate in rtlib.crates_below(str(TOP)) if crate.name == wanted)
 
 
@@ -37,18 +37,38 @@ def has_libraries(crate) -> bool:
     return is_there and (not any(stamps) or all(it.is_built() for it in crate.below()))
 
 
+def proved(crate, to) -> None:
+    """Proves a crate's own functions, and compiles it and what it uses into this file, or stops."""
+    words = [*crate.words(["--jobs", "2"], keeps=False), FLAG, "--toolchain", f"{KIT}/toolchain", "--backend", "llvm"]
+    run(crate, [rtlib.RATTLE, "build", *words, "-o", to], "logic=proved ")
+
+
+def run(crate, command, said="") -> None:
+    done = subprocess.run(command, cwd=crate.folder, stdin=subprocess.DEVNULL, stdout=subprocess.PIPE,
+                          stderr=subprocess.STDOUT, text=True)
+    if done.returncode or said not in done.stdout:
+        sys.exit(f"shipped: {crate.name}: status {done.returncode}: {done.stdout[-2000:]}")
+
+
 def compiled(crate, room) -> Path:
-    """Proves a program's own crate and compiles it. Returns the path, or stops."""
-    made, to, toolchain = f"{room}/{crate.name}.o", Path(room, crate.name), f"{KIT}/toolchain"
-    words = [*crate.words(["--jobs", "2"], keeps=False), FLAG, "--toolchain", toolchain, "--backend", "llvm"]
-    linked = ["--target", "x86_64-unknown-linux-gnu", "--toolchain", toolchain, "-o", to, made,
+    """A program. Returns its path."""
+    made, to = f"{room}/{crate.name}.o", Path(room, crate.name)
+    proved(crate, made)
+    linked = ["--target", "x86_64-unknown-linux-gnu", "--toolchain", f"{KIT}/toolchain", "-o", to, made,
               f"{KIT}/c/libos_c.a", f"{KIT}/c/liblibc_c.a"]
-    for command in [[rtlib.RATTLE, "build", *words, "-o", made], [f"{KIT}/bin/rattle-link", *linked]]:
-        done = subprocess.run(command, cwd=crate.folder, stdin=subprocess.DEVNULL, stdout=subprocess.PIPE,
-                              stderr=subprocess.STDOUT, text=True)
-        if done.returncode or (command[1] == "build" and "logic=proved " not in done.stdout):
-            sys.exit(f"shipped: {crate.name}: status {done.returncode}: {done.stdout[-2000:]}")
+    run(crate, [f"{KIT}/bin/rattle-link", *linked])
     return to
+
+
+def archive() -> str:
+    """Makes the archive of the library for C where tools/library.sh looks for it: `rt ci` proves it, and leaves none.
+    Returns how."""
+    crate = crate_of(LIBRARY)
+    if has_libraries(crate):
+        proved(crate, Path(crate.folder, "out", f"lib{LIBRARY}.a"))
+        return f"{FLAG}, over the libraries of rt ci"
+    subprocess.run(["rt", "lib", FLAG], cwd=crate.folder, stdin=subprocess.DEVNULL, stdout=subprocess.DEVNULL, check=True)
+    return f"by rt lib {FLAG}"
 
 
 def built(name, room) -> tuple[Path, str]:
@@ -66,19 +86,18 @@ def main() -> None:
     folder = Path(sys.argv[1] if sys.argv[1:] else TOP / "bin")
     folder.mkdir(exist_ok=True)
     # (tools/build.sh lets in one run at a time)
-    workers = 2 if all(has_libraries(crate_of(name)) for name in PLAIN) else 1
+    workers = 3 if all(has_libraries(crate_of(name)) for name in [*PLAIN, LIBRARY]) else 1
     with tempfile.TemporaryDirectory(prefix="shipped-") as room, ThreadPoolExecutor(workers) as pool:
+        library = pool.submit(archive)
         for name, (place, how) in zip(NAMES, pool.map(lambda name: built(name, room), NAMES)):
             # (a program that runs is not written to)
             shutil.copy2(place, folder / f"{name}.new")
             (folder / f"{name}.new").replace(folder / name)
             (folder / name).touch()
             print(f"{name}: {how}", flush=True)
-    # `rt ci` proves the library for C, and leaves no archive of it
-    subprocess.run(["rt", "lib", FLAG], cwd=TOP / "crates/tftp_c", stdin=subprocess.DEVNULL, stdout=subprocess.DEVNULL,
-                   check=True)
+        how = library.result()
     subprocess.run([TOP / "tools/library.sh", folder], check=True)
-    print(f"libtftp: by rt lib {FLAG} and tools/library.sh", flush=True)
+    print(f"libtftp: {how}, and tools/library.sh", flush=True)
 
 
 if __name__ == "__main__":

@@ -53,8 +53,8 @@ class Live:
 
     def __init__(self, port) -> None:
         self.port, self.end, self.transfer, self.text = port, None, None, None
-        # whether the file that it reads was cut short meanwhile
-        self.is_cut = False
+        # whether the file that it reads was cut short meanwhile, and its request
+        self.is_cut, self.request = False, b""
         # what it sent before its newest steps, of which retransmissions may be on their way
         self.older = []
         # `began` is the earliest time at which the timer of the newest datagram may have begun
@@ -112,6 +112,8 @@ class Trial:
         self.server = Server(program, folder, [*words_of(limits), "--forever"], life)
         self.probe, self.stranger = Port(), Port()
         self.live, self.commits, self.is_near = [], set(), False
+        # ports whose transfers timed out, with their requests
+        self.again = []
         # the server reads its clock once a round, and handles what came since in that round, too: what is sent now is
         # handled in a round that began after this time
         self.round = time.time()
@@ -130,7 +132,7 @@ class Trial:
 
     def close(self) -> None:
         self.server.end()
-        for port in [self.probe, self.stranger, *[each.port for each in self.live]]:
+        for port in [self.probe, self.stranger, *[each.port for each in self.live], *[port for port, _ in self.again]]:
             port.close()
 
     # ---- what is sent
@@ -168,14 +170,26 @@ class Trial:
         if self.is_near and (self.port.has_unreported() or any(each.may_close(STALL) for each in self.live)):
             return
         for _ in range(self.rng.randrange(1, 4)):
-            live, datagram = Live(Port()), self.request()
+            live = self.asker()
             self.live.append(live)
-            if self.rng.random() < 0.3:
-                datagram = mutated(self.rng, datagram)
             for _ in range(self.rng.choice([1, 1, 2])):
-                self.ask_once(live, datagram)
+                self.ask_once(live, live.request)
             live.was_in_time()
         self.was_near_in_time()
+
+    def asker(self) -> Live:
+        """A client with its request: one whose transfer timed out asks again, which opens a further one."""
+        if self.again and self.rng.random() < 0.5:
+            port, request = self.again.pop()
+            live = Live(port)
+            live.request = request
+            self.counts["asked again"] += 1
+            return live
+        live = Live(Port())
+        live.request = self.request()
+        if self.rng.random() < 0.3:
+            live.request = mutated(self.rng, live.request)
+        return live
 
     def was_near_in_time(self) -> None:
         """No transfer has closed by itself since the last requests, where one more or less decides about the answers."""
@@ -355,11 +369,14 @@ class Trial:
         if outcome == "Complete":
             self.counts["reads complete" if isinstance(end, model.Sender) else "writes complete"] += 1
         self.port.has_closed(end)
-        self.forget(live)
+        self.forget(live, asks_again=outcome == "TimedOut")
 
-    def forget(self, live) -> None:
+    def forget(self, live, asks_again=False) -> None:
         self.live.remove(live)
-        live.port.close()
+        if asks_again:
+            self.again.append((live.port, live.request))
+        else:
+            live.port.close()
 
     def is_quiet(self) -> None:
         """Nothing else has been sent: a datagram that has one answer is handled after all before. The server handles one

@@ -33,8 +33,8 @@ from lib.stalls import LIMIT, Stalls
 
 # From this time on a file of 65,535 blocks is fetched over the bad network, too, in seconds
 LONG_TRIAL = 120
-# Where so many transfers were opened, each ERROR of a server has to have been seen
-MANY = 300
+# Where so many transfers were opened, each ERROR of a server has to have been seen; and the raw clients open some a second
+MANY, EACH_SECOND = 300, 1
 
 TRIALS = {
     "raw clients": lambda *it: raw.run(*it, retries=3),
@@ -137,6 +137,8 @@ def main() -> int:
     failed = list(dict.fromkeys(failed))
     if not sys.argv[5:] and not failed:
         failed += [f"no ERROR `{text}`" for text in unseen("".join(texts))]
+        opened = counts_of("".join(text for text in texts if text.startswith("raw clients")))["transfers"]
+        failed += [f"only {opened} transfers of raw clients"] * (opened < EACH_SECOND * seconds)
     more = f"; once more: {', '.join(repeated)}" if repeated else ""
     print(f"soak: seed {seed}, {time.monotonic() - began:.0f} s; {len(names) - len(failed)} passed, {len(failed)} failed"
           f"{': ' if failed else ''}{', '.join(failed)}{more}")

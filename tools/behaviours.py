@@ -1,0 +1,150 @@
+#!/usr/bin/env python3
+"""Wrong behaviours of tftp and tftpd, each of which a test has to notice: behaviours.py [--all | BEHAVIOUR..] [TFTP TFTPD]
+
+A library that is loaded before a program (behaviours/shim.c) has it behave wrongly at calls of the C library, in a way that
+the proofs do not see: below them stand the trusted files, the toolchain and the disk. The test that stands beside a
+behaviour is run over that program, and fails. Without words five rows are tried, by the seed of the commit; with
+`--all`, as by `make behaviours`, each of them. The status is 1 if a test passes.
+"""
+import os
+import random
+import subprocess
+import sys
+import tempfile
+import time
+from concurrent.futures import ThreadPoolExecutor
+from pathlib import Path
+from typing import NamedTuple
+
+from lib.preload import compiled
+from lib.programs import TOP, programs
+from lib.seeds import commit_seed
+
+SHIM = TOP / "tools/behaviours/shim.c"
+# how many are tried without words, how many at a time, and the longest time of one in seconds
+FEW, AT_ONCE, LIMIT = 5, 3, 420
+TWENTY, RETRIES = "test_twenty_megabytes_arrive", "test_retries_of_a_{}_to_their_end"
+SYNCS, ONCE, MANY = "test_each_kind_of_sync_that_fails", "test_each_block_comes_once", "test_three_thousand_transfers"
+ECHO, FOREIGN = "test_a_block_takes_little_longer_than_an_echo", "test_the_same_port_of_another_address_is_foreign"
+CLOSED, ORDER = "test_descriptors_close_on_exec", "test_ports_of_transfers_are_in_no_order"
+
+
+class Row(NamedTuple):
+    """A behaviour, the program that has it, and what notices it: a test of loopback/, or a tool of its own."""
+    behaviour: str
+    program: str
+    test: str
+
+    def title(self) -> str:
+        return f"{self.program} {self.behaviour}"
+
+
+ROWS = [
+    # bytes that are wrong or lost far behind a file's beginning
+    Row("reads_a_late_byte_wrong", "tftpd", TWENTY),
+    Row("stores_a_late_byte_wrong", "tftpd", TWENTY),
+    Row("loses_a_late_byte", "tftpd", TWENTY),
+    Row("reads_a_late_byte_wrong", "tftp", TWENTY),
+    Row("stores_a_late_byte_wrong", "tftp", TWENTY),
+    Row("loses_a_late_byte", "tftp", TWENTY),
+    # syncs that fail, come late or not at all
+    Row("ignores_an_error_of_fdatasync", "tftpd", SYNCS),
+    Row("ignores_an_error_of_fsync", "tftpd", SYNCS),
+    Row("ignores_an_error_of_a_folders_fsync", "tftpd", SYNCS),
+    Row("ignores_an_error_of_fsync", "tftp", "test_is_synced_and_then_named"),
+    Row("ignores_an_error_of_a_folders_fsync", "tftp", "test_is_synced_and_then_named"),
+    Row("syncs_nothing", "tftpd", "test_a_name_is_synced"),
+    Row("acks_before_the_folder_is_synced", "tftpd", "disk_trace.py"),
+    Row("acks_before_the_folder_is_synced", "tftpd", "power_cuts.py"),
+    Row("acks_before_the_folder_is_synced", "tftp", "power_cuts.py"),
+    Row("syncs_nothing", "tftp", "power_cuts.py"),
+    Row("renames_over_a_file", "tftpd", "disk_trace.py"),
+    # retransmissions
+    Row("sends_no_more_than_three_times_again", "tftpd", RETRIES.format("server")),
+    Row("sends_no_more_than_three_times_again", "tftp", RETRIES.format("client")),
+    Row("sends_nothing_again", "tftpd", RETRIES.format("server")),
+    Row("sends_nothing_again", "tftp", RETRIES.format("client")),
+    Row("waits_half_as_long_again", "tftpd", RETRIES.format("server")),
+    Row("waits_half_as_long_again", "tftp", RETRIES.format("client")),
+    Row("sends_again_with_a_byte_changed", "tftpd", RETRIES.format("server")),
+    Row("sends_again_with_a_byte_changed", "tftp", RETRIES.format("client")),
+    Row("sends_data_twice_from_block_300", "tftpd", ONCE),
+    Row("acknowledges_twice", "tftpd", ONCE),
+    Row("cuts_block_3", "tftpd", "test_blocks_of_512"),
+    # time
+    Row("takes_a_millisecond_a_datagram", "tftpd", ECHO),
+    Row("computes_while_it_waits", "tftpd", ECHO),
+    Row("computes_while_it_waits", "tftpd", "test_instructions_of_a_block"),
+    Row("waits_no_time", "tftpd", "test_a_transfer_that_waits_makes_no_polls"),
+    # many transfers, and their log
+    Row("is_deaf_after_1500", "tftpd", MANY),
+    Row("leaks_each_200th_descriptor", "tftpd", MANY),
+    Row("leaks_a_kilobyte_a_transfer", "tftpd", MANY),
+    Row("leaks_64_kilobytes_a_transfer", "tftpd", MANY),
+    Row("log_has_wrong_millis", "tftpd", MANY),
+    Row("log_counts_too_many_again", "tftpd", MANY),
+    Row("log_has_wrong_bytes", "tftpd", MANY),
+    Row("each_40th_closed_is_missing", "tftpd", MANY),
+    Row("progress_is_ten_times_too_fast", "tftp", "test_progress_goes_by_the_clock"),
+    # sockets
+    Row("trusts_a_port_at_another_address", "tftpd", FOREIGN),
+    Row("trusts_a_port_at_another_address", "tftp", FOREIGN),
+    Row("ports_are_in_order", "tftpd", ORDER),
+    Row("sockets_without_cloexec", "tftpd", CLOSED),
+    Row("sockets_without_cloexec", "tftp", CLOSED),
+    Row("open_without_cloexec", "tftpd", CLOSED),
+]
+
+
+def wrapped(row: Row, paths: dict[str, str], shim: Path, room: Path) -> list[str]:
+    """The programs, one of which has the behaviour; behind its library stands what a test preloads itself."""
+    script = room / f"{row.program}"
+    preload = f'LD_PRELOAD="{shim}${{LD_PRELOAD:+:$LD_PRELOAD}}"'
+    script.write_text(f'#!/bin/sh\n{preload} BEHAVIOUR={row.behaviour} exec {paths[row.program]} "$@"\n')
+    script.chmod(0o755)
+    return [str(script) if name == row.program else path for name, path in paths.items()]
+
+
+def tried(row: Row, paths: dict[str, str], shim: Path, room: Path) -> tuple[bool, str, float]:
+    """Whether the test notices the behaviour, and what it says."""
+    room.mkdir()
+    begun, given = time.monotonic(), wrapped(row, paths, shim, room)
+    words = [f"tools/{row.test}", *given] if row.test.endswith(".py") else ["tools/loopback/run.py", *given, row.test]
+    env = {**os.environ, "LOOPBACK_ONCE": "1", "ASAN_OPTIONS": "detect_leaks=0"}
+    try:
+        done = subprocess.run(words, cwd=TOP, stdin=subprocess.DEVNULL, capture_output=True, text=True, timeout=LIMIT, env=env)
+    except subprocess.TimeoutExpired:
+        return False, f"no end after {LIMIT} s", LIMIT
+    said = next((line for line in done.stdout.splitlines() if line.strip()), done.stderr[-200:])
+    return done.returncode == 1, said[:160], time.monotonic() - begun
+
+
+def chosen(words: list[str]) -> list[Row]:
+    """The rows that are tried."""
+    if words == ["--all"]:
+        return ROWS
+    if words:
+        return [row for row in ROWS if row.behaviour in words]
+    return random.Random(commit_seed()).sample(ROWS, FEW)
+
+
+def main() -> int:
+    if sys.argv[1:2] in (["-h"], ["--help"]):
+        sys.exit(__doc__)
+    words = sys.argv[1:]
+    given = words[-2:] if len(words) > 1 and os.path.isfile(words[-1]) else []
+    rows, paths = chosen(words[:len(words) - len(given)]), programs(["tftp", "tftpd"], given)
+    began, missed = time.monotonic(), 0
+    with tempfile.TemporaryDirectory(prefix="behaviours-") as folder, ThreadPoolExecutor(AT_ONCE) as pool:
+        shim = compiled(folder, SHIM)
+        runs = [pool.submit(tried, row, paths, shim, Path(folder, f"{at}")) for at, row in enumerate(rows)]
+        for row, run in zip(rows, runs):
+            is_noticed, said, seconds = run.result()
+            missed += not is_noticed
+            print(f"{row.title()}: {'noticed' if is_noticed else 'NOT NOTICED'} by {row.test}, {seconds:.0f} s: {said}", flush=True)
+    print(f"behaviours: {len(rows) - missed} of {len(rows)} noticed, in {time.monotonic() - began:.0f} s")
+    return 1 if missed else 0
+
+
+if __name__ == "__main__":
+    sys.exit(main())
