@@ -11,6 +11,7 @@
 #   copy what is in bin/, and build nothing. PROGRAM_PREFIX= is put before the names of the programs and their manuals
 # make dist: an archive of what is installed, with a script that installs it on hosts without the kit
 # make deb: a package for Debian
+# make behaviours: each wrong behaviour of tftp and tftpd that a test has to notice, five of which the gate tries
 # make soak SECONDS=3600 SEED=2: trials of bin/tftp and bin/tftpd against a model, a bad network and a bad host
 # make mutants SECONDS=3600 SEED=2: mutated lines, captures, scripts and command lines for the programs of bin/
 # make bench: the benchmarks of bench/, which are no tests
@@ -30,17 +31,19 @@ LIBRARY := bin/libtftp.a
 SOURCES := $(shell find crates -path '*/out' -prune -o \( -name '*.rt' -o -name '*.antt' \) -print) crates.txt
 
 # the tests of the tools; `python3 -m unittest` runs the checks, too
-TESTS := tools.tests.test_gate tools.tests.test_packages tools.tests.test_stand_ins tools.tests.test_programs tools.tests.test_rows
+TESTS := tools.tests.test_gate tools.tests.test_packages tools.tests.test_stand_ins tools.tests.test_programs \
+	tools.tests.test_rows tools.tests.test_requests
 # what is run behind `rt ci`, over bin/, which holds by then what `make` builds (tools/shipped.py). Each is run once, with a
 # limit, whatever the others come to: tools/gate.py says what was skipped and what failed
 CHECKS := tools/same_options.py tools/check_install.py tools/check_documents.py tools/statement.py tools/definitions.py \
-	tools/one_journal.py tools/disk_calls.py tools/disk_trace.py tools/same_pictures.sh tools/lint.py tools/processors.py \
+	tools/one_journal.py tools/disk_calls.py tools/disk_trace.py tools/power_cuts.py tools/same_pictures.sh tools/lint.py \
+	tools/processors.py \
 	'$(MAKE) --no-print-directory run' tools/statuses.py tools/captures.py tools/memory_in_turn.py tools/lost_requests.py \
 	tools/out_of_memory.py 'python3 -m unittest $(TESTS)' tools/mutants.py tools/c_library.py tools/loopback/run.py \
-	'tools/network.py bin/tftp bin/tftpd' tools/soak/run.py
+	tools/behaviours.py 'tools/network.py bin/tftp bin/tftpd' tools/soak/run.py 'tools/slips.py --few'
 
 .PHONY: build programs libtftp run sample tftp-show tftp-play tftp tftpd test quick docs slips install uninstall dist deb soak \
-	mutants bench bench-udp clean
+	behaviours mutants bench bench-udp clean
 # one after another: each crate is proved by as many processors as there are
 .NOTPARALLEL:
 
@@ -105,6 +108,9 @@ SEED := 1
 
 soak: bin/tftp bin/tftpd
 	tools/soak/run.py $(SECONDS) $(SEED) bin/tftp bin/tftpd
+
+behaviours: bin/tftp bin/tftpd
+	tools/behaviours.py --all
 
 bench: $(PROGRAMS)
 	bench/show/run.sh bin/tftp-show

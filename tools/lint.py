@@ -5,8 +5,8 @@ ruff and pyflakes look at the Python files of tools/, bench/ and examples/, mypy
 shell scripts; each is skipped where it is not installed, pyflakes or ruff alone suffices, and a line says so. What one
 finds is shown, and counts where its version is Debian 12's: another may find more, and no gate fails for what is
 installed on its host. Each Python file compiles, and each function says what it returns. Lines of documents, but of the
-READMEs of crates, are at most 120 columns wide, without those of tables and code. The last line but one counts the words
-of README.md and docs/.
+READMEs of crates, are at most 120 columns wide, without those of tables and code. Each slip can be applied, and has a line
+in tools/slips.txt; and the tests that NAMED lists are there. The last line but one counts the words of README.md and docs/.
 """
 import ast
 import os
@@ -18,6 +18,7 @@ import tempfile
 from pathlib import Path
 from typing import Callable
 
+import slips
 from lib.programs import TOP
 
 COLUMNS = 120
@@ -36,6 +37,29 @@ TYPED = ["lib/*.py", "gate.py", "slips.py", "processors.py", "lint.py", "mutants
 FOLDERS = ["tools", "tools/soak", "tools/loopback", "tools/rows", "tools/tests", "bench/*", "examples/python"]
 UNKNOWN = ["arg-type", "assignment", "attr-defined", "call-overload", "dict-item", "func-returns-value", "has-type", "index",
            "list-item", "misc", "operator", "str-bytes-safe", "union-attr", "var-annotated"]
+
+# Tests that keep their names, since their rows were agreed under them; beside some, those of a crate of tests that give the
+# rows which need a call of the library. Each is a test in Rattle, a method `test_NAME`, or a tool
+NAMED: dict[str, list[str]] = {
+    "vectors_show": [], "packet_rows": [], "play_first": [], "read_rows": ["the_most_blocks_come_whole"], "option_rows": [],
+    "write_rows": ["a_write_makes_a_file"], "random_safe": [], "port_rows": ["wrong_names", "paths_of_names", "long_names"],
+    "netascii_rows": ["wrong_text_closes_a_receiver"], "every_cut": [], "loopback": [],
+    "stream_rows": ["stream_rows_of_a_sink", "a_receiver_keeps_an_ack_and_a_cr", "a_sender_keeps_its_block"],
+    "ref_equals_owned": ["ref_equals_owned_of_faults"], "table_rows": [], "memory_in_turn": [], "stray_rows": [],
+    "malformed_each_state": [],
+    "fault_rows": ["a_read_of_twenty_bytes_breaks_off", "a_file_that_cannot_be_opened", "a_file_that_cannot_be_read",
+                   "one_call_is_refused"],
+    "fault_each": [], "overwrite_rows": [], "repeat_rows": [],
+}
+
+
+def unnamed() -> list[str]:
+    """The tests of NAMED that are not there."""
+    rattle = "".join(path.read_text() for path in TOP.glob("crates/tests_*/src/*.rt"))
+    python = "".join(path.read_text() for path in TOP.glob("tools/tests/*.py"))
+    tools = {path.stem for path in TOP.glob("tools/*.py")}
+    found = set(re.findall(r"#\[test\][^{]*?fn (\w+)", rattle)) | set(re.findall(r"def test_(\w+)", python)) | tools
+    return [f"there is no test {name}" for first, more in NAMED.items() for name in [first, *more] if name not in found]
 
 
 def printed_by(words: list[str], folder: Path = TOP, **more: str) -> list[str]:
@@ -112,7 +136,8 @@ def counts(name: str) -> bool:
 
 
 def main() -> int:
-    found, skipped, looked = [*wide_lines(), *untyped()], [], ["documents", "return types"]
+    found, skipped = [*wide_lines(), *untyped(), *slips.not_applied(), *unnamed()], []
+    looked = ["documents", "return types", "slips", "names of tests"]
     looks: dict[str, Callable[[], list[str]]] = {
         "pyflakes3": lambda: printed_by(["pyflakes3", *PYTHON]), "ruff": lambda: printed_by(RUFF), "mypy": mistyped,
         "shellcheck": lambda: printed_by(["shellcheck", "-x", "-S", "warning", *scripts()]),

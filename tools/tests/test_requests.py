@@ -5,7 +5,6 @@ import re
 import socket
 import subprocess
 import unittest
-from pathlib import Path
 from typing import Optional
 
 from tools.tests.test_rows import PATIENCE, Rows
