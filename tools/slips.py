@@ -5,8 +5,8 @@ A slip is a wrong body in crates/NAME/slips/, in the form of an edit in must-fai
 gate has no time for all of them. Without words every crate that has slips is tried. It works on a copy, a crate after the
 other, and takes what checks on this machine have kept. With `--few` some of all slips are tried, five if COUNT is not given,
 by the seed of the commit: each over the libraries that `rt ci` left, at the function that it changes alone, and where that
-is still proved, in the whole crate. tools/slips.txt says of each slip by which commit it was last refused; a run writes
-there what it tried. The last line is a count; the status is 1 where a slip proves, or cannot be applied.
+is still proved, in the whole crate. tools/slips.txt says of each slip by which commit it was last refused; a run of whole
+crates writes there. The last line is a count; the status is 1 where a slip proves, or cannot be applied.
 """
 import random
 import re
@@ -157,7 +157,6 @@ def few(count: int) -> int:
         found = dict(zip(chosen, pool.map(tried, chosen)))
     for slip, at in found.items():
         print(f"slip {slip}: {f'refused at {at}' if at else 'NOT REFUSED'}")
-    record([slip for slip, at in found.items() if at])
     lacking = "" if ready else "; skipped: no library is built"
     print(f"slips: {sum(map(bool, found.values()))} of {len(all_slips())} tried and refused, "
           f"{sum(not at for at in found.values())} not{lacking}")
