@@ -148,7 +148,7 @@ static ssize_t write_line(const byte *bytes, size_t count) {
     static long closed;
     size_t length = count;
     if (count > LONGEST)
-        return NEXT(read) ? -1 : -1;
+        return -1;
     memcpy(copy, bytes, count);
     if (is("log_has_wrong_millis"))
         length = with_digit(bytes, count, " ms, ", 5);
@@ -262,7 +262,9 @@ ssize_t recvfrom(int port, void *bytes, size_t count, int flags, struct address 
         return -1;
     }
     ssize_t result = NEXT(recvfrom)(port, bytes, count, flags, from, length);
-    if (is("trusts_a_port_at_another_address") && result >= 0 && from && port != requests && port < FILES) {
+    /* (a client has but one) */
+    int is_transfer = port != requests || sockets == 1;
+    if (is("trusts_a_port_at_another_address") && result >= 0 && from && is_transfer && port < FILES) {
         struct address *first = &first_sender[port];
         if (first->family == 0)
             *first = *from;
