@@ -12,7 +12,9 @@
 # make dist: an archive of what is installed, with a script that installs it on hosts without the kit
 # make deb: a package for Debian
 # make behaviours: each wrong behaviour of tftp and tftpd that a test has to notice, five of which the gate tries
-# make soak SECONDS=3600 SEED=2: trials of bin/tftp and bin/tftpd against a model, a bad network and a bad host
+# make soak SECONDS=3600 SEED=2: trials of bin/tftp and bin/tftpd against a model, a bad network and a bad host, and
+#   bin/tftp-show beside two other readers
+# make coverage: which functions of the programs no test runs, by qemu-x86_64
 # make mutants SECONDS=3600 SEED=2: mutated lines, captures, scripts and command lines for the programs of bin/
 # make bench: the benchmarks of bench/, which are no tests
 # make bench-udp: tftpd and tftp beside the other servers and clients that are installed
@@ -43,7 +45,7 @@ CHECKS := tools/same_options.py tools/check_install.py tools/check_documents.py 
 	tools/behaviours.py 'tools/network.py bin/tftp bin/tftpd' tools/soak/run.py 'tools/slips.py --few'
 
 .PHONY: build programs libtftp run sample tftp-show tftp-play tftp tftpd test quick docs slips install uninstall dist deb soak \
-	behaviours mutants bench bench-udp clean
+	behaviours coverage mutants bench bench-udp clean
 # one after another: each crate is proved by as many processors as there are
 .NOTPARALLEL:
 
@@ -106,11 +108,15 @@ deb: $(PROGRAMS) $(LIBRARY)
 SECONDS := 60
 SEED := 1
 
-soak: bin/tftp bin/tftpd
+soak: bin/tftp bin/tftpd bin/tftp-show
 	tools/soak/run.py $(SECONDS) $(SEED) bin/tftp bin/tftpd
+	tools/second_reader.py 100000 $(SEED)
 
 behaviours: bin/tftp bin/tftpd
 	tools/behaviours.py --all
+
+coverage: $(PROGRAMS)
+	tools/coverage.py
 
 bench: $(PROGRAMS)
 	bench/show/run.sh bin/tftp-show

@@ -5,7 +5,7 @@ A slip is a wrong body in crates/NAME/slips/, in the form of an edit in must-fai
 gate has no time for all of them. Without words every crate that has slips is tried. It works on a copy, a crate after the
 other, and takes what checks on this machine have kept. With `--few` some of all slips are tried, five if COUNT is not given,
 by the seed of the commit: each over the libraries that `rt ci` left, at the function that it changes alone, and where that
-is still proved, in the whole crate. tools/slips.txt says of each slip by which commit it was last refused; a run of whole
+is still proved, in the whole crate, for which there is not always time, as is said then. tools/slips.txt says of each slip by which commit it was last refused; a run of whole
 crates writes there. The last line is a count; the status is 1 where a slip proves, or cannot be applied.
 """
 import random
@@ -14,17 +14,18 @@ import shutil
 import subprocess
 import sys
 import tempfile
+import time
 from concurrent.futures import ThreadPoolExecutor
 from pathlib import Path
-from typing import Any, Optional
+from typing import Any
 
 from lib.seeds import commit_seed
 
 TOP = Path(__file__).resolve().parent.parent
 PARTS = ("src", "specs", "proofs", "c")
 RECORD = TOP / "tools/slips.txt"
-# how many are tried of all, how many at a time, and the longest time of one in seconds
-FEW, AT_ONCE, LIMIT = 5, 2, 1_800
+# how many are tried of all, how many at a time, and the longest time of all in seconds
+FEW, AT_ONCE, LIMIT = 5, 2, 600
 
 
 def crates_with_slips() -> list[str]:
@@ -116,51 +117,56 @@ def functions_of(slip: str, texts: dict[str, str]) -> list[str]:
     return found
 
 
-def checked(crate: Any, folder: Path, words: list[str]) -> tuple[int, str]:
-    """The status of a check of the copy, and what it printed."""
+def checked(crate: Any, folder: Path, words: list[str], end: float) -> str:
+    """What a check of the copy prints, or nothing if it takes too long."""
     import rtlib
     command = [rtlib.RATTLE, "check", *crate.words(["--jobs", "1", *words], keeps=False)]
-    done = subprocess.run(command, cwd=folder, stdin=subprocess.DEVNULL, stdout=subprocess.PIPE, stderr=subprocess.STDOUT,
-                          text=True, errors="replace", timeout=LIMIT)
-    return done.returncode, done.stdout
+    try:
+        done = subprocess.run(command, cwd=folder, stdin=subprocess.DEVNULL, stdout=subprocess.PIPE, stderr=subprocess.STDOUT,
+                              text=True, errors="replace", timeout=max(end - time.monotonic(), 1))
+    except subprocess.TimeoutExpired:
+        return ""
+    return done.stdout
 
 
-def refused_alone(slip: str, crate: Any, room: Path) -> Optional[str]:
-    """The function at which the prover refuses a slip; none if it does not."""
+def judged(slip: str, crate: Any, room: Path, end: float) -> str:
+    """What the prover says of a slip: `refused at F`, `NOT REFUSED`, or `undecided`."""
     texts, why = edited(slip)
     if why:
-        return None
+        return f"NOT REFUSED: {why}"
     for part in PARTS:
         if (TOP / "crates" / crate.name / part).is_dir():
             shutil.copytree(TOP / "crates" / crate.name / part, room / part)
     for path, text in texts.items():
         (room / path).write_text(text)
+    said = ""
     for words in [*(["--only", name] for name in functions_of(slip, texts)), []]:
-        status, said = checked(crate, room, words)
+        said = checked(crate, room, words, end)
         opened = re.search(r"(?m)^fn (\S+): (?:not proved|no proof)", said)
-        if status == 1 and opened:
-            return opened[1]
-    return None
+        if opened:
+            return f"refused at {opened[1]}"
+    return "NOT REFUSED" if "logic=proved " in said else "undecided"
 
 
 def few(count: int) -> int:
     """Tries some slips by the seed of the commit, of crates below which all libraries are there."""
-    known = crates()
+    known, end = crates(), time.monotonic() + LIMIT
     ready = [slip for slip in all_slips() if all(Path(it.rlib, "format").is_file() for it in known[slip.split("/")[0]].below())]
     chosen = random.Random(commit_seed()).sample(ready, min(count, len(ready)))
     with tempfile.TemporaryDirectory(prefix="slips-") as folder, ThreadPoolExecutor(AT_ONCE) as pool:
-        def tried(slip: str) -> Optional[str]:
+        def tried(slip: str) -> str:
             room = Path(folder, slip.replace("/", "."))
             room.mkdir()
-            return refused_alone(slip, known[slip.split("/")[0]], room)
+            return judged(slip, known[slip.split("/")[0]], room, end)
 
         found = dict(zip(chosen, pool.map(tried, chosen)))
-    for slip, at in found.items():
-        print(f"slip {slip}: {f'refused at {at}' if at else 'NOT REFUSED'}")
+    for slip, verdict in found.items():
+        print(f"slip {slip}: {verdict}{', no time for the whole crate: skipped' * (verdict == 'undecided')}")
+    wrong = sum(verdict.startswith("NOT") for verdict in found.values())
+    refused = sum(verdict.startswith("refused") for verdict in found.values())
     lacking = "" if ready else "; skipped: no library is built"
-    print(f"slips: {sum(map(bool, found.values()))} of {len(all_slips())} tried and refused, "
-          f"{sum(not at for at in found.values())} not{lacking}")
-    return int(not all(found.values()))
+    print(f"slips: {refused} of {len(all_slips())} tried and refused, {wrong} not{lacking}")
+    return int(wrong > 0)
 
 
 # ---- those of whole crates

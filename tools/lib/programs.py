@@ -1,5 +1,5 @@
 """The programs that the checks run: those of bin/, as `make` builds them and the gate leaves them, or else those that
-`rt ci` left in crates/*/out/."""
+`rt ci` left in crates/*/out/; before these, those of the folder that TFTP_PROGRAMS names in the environment, if it does."""
 import os
 import sys
 from pathlib import Path
@@ -16,7 +16,8 @@ def of_crate(crate: str) -> Path:
 
 def places_of(name: str) -> list[Path]:
     """Where a program may be, the first of which counts."""
-    return [TOP / "bin" / name, of_crate(name.replace("-", "_") + "_main")]
+    given = [Path(folder) / name for folder in [os.environ.get("TFTP_PROGRAMS")] if folder]
+    return [*given, TOP / "bin" / name, of_crate(name.replace("-", "_") + "_main")]
 
 
 def found(name: str) -> Optional[Path]:

@@ -192,7 +192,7 @@ def test_ports_of_transfers_are_in_no_order(scene) -> None:
 
 FIRST, SECOND = 1_000, 2_000
 # after each so many transfers there is a put, and after others a get that waits, in seconds
-PUT_EACH, WAIT_EACH, WAIT = 50, 200, 0.3
+PUT_EACH, WAIT_EACH, WAIT = 50, 200, 0.15
 # what a server may have more of after SECOND transfers, in KB: half of a KB each
 MOST_MORE = 1_000
 
@@ -236,28 +236,29 @@ class Transfers:
     """Transfers one after the other, and what the log of each has to say, by its client's port."""
 
     def __init__(self, scene, server) -> None:
-        self.scene, self.server, self.closes, self.waits, self.count = scene, server, {}, {}, 0
+        self.scene, self.server, self.closes, self.waits = scene, server, {}, {}
+        # how many were asked for, and how many opened
+        self.asked, self.count = 0, 0
 
     def expects(self, end, request, answer, count, again, outcome) -> None:
         """The line of a close, without its milliseconds."""
         line = f"closed {end.peer[1]} {end.port.word} {request}: {answer}, {count} bytes, N ms, {again} sent again, {outcome}"
         # (the system may choose a port again)
-        self.closes.setdefault(line, 0)
-        self.closes[line] += 1
+        self.closes[line] = self.closes.get(line, 0) + 1
+        self.count += 1
 
     def one(self) -> None:
-        self.count += 1
-        if self.count % WAIT_EACH == 7:
+        self.asked += 1
+        if self.asked % WAIT_EACH == 7:
             self.get("b", bytes_of(600), WAIT)
-        elif self.count % PUT_EACH == 0:
+        elif self.asked % PUT_EACH == 0:
             self.put()
-        elif self.count % 10 == 3:
+        elif self.asked % 10 == 3:
             self.stopped()
-        elif self.count % 10 == 6:
-            is_refused(self.scene, self.server, rrq("none"), FILE_NOT_FOUND)
-            self.count -= 1
         else:
             self.get("a", b"ABC")
+        if self.asked % 10 == 6:
+            is_refused(self.scene, self.server, rrq("none"), FILE_NOT_FOUND)
 
     def close(self, end) -> None:
         end.port.close()
@@ -277,7 +278,7 @@ class Transfers:
 
     def put(self) -> None:
         """The last block comes twice, so that its acknowledgement is sent again."""
-        name = f"n{self.count}"
+        name = f"n{self.asked}"
         end = opened(self.scene, self.server, wrq(name, timeout=1), oack(timeout=1))
         end.is_answered(data(1, b"ABC"), ack(1))
         end.newest = None
@@ -310,6 +311,7 @@ def test_three_thousand_transfers(scene) -> None:
     server.kill()
     for thread in log.threads:
         thread.join(PATIENCE)
+    expect(them.count, FIRST + SECOND, "the transfers that opened")
     (fds, before), (fds_then, after) = usages
     expect(fds_then, fds, "the descriptors")
     expect(is_slow or after - before < MOST_MORE, True, f"whether {after - before} KB more are few")

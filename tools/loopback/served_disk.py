@@ -149,12 +149,17 @@ def test_each_kind_of_sync_that_fails(scene) -> None:
     end = opened(scene, server, wrq("n", **asked), oack(**asked))
     disk.orders(error=5, only="d")
     disk.forget()
-    for number in range(1, 21):
-        end.is_answered(data(number, block), ack(number))
-    # (no datagram comes, so that the draft is synced)
-    disk.has("D")
+    # a megabyte is synced once no datagram waits, and what failed is told to the block behind it
+    number, answer = 0, b""
+    while answer != DISK_FULL:
+        number += 1
+        answer = end.answer_to(data(number, block))
+        expect(answer in (ack(number), DISK_FULL) and number < 100, True, f"whether {answer} answers block {number}")
+        if number == 20:
+            disk.has("D")
+    expect(disk.calls().count("D"), 1, "the syncs that were refused")
+    expect(number >= 17, True, f"whether block {number} is behind a megabyte")
     disk.orders()
-    end.is_answered(data(21, b"last"), DISK_FULL)
     scene.lacks("n")
     log = [line for line in server.has_logged(6) if line.startswith("closed")]
     server.logs(log, [r".* StoreFault, input or output error"] * 3)

@@ -148,7 +148,7 @@ NOT_OF_SEVERAL = {
     "the calls of one process are counted": [
         "test_a_datagram_that_is_not_sent_is_logged", "test_a_transfer_that_waits_makes_no_polls",
         "test_requests_take_turns_with_transfers", "test_a_sync_waits_until_no_port_is_ready",
-        "test_a_long_put_is_synced_on_its_way"],
+        "test_a_long_put_is_synced_on_its_way", "test_each_kind_of_sync_that_fails"],
     "the range of ports is divided": [
         "test_ports_are_used_each_once_before_any_again", "test_ports_in_use_are_passed_over",
         "test_a_draft_of_a_failed_transfer", "test_two_servers_share_a_folder",
