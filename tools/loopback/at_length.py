@@ -31,7 +31,7 @@ def test_twenty_megabytes_arrive(scene) -> None:
     """A get and a put, each byte compared."""
     content = random_bytes(LONG)
     scene.make("served/out", content)
-    server = scene.serve("--max-block", "65464", "--transfers", "2", root="served")
+    server = scene.serve("--max-block", "65464", "--forever", root="served")
     get = scene.tftp("get", server.word, "out", "got", "--blksize", "8192", "--no-dally", "--timeout", "20")
     put = scene.tftp("put", server.word, "served/out", "in", "--blksize", "65464", "--timeout", "20")
     get.completes(LONG)
@@ -116,7 +116,7 @@ def test_each_block_comes_once(scene) -> None:
     """Of a long get each DATA, and of a long put each ACK, comes once: nothing is sent twice, and nothing beside it."""
     content = bytes_of(MANY_BLOCKS * SMALL + 3)
     scene.make("a", content)
-    server = scene.serve("--transfers", "1")
+    server = scene.serve("--rounds", "100000")
     asked = {"blksize": SMALL, **PATIENT}
     get = opened(scene, server, rrq("a", **asked), oack(**asked))
     put = opened(scene, server, wrq("n", **asked), oack(**asked))
@@ -391,7 +391,7 @@ def test_a_block_takes_little_longer_than_an_echo(scene) -> None:
     fastest echo, and each block some time of a processor and one wait."""
     count = ROUNDS * BLOCKS_OF_ROUND
     scene.make("a", bytes_of(512 * count))
-    server = scene.serve()
+    server = scene.serve("--forever")
     words = ["-S", "-c", ECHO.replace("HOST", repr(scene.address))]
     echo = (scene.address, int(scene.start(sys.executable, words).stdout.readline()))
     end = opened(scene, server, rrq("a", **PATIENT), oack(**PATIENT))
