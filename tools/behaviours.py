@@ -74,7 +74,6 @@ ROWS = [
     # time
     Row("takes_a_millisecond_a_datagram", "tftpd", ECHO),
     Row("computes_while_it_waits", "tftpd", ECHO),
-    Row("computes_while_it_waits", "tftpd", "test_instructions_of_a_block"),
     Row("waits_no_time", "tftpd", "test_a_transfer_that_waits_makes_no_polls"),
     # many transfers, and their log
     Row("is_deaf_after_1500", "tftpd", MANY),

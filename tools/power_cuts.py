@@ -249,7 +249,7 @@ def main() -> int:
         for replay in [each.result() for each in runs]:
             states, faults = replay.faults()
             looked, found = looked + states, found + faults
-            for how in WRONG:
+            for how in WRONG if not faults else []:
                 events = replay.wrong(how)
                 if events is not None:
                     refused += 1

@@ -220,6 +220,13 @@ int link(const char *from, const char *to) { return is("renames_over_a_file") ? 
 
 static int requests = -1;
 static long sockets;
+/* (what nobody has, a compiler would not ask for) */
+static void *volatile leaked;
+
+static void leak(size_t count) {
+    leaked = malloc(count);
+    memset(leaked, 1, count);
+}
 
 int socket(int family, int type, int protocol) {
     int made = NEXT(socket)(family, is("sockets_without_cloexec") ? type & ~SOCK_CLOEXEC : type, protocol);
@@ -231,9 +238,9 @@ int socket(int family, int type, int protocol) {
     if (is("leaks_each_200th_descriptor") && sockets % 200 == 0)
         dup(made);
     if (is("leaks_a_kilobyte_a_transfer"))
-        memset(malloc(1024), 1, 1024);
+        leak(1024);
     if (is("leaks_64_kilobytes_a_transfer"))
-        memset(malloc(65536), 1, 65536);
+        leak(65536);
     return made;
 }
 
