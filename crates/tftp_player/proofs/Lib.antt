@@ -43,4 +43,26 @@ mod RunsLeft
 mod StraightRuns
 mod StraightPort
 mod StraightOpenings
+mod EndsCame
+mod NewestKept
+mod SentAgain
+mod WorldFacts
+mod RecoveringRuns
+mod AnsweringEnds
+mod RecoveringReads
+mod RecoveringWrites
+mod RecoveriesSettled
+mod RecoveringWitness
+mod AnsweringWitness
+mod OacksTaken
+mod StorableBlocks
+mod BlamelessTurns
+mod BlamelessActions
+mod Blameless
+mod ErrorReasons
+mod ErrorAnswers
+mod ErrorsKnown
+mod ErrorsHeard
+mod RefusedWitness
+mod RecoveringRequests
 pub mod SettledLemmas

@@ -282,7 +282,8 @@ module _ (host : List ℕ → List ℕ) (w : WorldState) where
         }),
   )
 
-  delivers : (i : ℕ) (sent : Option Datagram) → slice_get w.sent i ≡ sent → IsDelivered sent →
+  -- a datagram that was sent is delivered
+  pub delivers : (i : ℕ) (sent : Option Datagram) → slice_get w.sent i ≡ sent → IsDelivered sent →
       WorldStep w (Deliver i) (of_datagram sent).report (of_datagram sent).world
   delivers i None is delivered = absurd delivered
   delivers i (Some d) is delivered = arrives i d (slice_get w.ends (index_of d)) is refl delivered

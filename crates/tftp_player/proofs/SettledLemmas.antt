@@ -28,7 +28,7 @@ use Rattle.tftp_player.proofs.StraightOpenings.{reads_complete, writes_complete}
 use Rattle.tftp_player.proofs.StraightRuns.{stays_at, set_at}
 
 -- none is left, or enough were made
-reached : (sent new made most count : ℕ) → count ≤ most → (made ≡ most) ⊎ (new ≤ sent + made) → made ≤ count →
+pub reached : (sent new made most count : ℕ) → count ≤ most → (made ≡ most) ⊎ (new ≤ sent + made) → made ≤ count →
     (made < count → new ≡ sent + made + 1) → made ≡ count
 reached sent new made most count enough (inl all) few goes_on = omega (arith, all)
 reached sent new made most count enough (inr none) few goes_on = by (nat_lt made count) refl where
@@ -147,7 +147,8 @@ not_closed : (first w : WorldState) (k : ℕ) (x : ClosedEnd) (y : OpenEnd) → 
 not_closed first w k x y stay is e =
     true≢false (ap is_closed (same_Some (Closed_end x) (Open_end y) (sym (stay k x e) ∙ is)))
 
-took_all : (first : WorldState) (reports : List Report) (w v : WorldState) (i : ℕ) → StayClosed first w →
+-- if none has closed so, no delivery was refused
+pub took_all : (first : WorldState) (reports : List Report) (w v : WorldState) (i : ℕ) → StayClosed first w →
     Settles w i reports v → HaveTaken first v → AllTaken reports
 took_all first [] w v i stay s taken = tt
 took_all first (report ∷ reports) w v i stay s taken =

@@ -56,7 +56,7 @@ near e from bytes packet known =
     if b then Respond (garbled_response e.position.phase) else packet_action e from (Some packet) e.position.phase)
     (none_garbled (has_error_opcode bytes))
 
-peer_near : (terms : Terms) (to from : Endpoint) → terms.peer ≡ from → is_wrong_peer (Some terms) to from ≡ false
+pub peer_near : (terms : Terms) (to from : Endpoint) → terms.peer ≡ from → is_wrong_peer (Some terms) to from ≡ false
 peer_near terms to from peer =
     ap (λ (b : Bool). not b) (ap (λ (p : Endpoint). same_endpoint p from) peer ∙ same_self from)
 

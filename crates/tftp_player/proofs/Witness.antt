@@ -104,7 +104,7 @@ pub record Runs (kind : Kind) (s : Sample) : Type 0 where
   pub answered : TakesAnswer s.asked kind s.mode config.limits.max_file s.agreed
   pub all : AllDelivered s.host s.count (begun_world kind s) 1
 
-asks : (kind : Kind) (s : Sample) → MayOpen kind s →
+pub asks : (kind : Kind) (s : Sample) → MayOpen kind s →
     WorldStep (new_world_for kind s) (event_for kind s) (sent_report (new_world_for kind s)) (asked_world kind s)
 asks Read s may = get_step (new_world_for Read s) name s.mode s.asked (omega arith) may
 asks Write s may = put_step (new_world_for Write s) name s.mode s.asked s.file (omega arith) may
@@ -115,11 +115,11 @@ begins : (kind : Kind) (s : Sample) →
 begins Read s = (s.file, refl, record { reports = refl; is = refl })
 begins Write s = record { reports = refl; is = refl }
 
-is_to_port : (kind : Kind) (s : Sample) → (client_for kind s).state.position.last_sent_to ≡ request_port
+pub is_to_port : (kind : Kind) (s : Sample) → (client_for kind s).state.position.last_sent_to ≡ request_port
 is_to_port Read s = refl
 is_to_port Write s = refl
 
-is_of_client : (kind : Kind) (s : Sample) → is_client (client_for kind s).state.role.side ≡ true
+pub is_of_client : (kind : Kind) (s : Sample) → is_client (client_for kind s).state.role.side ≡ true
 is_of_client Read s = refl
 is_of_client Write s = refl
 
@@ -142,7 +142,7 @@ module _ (kind : Kind) (s : Sample) (runs : Runs kind s) where
       ],
     )
 
-  opens : WorldStep (asked_world kind s) (Deliver 0) (sent_report (asked_world kind s)) (begun_world kind s)
+  pub opens : WorldStep (asked_world kind s) (Deliver 0) (sent_report (asked_world kind s)) (begun_world kind s)
   opens = (
     datagram (client_for kind s).address (client_for kind s).state.position.last_sent_to (request_for kind s),
     refl,

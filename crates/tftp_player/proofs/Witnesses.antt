@@ -18,10 +18,10 @@ abbrev same : List ℕ → List ℕ
 same piece = piece
 
 -- ---- a read of one byte in octet, without options
-abbrev read : Sample
+abbrev pub read : Sample
 read = record { mode = Octet; asked = nothing_asked; agreed = []; file = 65 ∷ []; count = 2; host = same }
 
-read_runs : Runs Read read
+pub read_runs : Runs Read read
 unfolding occurrences_of
 read_runs = search rules
 
@@ -32,10 +32,10 @@ pub read_is_straight : SomeReadIsStraight Octet nothing_asked (65 ∷ []) []
 read_is_straight = read_is_straight_by read read_runs refl
 
 -- ---- a write of one byte in octet, without options
-abbrev write : Sample
+abbrev pub write : Sample
 write = record { mode = Octet; asked = nothing_asked; agreed = []; file = 65 ∷ []; count = 3; host = same }
 
-write_runs : Runs Write write
+pub write_runs : Runs Write write
 unfolding occurrences_of
 write_runs = record {
   may = record { valid = search rules; options = search rules; fits = omega arith };
@@ -85,11 +85,11 @@ unfolding occurrences_of name_of number_of digits answered_option taken_option
 options_transfer = transfers_by Read options options_run (search rules)
 
 -- ---- a read of 17 bytes in three blocks of 8
-abbrev blocks : Sample
+abbrev pub blocks : Sample
 blocks =
     record { mode = Octet; asked = blocks_of_8; agreed = Blksize 8 ∷ []; file = three_blocks; count = 8; host = same }
 
-blocks_run : Runs Read blocks
+pub blocks_run : Runs Read blocks
 unfolding occurrences_of name_of number_of digits answered_option taken_option
 blocks_run = record {
   may = record { valid = search rules; options = search rules };
@@ -103,10 +103,10 @@ pub blocks_are_straight : SomeReadIsStraight Octet blocks_of_8 three_blocks (Blk
 blocks_are_straight = read_is_straight_by blocks blocks_run refl
 
 -- ---- a write of 9 bytes in two blocks of 8, which an OACK answers
-abbrev oack : Sample
+abbrev pub oack : Sample
 oack = record { mode = Octet; asked = blocks_of_8; agreed = Blksize 8 ∷ []; file = two_blocks; count = 5; host = same }
 
-oack_runs : Runs Write oack
+pub oack_runs : Runs Write oack
 unfolding occurrences_of name_of number_of digits answered_option taken_option
 oack_runs = record {
   may = record { valid = search rules; options = search rules; fits = omega arith };

@@ -69,7 +69,7 @@ home_ip false true c ip p q h = same_text ip server_ip (sym p)
 home_ip false false true ip p q h = cc
 home_ip false false false ip p q h = cc
 
-ip_at_home : (a : Endpoint) (client : Bool) → host_of a ≡ home client → a.ip ≡ (if client then client_ip else server_ip)
+pub ip_at_home : (a : Endpoint) (client : Bool) → host_of a ≡ home client → a.ip ≡ (if client then client_ip else server_ip)
 unfolding host_of
 ip_at_home a client h = home_ip client (is_same_ip a.ip server_ip) (is_same_ip a.ip client_ip) a.ip refl refl h
 

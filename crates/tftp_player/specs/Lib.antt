@@ -22,4 +22,6 @@ pub mod Repeating
 pub mod Completing
 pub mod OneAtMost
 pub mod Straight
+pub mod Recovering
+pub mod Closing
 pub mod Draw

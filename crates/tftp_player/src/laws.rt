@@ -5,10 +5,19 @@
 ghost use Rattle.std.specs.Prelude.{[], ◌∷◌};
 ghost use Rattle.tftp_wire.specs.declared.mode.Mode.TheVariants.{Octet, Netascii};
 ghost use Rattle.tftp_negotiate.specs.declared.known.Known.TheVariants.{Blksize};
+ghost use Rattle.tftp_player.specs.Closing.{NoneIsBlamed, OnlyRefusalsAreTold};
+ghost use Rattle.tftp_player.specs.Closing.{EstablishedEndsCloseSo, SomeEndIsRefused};
 ghost use Rattle.tftp_player.specs.Completing.{Transfers, nothing_asked, blocks_of_8};
 ghost use Rattle.tftp_player.specs.Completing.{two_blocks, three_blocks};
 ghost use Rattle.tftp_player.specs.declared.event.Event.TheVariants.{Get, Put};
 ghost use Rattle.tftp_player.specs.OneAtMost.{EventsAddOneAtMost};
+ghost use Rattle.tftp_player.specs.Recovering.{TransfersRecover, ReadsRecover, WritesRecover};
+ghost use Rattle.tftp_player.specs.Recovering.{ReadRequestsRecover, WriteRequestsRecover};
+ghost use Rattle.tftp_player.specs.Recovering.{TransfersSettle, AnsweredReadsSettle};
+ghost use Rattle.tftp_player.specs.Recovering.{AnsweredWritesSettle, SomeTransferRecovers};
+ghost use Rattle.tftp_player.specs.Recovering.{SomeReadRecovers, SomeWriteRecovers};
+ghost use Rattle.tftp_player.specs.Recovering.{SomeReadRequestRecovers};
+ghost use Rattle.tftp_player.specs.Recovering.{SomeWriteRequestRecovers};
 ghost use Rattle.tftp_player.specs.Repeating.{RepeatsOpenNothing, OnlyNewRequestsOpen};
 ghost use Rattle.tftp_player.specs.Repeating.{RequestsLast};
 ghost use Rattle.tftp_player.specs.Straight.{ReadsComplete, WritesComplete, ReadsSettle};
@@ -92,4 +101,55 @@ pub fn a_repeat_opens_nothing()
     ensures ignored { RepeatsOpenNothing }
     ensures new_only { OnlyNewRequestsOpen }
     ensures lasts { RequestsLast }
+{}
+
+/// Whatever the network has done, an established transfer whose sender has a retry left completes
+/// once the network behaves: one timeout of the sender, and then each datagram that was added is
+/// delivered once, in order. It takes two datagrams for each block from the sender's newest one on
+/// (RFC 1350, section 2). Where the client has no peer yet, and would accept the newest datagram of
+/// the server's end, that end's timeout does the same.
+pub fn a_transfer_recovers()
+    ensures transfers { TransfersRecover }
+    ensures reads { ReadsRecover }
+    ensures writes { WritesRecover }
+    // there are some: the ACK of an OACK was lost, or DATA 2, or the last ACK
+    ensures oack { SomeTransferRecovers 0 }
+    ensures data { SomeTransferRecovers 2 }
+    ensures ack { SomeTransferRecovers 1 }
+    // or the first datagram of the server's end, of a read and of a write
+    ensures read { SomeReadRecovers }
+    ensures write { SomeWriteRecovers }
+{}
+
+/// A client that waits, and has a retry left, completes with a new end of the server once the
+/// network behaves, if the server's port accepts its request: one timeout of the client, and then
+/// as many datagrams as in a run without loss.
+pub fn a_request_recovers()
+    ensures reads { ReadRequestsRecover }
+    ensures writes { WriteRequestsRecover }
+    // there are some
+    ensures read { SomeReadRequestRecovers }
+    ensures write { SomeWriteRequestRecovers }
+{}
+
+/// A `World::settle` after that timeout, with a limit of at least as many deliveries, makes just
+/// that many, and both ends are complete.
+pub fn a_recovery_settles()
+    ensures transfers { TransfersSettle }
+    ensures reads { AnsweredReadsSettle }
+    ensures writes { AnsweredWritesSettle }
+{}
+
+/// No end whose peer is at one of the two hosts closes because of what that peer sent: neither as
+/// `Illegal`, nor as `NotNetascii`, `TooLarge` or `Refused`. Nor does one close as `SourceFault`:
+/// the files of a world have as many bytes as were measured. An ERROR of an end to its peer says
+/// only that its store refused. So one of two ends that are each other's peers closes as complete,
+/// as timed out, because its store refused, or by an ERROR 3 or 6 of the other, whose store
+/// refused (RFC 1350, appendix I), and as nothing else.
+pub fn no_end_is_blamed()
+    ensures none { NoneIsBlamed }
+    ensures told { OnlyRefusalsAreTold }
+    ensures closes { EstablishedEndsCloseSo }
+    // there is one that an ERROR 3 has closed
+    ensures refused { SomeEndIsRefused }
 {}

@@ -7,6 +7,8 @@ pub mod Opening
 pub mod Moving
 pub mod Keeps
 pub mod Runs
+pub mod NumbersNear
+pub mod RulesGrow
 pub mod RecordedKept
 pub mod Indices
 pub mod Entries

@@ -1,0 +1,421 @@
+-- What an open end sent last: a sender its newest block, or the OACK before its first.
+-- For RecoveringRuns.
+use Rattle.std.proofs.Common.{◌≡◌, ℕ, ◌+◌, suc, zero, Bool, true, false, List, [], ◌∷◌, Option, Some, None, Result, Ok}
+use Rattle.std.proofs.Common.{Err, refl, sym, ap, ◌∙◌, subst, arith, inl, inr}
+use Rattle.std.specs.Prelude.{◌≢◌, ◌==◌, ◌*◌, ◌/◌, nat_lt, nat_le, length, is_none, ◌&&◌, if◌then◌else◌, slice_get}
+use Rattle.std.proofs.lemmas.Bool.{true≢false}
+use Rattle.tftp_wire.specs.Reading.{has_error_opcode}
+use Rattle.tftp_wire.specs.Spelling.{canonical}
+use Rattle.tftp_wire.specs.declared.mode.Mode.{Mode}
+use Rattle.tftp_wire.specs.declared.options.RawOption.{RawOption}
+use Rattle.tftp_wire.specs.declared.packet.Packet.{Packet}
+use Rattle.tftp_wire.specs.declared.packet.Packet.TheVariants.{Read, Write, Data, Ack, Error, Oack}
+use Rattle.tftp_negotiate.specs.Agreed.{agreed_options}
+use Rattle.tftp_negotiate.specs.Agreement.{agreement}
+use Rattle.tftp_negotiate.specs.declared.asked.Asked.{Asked}
+use Rattle.tftp_negotiate.specs.declared.known.Kind.TheVariants as kinds
+use Rattle.tftp_negotiate.specs.declared.known.Known.{Known}
+use Rattle.tftp_negotiate.specs.declared.limits.TheConstants.{DEFAULT_BLOCK}
+use Rattle.tftp_negotiate.specs.declared.refusal.Refusal.{Refusal}
+use Rattle.tftp_negotiate.specs.declared.refusal.Refusal.TheVariants as refusals
+use Rattle.tftp_file.specs.Memory.{memory_source}
+use Rattle.tftp_file.specs.declared.fault.FileFault.{FileFault}
+use Rattle.tftp_file.specs.declared.fault.StoreFault.{StoreFault}
+use Rattle.tftp_file.specs.declared.files.Files.{Files}
+use Rattle.tftp_file.specs.declared.files.Files.TheVariants.{Source, Sink}
+use Rattle.tftp_file.specs.Sink.{Holding}
+use Rattle.tftp_ends.specs.declared.action.Action.{Action}
+use Rattle.tftp_ends.specs.declared.action.Action.TheVariants.{Respond, Send, Store}
+use Rattle.tftp_ends.specs.declared.action.Response.{Response}
+use Rattle.tftp_ends.specs.declared.action.Response.TheVariants.{Ignore, WrongPeer, ResendReply, Retransmit, Wait}
+use Rattle.tftp_ends.specs.declared.action.Response.TheVariants.{Close, Refuse, Accept, Complete}
+use Rattle.tftp_ends.specs.declared.outcome.Outcome.{Outcome}
+use Rattle.tftp_ends.specs.declared.phase.Dally.TheVariants.{Fresh, Waited}
+use Rattle.tftp_ends.specs.declared.phase.Phase.{Phase}
+use Rattle.tftp_ends.specs.declared.phase.Phase.TheVariants.{Waiting, Sending, Receiving, Dallying, Closed}
+use Rattle.tftp_ends.specs.declared.phase.Terms.{Terms}
+use Rattle.tftp_ends.specs.End.{EndState, is_sender, is_client, terms_of, outcome_of, Position}
+use Rattle.tftp_ends.specs.Action.{is_wrong_peer, garbled_response, packet_action, datagram_action, timeout_response}
+use Rattle.tftp_ends.specs.Opening.{serving_read, serving_write}
+use Rattle.tftp_ends.specs.Phase.{waited}
+use Rattle.tftp_ends.specs.Sender.{sender_action}
+use Rattle.tftp_ends.specs.Receiver.{receiver_action, next_action, dally_response}
+use Rattle.tftp_ends.specs.Text.{is_readable}
+use Rattle.tftp_ends.specs.Step.{Turn, DatagramStep, Acts, SendsFrom, StoresIn, GoesOn, Done, response_turn, data_bytes}
+use Rattle.tftp_ends.specs.Step.{filled_turn, committed_turn, result_count_is, block_length, timeout_turn, holding}
+use Rattle.tftp_ends.specs.Waiting.{reader_action, writer_action, accept_action, begin_action, begin_with_action}
+use Rattle.tftp_ends.specs.Waiting.{refusal_action, default_terms, agreed_terms}
+use Rattle.tftp_rules.specs.Machine.{Endpoint}
+use Rattle.tftp_rules.specs.OpenEnds.{OpenEnd, end_after}
+use Rattle.tftp_rules.proofs.Indices.{slice_get-set_cases, slice_get-push_cases}
+use Rattle.tftp_server.specs.Port.{Service, Silent, Refused, Sends, Takes}
+use Rattle.tftp_player.specs.World.{WorldState, WorldEnd, Open_end, Closed_end, standing, by_outcome, StoredFile}
+use Rattle.tftp_player.specs.World.{new_world}
+use Rattle.tftp_player.specs.WorldRuns.{PlaysAll}
+use Rattle.tftp_player.specs.WorldSteps.{world_sink, WorldStep, ServiceStep, Delivery, At_request_port, At_open_end}
+use Rattle.tftp_player.specs.WorldSteps.{At_closed_end, At_nobody, OpeningStep, Stays, Turns, TimeoutStep, armed_end}
+use Rattle.tftp_player.specs.declared.event.Event.{Event}
+use Rattle.tftp_player.specs.declared.event.Event.TheVariants.{Get, Put, Deliver, Timeout, RefuseStore, Stray}
+use Rattle.tftp_player.specs.declared.report.Report.{Report}
+use Rattle.tftp_server.specs.declared.config.Config.{Config}
+
+-- the newest datagram of a sender at this number
+abbrev pub IsNewest : List ℕ → ℕ → Type 0
+IsNewest sent zero = (options : List RawOption) × (sent ≡ canonical (Oack options))
+IsNewest sent (suc n) = (piece : List ℕ) × (sent ≡ data_bytes (suc n) piece)
+
+-- what a client's end, or a server's, has sent last in this phase; a client that has stored nothing
+-- was opened by an OACK
+abbrev pub Newest : Bool → List ℕ → Phase → Type 0
+Newest client sent (Waiting asked limit) = Unit {0}
+Newest client sent (Sending terms n) = IsNewest sent n
+Newest client sent (Receiving terms n) = n ≡ 0 → client ≡ true → terms.by_oack ≡ true
+Newest client sent (Dallying terms n dally) = Unit {0}
+Newest client sent (Closed terms n complete outcome) = Unit {0}
+
+newest_data : (n : ℕ) (piece : List ℕ) → n ≢ 0 → IsNewest (data_bytes n piece) n
+newest_data zero piece positive = absurd (positive refl)
+newest_data (suc n) piece positive = (piece, refl)
+
+-- ---- no action leads elsewhere
+abbrev Says : Response → Type 0
+Says (Accept terms) = terms.by_oack ≡ true
+Says response = Unit {0}
+
+abbrev Names : Action → Type 0
+Names (Respond response) = Says response
+Names (Send terms number) = number ≢ 0
+Names (Store terms number) = Unit {0}
+
+either : (b : Bool) (one two : Action) → Names one → Names two → Names (if b then one else two)
+either true one two h k = h
+either false one two h k = k
+
+says_either : (b : Bool) (one two : Response) → Says one → Says two → Says (if b then one else two)
+says_either true one two h k = h
+says_either false one two h k = k
+
+next_number : (n : ℕ) → n + 1 ≢ 0
+next_number n e = omega (arith, e)
+
+one_number : ◌≢◌ {A = ℕ} 1 0
+one_number e = omega (arith, e)
+
+sender_names : (client : Bool) (count : ℕ) (terms : Terms) (n : ℕ) (decoded : Option Packet) →
+    Names (sender_action client count terms n decoded)
+sender_names client count terms n None = tt
+sender_names client count terms n (Some (Read request)) = tt
+sender_names client count terms n (Some (Write request)) = tt
+sender_names client count terms n (Some (Data number piece)) = tt
+sender_names client count terms n (Some (Ack acked)) =
+    either (acked == n) _ _ (either (nat_lt n (count / terms.size + 1)) _ _ (next_number n) tt)
+    (either (nat_lt acked n) _ _ tt tt)
+sender_names client count terms n (Some (Error code text)) = tt
+sender_names client count terms n (Some (Oack options)) = either (client && terms.by_oack) _ _ tt tt
+
+next_names : (mode : Mode) (held : List ℕ) (terms : Terms) (n : ℕ) (piece : List ℕ) →
+    Names (next_action mode held terms n piece)
+next_names mode held terms n piece =
+    either (nat_lt terms.size (length piece)) _ _ tt
+    (either (n == 65535 && (length piece == terms.size)) _ _ tt
+    (either (is_readable mode held piece (nat_lt (length piece) terms.size)) _ _ tt tt))
+
+receiver_names : (client : Bool) (mode : Mode) (held : List ℕ) (terms : Terms) (n : ℕ) (decoded : Option Packet) →
+    Names (receiver_action client mode held terms n decoded)
+receiver_names client mode held terms n None = tt
+receiver_names client mode held terms n (Some (Read request)) = tt
+receiver_names client mode held terms n (Some (Write request)) = tt
+receiver_names client mode held terms n (Some (Data number piece)) =
+    either (number == n) _ _ tt
+    (either (nat_lt number n) _ _ tt
+    (either (number == n + 1) _ _ (next_names mode held terms number piece) tt))
+receiver_names client mode held terms n (Some (Ack acked)) = tt
+receiver_names client mode held terms n (Some (Error code text)) = tt
+receiver_names client mode held terms n (Some (Oack options)) =
+    either (client && terms.by_oack) _ _ (either (n == 0) _ _ tt tt) tt
+
+dally_says : (n : ℕ) (decoded : Option Packet) → Says (dally_response n decoded)
+dally_says n None = tt
+dally_says n (Some (Read request)) = tt
+dally_says n (Some (Write request)) = tt
+dally_says n (Some (Data number piece)) = says_either (number == n) _ _ tt tt
+dally_says n (Some (Ack acked)) = tt
+dally_says n (Some (Error code text)) = tt
+dally_says n (Some (Oack options)) = tt
+
+refusal_names : (refusal : Refusal) → Names (refusal_action refusal)
+refusal_names refusals.Repeated = tt
+refusal_names refusals.TooLarge = tt
+refusal_names refusals.NotAsked = tt
+refusal_names refusals.BadValue = tt
+
+begin_names : (count : ℕ) (terms : Terms) → Names (begin_action count terms)
+begin_names count terms = either (nat_lt count (65535 * terms.size)) _ _ one_number tt
+
+accept_names : (from : Endpoint) (r : Result (List Known) Refusal) → Names (accept_action from r)
+accept_names from (Ok agreed) = refl
+accept_names from (Err refusal) = refusal_names refusal
+
+begin_with_names : (from : Endpoint) (count : ℕ) (r : Result (List Known) Refusal) → Names (begin_with_action from count r)
+begin_with_names from count (Ok agreed) = begin_names count (agreed_terms from agreed)
+begin_with_names from count (Err refusal) = refusal_names refusal
+
+reader_names : (mode : Mode) (asked : Asked) (limit : ℕ) (from : Endpoint) (decoded : Option Packet) →
+    Names (reader_action mode asked limit from decoded)
+reader_names mode asked limit from None = tt
+reader_names mode asked limit from (Some (Read request)) = tt
+reader_names mode asked limit from (Some (Write request)) = tt
+reader_names mode asked limit from (Some (Data number bytes)) =
+    either (number == 1 && nat_le (length bytes) DEFAULT_BLOCK) _ _
+    (receiver_names true mode [] (default_terms from) 0 (Some (Data number bytes))) tt
+reader_names mode asked limit from (Some (Ack acked)) = tt
+reader_names mode asked limit from (Some (Error code text)) = tt
+reader_names mode asked limit from (Some (Oack options)) =
+    accept_names from (agreement asked kinds.Read mode options limit)
+
+writer_names : (mode : Mode) (asked : Asked) (limit count : ℕ) (from : Endpoint) (decoded : Option Packet) →
+    Names (writer_action mode asked limit count from decoded)
+writer_names mode asked limit count from None = tt
+writer_names mode asked limit count from (Some (Read request)) = tt
+writer_names mode asked limit count from (Some (Write request)) = tt
+writer_names mode asked limit count from (Some (Data number bytes)) = tt
+writer_names mode asked limit count from (Some (Ack number)) =
+    either (number == 0) _ _ (begin_names count (default_terms from)) tt
+writer_names mode asked limit count from (Some (Error code text)) = tt
+writer_names mode asked limit count from (Some (Oack options)) =
+    begin_with_names from count (agreement asked kinds.Write mode options limit)
+
+garbled_says : (phase : Phase) → Says (garbled_response phase)
+garbled_says (Waiting asked limit) = tt
+garbled_says (Sending terms n) = tt
+garbled_says (Receiving terms n) = tt
+garbled_says (Dallying terms n dally) = tt
+garbled_says (Closed terms n complete outcome) = tt
+
+timeout_says : (left : ℕ) (phase : Phase) → Says (timeout_response left phase)
+timeout_says left (Waiting asked limit) = says_either (left == 0) _ _ tt tt
+timeout_says left (Sending terms n) = says_either (left == 0) _ _ tt tt
+timeout_says left (Receiving terms n) = says_either (left == 0) _ _ tt tt
+timeout_says left (Dallying terms n Fresh) = tt
+timeout_says left (Dallying terms n Waited) = tt
+timeout_says left (Closed terms n complete outcome) = says_either (left == 0) _ _ tt tt
+
+module _ (e : EndState) (from : Endpoint) (bytes : List ℕ) (decoded : Option Packet) where
+  packet_names : (phase : Phase) → Names (packet_action e from decoded phase)
+  packet_names (Waiting asked limit) =
+      either (is_sender e.role.side) _ _ (writer_names e.role.mode asked limit e.role.length from decoded)
+      (reader_names e.role.mode asked limit from decoded)
+  packet_names (Sending terms n) = sender_names (is_client e.role.side) e.role.length terms n decoded
+  packet_names (Receiving terms n) =
+      receiver_names (is_client e.role.side) e.role.mode e.position.held_back terms n decoded
+  packet_names (Dallying terms n dally) = dally_says n decoded
+  packet_names (Closed terms n complete outcome) = tt
+
+  datagram_names : Names (datagram_action e from bytes decoded)
+  datagram_names =
+      either (is_wrong_peer (terms_of e.position.phase) e.position.last_sent_to from) _ _
+      (either (has_error_opcode bytes) _ _ tt tt)
+      (either (has_error_opcode bytes && is_none decoded) _ _ (garbled_says e.position.phase)
+      (packet_names e.position.phase))
+
+module _ (client : Bool) where
+  -- ---- nor does a turn
+  abbrev Has : Position → Type 0
+  Has position = Newest client position.last_sent position.phase
+
+  kept : (turn turn' : Turn) → turn ≡ turn' → Has turn'.position → Has turn.position
+  kept turn turn' is h = subst (λ (t : Turn). Has t.position) (sym is) h
+
+  waited_has : (sent : List ℕ) (phase : Phase) → Newest client sent phase → Newest client sent (waited phase)
+  waited_has sent (Waiting asked limit) h = h
+  waited_has sent (Sending terms n) h = h
+  waited_has sent (Receiving terms n) h = h
+  waited_has sent (Dallying terms n dally) h = h
+  waited_has sent (Closed terms n complete outcome) h = h
+
+  response_has : (response : Response) (from : Endpoint) (e : EndState) → Says response → Has e.position →
+      Has (response_turn response from e).position
+  response_has Ignore from e s h = h
+  response_has WrongPeer from e s h = h
+  response_has ResendReply from e s h = h
+  response_has Retransmit from e s h = h
+  response_has Wait from e s h = waited_has e.position.last_sent e.position.phase h
+  response_has (Close outcome) from e s h = tt
+  response_has (Refuse terms reply outcome) from e s h = tt
+  response_has (Accept terms) from e s h = λ _ _. s
+  response_has Complete from e s h = tt
+
+  timeout_has : (e : EndState) → Has e.position → Has (timeout_turn e).position
+  timeout_has e h =
+      response_has (timeout_response e.position.retries_left e.position.phase) e.position.last_sent_to e
+      (timeout_says e.position.retries_left e.position.phase) h
+
+  one_of : (b : Bool) (one two : Turn) → Has one.position → Has two.position → Has (if b then one else two).position
+  one_of true one two h k = h
+  one_of false one two h k = k
+
+  filled_has :
+      (terms : Terms) (number : ℕ) (from : Endpoint) (piece : List ℕ) (e : EndState) (answer : Result ℕ FileFault) →
+      number ≢ 0 → Has (filled_turn terms number from piece e answer).position
+  filled_has terms number from piece e answer s =
+      one_of (result_count_is (block_length e.role.length terms.size number) answer) _ _ (newest_data number piece s) tt
+
+  committed_has : (terms : Terms) (number : ℕ) (from : Endpoint) (e : EndState) (answer : Result Done StoreFault) →
+      Has (committed_turn terms number from e answer).position
+  committed_has terms number from e (Ok done) = tt
+  committed_has terms number from e (Err fault) = tt
+
+  module _ (refuses_commit : Holding → StoreFault → Type 0) (from : Endpoint) (bytes : List ℕ) (e : EndState) where
+    goes_has :
+        (terms : Terms) (number : ℕ) (last : Bool) (after : List ℕ) (mid sink' : Holding)
+        (answer : Result Done StoreFault) (turn : Turn) → number ≢ 0 →
+        GoesOn (world_sink refuses_commit) terms number from e last after mid answer turn sink' → Has turn.position
+    goes_has terms number last after mid sink' (Err fault) turn s g = kept turn _ g.0 tt
+    goes_has terms number true after mid sink' (Ok done) turn s g =
+        kept turn _ g.answers (committed_has terms number from (holding after e) g.answer)
+    goes_has terms number false after mid sink' (Ok done) turn s g = kept turn _ g.0 (λ z _. absurd (s z))
+
+    stores_has : (terms : Terms) (number : ℕ) (piece : List ℕ) (files files' : Files (List ℕ) Holding) (turn : Turn) →
+        number ≢ 0 →
+        StoresIn memory_source (world_sink refuses_commit) terms number from piece e files turn files' →
+        Has turn.position
+    stores_has terms number piece (Sink sink) (Sink sink') turn s d =
+        goes_has terms number _ d.after d.mid sink' d.answer turn s d.rest
+    stores_has terms number piece (Sink sink) (Source left) turn s d = absurd d
+    stores_has terms number piece (Source left) files' turn s d = absurd d
+
+    sends_has : (terms : Terms) (number : ℕ) (files files' : Files (List ℕ) Holding) (turn : Turn) → number ≢ 0 →
+        SendsFrom memory_source (world_sink refuses_commit) terms number from e files turn files' → Has turn.position
+    sends_has terms number (Source left) (Source left') turn s d =
+        kept turn _ d.answers (filled_has terms number from d.piece e d.answer s)
+    sends_has terms number (Source left) (Sink sink) turn s d = absurd d
+    sends_has terms number (Sink sink) files' turn s d = absurd d
+
+    acts_has : (action : Action) (files files' : Files (List ℕ) Holding) (turn : Turn) → Names action → Has e.position →
+        Acts memory_source (world_sink refuses_commit) action from bytes e files turn files' → Has turn.position
+    acts_has (Respond response) files files' turn s h a = kept turn _ a.0 (response_has response from e s h)
+    acts_has (Send terms number) files files' turn s h a = sends_has terms number files files' turn s a
+    acts_has (Store terms number) files files' turn s h a =
+        stores_has terms number a.0 files files' turn a.1.valid.0 a.2
+
+    step_has : (files files' : Files (List ℕ) Holding) (turn : Turn) → Has e.position →
+        DatagramStep memory_source (world_sink refuses_commit) from bytes e files turn files' → Has turn.position
+    step_has files files' turn h d =
+        acts_has (datagram_action e from bytes d.decoded) files files' turn (datagram_names e from bytes d.decoded) h
+        d.acts
+
+-- ---- the ends of a world
+abbrev pub EndNewest : WorldEnd → Type 0
+EndNewest (Open_end x) = Newest (is_client x.state.role.side) x.state.position.last_sent x.state.position.phase
+EndNewest (Closed_end x) = Unit {0}
+
+-- so it is of each end
+abbrev pub AllNewest : WorldState → Type 0
+AllNewest w = (k : ℕ) (z : WorldEnd) → slice_get w.ends k ≡ Some z → EndNewest z
+
+outcome_newest : (o : Option Outcome) (x : OpenEnd) → EndNewest (Open_end x) → EndNewest (by_outcome o x)
+outcome_newest None x h = h
+outcome_newest (Some outcome) x h = tt
+
+after_newest : (x : OpenEnd) (turn : Turn) (held : Files (List ℕ) Holding) →
+    Newest (is_client x.state.role.side) turn.position.last_sent turn.position.phase →
+    EndNewest (Open_end (end_after x turn held))
+after_newest x turn (Source left) h = h
+after_newest x turn (Sink sink) h = h
+
+stays_newest : (old new : WorldState) (report : Report) → AllNewest old → Stays old report new → AllNewest new
+stays_newest old new report h s = subst AllNewest (sym s.is) h
+
+turn_newest : (old new : WorldState) (k : ℕ) (x : OpenEnd) (turn : Turn) (held : Files (List ℕ) Holding)
+    (report : Report) → AllNewest old →
+    Newest (is_client x.state.role.side) turn.position.last_sent turn.position.phase →
+    Turns old k x turn held report new → AllNewest new
+turn_newest old new k x turn held report h n t j z i =
+    let y = end_after x turn held in
+    elim
+    (slice_get-set_cases old.ends k j (standing y) z (sym (ap (λ (w : WorldState). slice_get w.ends j) t.is) ∙ i)) [
+      | inl e ↦
+          subst EndNewest (sym e.1) (outcome_newest (outcome_of y.state.position.phase) y (after_newest x turn held n))
+      | inr e ↦ h j z e.1
+    ]
+
+opening_newest : (old new : WorldState) (x : OpenEnd) (report : Report) → AllNewest old → EndNewest (Open_end x) →
+    OpeningStep old x report new → AllNewest new
+opening_newest old new x report h n o j z i =
+    elim
+    (slice_get-push_cases old.ends j (Open_end x) z (sym (ap (λ (w : WorldState). slice_get w.ends j) o.is) ∙ i)) [
+      | inl e ↦ h j z e
+      | inr e ↦ subst EndNewest (sym e.1) n
+    ]
+
+read_newest : (agreed : List Known) (peer : Endpoint) (mode : Mode) (count retries : ℕ) (piece : List ℕ) →
+    let e = serving_read agreed peer mode count retries piece in
+    Newest (is_client e.role.side) e.position.last_sent e.position.phase
+read_newest [] peer mode count retries piece = (piece, refl)
+read_newest (known ∷ others) peer mode count retries piece = (agreed_options (known ∷ others), refl)
+
+write_newest : (agreed : List Known) (peer : Endpoint) (mode : Mode) (retries : ℕ) →
+    let e = serving_write agreed peer mode retries in
+    Newest (is_client e.role.side) e.position.last_sent e.position.phase
+write_newest [] peer mode retries = λ z c. absurd (true≢false (sym c))
+write_newest (known ∷ others) peer mode retries = λ z c. absurd (true≢false (sym c))
+
+service_newest : (service : Service) (old new : WorldState) (from : Endpoint) (bytes : List ℕ) (report : Report) →
+    AllNewest old → ServiceStep service old from bytes report new → AllNewest new
+service_newest Silent old new from bytes report h s = stays_newest old new report h s
+service_newest (Refused reply) old new from bytes report h s = subst AllNewest (sym s.1) h
+service_newest (Sends path mode count agreed) old new from bytes report h s =
+    opening_newest old new _ report h (read_newest agreed from mode _ _ _) s.2
+service_newest (Takes path mode agreed) old new from bytes report h s =
+    opening_newest old new _ report h (write_newest agreed from mode _) s
+
+arrives_newest : (old new : WorldState) (from to : Endpoint) (bytes : List ℕ) (report : Report) → AllNewest old →
+    Delivery old from to bytes report new → AllNewest new
+arrives_newest old new from to bytes report h (At_request_port here port decoded says repeated same served) =
+    service_newest _ old new from bytes report h served
+arrives_newest old new from to bytes report h (At_open_end k x there at takes) =
+    turn_newest old new k x takes.turn takes.held report h
+    (step_has (is_client x.state.role.side) _ from bytes x.state _ takes.held takes.turn (h k (Open_end x) there)
+    takes.steps) takes.turns
+arrives_newest old new from to bytes report h (At_closed_end k x there at s) = stays_newest old new report h s
+arrives_newest old new from to bytes report h (At_nobody away nobody s) = stays_newest old new report h s
+
+timeout_newest : (old new : WorldState) (k : ℕ) (x : WorldEnd) (report : Report) → AllNewest old →
+    slice_get old.ends k ≡ Some x → TimeoutStep old k x report new → AllNewest new
+timeout_newest old new k (Closed_end x) report h there s = stays_newest old new report h s
+timeout_newest old new k (Open_end x) report h there t =
+    turn_newest old new k x _ _ report h (timeout_has (is_client x.state.role.side) x.state (h k (Open_end x) there)) t
+
+armed_if : (b : Bool) (x : OpenEnd) → EndNewest (Open_end x) →
+    EndNewest (Open_end (if b then x else record x { refuses = true }))
+armed_if true x h = h
+armed_if false x h = h
+
+armed_newest : (x : WorldEnd) → EndNewest x → EndNewest (armed_end x)
+armed_newest (Open_end x) h = armed_if (is_sender x.state.role.side) x h
+armed_newest (Closed_end x) h = h
+
+-- each event keeps it
+pub step_newest : (old new : WorldState) (event : Event) (report : Report) → AllNewest old →
+    WorldStep old event report new → AllNewest new
+step_newest old new (Get name mode asked) report h s = opening_newest old new _ report h tt s.2
+step_newest old new (Put name mode asked bytes) report h s = opening_newest old new _ report h tt s.2
+step_newest old new (Deliver i) report h s = arrives_newest old new _ _ _ report h s.2
+step_newest old new (Timeout port) report h s = timeout_newest old new s.0 s.1 report h s.2.there s.3
+step_newest old new (RefuseStore port) report h s = λ j z i.
+    elim
+    (slice_get-set_cases old.ends s.0 j (armed_end s.1) z
+    (sym (ap (λ (w : WorldState). slice_get w.ends j) s.4) ∙ i)) [
+      | inl e ↦ subst EndNewest (sym e.1) (armed_newest s.1 (h s.0 s.1 s.2.there))
+      | inr e ↦ h j z e.1
+    ]
+step_newest old new (Stray from to bytes) report h s = arrives_newest old new _ _ _ report h s.1
+
+-- so it is after all events
+pub run_newest : (events : List Event) (old new : WorldState) → AllNewest old → PlaysAll old events new → AllNewest new
+run_newest [] old new h r = subst AllNewest (sym r) h
+run_newest (event ∷ events) old new h r = run_newest events r.0 new (step_newest old r.0 event r.1 h r.2) r.3
+
+-- a new world has no ends
+pub new_newest : (files : List StoredFile) (config : Config) → AllNewest (new_world files config)
+new_newest files config k z i = absurd (let f : None ≡ Some z = i in cc)

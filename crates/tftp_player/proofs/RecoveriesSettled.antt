@@ -1,0 +1,62 @@
+-- `settle` makes as many deliveries as a recovery needs, if its limit is not below.
+-- For the law a_transfer_recovers.
+use Rattle.std.proofs.Common.{◌≡◌, ℕ, ◌+◌, ◌*◌, ◌<◌, ◌≤◌, length, inl, inr, arith, ◌∙◌}
+use Rattle.tftp_file.specs.Block.{block_count}
+use Rattle.tftp_ends.specs.declared.phase.Terms.{Terms}
+use Rattle.tftp_rules.specs.OpenEnds.{OpenEnd}
+use Rattle.tftp_player.specs.Recovering.{Behaves, EndsAfter, HasSettled, SettlesAfter, StoresTake, left_to_add}
+use Rattle.tftp_player.specs.Recovering.{TransfersSettle, AnsweredReadsSettle, AnsweredWritesSettle}
+use Rattle.tftp_player.specs.World.{WorldState}
+use Rattle.tftp_player.proofs.RecoveringReads.{reads_recover}
+use Rattle.tftp_player.proofs.RecoveringRuns.{transfers_recover}
+use Rattle.tftp_player.proofs.RecoveringWrites.{writes_recover}
+use Rattle.tftp_player.proofs.SettledLemmas.{reached, took_all}
+
+module _ (w new : WorldState) (x y : OpenEnd) (most made : ℕ) (s : SettlesAfter w x y most made new) where
+  stores : StoresTake y s.settles.reports
+  stores = elim s.taken [
+    | inl have ↦ inl (took_all s.mid s.settles.reports s.mid new (length w.sent) (λ k z e. e) s.settles.delivered have)
+    | inr h ↦ inr h
+  ]
+
+  -- the network behaves
+  abbrev behaves : Behaves w x y new
+  behaves = record {
+    retries = s.retries;
+    report = s.report;
+    mid = s.mid;
+    times_out = s.times_out;
+    reports = s.settles.reports;
+    settles = s.settles.delivered;
+    taken = stores;
+  }
+
+  has_settled : (one other count : ℕ) → count ≤ most → EndsAfter w new one other (length s.settles.reports) count →
+      HasSettled w new one other made count
+  has_settled one other count enough ends =
+      let m = s.settles.counted in
+      let f = ends.few in
+      let few : made ≤ count = omega (arith, m, f) in
+      let is =
+      reached (length w.sent) (length new.sent) made most count enough s.settles.all few
+      (λ less. let e = ends.goes_on (let n : length s.settles.reports < count = omega (arith, m, less) in n) in
+      omega (arith, e, m)) in
+      (is, ends.through (m ∙ is))
+
+-- so it is of an established transfer
+pub transfers_settle : TransfersSettle
+transfers_settle w new one other x y terms number most made is_reached e s enough =
+    has_settled w new x y most made s one other (left_to_add x terms number) enough
+    (transfers_recover w new one other x y terms number is_reached e (behaves w new x y most made s))
+
+-- of a read whose client has no peer yet
+pub answered_reads_settle : AnsweredReadsSettle
+answered_reads_settle w new one other x y asked limit terms number most made is_reached a is s enough =
+    has_settled w new x y most made s one other (left_to_add x terms number) enough
+    (reads_recover w new one other x y asked limit terms number is_reached a is (behaves w new x y most made s))
+
+-- and of a write
+pub answered_writes_settle : AnsweredWritesSettle
+answered_writes_settle w new one other x y asked limit terms number most made is_reached a is s enough =
+    has_settled w new x x most made s one other (1 + 2 * block_count y.text terms.size) enough
+    (writes_recover w new one other x y asked limit terms number is_reached a is (behaves w new x x most made s))

@@ -1,0 +1,87 @@
+-- The next block of a text is stored: it is short enough, not the last but one, and readable.
+-- For BlamelessActions.
+use Rattle.std.proofs.Common.{◌≡◌, ℕ, ◌+◌, ◌*◌, ◌<◌, ◌≤◌, Bool, true, false, not, List, ◌++◌, length, take, drop, Some}
+use Rattle.std.proofs.Common.{refl, sym, ap, ◌∙◌, subst, arith, inl, inr}
+use Rattle.std.specs.Prelude.{◌≢◌, ◌==◌, nat_lt, ◌&&◌}
+use Rattle.std.specs.Cmp.Lexicographic.{same_text}
+use Rattle.std.proofs.lemmas.Bool.{true≢false, eqb-true, eq-eqb}
+use Rattle.std.proofs.lemmas.List.{take-append-drop}
+use Rattle.tftp_wire.specs.declared.mode.Mode.{Mode}
+use Rattle.tftp_file.specs.Block.{block, block_count, Fits}
+use Rattle.tftp_file.specs.Netascii.{wire_text}
+use Rattle.tftp_ends.specs.declared.phase.Terms.{Terms}
+use Rattle.tftp_ends.specs.Action.{is_wrong_peer, same_address, same_endpoint}
+use Rattle.tftp_ends.specs.Text.{is_readable}
+use Rattle.tftp_rules.specs.Machine.{Endpoint}
+use Rattle.tftp_rules.proofs.Blocks.{count_is_past, take-block}
+use Rattle.tftp_rules.proofs.Endpoints.{endpoint_from}
+use Rattle.tftp_player.proofs.SentAgain.{less}
+use Rattle.tftp_player.proofs.StraightActions.{piece_readable, block_within, never_long, last_rest}
+
+-- ---- small facts
+pub and_true : (a b : Bool) → (a && b) ≡ true → (a ≡ true) × (b ≡ true)
+and_true true b e = (refl, e)
+and_true false b e = absurd (true≢false (sym e))
+
+-- the second of two tests failed
+pub and_false : (a b : Bool) → (a && b) ≡ false → a ≡ true → b ≡ false
+and_false true b e a = e
+and_false false b e a = absurd (true≢false (sym a))
+
+not_false : (b : Bool) → not b ≡ false → b ≡ true
+not_false true e = refl
+not_false false e = absurd (true≢false e)
+
+-- a test whose negation fails
+pub from_not : (b : Bool) → false ≡ not b → b ≡ true
+from_not true e = refl
+from_not false e = absurd (true≢false (sym e))
+
+-- the peer of an end is no wrong peer
+pub the_peer : (terms : Terms) (to from : Endpoint) → is_wrong_peer (Some terms) to from ≡ false → terms.peer ≡ from
+the_peer terms to from right =
+    let same = not_false (same_endpoint terms.peer from) right in
+    let parts = and_true (same_address terms.peer from) (terms.peer.port == from.port) same in
+    endpoint_from terms.peer from (same_text terms.peer.ip from.ip (sym parts.0))
+    (eqb-true terms.peer.port from.port parts.1)
+
+-- numbers that are not the same
+pub differs : (a b : ℕ) → (a == b) ≡ false → a ≢ b
+differs a b e f = true≢false (sym (eq-eqb a b f) ∙ e)
+
+-- no number lies between two that follow one another
+pub by_one : (j n : ℕ) → n ≤ j → j ≤ n + 1 → j ≢ n → j ≢ n + 1 → ⊥
+by_one j n low high a b = elim (less (n + 1) j) [
+  | inl h ↦ a (omega (arith, low, h))
+  | inr h ↦ b (omega (arith, high, h))
+]
+
+-- ---- the next block of a text is stored
+pub record IsStorable (mode : Mode) (held : List ℕ) (size number : ℕ) (piece : List ℕ) : Type 0 where
+  pub within : length piece ≤ size
+  pub short : number ≡ 65535 → length piece ≡ size → ⊥
+  pub readable : is_readable mode held piece (nat_lt (length piece) size) ≡ true
+
+-- the next block of what the peer sends is stored
+pub storable : (mode : Mode) (file stored held text : List ℕ) (size n : ℕ) (piece : List ℕ) → 0 < size → Fits text size →
+    wire_text mode file ≡ text → wire_text mode stored ++ held ≡ take (n * size) text → n * size ≤ length text →
+    piece ≡ block text size (n + 1) → IsStorable mode held size (n + 1) piece
+storable mode file stored held text size n piece positive fits text_is received room piece_is =
+    let more : n < block_count text size = elim (less (block_count text size) n) [
+      | inl h ↦ h
+      | inr h ↦ absurd (let past = count_is_past text n size positive h in omega (arith, past, room))
+    ] in
+    let l : n + 1 ≤ block_count text size = omega (arith, more) in
+    let own = block text size (n + 1) in
+    let rest = drop ((n + 1) * size) text in
+    let whole : ((wire_text mode stored ++ held) ++ own) ++ rest ≡ wire_text mode file =
+    ap (λ (t : List ℕ). (t ++ own) ++ rest) received
+    ∙ (ap (λ (t : List ℕ). t ++ rest) (take-block text n size)
+    ∙ (take-append-drop ((n + 1) * size) text ∙ sym text_is)) in
+    subst (λ (b : List ℕ). IsStorable mode held size (n + 1) b) (sym piece_is) (record {
+      within = block_within text size positive fits n l;
+      short = λ a b. never_long text size positive fits n l a b;
+      readable =
+          piece_readable mode file stored held own rest (nat_lt (length own) size) whole
+          (λ e. last_rest text size positive fits n e);
+    })

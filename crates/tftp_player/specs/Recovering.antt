@@ -1,0 +1,241 @@
+-- Recovery: whatever the network has done so far, a transfer completes once the network behaves.
+use Rattle.std.specs.Prelude.{ℕ, ◌≡◌, ◌+◌, ◌*◌, ◌-◌, ◌<◌, ◌≤◌, ◌⊎◌, true, false, ⊤, List}
+use Rattle.std.specs.Prelude.{length, slice_get, Some}
+use Rattle.tftp_wire.specs.declared.mode.Mode.{Mode}
+use Rattle.tftp_negotiate.specs.Agreed.{size}
+use Rattle.tftp_negotiate.specs.declared.asked.Asked.{Asked}
+use Rattle.tftp_negotiate.specs.declared.known.Kind.TheVariants as kinds
+use Rattle.tftp_negotiate.specs.declared.known.Known.{Known}
+use Rattle.tftp_negotiate.specs.Ranges.{IsBlockSize}
+use Rattle.tftp_file.specs.Block.{block_count, Fits}
+use Rattle.tftp_file.specs.Netascii.{wire_text}
+use Rattle.tftp_server.specs.Port.{Service, Sends, Takes}
+use Rattle.tftp_server.specs.declared.config.Config.{Config}
+use Rattle.tftp_ends.specs.declared.action.Action.{Action}
+use Rattle.tftp_ends.specs.declared.action.Action.TheVariants.{Respond, Send, Store}
+use Rattle.tftp_ends.specs.declared.action.Response.TheVariants.{Accept}
+use Rattle.tftp_ends.specs.declared.phase.Phase.TheVariants.{Waiting, Sending, Receiving}
+use Rattle.tftp_ends.specs.declared.phase.Terms.{Terms}
+use Rattle.tftp_ends.specs.Action.{HandledBy}
+use Rattle.tftp_ends.specs.End.{is_client}
+use Rattle.tftp_rules.specs.OpenEnds.{OpenEnd, peer_of}
+use Rattle.tftp_player.specs.Settling.{Settled}
+use Rattle.tftp_player.specs.Straight.{AllTaken, HaveTaken, IsAccepted, TakesAnswer}
+use Rattle.tftp_player.specs.Straight.{read_adds, write_adds}
+use Rattle.tftp_player.specs.World.{WorldState, StoredFile, WorldEnd, Open_end}
+use Rattle.tftp_player.specs.World.{new_world, file_at}
+use Rattle.tftp_player.specs.WorldRuns.{PlaysAll}
+use Rattle.tftp_player.specs.WorldSafety.{IsComplete}
+use Rattle.tftp_player.specs.WorldSteps.{WorldStep, Settles}
+use Rattle.tftp_player.specs.declared.event.Event.{Event}
+use Rattle.tftp_player.specs.declared.event.Event.TheVariants.{Timeout}
+use Rattle.tftp_player.specs.declared.report.Report.{Report}
+
+-- some list of events leads to this world
+pub record IsReached (w : WorldState) : Type 0 where
+  pub files : List StoredFile
+  pub config : Config
+  pub events : List Event
+  pub max_block : IsBlockSize config.limits.max_block
+  pub plays : PlaysAll (new_world files config) events w
+
+-- the open ends at these indices are each other's peers; the first sends, and its newest block has
+-- this number (0: its OACK is not acknowledged yet)
+pub record IsEstablished (w : WorldState) (one other : ℕ) (x y : OpenEnd) (terms : Terms)
+    (number : ℕ) : Type 0 where
+  pub sender_at : slice_get w.ends one ≡ Some (Open_end x)
+  pub receiver_at : slice_get w.ends other ≡ Some (Open_end y)
+  pub sends : x.state.position.phase ≡ Sending terms number
+  pub to_receiver : terms.peer ≡ y.address
+  pub to_sender : peer_of y.state.position.phase ≡ Some x.address
+
+-- no store refuses; of a receiver that is a client, and that no event set to refuse, it follows
+abbrev pub StoresTake : OpenEnd → List Report → Type 0
+StoresTake y reports =
+    AllTaken reports ⊎ ((is_client y.state.role.side ≡ true) × (y.refuses ≡ false))
+
+-- the end x times out and has a retry left, and then each datagram that is added from then on is
+-- delivered once, in order, one for each report; the receiver y stores what it gets
+pub record Behaves (old : WorldState) (x y : OpenEnd) (new : WorldState) : Type 0 where
+  pub retries : 0 < x.state.position.retries_left
+  pub report : Report
+  pub mid : WorldState
+  pub times_out : WorldStep old (Timeout x.address.port) report mid
+  pub reports : List Report
+  pub settles : Settles mid (length old.sent) reports new
+  pub taken : StoresTake y reports
+
+-- both ends at these indices are complete, and `count` datagrams were added
+pub record AreThrough (old new : WorldState) (one other count : ℕ) : Type 0 where
+  pub x : WorldEnd
+  pub y : WorldEnd
+  pub x_at : slice_get new.ends one ≡ Some x
+  pub y_at : slice_get new.ends other ≡ Some y
+  pub x_done : IsComplete x
+  pub y_done : IsComplete y
+  pub counted : length new.sent ≡ length old.sent + count
+
+-- a run of `made` deliveries ends after `count`: there are no more, before the last one a datagram
+-- is to be delivered, and after it both ends are complete and none is
+pub record EndsAfter (old new : WorldState) (one other made count : ℕ) : Type 0 where
+  pub few : made ≤ count
+  pub goes_on : made < count → length new.sent ≡ length old.sent + made + 1
+  pub through : made ≡ count → AreThrough old new one other count
+
+-- the blocks that a sender has to send still, its newest one again, and an ACK for each
+abbrev pub left_to_add : OpenEnd → Terms → ℕ → ℕ
+left_to_add x terms number = 2 + 2 * (block_count x.text terms.size - number)
+
+-- in every world that events can lead to: an established transfer whose sender has a retry left
+-- completes at both ends, once the network behaves, after exactly that many datagrams
+abbrev pub TransfersRecover : Type 0
+TransfersRecover =
+    (w new : WorldState) (one other : ℕ) (x y : OpenEnd) (terms : Terms) (number : ℕ) →
+    IsReached w → IsEstablished w one other x y terms number → (run : Behaves w x y new) →
+    EndsAfter w new one other (length run.reports) (left_to_add x terms number)
+
+-- some established transfer does, of a sender whose newest block has this number
+abbrev pub SomeTransferRecovers : ℕ → Type 0
+SomeTransferRecovers number =
+    (w : WorldState) × (new : WorldState) × (one : ℕ) × (other : ℕ) × (x : OpenEnd) × (y : OpenEnd)
+    × (terms : Terms) × IsReached w × IsEstablished w one other x y terms number
+    × (run : Behaves w x y new) × (length run.reports ≡ left_to_add x terms number)
+
+-- the client accepts what it waits for: it takes a peer
+abbrev pub TakesPeer : Action → Type 0
+TakesPeer (Respond (Accept terms)) = ⊤
+TakesPeer (Respond response) = ⊥
+TakesPeer (Send terms number) = ⊤
+TakesPeer (Store terms number) = ⊤
+
+-- an open end of the server whose client, open at the other index, has no peer yet, and would
+-- accept the end's newest datagram
+pub record IsAnswering (w : WorldState) (one other : ℕ) (x y : OpenEnd) (asked : Asked)
+    (limit : ℕ) : Type 0 where
+  pub server_at : slice_get w.ends one ≡ Some (Open_end x)
+  pub client_at : slice_get w.ends other ≡ Some (Open_end y)
+  pub to_client : peer_of x.state.position.phase ≡ Some y.address
+  pub waits : y.state.position.phase ≡ Waiting asked limit
+  pub takes : HandledBy TakesPeer x.address x.state.position.last_sent y.state
+
+-- of a read, whose server's end sends: it times out, and the same count holds
+abbrev pub ReadsRecover : Type 0
+ReadsRecover =
+    (w new : WorldState) (one other : ℕ) (x y : OpenEnd) (asked : Asked) (limit : ℕ) (terms : Terms)
+    (number : ℕ) →
+    IsReached w → IsAnswering w one other x y asked limit →
+    x.state.position.phase ≡ Sending terms number → (run : Behaves w x y new) →
+    EndsAfter w new one other (length run.reports) (left_to_add x terms number)
+
+-- and of a write, whose server's end receives: ACK 0 or the OACK, and all blocks with their ACKs
+abbrev pub WritesRecover : Type 0
+WritesRecover =
+    (w new : WorldState) (one other : ℕ) (x y : OpenEnd) (asked : Asked) (limit : ℕ) (terms : Terms)
+    (number : ℕ) →
+    IsReached w → IsAnswering w one other x y asked limit →
+    x.state.position.phase ≡ Receiving terms number → (run : Behaves w x x new) →
+    EndsAfter w new one other (length run.reports) (1 + 2 * block_count y.text terms.size)
+
+-- the same run by `settle`: it delivers what was added from the timeout on, `made` datagrams and
+-- `most` at most; no end has closed since because of its store, or y is a client not set to refuse
+pub record SettlesAfter (old : WorldState) (x y : OpenEnd) (most made : ℕ) (new : WorldState)
+    : Type 0 where
+  pub retries : 0 < x.state.position.retries_left
+  pub report : Report
+  pub mid : WorldState
+  pub times_out : WorldStep old (Timeout x.address.port) report mid
+  pub settles : Settled mid (length old.sent) most made new
+  pub taken : HaveTaken mid new
+      ⊎ ((is_client y.state.role.side ≡ true) × (y.refuses ≡ false))
+
+-- `settle` made just that many deliveries, and both ends are complete
+abbrev pub HasSettled : WorldState → WorldState → (one other made count : ℕ) → Type 0
+HasSettled old new one other made count = (made ≡ count) × AreThrough old new one other count
+
+-- so it does, with a limit that is not below the count
+abbrev pub TransfersSettle : Type 0
+TransfersSettle =
+    (w new : WorldState) (one other : ℕ) (x y : OpenEnd) (terms : Terms) (number most made : ℕ) →
+    IsReached w → IsEstablished w one other x y terms number → SettlesAfter w x y most made new →
+    left_to_add x terms number ≤ most → HasSettled w new one other made (left_to_add x terms number)
+
+abbrev pub AnsweredReadsSettle : Type 0
+AnsweredReadsSettle =
+    (w new : WorldState) (one other : ℕ) (x y : OpenEnd) (asked : Asked) (limit : ℕ) (terms : Terms)
+    (number most made : ℕ) →
+    IsReached w → IsAnswering w one other x y asked limit →
+    x.state.position.phase ≡ Sending terms number → SettlesAfter w x y most made new →
+    left_to_add x terms number ≤ most → HasSettled w new one other made (left_to_add x terms number)
+
+abbrev pub AnsweredWritesSettle : Type 0
+AnsweredWritesSettle =
+    (w new : WorldState) (one other : ℕ) (x y : OpenEnd) (asked : Asked) (limit : ℕ) (terms : Terms)
+    (number most made : ℕ) →
+    IsReached w → IsAnswering w one other x y asked limit →
+    x.state.position.phase ≡ Receiving terms number → SettlesAfter w x x most made new →
+    1 + 2 * block_count y.text terms.size ≤ most →
+    HasSettled w new one other made (1 + 2 * block_count y.text terms.size)
+
+-- a client waits at this index, and sends its request again as if it had never arrived: in the
+-- world after the timeout the server's port accepts it, and opens the next end
+pub record AsksAgain (w new : WorldState) (k : ℕ) (y : OpenEnd) (asked : Asked) (limit : ℕ)
+    (accepts : Service) : Type 0 where
+  pub client_at : slice_get w.ends k ≡ Some (Open_end y)
+  pub waits : y.state.position.phase ≡ Waiting asked limit
+  pub run : Behaves w y y new
+  pub accepted : IsAccepted run.mid y accepts
+
+-- of a read, whose answer the client accepts: the count is that of a run without loss
+abbrev pub ReadRequestsRecover : Type 0
+ReadRequestsRecover =
+    (w new : WorldState) (k : ℕ) (y : OpenEnd) (asked : Asked) (limit : ℕ) (path file : List ℕ)
+    (mode : Mode) (measured : ℕ) (agreed : List Known) →
+    IsReached w → (again : AsksAgain w new k y asked limit (Sends path mode measured agreed)) →
+    file_at again.run.mid.files path ≡ Some file → TakesAnswer asked kinds.Read mode limit agreed →
+    EndsAfter w new (length w.ends) k (length again.run.reports) (read_adds mode file agreed)
+
+-- and of a write, whose blocks can be numbered, if no store refuses
+abbrev pub WriteRequestsRecover : Type 0
+WriteRequestsRecover =
+    (w new : WorldState) (k : ℕ) (y : OpenEnd) (asked : Asked) (limit : ℕ) (path : List ℕ)
+    (mode : Mode) (agreed : List Known) →
+    IsReached w → (again : AsksAgain w new k y asked limit (Takes path mode agreed)) →
+    TakesAnswer asked kinds.Write mode limit agreed → Fits (wire_text mode y.file) (size agreed) →
+    AllTaken again.run.reports →
+    EndsAfter w new k (length w.ends) (length again.run.reports) (write_adds mode y.file agreed)
+
+-- there are such runs: the first datagram of a server's end was lost, which sends
+abbrev pub SomeReadRecovers : Type 0
+SomeReadRecovers =
+    (w : WorldState) × (new : WorldState) × (one : ℕ) × (other : ℕ) × (x : OpenEnd) × (y : OpenEnd)
+    × (asked : Asked) × (limit : ℕ) × (terms : Terms) × (number : ℕ) × IsReached w
+    × IsAnswering w one other x y asked limit × (x.state.position.phase ≡ Sending terms number)
+    × (run : Behaves w x y new) × (length run.reports ≡ left_to_add x terms number)
+
+-- or which receives
+abbrev pub SomeWriteRecovers : Type 0
+SomeWriteRecovers =
+    (w : WorldState) × (new : WorldState) × (one : ℕ) × (other : ℕ) × (x : OpenEnd) × (y : OpenEnd)
+    × (asked : Asked) × (limit : ℕ) × (terms : Terms) × (number : ℕ) × IsReached w
+    × IsAnswering w one other x y asked limit × (x.state.position.phase ≡ Receiving terms number)
+    × (run : Behaves w x x new) × (length run.reports ≡ 1 + 2 * block_count y.text terms.size)
+
+-- or the request of a read
+abbrev pub SomeReadRequestRecovers : Type 0
+SomeReadRequestRecovers =
+    (w : WorldState) × (new : WorldState) × (k : ℕ) × (y : OpenEnd) × (asked : Asked) × (limit : ℕ)
+    × (path : List ℕ) × (file : List ℕ) × (mode : Mode) × (measured : ℕ) × (agreed : List Known)
+    × IsReached w × (again : AsksAgain w new k y asked limit (Sends path mode measured agreed))
+    × (file_at again.run.mid.files path ≡ Some file)
+    × TakesAnswer asked kinds.Read mode limit agreed
+    × (length again.run.reports ≡ read_adds mode file agreed)
+
+-- or that of a write
+abbrev pub SomeWriteRequestRecovers : Type 0
+SomeWriteRequestRecovers =
+    (w : WorldState) × (new : WorldState) × (k : ℕ) × (y : OpenEnd) × (asked : Asked) × (limit : ℕ)
+    × (path : List ℕ) × (mode : Mode) × (agreed : List Known) × IsReached w
+    × (again : AsksAgain w new k y asked limit (Takes path mode agreed))
+    × TakesAnswer asked kinds.Write mode limit agreed
+    × Fits (wire_text mode y.file) (size agreed) × AllTaken again.run.reports
+    × (length again.run.reports ≡ write_adds mode y.file agreed)

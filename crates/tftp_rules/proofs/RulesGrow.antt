@@ -1,0 +1,253 @@
+-- What each run of the guarded machine keeps: how its ends go on, and where requests are sent.
+-- For the laws of worlds on recovery and on blame (tftp_player).
+use Rattle.std.proofs.Common.{◌≡◌, ℕ, ◌≤◌, Bool, true, false, not, List, [], ◌∷◌, ◌++◌, Some, None, sym, refl, ap, ◌∙◌, subst, arith}
+use Rattle.std.proofs.Common.{inl, inr}
+use Rattle.std.specs.Prelude.{◌≢◌, ◌⊎◌, if◌then◌else◌}
+use Rattle.std.specs.List.{Contains}
+use Rattle.std.proofs.lemmas.Bool.{true≢false}
+use Rattle.std.proofs.lemmas.List.Elements.{Contains-append_cases}
+use Rattle.tftp_negotiate.specs.declared.limits.TheConstants.{DEFAULT_BLOCK}
+use Rattle.tftp_file.specs.Block.{block, Fits}
+use Rattle.tftp_rules.specs.Facts.{Holds}
+use Rattle.tftp_rules.specs.Machine.{Endpoint, Elsewhere, Packet, Request, Data, Ack, Oack, Error, Message, Party, Machine}
+use Rattle.tftp_rules.specs.Machine.{with_end, start, Network}
+use Rattle.tftp_rules.specs.Rules.{Rule, Asks, Opens_plainly, Opens_with, Takes_oack, Takes_ack, Takes_data, Appends}
+use Rattle.tftp_rules.specs.Rules.{Sends_next, Completes, Fails, Fails_with, Fails_to_begin, Says_error, Repeats}
+use Rattle.tftp_rules.specs.Rules.{Strays, actor, party_after, Guard, after, IsLegal, run, HasText}
+use Rattle.tftp_rules.proofs.Endpoints.{cases_same}
+use Rattle.tftp_rules.proofs.Grows.{Grows, Grows-same, AllGrow, AllGrow-with, with_at, with_other}
+use Rattle.tftp_rules.proofs.Keeps.{keeps}
+use Rattle.tftp_rules.proofs.Steps.{none_sent, one_sent}
+
+-- ---- ends go on
+grows_then : (x y z : Party) → Grows x y → Grows y z → Grows x z
+grows_then x y z g h =
+    record {
+      is_open = h.is_open;
+      client = h.client ∙ g.client;
+      sender = h.sender ∙ g.sender;
+      plain = h.plain ∙ g.plain;
+      mode = h.mode ∙ g.mode;
+      request = h.request ∙ g.request;
+      peer = λ p e. h.peer p (g.peer p e);
+      size = λ p e. h.size p (g.peer p e) ∙ g.size p e;
+      number = let a = g.number in let b = h.number in omega (arith, a, b);
+      complete = λ d. h.complete (g.complete d);
+      text = λ s. h.text (g.sender ∙ s) ∙ g.text s;
+    }
+
+module _ (network : Network) where
+  -- an end whose peer, size and sender stay, and which does not take back its numbers
+  goes_on : (x y : Party) → x.is_open ≡ true → y.is_open ≡ true → y.client ≡ x.client → y.sender ≡ x.sender →
+      y.plain ≡ x.plain → y.mode ≡ x.mode → y.request ≡ x.request → y.peer ≡ x.peer → y.size ≡ x.size →
+      x.number ≤ y.number → (x.complete ≡ true → y.complete ≡ true) → (x.sender ≡ true → y.text ≡ x.text) → Grows x y
+  goes_on x y o is_open client sender plain mode request peer size number complete text = record {
+    is_open = is_open;
+    client = client;
+    sender = sender;
+    plain = plain;
+    mode = mode;
+    request = request;
+    peer = λ p e. peer ∙ e;
+    size = λ p e. size;
+    number = number;
+    complete = complete;
+    text = text;
+  }
+
+  -- a client that has a peer now
+  takes_on : (m : Machine) (a peer : Endpoint) (size number : ℕ) (failed : Bool) → Holds network m →
+      (m.party a).is_open ≡ true → (m.party a).peer ≡ None →
+      Grows (m.party a) (record (m.party a) { peer = Some peer; size = size; number = number; failed = failed })
+  takes_on m a peer size number failed h there none =
+      let zero_now = ((h.ends a there).no_peer none).0 in
+      record {
+        is_open = there;
+        client = refl;
+        sender = refl;
+        plain = refl;
+        mode = refl;
+        request = refl;
+        peer = λ p e. absurd (let z : None ≡ Some p = sym none ∙ e in cc);
+        size = λ p e. absurd (let z : None ≡ Some p = sym none ∙ e in cc);
+        number = omega (arith, zero_now);
+        complete = λ d. d;
+        text = λ _. refl;
+      }
+
+  rule_grows : (r : Rule) (m : Machine) → Holds network m → Guard network r m → (m.party (actor r)).is_open ≡ true →
+      Grows (m.party (actor r)) (party_after r (m.party (actor r)))
+  rule_grows (Asks at write request text) m h g o = absurd (true≢false (sym o ∙ g.0))
+  rule_grows (Opens_plainly at peer write request text) m h g o = absurd (true≢false (sym o ∙ g.0))
+  rule_grows (Opens_with at peer write request text size) m h g o = absurd (true≢false (sym o ∙ g.0))
+  rule_grows (Takes_oack at peer size) m h g o =
+      let x = m.party at in takes_on m at peer size (if x.sender then 1 else 0) x.failed h o g.0.2
+  rule_grows (Takes_ack at peer) m h g o =
+      let x = m.party at in takes_on m at peer DEFAULT_BLOCK (if x.sender then 1 else 0) x.failed h o g.0.2
+  rule_grows (Takes_data at peer bytes) m h g o =
+      let x = m.party at in takes_on m at peer DEFAULT_BLOCK (if x.sender then 1 else 0) x.failed h o g.0.2
+  rule_grows (Appends at peer bytes) m h g o =
+      goes_on (m.party at) _ o o refl refl refl refl refl refl refl (omega arith)
+      (λ d. absurd (true≢false (sym d ∙ g.0.1))) (λ s. absurd (true≢false (sym s ∙ g.1)))
+  rule_grows (Sends_next at peer) m h g o =
+      goes_on (m.party at) _ o o refl refl refl refl refl refl refl (omega arith) (λ d. d) (λ s. refl)
+  rule_grows (Completes at peer) m h g o =
+      goes_on (m.party at) _ o o refl refl refl refl refl refl refl (omega arith) (λ d. refl) (λ s. refl)
+  rule_grows (Fails at) m h g o =
+      goes_on (m.party at) _ o o refl refl refl refl refl refl refl (omega arith) (λ d. d) (λ s. refl)
+  rule_grows (Fails_with at peer bytes) m h g o =
+      goes_on (m.party at) _ o o refl refl refl refl refl refl refl (omega arith) (λ d. d)
+      (λ s. absurd (true≢false (sym s ∙ g.1)))
+  rule_grows (Fails_to_begin at peer size) m h g o =
+      let x = m.party at in takes_on m at peer size x.number true h o g.0.2
+  rule_grows (Says_error at to) m h g o = Grows-same (m.party at) o
+  rule_grows (Repeats old) m h g o = Grows-same (m.party old.from) o
+  rule_grows (Strays stray) m h g o = Grows-same (m.party stray.from) o
+
+  -- every end that is open goes on
+  pub run_grows : (rules : List Rule) (m : Machine) → Holds network m → IsLegal network rules m →
+      AllGrow m.party (run network rules m).party
+  run_grows [] m h g = record { grows = λ q o. Grows-same (m.party q) o }
+  run_grows (r ∷ rules) m h g = record {
+    grows = λ q o.
+        let first =
+        (AllGrow-with m.party (actor r) (party_after r (m.party (actor r))) (rule_grows r m h g.0)).grows q o in
+        let next = after network r m in
+        grows_then (m.party q) (next.party q) ((run network rules next).party q) first
+        ((run_grows rules next (keeps network r m h g.0) g.2).grows q first.is_open);
+  }
+
+  -- ---- requests are sent to the request port alone
+  abbrev pub IsRequest : Packet → Type 0
+  IsRequest (Request write request) = Unit {0}
+  IsRequest (Data n bytes) = ⊥
+  IsRequest (Ack n) = ⊥
+  IsRequest (Oack size) = ⊥
+  IsRequest Error = ⊥
+
+  -- each request from one of the two hosts went to the request port
+  abbrev pub GoToPort : List Message → Type 0
+  GoToPort sent = (d : Message) → Contains sent d → network.host_of d.from ≢ Elsewhere → IsRequest d.packet →
+      d.to ≡ network.request_port
+
+  more_go : (sent added : List Message) → GoToPort sent → GoToPort added → GoToPort (sent ++ added)
+  more_go sent added h n d i own is = elim (Contains-append_cases sent added d i) [
+    | inl old ↦ h d old own is
+    | inr fresh ↦ n d fresh own is
+  ]
+
+  abbrev Goes : Message → Type 0
+  Goes d = network.host_of d.from ≢ Elsewhere → IsRequest d.packet → d.to ≡ network.request_port
+
+  none_go : GoToPort []
+  none_go d i own is = none_sent Goes d i own is
+
+  one_goes : (a : Message) → Goes a → GoToPort (a ∷ [])
+  one_goes a h d i own is = one_sent Goes a h d i own is
+
+  no_request_if : (b : Bool) (one two : Packet) → (IsRequest one → ⊥) → (IsRequest two → ⊥) →
+      IsRequest (if b then one else two) → ⊥
+  no_request_if true one two h k is = h is
+  no_request_if false one two h k is = k is
+
+  rule_goes : (r : Rule) (m : Machine) → GoToPort m.sent → Guard network r m → GoToPort (after network r m).sent
+  rule_goes (Asks at write request text) m h g =
+      more_go m.sent _ h (one_goes _ (λ own is. refl))
+  rule_goes (Opens_plainly at peer write request text) m h g =
+      more_go m.sent _ h
+      (one_goes _ (λ own is. absurd (no_request_if write (Ack 0) (Data 1 (block text DEFAULT_BLOCK 1)) (λ z. z) (λ z. z) is)))
+  rule_goes (Opens_with at peer write request text size) m h g = more_go m.sent _ h (one_goes _ (λ own is. absurd is))
+  rule_goes (Takes_oack at peer size) m h g =
+      let x = m.party at in
+      more_go m.sent _ h
+      (one_goes _ (λ own is. absurd (no_request_if x.sender (Data 1 (block x.text size 1)) (Ack 0) (λ z. z) (λ z. z) is)))
+  rule_goes (Takes_ack at peer) m h g = more_go m.sent _ h (one_goes _ (λ own is. absurd is))
+  rule_goes (Takes_data at peer bytes) m h g = more_go m.sent [] h none_go
+  rule_goes (Appends at peer bytes) m h g = more_go m.sent _ h (one_goes _ (λ own is. absurd is))
+  rule_goes (Sends_next at peer) m h g = more_go m.sent _ h (one_goes _ (λ own is. absurd is))
+  rule_goes (Completes at peer) m h g = more_go m.sent [] h none_go
+  rule_goes (Fails at) m h g = more_go m.sent [] h none_go
+  rule_goes (Fails_with at peer bytes) m h g = more_go m.sent [] h none_go
+  rule_goes (Fails_to_begin at peer size) m h g = more_go m.sent [] h none_go
+  rule_goes (Says_error at to) m h g = more_go m.sent _ h (one_goes _ (λ own is. absurd is))
+  rule_goes (Repeats old) m h g = more_go m.sent _ h (one_goes old (λ own is. h old g own is))
+  rule_goes (Strays stray) m h g = more_go m.sent _ h (one_goes stray (λ own is. absurd (own g)))
+
+  -- rules keep that
+  pub run_goes : (rules : List Rule) (m : Machine) → GoToPort m.sent → IsLegal network rules m →
+      GoToPort (run network rules m).sent
+  run_goes [] m h g = h
+  run_goes (r ∷ rules) m h g = run_goes rules (after network r m) (rule_goes r m h g.0) g.2
+
+  -- nothing is sent at the start
+  pub start_goes : GoToPort start.sent
+  start_goes = none_go
+
+  -- ---- the blocks of a sender that has begun can be numbered
+  abbrev pub FitsOnce : Party → Type 0
+  FitsOnce x = x.sender ≡ true → (p : Endpoint) → x.peer ≡ Some p → (x.failed ≡ false) ⊎ (1 ≤ x.number) →
+      Fits x.text x.size
+
+  -- so can those of all senders
+  abbrev pub AreFit : (Endpoint → Party) → Type 0
+  AreFit ends = (a : Endpoint) → (ends a).is_open ≡ true → FitsOnce (ends a)
+
+  kept_fit : (ends : Endpoint → Party) (a : Endpoint) (x : Party) → AreFit ends → (x.is_open ≡ true → FitsOnce x) →
+      AreFit (with_end ends a x)
+  kept_fit ends a x f now q o = elim (cases_same q a) [
+    | inl e ↦ let is : with_end ends a x q ≡ x = ap (with_end ends a x) e ∙ with_at ends a x in
+        subst FitsOnce (sym is) (now (subst (λ (z : Party). z.is_open ≡ true) is o))
+    | inr d ↦ let is : with_end ends a x q ≡ ends q = with_other ends a x q d in
+        subst FitsOnce (sym is) (f q (subst (λ (z : Party). z.is_open ≡ true) is o))
+  ]
+
+  has_fit : (write : Bool) (text : List ℕ) (size : ℕ) → HasText write text size → not write ≡ true → Fits text size
+  has_fit true text size h s = absurd (true≢false (sym s))
+  has_fit false text size h s = h
+
+  rule_fit : (r : Rule) (m : Machine) → Holds network m → AreFit m.party → Guard network r m →
+      AreFit (after network r m).party
+  rule_fit (Asks at write request text) m h f g =
+      kept_fit m.party at _ f (λ _ s p e. absurd (let z : None ≡ Some p = e in cc))
+  rule_fit (Opens_plainly at peer write request text) m h f g =
+      kept_fit m.party at _ f (λ _ s p e l. has_fit write text DEFAULT_BLOCK g.3 s)
+  rule_fit (Opens_with at peer write request text size) m h f g =
+      kept_fit m.party at _ f (λ _ s p e l. has_fit write text size g.3 s)
+  rule_fit (Takes_oack at peer size) m h f g = kept_fit m.party at _ f (λ _ s p e l. g.2 s)
+  rule_fit (Takes_ack at peer) m h f g = kept_fit m.party at _ f (λ _ s p e l. g.3)
+  rule_fit (Takes_data at peer bytes) m h f g =
+      kept_fit m.party at _ f (λ _ s p e l. absurd (true≢false (sym s ∙ g.1)))
+  rule_fit (Appends at peer bytes) m h f g =
+      kept_fit m.party at _ f (λ _ s p e l. absurd (true≢false (sym s ∙ g.1)))
+  rule_fit (Sends_next at peer) m h f g =
+      kept_fit m.party at _ f (λ o s p e l. f at g.0.0.0 s p e (inl g.0.0.2))
+  rule_fit (Completes at peer) m h f g =
+      kept_fit m.party at _ f (λ o s p e l. f at g.0.0.0 s p e (inl g.0.0.2))
+  rule_fit (Fails at) m h f g = kept_fit m.party at _ f (λ o s p e l. f at g.0 s p e (inl g.2))
+  rule_fit (Fails_with at peer bytes) m h f g =
+      kept_fit m.party at _ f (λ _ s p e l. absurd (true≢false (sym s ∙ g.1)))
+  rule_fit (Fails_to_begin at peer size) m h f g =
+      let none = ((h.ends at g.0.0.0).no_peer g.0.2).0 in
+      kept_fit m.party at _ f (λ _ s p e l. elim l [
+        | inl z ↦ absurd (true≢false z)
+        | inr z ↦ absurd (let c = z in omega (arith, c, none))
+      ])
+  rule_fit (Says_error at to) m h f g = kept_fit m.party at _ f (λ o. f at o)
+  rule_fit (Repeats old) m h f g = kept_fit m.party old.from _ f (λ o. f old.from o)
+  rule_fit (Strays stray) m h f g = kept_fit m.party stray.from _ f (λ o. f stray.from o)
+
+  -- rules keep that
+  pub run_fit : (rules : List Rule) (m : Machine) → Holds network m → AreFit m.party → IsLegal network rules m →
+      AreFit (run network rules m).party
+  run_fit [] m h f g = f
+  run_fit (r ∷ rules) m h f g =
+      run_fit rules (after network r m) (keeps network r m h g.0) (rule_fit r m h f g.0) g.2
+
+  -- no end is open at the start
+  pub start_fit : AreFit start.party
+  start_fit a o = absurd (true≢false (sym o))
+
+  -- rules after rules
+  pub legal_rest : (rs qs : List Rule) (m : Machine) → IsLegal network (rs ++ qs) m → IsLegal network qs (run network rs m)
+  legal_rest [] qs m g = g
+  legal_rest (r ∷ rs) qs m g = legal_rest rs qs (after network r m) g.2
