@@ -64,5 +64,6 @@ mod ErrorAnswers
 mod ErrorsKnown
 mod ErrorsHeard
 mod RefusedWitness
+mod RequestArrives
 mod RecoveringRequests
 pub mod SettledLemmas

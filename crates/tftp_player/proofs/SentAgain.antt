@@ -158,6 +158,7 @@ pub record Resent (w v : WorldState) (k : ℕ) (x : OpenEnd) : Type 0 where
   pub phase : y.state.position.phase ≡ x.state.position.phase
   pub stored : y.stored ≡ x.stored
   pub held_back : y.state.position.held_back ≡ x.state.position.held_back
+  pub last_sent : y.state.position.last_sent ≡ x.state.position.last_sent
   pub refuses : y.refuses ≡ x.refuses
 
 -- it does so at a timeout whose response is to send again
@@ -186,6 +187,7 @@ resends w v k x report is still t =
       phase = refl;
       stored = refl;
       held_back = refl;
+      last_sent = refl;
       refuses = refl;
     }
 
