@@ -6,7 +6,8 @@
 #   nothing may be skipped. The last line is `N passed, N failed`
 # make quick CRATE=NAME: what a change of one crate is tried by in minutes
 # make docs: writes docs/DEFINITIONS.md and docs/STATEMENT.md from the definitions
-# make slips CRATES="NAME ..": tries the wrong bodies in crates/NAME/slips/, of all crates without words
+# make slips CRATES="NAME ..": tries the wrong bodies in crates/NAME/slips/, of all crates without words; with FEW=5 five of
+#   them, by the seed of the commit
 # make install, make uninstall: programs, library, manuals, completions, units and documents at DESTDIR and PREFIX; they
 #   copy what is in bin/, and build nothing. PROGRAM_PREFIX= is put before the names of the programs and their manuals
 # make dist: an archive of what is installed, with a script that installs it on hosts without the kit
@@ -42,7 +43,7 @@ CHECKS := tools/same_options.py tools/check_install.py tools/check_documents.py 
 	tools/processors.py \
 	'$(MAKE) --no-print-directory run' tools/statuses.py tools/captures.py tools/memory_in_turn.py tools/lost_requests.py \
 	tools/out_of_memory.py 'python3 -m unittest $(TESTS)' tools/mutants.py tools/c_library.py tools/loopback/run.py \
-	tools/behaviours.py 'tools/network.py bin/tftp bin/tftpd' tools/soak/run.py 'tools/slips.py --few'
+	tools/behaviours.py 'tools/network.py bin/tftp bin/tftpd' tools/soak/run.py
 
 .PHONY: build programs libtftp run sample tftp-show tftp-play tftp tftpd test quick docs slips install uninstall dist deb soak \
 	behaviours coverage mutants bench bench-udp clean
@@ -93,7 +94,7 @@ docs:
 	tools/statement.py --write
 
 slips:
-	@tools/slips.py $(CRATES)
+	@tools/slips.py $(if $(FEW),--few $(FEW),$(CRATES))
 
 install uninstall:
 	@tools/install.sh $@ 'DESTDIR=$(DESTDIR)' 'PREFIX=$(PREFIX)' 'PROGRAM_PREFIX=$(PROGRAM_PREFIX)' \
