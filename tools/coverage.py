@@ -39,7 +39,9 @@ def wrapped(paths: dict[str, str], folder: Path) -> dict[str, str]:
     found = {}
     for name, path in paths.items():
         script = folder / name
-        script.write_text(f'#!/bin/sh\nexec {EMULATOR} -d in_asm -D "{folder}/{name}.$$.log" {path} "$@"\n')
+        # (what a test preloads is for the program, and not for the emulator)
+        script.write_text(f'#!/bin/sh\nmore=$LD_PRELOAD\nunset LD_PRELOAD\n'
+                          f'exec {EMULATOR} ${{more:+-E LD_PRELOAD=$more}} -d in_asm -D "{folder}/{name}.$$.log" {path} "$@"\n')
         script.chmod(0o755)
         found[name] = str(script)
     return found

@@ -139,8 +139,8 @@ def judged(slip: str, crate: Any, room: Path, end: float) -> str:
             shutil.copytree(TOP / "crates" / crate.name / part, room / part)
     for path, text in texts.items():
         (room / path).write_text(text)
-    said = ""
-    for words in [*(["--only", name] for name in functions_of(slip, texts)), []]:
+    said, everything = "", list[str]()
+    for words in [*[["--only", name] for name in functions_of(slip, texts)], everything]:
         said = checked(crate, room, words, end)
         opened = re.search(r"(?m)^fn (\S+): (?:not proved|no proof)", said)
         if opened:
@@ -206,7 +206,7 @@ def main() -> int:
     if sys.argv[1:2] in (["-h"], ["--help"]):
         sys.exit(__doc__)
     if sys.argv[1:2] == ["--few"]:
-        return few(int((sys.argv[2:] or [FEW])[0]))
+        return few(int(sys.argv[2]) if sys.argv[2:] else FEW)
     names = sys.argv[1:] or crates_with_slips()
     lacking = sorted({*names} - {*crates_with_slips()})
     if lacking:

@@ -4,10 +4,15 @@ names that `tools/lint.py` lists. Over the programs of bin/, or else those of `r
 import re
 import socket
 import subprocess
+import sys
 import unittest
+from pathlib import Path
 from typing import Optional
 
-from tools.tests.test_rows import PATIENCE, Rows
+HERE = Path(__file__).resolve().parent
+sys.path[:0] = [str(HERE.parent), str(HERE)]
+
+from test_rows import PATIENCE, Rows
 
 from lib import programs
 from lib.addresses import own_address
