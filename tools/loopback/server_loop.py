@@ -11,6 +11,7 @@ from server_alone import FILE_NOT_FOUND, first_block_of, is_refused, opened
 
 # Datagrams come with the time of the kernel, of `asm/socket.h`
 SO_TIMESTAMPNS = 35
+BUSY = error(0, "server busy")
 
 
 def watched(server) -> dict[str, int]:
@@ -106,6 +107,28 @@ def test_requests_take_turns_with_transfers(scene) -> None:
     for port in ports:
         port.send(error(0, "stop"), port.receive()[1])
     expect(watched(server)["at once"] < 3, True, "whether few requests were answered after one poll")
+
+
+def test_what_is_left_behind_progress_is_read_soon(scene) -> None:
+    """Of two ACKs that arrive together the first brings the transfer on, and the second ends it: that is read within half a
+    second, long before the timeout of 255. Until then the server is busy, and then the slot is free."""
+    scene.make("a", bytes_of(600))
+    server = scene.serve("--cap", "1", "--transfers", "2")
+    end = first_block_of(scene, server, "a", bytes_of(600)[:512])
+    server.stop()
+    end.send(ack(1))
+    end.send(ack(2))
+    server.go_on()
+    expect(end.port.receive(end.newest)[0], data(2, bytes_of(600)[512:]), "the second block")
+    other, until, answer = scene.port(), time.monotonic() + PATIENCE, BUSY
+    while answer == BUSY:
+        expect(time.monotonic() < until, True, "whether the slot is freed soon")
+        other.send(rrq("a", **PATIENT), server.address)
+        answer, transfer = other.receive()
+        time.sleep(0.02)
+    expect(answer, oack(**PATIENT), "the answer once the slot is free")
+    other.send(error(0, "stop"), transfer)
+    server.has_closed("Complete", "PeerError(0)")
 
 
 # The blocks after which a client waits for a sync, and how many of 65,464 bytes are a megabyte
