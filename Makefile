@@ -14,7 +14,7 @@
 # make deb: a package for Debian
 # make behaviours: each wrong behaviour of tftp and tftpd that a test has to notice, five of which the gate tries
 # make soak SECONDS=3600 SEED=2: trials of bin/tftp and bin/tftpd against a model, a bad network and a bad host, and
-#   bin/tftp-show beside two other readers
+#   bin/tftp-show beside two other readers; then five minutes of inputs for the library for C, from a corpus
 # make coverage: which functions of the programs no test runs, by qemu-x86_64
 # make mutants SECONDS=3600 SEED=2: mutated lines, captures, scripts and command lines for the programs of bin/
 # make bench: the benchmarks of bench/, which are no tests
@@ -109,9 +109,10 @@ deb: $(PROGRAMS) $(LIBRARY)
 SECONDS := 60
 SEED := 1
 
-soak: bin/tftp bin/tftpd bin/tftp-show
+soak: bin/tftp bin/tftpd bin/tftp-show $(LIBRARY)
 	tools/soak/run.py $(SECONDS) $(SEED) bin/tftp bin/tftpd
 	tools/second_reader.py 100000 $(SEED)
+	tools/soak/fuzz.py 300 $(SEED)
 
 behaviours: bin/tftp bin/tftpd
 	tools/behaviours.py --all

@@ -178,6 +178,11 @@ static uint8_t *guarded(size_t index) {
     return ends[index];
 }
 
+/* (what a header without it begins its options with) */
+#ifndef TFTP_OPTIONS_INIT
+#define TFTP_OPTIONS_INIT {0}
+#endif
+
 static const struct tftp_endpoint PEER = {{192, 0, 2, 1}, 40000}, OTHER = {{192, 0, 2, 2}, 40000};
 
 /* the next datagram of an input, whose length stands before it in four bytes each; where it is copied to */
@@ -214,12 +219,14 @@ static void try_decode(const uint8_t *rest, size_t left) {
 static void try_receive(const uint8_t *rest, size_t left) {
     struct tftp_end end = {0};
     struct tftp_event event = {0};
-    struct tftp_options options = {.max_file = 100000, .retries = 2};
+    struct tftp_options options = TFTP_OPTIONS_INIT;
     uint8_t how = left ? *rest : 0, *reply = guarded(1) - TFTP_MAX_REQUEST, *file = guarded(2) - 65464;
     size_t length;
     const uint8_t *datagram;
     if (left)
         rest++, left--;
+    options.max_file = 100000;
+    options.retries = 2;
     options.blksize = how & 1 ? 8 : how & 2 ? 1428 : 0;
     options.timeout = how & 4 ? 3 : 0;
     options.asks_tsize = how & 8;
@@ -232,7 +239,7 @@ static void try_receive(const uint8_t *rest, size_t left) {
         check(status == TFTP_OK || status == TFTP_CLOSED, "the status of a receive");
         check(event.file_len <= 65464 && event.send_len <= TFTP_MAX_REQUEST, "the lengths of a receive");
         if (length % 7 == 6)
-            tftp_timeout(&end, reply, TFTP_MAX_REQUEST, &event);
+            check(tftp_timeout(&end, reply, TFTP_MAX_REQUEST, &event) <= TFTP_CLOSED, "the status of a timeout");
     }
     tftp_close(&end);
 }
@@ -243,24 +250,29 @@ static void try_server(const uint8_t *rest, size_t left) {
     struct tftp_server server = {0};
     struct tftp_question question = {0};
     struct tftp_event event = {0};
-    struct tftp_options options = {.max_file = 100000, .retries = 2, .blksize = 1428};
+    struct tftp_options options = TFTP_OPTIONS_INIT;
     uint8_t *reply = guarded(1) - TFTP_HEADER - 1428, *name = guarded(2) - 255;
     uint16_t tid = 1024;
+    uint8_t status = 0;
     size_t length;
     const uint8_t *datagram;
+    options.max_file = 100000;
+    options.retries = 2;
+    options.blksize = 1428;
     if (tftp_server_open(&server, &options, 4) != TFTP_OK)
         return;
     while ((datagram = next_datagram(&rest, &left, &length))) {
         const struct tftp_endpoint *from = length % 5 == 4 ? &OTHER : &PEER;
-        uint8_t status = tftp_server_request(&server, from, datagram, length, name, 255, reply, TFTP_HEADER + 1428, &question);
+        status = tftp_server_request(&server, from, datagram, length, name, 255, reply, TFTP_HEADER + 1428, &question);
         check(status == TFTP_OK, "the status of a request");
         check(question.name_len <= 255 && question.send_len <= TFTP_MAX_REQUEST, "the lengths of a question");
         check(question.wants <= TFTP_WANTS_BEGIN && !(question.wants && question.send_len), "what is wanted");
         if (question.wants == TFTP_WANTS_OPEN)
-            tftp_server_get(&server, tid++, from, datagram, length, sizeof CONTENT, CONTENT, sizeof CONTENT, reply,
-                            TFTP_HEADER + 1428, &event);
+            status = tftp_server_get(&server, tid++, from, datagram, length, sizeof CONTENT, CONTENT, sizeof CONTENT, reply,
+                                     TFTP_HEADER + 1428, &event);
         else if (question.wants == TFTP_WANTS_BEGIN)
-            tftp_server_put(&server, tid++, from, datagram, length, reply, TFTP_HEADER + 1428, &event);
+            status = tftp_server_put(&server, tid++, from, datagram, length, reply, TFTP_HEADER + 1428, &event);
+        check(status <= TFTP_IN_USE, "the status of an opening");
         if (length % 3 == 2)
             tftp_server_give_up(&server, (uint16_t)(tid - 1));
     }

@@ -4,8 +4,10 @@
 tftp_decode, tftp_receive and tftp_server_request have inputs made from a corpus (tools/soak/corpus), under AddressSanitizer,
 with pages behind each buffer that nobody may touch: a minute if SECONDS is not given, the seed of the commit if SEED is not.
 The archive is that of bin/, and is not built again: at the beginning of each piece of its code stands a breakpoint until an
-input reaches it (fuzz.c). Inputs that reach new code are kept in the corpus. The status is 1 if the library fails.
+input reaches it (fuzz.c). Inputs that reach new code are kept in the corpus. TFTP_INCLUDE in the environment is another
+folder of its header. The status is 1 if the library fails.
 """
+import os
 import re
 import shutil
 import struct
@@ -51,7 +53,7 @@ def pieces(program: Path) -> list[int]:
 
 def built(folder: Path, archive: Path) -> Path:
     program = folder / "fuzz"
-    words = ["cc", "-O1", "-g", "-fsanitize=address", "-fno-pie", "-no-pie", "-I", TOP / "include", SOURCE, archive, "-o", program]
+    words = ["cc", "-O1", "-g", "-fsanitize=address", "-fno-pie", "-no-pie", "-I", os.environ.get("TFTP_INCLUDE", str(TOP / "include")), SOURCE, archive, "-o", program]
     subprocess.run([*map(str, words)], check=True)
     return program
 
