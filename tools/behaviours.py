@@ -109,7 +109,7 @@ def tried(row: Row, paths: dict[str, str], shim: Path, room: Path) -> tuple[bool
     room.mkdir()
     begun, given = time.monotonic(), wrapped(row, paths, shim, room)
     words = [f"tools/{row.test}", *given] if row.test.endswith(".py") else ["tools/loopback/run.py", *given, row.test]
-    env = {**os.environ, "LOOPBACK_ONCE": "1", "ASAN_OPTIONS": "detect_leaks=0"}
+    env = {**os.environ, "LOOPBACK_ONCE": "1", "LOOPBACK_PATIENCE": "15", "ASAN_OPTIONS": "detect_leaks=0"}
     try:
         done = subprocess.run(words, cwd=TOP, stdin=subprocess.DEVNULL, capture_output=True, text=True, timeout=LIMIT, env=env)
     except subprocess.TimeoutExpired:

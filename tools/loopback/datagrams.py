@@ -1,4 +1,5 @@
 """A test's ports and ends, which send and receive the packets of lib/packets.py."""
+import os
 import socket
 import struct
 import sys
@@ -12,8 +13,9 @@ from lib.packets import ack, data, error, oack, rrq, wrq
 __all__ = ["PATIENCE", "PATIENT", "End", "Port", "ack", "data", "error", "expect", "free_ports", "is_bound", "oack", "rrq",
            "text_of", "wrq"]
 
-# The longest wait for a datagram or a line, in seconds
-PATIENCE = 60
+# The longest wait for a datagram or a line, in seconds; LOOPBACK_PATIENCE in the environment is less, as where a fault is to
+# be noticed
+PATIENCE = int(os.environ.get("LOOPBACK_PATIENCE", "60"))
 # The options of a transfer in which nothing is sent again however slow the host is, since no timeout is due
 PATIENT = {"timeout": 255}
 
