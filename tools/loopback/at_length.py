@@ -14,7 +14,7 @@ from statistics import median
 from typing import Any
 
 from both_programs import bytes_of
-from datagrams import PATIENCE, PATIENT, End, ack, data, error, expect, free_ports, is_bound, oack, rrq, text_of, wrq
+from datagrams import PATIENCE, PATIENT, End, ack, data, error, expect, free_ports, oack, rrq, wrq
 from scene import LIFE, Server
 from server_alone import FILE_NOT_FOUND, is_refused, opened
 from server_loop import timed_port
@@ -418,11 +418,12 @@ SHORT_GET, LONG_GET, MOST_INSTRUCTIONS = 200, 800, 2_500
 
 def instructions(scene, blocks) -> int:
     """The instructions of a server from its start to its end, which serves a file of so many blocks."""
-    log, at = scene.folder / f"callgrind{blocks}", free_ports(1)
+    log = scene.folder / f"callgrind{blocks}"
     scene.make(f"{blocks}", bytes_of(blocks * 512 - 1))
     words = ["--tool=callgrind", f"--log-file={log}", f"--callgrind-out-file={log}.out", scene.programs["tftpd"], "."]
-    server = scene.start("valgrind", [*words, "--listen", f"{scene.address}:{at}", "--transfers", "1"])
-    is_bound(text_of((scene.address, at)))
+    server = scene.start("valgrind", [*words, "--listen", f"{scene.address}:0", "--transfers", "1"])
+    # (which takes as long as it takes)
+    at = int(server.stdout.readline().rpartition(b":")[2])
     port = scene.port()
     port.send(rrq(f"{blocks}", **PATIENT), (scene.address, at))
     answer, transfer = port.receive()

