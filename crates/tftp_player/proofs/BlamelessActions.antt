@@ -50,7 +50,8 @@ use Rattle.tftp_player.specs.World.{WorldState, WorldEnd, Open_end, Closed_end, 
 use Rattle.tftp_player.specs.World.{end_record, end_text, end_wire, end_mode, end_file}
 use Rattle.tftp_player.specs.WorldKept.{Refines}
 use Rattle.tftp_player.proofs.EndsCame.{Arrives}
-use Rattle.tftp_player.proofs.OacksTaken.{IsPlainAnswer, ArePlain, at_the_server, plain_answer}
+use Rattle.tftp_player.proofs.ActionCases.{IsPlainAnswer}
+use Rattle.tftp_player.proofs.OacksTaken.{ArePlain, at_the_server, plain_answer}
 use Rattle.tftp_player.proofs.WorldFacts.{m, holds, near, shows, matched, spoken, attests}
 use Rattle.tftp_player.proofs.SentAgain.{decoded_is}
 use Rattle.tftp_rules.proofs.RulesGrow.{run_fit, start_fit, GoToPort, run_goes, start_goes}

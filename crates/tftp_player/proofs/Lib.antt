@@ -33,6 +33,7 @@ pub mod StoredLemmas
 pub mod ArrivalLemmas
 pub mod RefusingLemmas
 pub mod RepeatedLemmas
+mod ActionCases
 pub mod TermsKept
 pub mod RepeatingLemmas
 pub mod AskingLemmas

@@ -1,23 +1,16 @@
 -- What an open end sent last: a sender its newest block, or the OACK before its first.
 -- For RecoveringRuns.
-use Rattle.std.proofs.Common.{◌≡◌, ℕ, ◌+◌, suc, zero, Bool, true, false, List, [], ◌∷◌, Option, Some, None, Result, Ok}
-use Rattle.std.proofs.Common.{Err, refl, sym, ap, ◌∙◌, subst, arith, inl, inr}
-use Rattle.std.specs.Prelude.{◌≢◌, ◌==◌, ◌*◌, ◌/◌, nat_lt, nat_le, length, is_none, ◌&&◌, if◌then◌else◌, slice_get}
+use Rattle.std.proofs.Common.{◌≡◌, ℕ, suc, zero, Bool, true, false, List, [], ◌∷◌, Option, Some, None, Result, Ok, Err}
+use Rattle.std.proofs.Common.{refl, sym, ap, ◌∙◌, subst, inl, inr}
+use Rattle.std.specs.Prelude.{◌≢◌, ◌==◌, if◌then◌else◌, slice_get}
 use Rattle.std.proofs.lemmas.Bool.{true≢false}
-use Rattle.tftp_wire.specs.Reading.{has_error_opcode}
 use Rattle.tftp_wire.specs.Spelling.{canonical}
 use Rattle.tftp_wire.specs.declared.mode.Mode.{Mode}
 use Rattle.tftp_wire.specs.declared.options.RawOption.{RawOption}
 use Rattle.tftp_wire.specs.declared.packet.Packet.{Packet}
-use Rattle.tftp_wire.specs.declared.packet.Packet.TheVariants.{Read, Write, Data, Ack, Error, Oack}
+use Rattle.tftp_wire.specs.declared.packet.Packet.TheVariants.{Oack}
 use Rattle.tftp_negotiate.specs.Agreed.{agreed_options}
-use Rattle.tftp_negotiate.specs.Agreement.{agreement}
-use Rattle.tftp_negotiate.specs.declared.asked.Asked.{Asked}
-use Rattle.tftp_negotiate.specs.declared.known.Kind.TheVariants as kinds
 use Rattle.tftp_negotiate.specs.declared.known.Known.{Known}
-use Rattle.tftp_negotiate.specs.declared.limits.TheConstants.{DEFAULT_BLOCK}
-use Rattle.tftp_negotiate.specs.declared.refusal.Refusal.{Refusal}
-use Rattle.tftp_negotiate.specs.declared.refusal.Refusal.TheVariants as refusals
 use Rattle.tftp_file.specs.Memory.{memory_source}
 use Rattle.tftp_file.specs.declared.fault.FileFault.{FileFault}
 use Rattle.tftp_file.specs.declared.fault.StoreFault.{StoreFault}
@@ -35,16 +28,11 @@ use Rattle.tftp_ends.specs.declared.phase.Phase.{Phase}
 use Rattle.tftp_ends.specs.declared.phase.Phase.TheVariants.{Waiting, Sending, Receiving, Dallying, Closed}
 use Rattle.tftp_ends.specs.declared.phase.Terms.{Terms}
 use Rattle.tftp_ends.specs.End.{EndState, is_sender, is_client, terms_of, outcome_of, Position}
-use Rattle.tftp_ends.specs.Action.{is_wrong_peer, garbled_response, packet_action, datagram_action, timeout_response}
+use Rattle.tftp_ends.specs.Action.{datagram_action, timeout_response}
 use Rattle.tftp_ends.specs.Opening.{serving_read, serving_write}
 use Rattle.tftp_ends.specs.Phase.{waited}
-use Rattle.tftp_ends.specs.Sender.{sender_action}
-use Rattle.tftp_ends.specs.Receiver.{receiver_action, next_action, dally_response}
-use Rattle.tftp_ends.specs.Text.{is_readable}
 use Rattle.tftp_ends.specs.Step.{Turn, DatagramStep, Acts, SendsFrom, StoresIn, GoesOn, Done, response_turn, data_bytes}
 use Rattle.tftp_ends.specs.Step.{filled_turn, committed_turn, result_count_is, block_length, timeout_turn, holding}
-use Rattle.tftp_ends.specs.Waiting.{reader_action, writer_action, accept_action, begin_action, begin_with_action}
-use Rattle.tftp_ends.specs.Waiting.{refusal_action, default_terms, agreed_terms}
 use Rattle.tftp_rules.specs.Machine.{Endpoint}
 use Rattle.tftp_rules.specs.OpenEnds.{OpenEnd, end_after}
 use Rattle.tftp_rules.proofs.Indices.{slice_get-set_cases, slice_get-push_cases}
@@ -58,6 +46,8 @@ use Rattle.tftp_player.specs.declared.event.Event.{Event}
 use Rattle.tftp_player.specs.declared.event.Event.TheVariants.{Get, Put, Deliver, Timeout, RefuseStore, Stray}
 use Rattle.tftp_player.specs.declared.report.Report.{Report}
 use Rattle.tftp_server.specs.declared.config.Config.{Config}
+use Rattle.tftp_player.proofs.ActionCases.{MayTake, datagram_takes, Ignores, Resends, Completes, Stranger, Garbled}
+use Rattle.tftp_player.proofs.ActionCases.{Hears, Refuses_answer, Refuses_peer, Accepts, Sends_block, Stores_block}
 
 -- the newest datagram of a sender at this number
 abbrev pub IsNewest : List ℕ → ℕ → Type 0
@@ -87,110 +77,23 @@ Names (Respond response) = Says response
 Names (Send terms number) = number ≢ 0
 Names (Store terms number) = Unit {0}
 
-either : (b : Bool) (one two : Action) → Names one → Names two → Names (if b then one else two)
-either true one two h k = h
-either false one two h k = k
-
 says_either : (b : Bool) (one two : Response) → Says one → Says two → Says (if b then one else two)
 says_either true one two h k = h
 says_either false one two h k = k
 
-next_number : (n : ℕ) → n + 1 ≢ 0
-next_number n e = omega (arith, e)
-
-one_number : ◌≢◌ {A = ℕ} 1 0
-one_number e = omega (arith, e)
-
-sender_names : (client : Bool) (count : ℕ) (terms : Terms) (n : ℕ) (decoded : Option Packet) →
-    Names (sender_action client count terms n decoded)
-sender_names client count terms n None = tt
-sender_names client count terms n (Some (Read request)) = tt
-sender_names client count terms n (Some (Write request)) = tt
-sender_names client count terms n (Some (Data number piece)) = tt
-sender_names client count terms n (Some (Ack acked)) =
-    either (acked == n) _ _ (either (nat_lt n (count / terms.size + 1)) _ _ (next_number n) tt)
-    (either (nat_lt acked n) _ _ tt tt)
-sender_names client count terms n (Some (Error code text)) = tt
-sender_names client count terms n (Some (Oack options)) = either (client && terms.by_oack) _ _ tt tt
-
-next_names : (mode : Mode) (held : List ℕ) (terms : Terms) (n : ℕ) (piece : List ℕ) →
-    Names (next_action mode held terms n piece)
-next_names mode held terms n piece =
-    either (nat_lt terms.size (length piece)) _ _ tt
-    (either (n == 65535 && (length piece == terms.size)) _ _ tt
-    (either (is_readable mode held piece (nat_lt (length piece) terms.size)) _ _ tt tt))
-
-receiver_names : (client : Bool) (mode : Mode) (held : List ℕ) (terms : Terms) (n : ℕ) (decoded : Option Packet) →
-    Names (receiver_action client mode held terms n decoded)
-receiver_names client mode held terms n None = tt
-receiver_names client mode held terms n (Some (Read request)) = tt
-receiver_names client mode held terms n (Some (Write request)) = tt
-receiver_names client mode held terms n (Some (Data number piece)) =
-    either (number == n) _ _ tt
-    (either (nat_lt number n) _ _ tt
-    (either (number == n + 1) _ _ (next_names mode held terms number piece) tt))
-receiver_names client mode held terms n (Some (Ack acked)) = tt
-receiver_names client mode held terms n (Some (Error code text)) = tt
-receiver_names client mode held terms n (Some (Oack options)) =
-    either (client && terms.by_oack) _ _ (either (n == 0) _ _ tt tt) tt
-
-dally_says : (n : ℕ) (decoded : Option Packet) → Says (dally_response n decoded)
-dally_says n None = tt
-dally_says n (Some (Read request)) = tt
-dally_says n (Some (Write request)) = tt
-dally_says n (Some (Data number piece)) = says_either (number == n) _ _ tt tt
-dally_says n (Some (Ack acked)) = tt
-dally_says n (Some (Error code text)) = tt
-dally_says n (Some (Oack options)) = tt
-
-refusal_names : (refusal : Refusal) → Names (refusal_action refusal)
-refusal_names refusals.Repeated = tt
-refusal_names refusals.TooLarge = tt
-refusal_names refusals.NotAsked = tt
-refusal_names refusals.BadValue = tt
-
-begin_names : (count : ℕ) (terms : Terms) → Names (begin_action count terms)
-begin_names count terms = either (nat_lt count (65535 * terms.size)) _ _ one_number tt
-
-accept_names : (from : Endpoint) (r : Result (List Known) Refusal) → Names (accept_action from r)
-accept_names from (Ok agreed) = refl
-accept_names from (Err refusal) = refusal_names refusal
-
-begin_with_names : (from : Endpoint) (count : ℕ) (r : Result (List Known) Refusal) → Names (begin_with_action from count r)
-begin_with_names from count (Ok agreed) = begin_names count (agreed_terms from agreed)
-begin_with_names from count (Err refusal) = refusal_names refusal
-
-reader_names : (mode : Mode) (asked : Asked) (limit : ℕ) (from : Endpoint) (decoded : Option Packet) →
-    Names (reader_action mode asked limit from decoded)
-reader_names mode asked limit from None = tt
-reader_names mode asked limit from (Some (Read request)) = tt
-reader_names mode asked limit from (Some (Write request)) = tt
-reader_names mode asked limit from (Some (Data number bytes)) =
-    either (number == 1 && nat_le (length bytes) DEFAULT_BLOCK) _ _
-    (receiver_names true mode [] (default_terms from) 0 (Some (Data number bytes))) tt
-reader_names mode asked limit from (Some (Ack acked)) = tt
-reader_names mode asked limit from (Some (Error code text)) = tt
-reader_names mode asked limit from (Some (Oack options)) =
-    accept_names from (agreement asked kinds.Read mode options limit)
-
-writer_names : (mode : Mode) (asked : Asked) (limit count : ℕ) (from : Endpoint) (decoded : Option Packet) →
-    Names (writer_action mode asked limit count from decoded)
-writer_names mode asked limit count from None = tt
-writer_names mode asked limit count from (Some (Read request)) = tt
-writer_names mode asked limit count from (Some (Write request)) = tt
-writer_names mode asked limit count from (Some (Data number bytes)) = tt
-writer_names mode asked limit count from (Some (Ack number)) =
-    either (number == 0) _ _ (begin_names count (default_terms from)) tt
-writer_names mode asked limit count from (Some (Error code text)) = tt
-writer_names mode asked limit count from (Some (Oack options)) =
-    begin_with_names from count (agreement asked kinds.Write mode options limit)
-
-garbled_says : (phase : Phase) → Says (garbled_response phase)
-garbled_says (Waiting asked limit) = tt
-garbled_says (Sending terms n) = tt
-garbled_says (Receiving terms n) = tt
-garbled_says (Dallying terms n dally) = tt
-garbled_says (Closed terms n complete outcome) = tt
+names : (known : Option Terms) (from : Endpoint) (decoded : Option Packet) (wrong : Bool) (action : Action) →
+    MayTake known from decoded wrong action → Names action
+names known from decoded wrong action Ignores = tt
+names known from decoded wrong action Resends = tt
+names known from decoded wrong action Completes = tt
+names known from decoded wrong action (Stranger is) = tt
+names known from decoded wrong action Garbled = tt
+names known from decoded wrong action (Hears code text right is) = tt
+names known from decoded wrong action (Refuses_answer reply outcome none blames) = tt
+names known from decoded wrong action (Refuses_peer terms reply outcome h blames) = tt
+names known from decoded wrong action (Accepts ks none) = refl
+names known from decoded wrong action (Sends_block terms n h positive) = positive
+names known from decoded wrong action (Stores_block terms n h) = tt
 
 timeout_says : (left : ℕ) (phase : Phase) → Says (timeout_response left phase)
 timeout_says left (Waiting asked limit) = says_either (left == 0) _ _ tt tt
@@ -199,24 +102,6 @@ timeout_says left (Receiving terms n) = says_either (left == 0) _ _ tt tt
 timeout_says left (Dallying terms n Fresh) = tt
 timeout_says left (Dallying terms n Waited) = tt
 timeout_says left (Closed terms n complete outcome) = says_either (left == 0) _ _ tt tt
-
-module _ (e : EndState) (from : Endpoint) (bytes : List ℕ) (decoded : Option Packet) where
-  packet_names : (phase : Phase) → Names (packet_action e from decoded phase)
-  packet_names (Waiting asked limit) =
-      either (is_sender e.role.side) _ _ (writer_names e.role.mode asked limit e.role.length from decoded)
-      (reader_names e.role.mode asked limit from decoded)
-  packet_names (Sending terms n) = sender_names (is_client e.role.side) e.role.length terms n decoded
-  packet_names (Receiving terms n) =
-      receiver_names (is_client e.role.side) e.role.mode e.position.held_back terms n decoded
-  packet_names (Dallying terms n dally) = dally_says n decoded
-  packet_names (Closed terms n complete outcome) = tt
-
-  datagram_names : Names (datagram_action e from bytes decoded)
-  datagram_names =
-      either (is_wrong_peer (terms_of e.position.phase) e.position.last_sent_to from) _ _
-      (either (has_error_opcode bytes) _ _ tt tt)
-      (either (has_error_opcode bytes && is_none decoded) _ _ (garbled_says e.position.phase)
-      (packet_names e.position.phase))
 
 module _ (client : Bool) where
   -- ---- nor does a turn
@@ -301,7 +186,7 @@ module _ (client : Bool) where
     step_has : (files files' : Files (List ℕ) Holding) (turn : Turn) → Has e.position →
         DatagramStep memory_source (world_sink refuses_commit) from bytes e files turn files' → Has turn.position
     step_has files files' turn h d =
-        acts_has (datagram_action e from bytes d.decoded) files files' turn (datagram_names e from bytes d.decoded) h
+        acts_has (datagram_action e from bytes d.decoded) files files' turn (names (terms_of e.position.phase) from d.decoded _ _ (datagram_takes e from bytes d.decoded)) h
         d.acts
 
 -- ---- the ends of a world

@@ -1,24 +1,16 @@
 -- A client that took no OACK has a peer that was opened without options.
 -- For BlamelessActions, Blameless and ErrorsKnown.
-use Rattle.std.proofs.Common.{◌≡◌, ℕ, ◌≤◌, Bool, true, false, List, [], ◌++◌, Option, Some, None, Result, Ok, Err, refl}
+use Rattle.std.proofs.Common.{◌≡◌, ℕ, ◌≤◌, Bool, true, false, List, ◌++◌, Option, Some, None, Result, Ok, Err, refl}
 use Rattle.std.proofs.Common.{sym, ap, ◌∙◌, subst, arith, inl, inr}
-use Rattle.std.specs.Prelude.{◌≢◌, ◌==◌, ◌+◌, ◌/◌, ◌*◌, nat_lt, nat_le, length, is_none, ◌&&◌, not, if◌then◌else◌}
-use Rattle.std.specs.Prelude.{option_map, slice_get}
+use Rattle.std.specs.Prelude.{◌≢◌, ◌==◌, ◌+◌, not, if◌then◌else◌, option_map, slice_get}
 use Rattle.std.specs.List.{Contains}
 use Rattle.std.specs.Cmp.Lexicographic.{same_text}
-use Rattle.std.proofs.lemmas.Bool.{true≢false, eqb-true, cases_Bool}
+use Rattle.std.proofs.lemmas.Bool.{true≢false, cases_Bool}
 use Rattle.std.proofs.lemmas.Option.{same_Some}
-use Rattle.tftp_wire.specs.Reading.{has_error_opcode}
-use Rattle.tftp_wire.specs.declared.mode.Mode.{Mode}
 use Rattle.tftp_wire.specs.declared.packet.Packet.{Packet}
 use Rattle.tftp_wire.specs.declared.packet.Packet.TheVariants.{Read, Write, Data, Ack, Error, Oack}
-use Rattle.tftp_negotiate.specs.Agreement.{agreement}
 use Rattle.tftp_negotiate.specs.declared.asked.Asked.{Asked}
-use Rattle.tftp_negotiate.specs.declared.known.Kind.TheVariants as kinds
 use Rattle.tftp_negotiate.specs.declared.known.Known.{Known}
-use Rattle.tftp_negotiate.specs.declared.limits.TheConstants.{DEFAULT_BLOCK}
-use Rattle.tftp_negotiate.specs.declared.refusal.Refusal.{Refusal}
-use Rattle.tftp_negotiate.specs.declared.refusal.Refusal.TheVariants as refusals
 use Rattle.tftp_file.specs.Memory.{memory_source}
 use Rattle.tftp_file.specs.declared.fault.StoreFault.{StoreFault}
 use Rattle.tftp_file.specs.declared.files.Files.{Files}
@@ -35,16 +27,11 @@ use Rattle.tftp_ends.specs.declared.phase.Phase.{Phase}
 use Rattle.tftp_ends.specs.declared.phase.Phase.TheVariants.{Waiting, Sending, Receiving, Dallying, Closed}
 use Rattle.tftp_ends.specs.declared.phase.Terms.{Terms}
 use Rattle.tftp_ends.specs.End.{EndState, is_sender, is_client, terms_of, outcome_of, Position}
-use Rattle.tftp_ends.specs.Action.{Decodes, is_wrong_peer, garbled_response, packet_action, datagram_action}
-use Rattle.tftp_ends.specs.Action.{timeout_response, same_address}
+use Rattle.tftp_ends.specs.Action.{Decodes, is_wrong_peer, datagram_action, timeout_response, same_address}
 use Rattle.tftp_ends.specs.Phase.{waited}
-use Rattle.tftp_ends.specs.Sender.{sender_action}
-use Rattle.tftp_ends.specs.Receiver.{receiver_action, next_action, dally_response}
-use Rattle.tftp_ends.specs.Text.{is_readable}
 use Rattle.tftp_ends.specs.Step.{Turn, DatagramStep, Acts, SendsFrom, StoresIn, GoesOn, Done, response_turn}
 use Rattle.tftp_ends.specs.Step.{committed_turn, result_count_is, block_length, timeout_turn, holding}
-use Rattle.tftp_ends.specs.Waiting.{reader_action, writer_action, accept_action, begin_action, begin_with_action}
-use Rattle.tftp_ends.specs.Waiting.{refusal_action, default_terms, agreed_terms}
+use Rattle.tftp_ends.specs.Waiting.{default_terms, agreed_terms}
 use Rattle.tftp_rules.specs.EndKept.{PhaseKept}
 use Rattle.tftp_rules.specs.Hosts.{host_of, two_hosts}
 use Rattle.tftp_rules.specs.Machine.{Endpoint, At_server, Elsewhere, Machine, Party, start}
@@ -63,12 +50,9 @@ use Rattle.tftp_player.proofs.EndsCame.{Came, Was, Opened, Armed, Timed, Took, A
 use Rattle.tftp_player.proofs.WorldFacts.{m, holds, matched, attests}
 use Rattle.tftp_rules.proofs.RulesGrow.{run_grows, legal_rest}
 use Rattle.tftp_player.proofs.WorldRuns.{steps_are_rules}
-
--- an answer that is no OACK
-abbrev pub IsPlainAnswer : Option Packet → Type 0
-IsPlainAnswer (Some (Data number piece)) = Unit {0}
-IsPlainAnswer (Some (Ack number)) = number ≡ 0
-IsPlainAnswer decoded = ⊥
+use Rattle.tftp_player.proofs.ActionCases.{IsPlainAnswer, HasTerms, MayTake, datagram_takes, Agreed, By_default}
+use Rattle.tftp_player.proofs.ActionCases.{By_oack, Ignores, Resends, Completes, Stranger, Garbled, Hears}
+use Rattle.tftp_player.proofs.ActionCases.{Refuses_answer, Refuses_peer, Accepts, Sends_block, Stores_block}
 
 -- ---- the terms that an end has after a step are of a kind
 module _ (P : Terms → Type 0) where
@@ -91,135 +75,31 @@ module _ (P : Terms → Type 0) where
   Names (Send terms number) = P terms
   Names (Store terms number) = P terms
 
-  either : (b : Bool) (one two : Action) → Names one → Names two → Names (if b then one else two)
-  either true one two h k = h
-  either false one two h k = k
-
-  either_if : (b : Bool) (one two : Action) → (b ≡ true → Names one) → (b ≡ false → Names two) →
-      Names (if b then one else two)
-  either_if true one two h k = h refl
-  either_if false one two h k = k refl
-
   says_either : (b : Bool) (one two : Response) → Says one → Says two → Says (if b then one else two)
   says_either true one two h k = h
   says_either false one two h k = k
 
-  sender_names : (client : Bool) (count : ℕ) (terms : Terms) (n : ℕ) (decoded : Option Packet) → P terms →
-      Names (sender_action client count terms n decoded)
-  sender_names client count terms n None e = are_some terms e
-  sender_names client count terms n (Some (Read request)) e = are_some terms e
-  sender_names client count terms n (Some (Write request)) e = are_some terms e
-  sender_names client count terms n (Some (Data number piece)) e = are_some terms e
-  sender_names client count terms n (Some (Ack acked)) e =
-      either (acked == n) _ _ (either (nat_lt n (count / terms.size + 1)) _ _ e tt)
-      (either (nat_lt acked n) _ _ tt (are_some terms e))
-  sender_names client count terms n (Some (Error code text)) e = tt
-  sender_names client count terms n (Some (Oack options)) e =
-      either (client && terms.by_oack) _ _ tt (are_some terms e)
+  -- the terms that an action names
+  module _ (from : Endpoint) (known : Option Terms) (decoded : Option Packet) (wrong : Bool) (old : Are known)
+      (agreed : (ks : List Known) → P (agreed_terms from ks))
+      (plain : wrong ≡ false → known ≡ None → IsPlainAnswer decoded → P (default_terms from)) where
+    its_own : (terms : Terms) → HasTerms known from decoded wrong terms → P terms
+    its_own terms (Agreed own e) = old own e
+    its_own terms (By_default right none answer) = plain right none answer
+    its_own terms (By_oack ks none) = agreed ks
 
-  next_names : (mode : Mode) (held : List ℕ) (terms : Terms) (n : ℕ) (piece : List ℕ) → P terms →
-      Names (next_action mode held terms n piece)
-  next_names mode held terms n piece e =
-      either (nat_lt terms.size (length piece)) _ _ (are_some terms e)
-      (either (n == 65535 && (length piece == terms.size)) _ _ (are_some terms e)
-      (either (is_readable mode held piece (nat_lt (length piece) terms.size)) _ _ e (are_some terms e)))
-
-  receiver_names : (client : Bool) (mode : Mode) (held : List ℕ) (terms : Terms) (n : ℕ) (decoded : Option Packet) →
-      P terms → Names (receiver_action client mode held terms n decoded)
-  receiver_names client mode held terms n None e = are_some terms e
-  receiver_names client mode held terms n (Some (Read request)) e = are_some terms e
-  receiver_names client mode held terms n (Some (Write request)) e = are_some terms e
-  receiver_names client mode held terms n (Some (Data number piece)) e =
-      either (number == n) _ _ tt
-      (either (nat_lt number n) _ _ tt
-      (either (number == n + 1) _ _ (next_names mode held terms number piece e) (are_some terms e)))
-  receiver_names client mode held terms n (Some (Ack acked)) e = are_some terms e
-  receiver_names client mode held terms n (Some (Error code text)) e = tt
-  receiver_names client mode held terms n (Some (Oack options)) e =
-      either (client && terms.by_oack) _ _ (either (n == 0) _ _ tt tt) (are_some terms e)
-
-  dally_says : (n : ℕ) (decoded : Option Packet) → Says (dally_response n decoded)
-  dally_says n None = tt
-  dally_says n (Some (Read request)) = tt
-  dally_says n (Some (Write request)) = tt
-  dally_says n (Some (Data number piece)) = says_either (number == n) _ _ tt tt
-  dally_says n (Some (Ack acked)) = tt
-  dally_says n (Some (Error code text)) = tt
-  dally_says n (Some (Oack options)) = tt
-
-  refusal_names : (refusal : Refusal) → Names (refusal_action refusal)
-  refusal_names refusals.Repeated = are_none
-  refusal_names refusals.TooLarge = are_none
-  refusal_names refusals.NotAsked = are_none
-  refusal_names refusals.BadValue = are_none
-
-  begin_names : (count : ℕ) (terms : Terms) → P terms → Names (begin_action count terms)
-  begin_names count terms e = either (nat_lt count (65535 * terms.size)) _ _ e are_none
-
-  module _ (from : Endpoint) (agreed : (ks : List Known) → P (agreed_terms from ks)) where
-    accept_names : (r : Result (List Known) Refusal) → Names (accept_action from r)
-    accept_names (Ok ks) = agreed ks
-    accept_names (Err refusal) = refusal_names refusal
-
-    begin_with_names : (count : ℕ) (r : Result (List Known) Refusal) → Names (begin_with_action from count r)
-    begin_with_names count (Ok ks) = begin_names count (agreed_terms from ks) (agreed ks)
-    begin_with_names count (Err refusal) = refusal_names refusal
-
-    reader_names : (mode : Mode) (asked : Asked) (limit : ℕ) (decoded : Option Packet) →
-        (IsPlainAnswer decoded → P (default_terms from)) → Names (reader_action mode asked limit from decoded)
-    reader_names mode asked limit None plain = are_none
-    reader_names mode asked limit (Some (Read request)) plain = are_none
-    reader_names mode asked limit (Some (Write request)) plain = are_none
-    reader_names mode asked limit (Some (Data number bytes)) plain =
-        either (number == 1 && nat_le (length bytes) DEFAULT_BLOCK) _ _
-        (receiver_names true mode [] (default_terms from) 0 (Some (Data number bytes)) (plain tt)) are_none
-    reader_names mode asked limit (Some (Ack acked)) plain = are_none
-    reader_names mode asked limit (Some (Error code text)) plain = tt
-    reader_names mode asked limit (Some (Oack options)) plain =
-        accept_names (agreement asked kinds.Read mode options limit)
-
-    writer_names : (mode : Mode) (asked : Asked) (limit count : ℕ) (decoded : Option Packet) →
-        (IsPlainAnswer decoded → P (default_terms from)) → Names (writer_action mode asked limit count from decoded)
-    writer_names mode asked limit count None plain = are_none
-    writer_names mode asked limit count (Some (Read request)) plain = are_none
-    writer_names mode asked limit count (Some (Write request)) plain = are_none
-    writer_names mode asked limit count (Some (Data number bytes)) plain = are_none
-    writer_names mode asked limit count (Some (Ack number)) plain =
-        either_if (number == 0) _ _ (λ z. begin_names count (default_terms from) (plain (eqb-true number 0 z)))
-        (λ z. are_none)
-    writer_names mode asked limit count (Some (Error code text)) plain = tt
-    writer_names mode asked limit count (Some (Oack options)) plain =
-        begin_with_names count (agreement asked kinds.Write mode options limit)
-
-    packet_names : (e : EndState) (decoded : Option Packet) (phase : Phase) → Are (terms_of phase) →
-        (terms_of phase ≡ None → IsPlainAnswer decoded → P (default_terms from)) →
-        Names (packet_action e from decoded phase)
-    packet_names e decoded (Waiting asked limit) known plain =
-        either (is_sender e.role.side) _ _ (writer_names e.role.mode asked limit e.role.length decoded (plain refl))
-        (reader_names e.role.mode asked limit decoded (plain refl))
-    packet_names e decoded (Sending terms n) known plain =
-        sender_names (is_client e.role.side) e.role.length terms n decoded (known terms refl)
-    packet_names e decoded (Receiving terms n) known plain =
-        receiver_names (is_client e.role.side) e.role.mode e.position.held_back terms n decoded (known terms refl)
-    packet_names e decoded (Dallying terms n dally) known plain = dally_says n decoded
-    packet_names e decoded (Closed terms n complete outcome) known plain = tt
-
-    garbled_says : (phase : Phase) → Says (garbled_response phase)
-    garbled_says (Waiting asked limit) = tt
-    garbled_says (Sending terms n) = tt
-    garbled_says (Receiving terms n) = tt
-    garbled_says (Dallying terms n dally) = tt
-    garbled_says (Closed terms n complete outcome) = tt
-
-    datagram_names : (e : EndState) (bytes : List ℕ) (decoded : Option Packet) → Are (terms_of e.position.phase) →
-        (is_wrong_peer (terms_of e.position.phase) e.position.last_sent_to from ≡ false →
-        terms_of e.position.phase ≡ None → IsPlainAnswer decoded → P (default_terms from)) →
-        Names (datagram_action e from bytes decoded)
-    datagram_names e bytes decoded known plain =
-        either_if (is_wrong_peer (terms_of e.position.phase) e.position.last_sent_to from) _ _
-        (λ wrong. either (has_error_opcode bytes) _ _ tt tt)
-        (λ right. either (has_error_opcode bytes && is_none decoded) _ _ (garbled_says e.position.phase)
-        (packet_names e decoded e.position.phase known (plain right)))
+    names : (action : Action) → MayTake known from decoded wrong action → Names action
+    names action Ignores = tt
+    names action Resends = tt
+    names action Completes = tt
+    names action (Stranger is) = tt
+    names action Garbled = tt
+    names action (Hears code text right is) = tt
+    names action (Refuses_answer reply outcome none blames) = are_none
+    names action (Refuses_peer terms reply outcome h blames) = are_some terms (its_own terms h)
+    names action (Accepts ks none) = agreed ks
+    names action (Sends_block terms n h positive) = its_own terms h
+    names action (Stores_block terms n h) = its_own terms h
 
   timeout_says : (left : ℕ) (phase : Phase) → Says (timeout_response left phase)
   timeout_says left (Waiting asked limit) = says_either (left == 0) _ _ tt tt
@@ -312,7 +192,9 @@ module _ (P : Terms → Type 0) where
         DatagramStep memory_source (world_sink refuses_commit) from bytes e files turn files' → Has turn.position
     step_are files files' turn h agreed plain d =
         acts_has (datagram_action e from bytes d.decoded) files files' turn
-        (datagram_names from agreed e bytes d.decoded h (plain d.decoded d.says)) h d.acts
+        (names from (terms_of e.position.phase) d.decoded
+        (is_wrong_peer (terms_of e.position.phase) e.position.last_sent_to from) h agreed (plain d.decoded d.says)
+        (datagram_action e from bytes d.decoded) (datagram_takes e from bytes d.decoded)) h d.acts
 
 -- ---- the clients of a world
 abbrev pub HasPlainPeer : (Endpoint → Party) → Terms → Type 0

@@ -1,16 +1,21 @@
 -- `settle` makes as many deliveries as a recovery needs, if its limit is not below.
--- For the law a_transfer_recovers.
+-- For the law a_recovery_settles.
 use Rattle.std.proofs.Common.{◌≡◌, ℕ, ◌+◌, ◌*◌, ◌<◌, ◌≤◌, length, inl, inr, arith, ◌∙◌}
+use Rattle.tftp_negotiate.specs.declared.asked.Asked.{Asked}
 use Rattle.tftp_file.specs.Block.{block_count}
 use Rattle.tftp_ends.specs.declared.phase.Terms.{Terms}
+use Rattle.tftp_server.specs.Port.{Service, Sends, Takes}
 use Rattle.tftp_rules.specs.OpenEnds.{OpenEnd}
 use Rattle.tftp_player.specs.Recovering.{Behaves, EndsAfter, HasSettled, SettlesAfter, StoresTake, left_to_add}
 use Rattle.tftp_player.specs.Recovering.{TransfersSettle, AnsweredReadsSettle, AnsweredWritesSettle}
+use Rattle.tftp_player.specs.Recovering.{AsksAgain, AsksAndSettles, ReadRequestsSettle, WriteRequestsSettle}
+use Rattle.tftp_player.specs.Straight.{read_adds, write_adds}
 use Rattle.tftp_player.specs.World.{WorldState}
 use Rattle.tftp_player.proofs.RecoveringReads.{reads_recover}
 use Rattle.tftp_player.proofs.RecoveringRuns.{transfers_recover}
 use Rattle.tftp_player.proofs.RecoveringWrites.{writes_recover}
 use Rattle.tftp_player.proofs.SettledLemmas.{reached, took_all}
+use Rattle.tftp_player.proofs.RecoveringRequests.{read_requests_recover, write_requests_recover}
 
 module _ (w new : WorldState) (x y : OpenEnd) (most made : ℕ) (s : SettlesAfter w x y most made new) where
   stores : StoresTake y s.settles.reports
@@ -60,3 +65,28 @@ pub answered_writes_settle : AnsweredWritesSettle
 answered_writes_settle w new one other x y asked limit terms number most made is_reached a is s enough =
     has_settled w new x x most made s one other (1 + 2 * block_count y.text terms.size) enough
     (writes_recover w new one other x y asked limit terms number is_reached a is (behaves w new x x most made s))
+
+-- ---- the request was lost
+abbrev asks_again : (w new : WorldState) (k : ℕ) (y : OpenEnd) (asked : Asked) (limit : ℕ) (accepts : Service) (most made : ℕ) →
+    AsksAndSettles w new k y asked limit accepts most made → AsksAgain w new k y asked limit accepts
+asks_again w new k y asked limit accepts most made s = record {
+  client_at = s.client_at;
+  waits = s.waits;
+  run = behaves w new y y most made s.run;
+  accepted = s.accepted;
+}
+
+-- of a read whose request was lost
+pub read_requests_settle : ReadRequestsSettle
+read_requests_settle w new k y asked limit path file mode measured agreed most made is_reached s there answered enough =
+    has_settled w new y y most made s.run (length w.ends) k (read_adds mode file agreed) enough
+    (read_requests_recover w new k y asked limit path file mode measured agreed is_reached
+    (asks_again w new k y asked limit (Sends path mode measured agreed) most made s) there answered)
+
+-- and of a write
+pub write_requests_settle : WriteRequestsSettle
+write_requests_settle w new k y asked limit path mode agreed most made is_reached s answered fits have enough =
+    has_settled w new y y most made s.run k (length w.ends) (write_adds mode y.file agreed) enough
+    (write_requests_recover w new k y asked limit path mode agreed is_reached
+    (asks_again w new k y asked limit (Takes path mode agreed) most made s) answered fits
+    (took_all s.run.mid s.run.settles.reports s.run.mid new (length w.sent) (λ j z e. e) s.run.settles.delivered have))

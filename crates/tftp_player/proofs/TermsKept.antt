@@ -1,14 +1,10 @@
 -- The agreed terms stay, for all later steps of an end.
 use Rattle.std.proofs.Common.{◌≡◌, ℕ, Bool, true, false, List, Option, Some, None, Result, Ok, Err, refl, sym, ap, ◌∙◌}
 use Rattle.std.proofs.Common.{subst}
-use Rattle.std.specs.Prelude.{◌==◌, ◌+◌, ◌/◌, nat_lt, length, is_none, is_some, ◌&&◌, if◌then◌else◌}
-use Rattle.std.specs.Prelude.{option_map}
+use Rattle.std.specs.Prelude.{◌==◌, is_some, if◌then◌else◌, option_map}
 use Rattle.std.proofs.lemmas.Bool.{true≢false}
 use Rattle.std.proofs.lemmas.Option.{same_Some}
-use Rattle.tftp_wire.specs.Reading.{has_error_opcode}
-use Rattle.tftp_wire.specs.declared.mode.Mode.{Mode}
 use Rattle.tftp_wire.specs.declared.packet.Packet.{Packet}
-use Rattle.tftp_wire.specs.declared.packet.Packet.TheVariants.{Read, Write, Data, Ack, Error, Oack}
 use Rattle.tftp_file.specs.Memory.{memory_source}
 use Rattle.tftp_file.specs.declared.fault.FileFault.{FileFault}
 use Rattle.tftp_file.specs.declared.fault.StoreFault.{StoreFault}
@@ -19,23 +15,22 @@ use Rattle.tftp_ends.specs.declared.action.Action.{Action}
 use Rattle.tftp_ends.specs.declared.action.Action.TheVariants.{Respond, Send, Store}
 use Rattle.tftp_ends.specs.declared.action.Response.{Response}
 use Rattle.tftp_ends.specs.declared.action.Response.TheVariants.{Ignore, WrongPeer, ResendReply, Retransmit, Wait}
-use Rattle.tftp_ends.specs.declared.action.Response.TheVariants.{Close}
-use Rattle.tftp_ends.specs.declared.action.Response.TheVariants.{Refuse, Accept, Complete}
+use Rattle.tftp_ends.specs.declared.action.Response.TheVariants.{Close, Refuse, Accept, Complete}
 use Rattle.tftp_ends.specs.declared.phase.Dally.TheVariants.{Fresh, Waited}
 use Rattle.tftp_ends.specs.declared.phase.Phase.{Phase}
 use Rattle.tftp_ends.specs.declared.phase.Phase.TheVariants.{Waiting, Sending, Receiving, Dallying, Closed}
 use Rattle.tftp_ends.specs.declared.phase.Terms.{Terms}
-use Rattle.tftp_ends.specs.End.{EndState, is_client, terms_of, Position}
-use Rattle.tftp_ends.specs.Action.{is_wrong_peer, garbled_response, packet_action, datagram_action, timeout_response}
+use Rattle.tftp_ends.specs.End.{EndState, terms_of, Position}
+use Rattle.tftp_ends.specs.Action.{datagram_action, timeout_response}
 use Rattle.tftp_ends.specs.Phase.{waited}
-use Rattle.tftp_ends.specs.Sender.{sender_action}
-use Rattle.tftp_ends.specs.Receiver.{receiver_action, next_action, dally_response}
-use Rattle.tftp_ends.specs.Text.{is_readable}
 use Rattle.tftp_ends.specs.Step.{Turn, DatagramStep, Acts, SendsFrom, StoresIn, GoesOn, Done, response_turn}
 use Rattle.tftp_ends.specs.Step.{filled_turn, committed_turn, result_count_is, block_length, timeout_turn, holding}
 use Rattle.tftp_rules.specs.Machine.{Endpoint}
 use Rattle.tftp_rules.specs.OpenEnds.{peer_of}
 use Rattle.tftp_player.specs.WorldSteps.{world_sink}
+use Rattle.tftp_player.proofs.ActionCases.{HasTerms, MayTake, datagram_takes, Agreed, By_default, By_oack, Ignores}
+use Rattle.tftp_player.proofs.ActionCases.{Resends, Completes, Stranger, Garbled, Hears, Refuses_answer, Refuses_peer}
+use Rattle.tftp_player.proofs.ActionCases.{Accepts, Sends_block, Stores_block}
 
 module _ (agreed : Terms) where
   -- the response and the action name no other terms
@@ -49,63 +44,35 @@ module _ (agreed : Terms) where
   Names (Send terms number) = terms ≡ agreed
   Names (Store terms number) = terms ≡ agreed
 
-  either : (b : Bool) (one two : Action) → Names one → Names two → Names (if b then one else two)
-  either true one two h k = h
-  either false one two h k = k
-
   says_either : (b : Bool) (one two : Response) → Says one → Says two → Says (if b then one else two)
   says_either true one two h k = h
   says_either false one two h k = k
 
   -- ---- no action of an end whose terms are these names others
-  sender_names : (client : Bool) (count : ℕ) (terms : Terms) (n : ℕ) (decoded : Option Packet) → terms ≡ agreed →
-      Names (sender_action client count terms n decoded)
-  sender_names client count terms n None e = ap Some e
-  sender_names client count terms n (Some (Read request)) e = ap Some e
-  sender_names client count terms n (Some (Write request)) e = ap Some e
-  sender_names client count terms n (Some (Data number piece)) e = ap Some e
-  sender_names client count terms n (Some (Ack acked)) e =
-      either (acked == n) _ _ (either (nat_lt n (count / terms.size + 1)) _ _ e tt)
-      (either (nat_lt acked n) _ _ tt (ap Some e))
-  sender_names client count terms n (Some (Error code text)) e = tt
-  sender_names client count terms n (Some (Oack options)) e = either (client && terms.by_oack) _ _ tt (ap Some e)
+  its_own : (known : Option Terms) (from : Endpoint) (decoded : Option Packet) (wrong : Bool) (terms : Terms) →
+      known ≡ Some agreed → HasTerms known from decoded wrong terms → terms ≡ agreed
+  its_own known from decoded wrong terms has (Agreed own e) = same_Some own agreed (sym e ∙ has)
+  its_own known from decoded wrong terms has (By_default right none plain) =
+      absurd (let f : None ≡ Some agreed = sym none ∙ has in cc)
+  its_own known from decoded wrong terms has (By_oack ks none) =
+      absurd (let f : None ≡ Some agreed = sym none ∙ has in cc)
 
-  next_names : (mode : Mode) (held : List ℕ) (terms : Terms) (n : ℕ) (piece : List ℕ) → terms ≡ agreed →
-      Names (next_action mode held terms n piece)
-  next_names mode held terms n piece e =
-      either (nat_lt terms.size (length piece)) _ _ (ap Some e)
-      (either (n == 65535 && (length piece == terms.size)) _ _ (ap Some e)
-      (either (is_readable mode held piece (nat_lt (length piece) terms.size)) _ _ e (ap Some e)))
-
-  receiver_names : (client : Bool) (mode : Mode) (held : List ℕ) (terms : Terms) (n : ℕ) (decoded : Option Packet) →
-      terms ≡ agreed → Names (receiver_action client mode held terms n decoded)
-  receiver_names client mode held terms n None e = ap Some e
-  receiver_names client mode held terms n (Some (Read request)) e = ap Some e
-  receiver_names client mode held terms n (Some (Write request)) e = ap Some e
-  receiver_names client mode held terms n (Some (Data number piece)) e =
-      either (number == n) _ _ tt
-      (either (nat_lt number n) _ _ tt
-      (either (number == n + 1) _ _ (next_names mode held terms number piece e) (ap Some e)))
-  receiver_names client mode held terms n (Some (Ack acked)) e = ap Some e
-  receiver_names client mode held terms n (Some (Error code text)) e = tt
-  receiver_names client mode held terms n (Some (Oack options)) e =
-      either (client && terms.by_oack) _ _ (either (n == 0) _ _ tt tt) (ap Some e)
-
-  dally_says : (n : ℕ) (decoded : Option Packet) → Says (dally_response n decoded)
-  dally_says n None = tt
-  dally_says n (Some (Read request)) = tt
-  dally_says n (Some (Write request)) = tt
-  dally_says n (Some (Data number piece)) = says_either (number == n) _ _ tt tt
-  dally_says n (Some (Ack acked)) = tt
-  dally_says n (Some (Error code text)) = tt
-  dally_says n (Some (Oack options)) = tt
-
-  garbled_says : (phase : Phase) → Says (garbled_response phase)
-  garbled_says (Waiting asked limit) = tt
-  garbled_says (Sending terms n) = tt
-  garbled_says (Receiving terms n) = tt
-  garbled_says (Dallying terms n dally) = tt
-  garbled_says (Closed terms n complete outcome) = tt
+  names : (known : Option Terms) (from : Endpoint) (decoded : Option Packet) (wrong : Bool) (action : Action) →
+      known ≡ Some agreed → MayTake known from decoded wrong action → Names action
+  names known from decoded wrong action has Ignores = tt
+  names known from decoded wrong action has Resends = tt
+  names known from decoded wrong action has Completes = tt
+  names known from decoded wrong action has (Stranger is) = tt
+  names known from decoded wrong action has Garbled = tt
+  names known from decoded wrong action has (Hears code text right is) = tt
+  names known from decoded wrong action has (Refuses_answer reply outcome none blames) =
+      absurd (let f : None ≡ Some agreed = sym none ∙ has in cc)
+  names known from decoded wrong action has (Refuses_peer terms reply outcome h blames) =
+      ap Some (its_own known from decoded wrong terms has h)
+  names known from decoded wrong action has (Accepts ks none) =
+      absurd (let f : None ≡ Some agreed = sym none ∙ has in cc)
+  names known from decoded wrong action has (Sends_block terms n h positive) = its_own known from decoded wrong terms has h
+  names known from decoded wrong action has (Stores_block terms n h) = its_own known from decoded wrong terms has h
 
   timeout_says : (left : ℕ) (phase : Phase) → Says (timeout_response left phase)
   timeout_says left (Waiting asked limit) = says_either (left == 0) _ _ tt tt
@@ -114,24 +81,6 @@ module _ (agreed : Terms) where
   timeout_says left (Dallying terms n Fresh) = tt
   timeout_says left (Dallying terms n Waited) = tt
   timeout_says left (Closed terms n complete outcome) = says_either (left == 0) _ _ tt tt
-
-  module _ (e : EndState) (from : Endpoint) (bytes : List ℕ) (decoded : Option Packet) where
-    packet_names : (phase : Phase) → terms_of phase ≡ Some agreed → Names (packet_action e from decoded phase)
-    packet_names (Waiting asked limit) h = absurd (let f : None ≡ Some agreed = h in cc)
-    packet_names (Sending terms n) h =
-        sender_names (is_client e.role.side) e.role.length terms n decoded (same_Some terms agreed h)
-    packet_names (Receiving terms n) h =
-        receiver_names (is_client e.role.side) e.role.mode e.position.held_back terms n decoded
-        (same_Some terms agreed h)
-    packet_names (Dallying terms n dally) h = dally_says n decoded
-    packet_names (Closed terms n complete outcome) h = tt
-
-    datagram_names : terms_of e.position.phase ≡ Some agreed → Names (datagram_action e from bytes decoded)
-    datagram_names h =
-        either (is_wrong_peer (terms_of e.position.phase) e.position.last_sent_to from) _ _
-        (either (has_error_opcode bytes) _ _ tt tt)
-        (either (has_error_opcode bytes && is_none decoded) _ _ (garbled_says e.position.phase)
-        (packet_names e.position.phase h))
 
   -- ---- nor does its turn
   abbrev Has : Position → Type 0
@@ -214,7 +163,7 @@ module _ (agreed : Terms) where
     pub step_has : (files files' : Files (List ℕ) Holding) (turn : Turn) → Has e.position →
         DatagramStep memory_source (world_sink refuses_commit) from bytes e files turn files' → Has turn.position
     step_has files files' turn h d =
-        acts_has (datagram_action e from bytes d.decoded) files files' turn (datagram_names e from bytes d.decoded h) h
+        acts_has (datagram_action e from bytes d.decoded) files files' turn (names (terms_of e.position.phase) from d.decoded _ _ h (datagram_takes e from bytes d.decoded)) h
         d.acts
 
 -- the peer stays known

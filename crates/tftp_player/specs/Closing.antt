@@ -25,7 +25,8 @@ Blames (outcomes.PeerError code) = ⊥
 Blames outcomes.StoreFault = ⊥
 Blames outcomes.SourceFault = ⊤
 
--- in every world that events can lead to, no end has closed so whose peer is at one of both hosts
+-- in every world that events can lead to, no end has closed by blaming a peer at one of the two
+-- hosts
 abbrev pub NoneIsBlamed : Type 0
 NoneIsBlamed =
     (w : WorldState) (k : ℕ) (x : ClosedEnd) (p : Endpoint) (outcome : Outcome) →
@@ -56,7 +57,8 @@ MayCloseAs y outcomes.TooLarge = ⊥
 MayCloseAs y (outcomes.Refused refusal) = ⊥
 MayCloseAs y outcomes.SourceFault = ⊥
 
--- an end closes so, and as nothing else, if it and another end are each other's peers
+-- of two ends that are each other's peers one closes as complete, as timed out, because its store
+-- refused or the other's did, and as nothing else
 abbrev pub EstablishedEndsCloseSo : Type 0
 EstablishedEndsCloseSo =
     (w : WorldState) (k : ℕ) (x : ClosedEnd) (y : WorldEnd) (outcome : Outcome) →
@@ -64,7 +66,7 @@ EstablishedEndsCloseSo =
     HasPeer (Closed_end x) (end_address y) → HasPeer y x.address →
     x.recorded.outcome ≡ Some outcome → MayCloseAs y outcome
 
--- there is an end that an ERROR 3 of such a peer has closed
+-- some end has closed by an ERROR 3 of its peer
 abbrev pub SomeEndIsRefused : Type 0
 SomeEndIsRefused =
     (w : WorldState) × (k : ℕ) × (x : ClosedEnd) × (y : WorldEnd) × IsReached w

@@ -1,4 +1,4 @@
--- Recovery: whatever the network has done so far, a transfer completes once the network behaves.
+-- A transfer completes once the network behaves, whatever it has done so far.
 use Rattle.std.specs.Prelude.{ℕ, ◌≡◌, ◌+◌, ◌*◌, ◌-◌, ◌<◌, ◌≤◌, ◌⊎◌, true, false, ⊤, List}
 use Rattle.std.specs.Prelude.{length, slice_get, Some}
 use Rattle.tftp_wire.specs.declared.mode.Mode.{Mode}
@@ -94,7 +94,7 @@ TransfersRecover =
     IsReached w → IsEstablished w one other x y terms number → (run : Behaves w x y new) →
     EndsAfter w new one other (length run.reports) (left_to_add x terms number)
 
--- some established transfer does, of a sender whose newest block has this number
+-- some established transfer recovers whose sender's newest block has this number
 abbrev pub SomeTransferRecovers : ℕ → Type 0
 SomeTransferRecovers number =
     (w : WorldState) × (new : WorldState) × (one : ℕ) × (other : ℕ) × (x : OpenEnd) × (y : OpenEnd)
@@ -118,7 +118,8 @@ pub record IsAnswering (w : WorldState) (one other : ℕ) (x y : OpenEnd) (asked
   pub waits : y.state.position.phase ≡ Waiting asked limit
   pub takes : HandledBy TakesPeer x.address x.state.position.last_sent y.state
 
--- of a read, whose server's end sends: it times out, and the same count holds
+-- a read recovers whose client has no peer yet, and would accept the newest datagram of the
+-- server's end: that end times out, and the same count holds
 abbrev pub ReadsRecover : Type 0
 ReadsRecover =
     (w new : WorldState) (one other : ℕ) (x y : OpenEnd) (asked : Asked) (limit : ℕ) (terms : Terms)
@@ -127,7 +128,7 @@ ReadsRecover =
     x.state.position.phase ≡ Sending terms number → (run : Behaves w x y new) →
     EndsAfter w new one other (length run.reports) (left_to_add x terms number)
 
--- and of a write, whose server's end receives: ACK 0 or the OACK, and all blocks with their ACKs
+-- so does a write: by ACK 0 or the OACK once more, and all blocks with their ACKs
 abbrev pub WritesRecover : Type 0
 WritesRecover =
     (w new : WorldState) (one other : ℕ) (x y : OpenEnd) (asked : Asked) (limit : ℕ) (terms : Terms)
@@ -152,7 +153,8 @@ pub record SettlesAfter (old : WorldState) (x y : OpenEnd) (most made : ℕ) (ne
 abbrev pub HasSettled : WorldState → WorldState → (one other made count : ℕ) → Type 0
 HasSettled old new one other made count = (made ≡ count) × AreThrough old new one other count
 
--- so it does, with a limit that is not below the count
+-- `settle` makes as many deliveries as the recovery of a transfer needs, if its limit is not below:
+-- of an established one, of a read and of a write
 abbrev pub TransfersSettle : Type 0
 TransfersSettle =
     (w new : WorldState) (one other : ℕ) (x y : OpenEnd) (terms : Terms) (number most made : ℕ) →
@@ -185,7 +187,8 @@ pub record AsksAgain (w new : WorldState) (k : ℕ) (y : OpenEnd) (asked : Asked
   pub run : Behaves w y y new
   pub accepted : IsAccepted run.mid y accepts
 
--- of a read, whose answer the client accepts: the count is that of a run without loss
+-- a read recovers whose request was lost: its client times out, the server's port accepts it, the
+-- client accepts the answer, and the count is that of a run without loss
 abbrev pub ReadRequestsRecover : Type 0
 ReadRequestsRecover =
     (w new : WorldState) (k : ℕ) (y : OpenEnd) (asked : Asked) (limit : ℕ) (path file : List ℕ)
@@ -194,7 +197,7 @@ ReadRequestsRecover =
     file_at again.run.mid.files path ≡ Some file → TakesAnswer asked kinds.Read mode limit agreed →
     EndsAfter w new (length w.ends) k (length again.run.reports) (read_adds mode file agreed)
 
--- and of a write, whose blocks can be numbered, if no store refuses
+-- so does a write whose request was lost, if its blocks can be numbered and no store refuses
 abbrev pub WriteRequestsRecover : Type 0
 WriteRequestsRecover =
     (w new : WorldState) (k : ℕ) (y : OpenEnd) (asked : Asked) (limit : ℕ) (path : List ℕ)
@@ -204,7 +207,38 @@ WriteRequestsRecover =
     AllTaken again.run.reports →
     EndsAfter w new k (length w.ends) (length again.run.reports) (write_adds mode y.file agreed)
 
--- there are such runs: the first datagram of a server's end was lost, which sends
+-- the same run by `settle`
+pub record AsksAndSettles (w new : WorldState) (k : ℕ) (y : OpenEnd) (asked : Asked) (limit : ℕ)
+    (accepts : Service) (most made : ℕ) : Type 0 where
+  pub client_at : slice_get w.ends k ≡ Some (Open_end y)
+  pub waits : y.state.position.phase ≡ Waiting asked limit
+  pub run : SettlesAfter w y y most made new
+  pub accepted : IsAccepted run.mid y accepts
+
+-- `settle` makes as many deliveries as a read needs whose request was lost, if its limit is not
+-- below
+abbrev pub ReadRequestsSettle : Type 0
+ReadRequestsSettle =
+    (w new : WorldState) (k : ℕ) (y : OpenEnd) (asked : Asked) (limit : ℕ) (path file : List ℕ)
+    (mode : Mode) (measured : ℕ) (agreed : List Known) (most made : ℕ) →
+    IsReached w →
+    (again : AsksAndSettles w new k y asked limit (Sends path mode measured agreed) most made) →
+    file_at again.run.mid.files path ≡ Some file → TakesAnswer asked kinds.Read mode limit agreed →
+    read_adds mode file agreed ≤ most →
+    HasSettled w new (length w.ends) k made (read_adds mode file agreed)
+
+-- and as a write, if no end has closed since because of its store
+abbrev pub WriteRequestsSettle : Type 0
+WriteRequestsSettle =
+    (w new : WorldState) (k : ℕ) (y : OpenEnd) (asked : Asked) (limit : ℕ) (path : List ℕ)
+    (mode : Mode) (agreed : List Known) (most made : ℕ) →
+    IsReached w →
+    (again : AsksAndSettles w new k y asked limit (Takes path mode agreed) most made) →
+    TakesAnswer asked kinds.Write mode limit agreed → Fits (wire_text mode y.file) (size agreed) →
+    HaveTaken again.run.mid new → write_adds mode y.file agreed ≤ most →
+    HasSettled w new k (length w.ends) made (write_adds mode y.file agreed)
+
+-- some read recovers whose first datagram from the server was lost
 abbrev pub SomeReadRecovers : Type 0
 SomeReadRecovers =
     (w : WorldState) × (new : WorldState) × (one : ℕ) × (other : ℕ) × (x : OpenEnd) × (y : OpenEnd)
@@ -212,7 +246,7 @@ SomeReadRecovers =
     × IsAnswering w one other x y asked limit × (x.state.position.phase ≡ Sending terms number)
     × (run : Behaves w x y new) × (length run.reports ≡ left_to_add x terms number)
 
--- or which receives
+-- some write recovers whose first datagram from the server was lost
 abbrev pub SomeWriteRecovers : Type 0
 SomeWriteRecovers =
     (w : WorldState) × (new : WorldState) × (one : ℕ) × (other : ℕ) × (x : OpenEnd) × (y : OpenEnd)
@@ -220,7 +254,7 @@ SomeWriteRecovers =
     × IsAnswering w one other x y asked limit × (x.state.position.phase ≡ Receiving terms number)
     × (run : Behaves w x x new) × (length run.reports ≡ 1 + 2 * block_count y.text terms.size)
 
--- or the request of a read
+-- some read recovers whose request was lost
 abbrev pub SomeReadRequestRecovers : Type 0
 SomeReadRequestRecovers =
     (w : WorldState) × (new : WorldState) × (k : ℕ) × (y : OpenEnd) × (asked : Asked) × (limit : ℕ)
@@ -230,7 +264,7 @@ SomeReadRequestRecovers =
     × TakesAnswer asked kinds.Read mode limit agreed
     × (length again.run.reports ≡ read_adds mode file agreed)
 
--- or that of a write
+-- some write recovers whose request was lost
 abbrev pub SomeWriteRequestRecovers : Type 0
 SomeWriteRequestRecovers =
     (w : WorldState) × (new : WorldState) × (k : ℕ) × (y : OpenEnd) × (asked : Asked) × (limit : ℕ)

@@ -1,6 +1,7 @@
 //! The laws of every run of a world, over the definitions alone.
 //!
-//! The premise `Refines` of a law holds by the clauses `played` of `World`'s calls.
+//! The premise `Refines` of a law holds by the clauses `played` of `World`'s calls; `IsReached` by
+//! their clauses `new`, `steps` and `settles`, for the events that were played.
 
 ghost use Rattle.std.specs.Prelude.{[], ◌∷◌};
 ghost use Rattle.tftp_wire.specs.declared.mode.Mode.TheVariants.{Octet, Netascii};
@@ -15,6 +16,7 @@ ghost use Rattle.tftp_player.specs.Recovering.{TransfersRecover, ReadsRecover, W
 ghost use Rattle.tftp_player.specs.Recovering.{ReadRequestsRecover, WriteRequestsRecover};
 ghost use Rattle.tftp_player.specs.Recovering.{TransfersSettle, AnsweredReadsSettle};
 ghost use Rattle.tftp_player.specs.Recovering.{AnsweredWritesSettle, SomeTransferRecovers};
+ghost use Rattle.tftp_player.specs.Recovering.{ReadRequestsSettle, WriteRequestsSettle};
 ghost use Rattle.tftp_player.specs.Recovering.{SomeReadRecovers, SomeWriteRecovers};
 ghost use Rattle.tftp_player.specs.Recovering.{SomeReadRequestRecovers};
 ghost use Rattle.tftp_player.specs.Recovering.{SomeWriteRequestRecovers};
@@ -138,6 +140,9 @@ pub fn a_recovery_settles()
     ensures transfers { TransfersSettle }
     ensures reads { AnsweredReadsSettle }
     ensures writes { AnsweredWritesSettle }
+    // and where the request was lost
+    ensures read_requests { ReadRequestsSettle }
+    ensures write_requests { WriteRequestsSettle }
 {}
 
 /// No end whose peer is at one of the two hosts closes because of what that peer sent: neither as

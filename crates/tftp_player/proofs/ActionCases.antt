@@ -1,0 +1,232 @@
+-- The actions that a datagram may lead to, each with what is known where it does.
+-- For TermsKept, NewestKept, OacksTaken and ErrorReasons.
+use Rattle.std.proofs.Common.{◌≡◌, ℕ, ◌+◌, Bool, true, false, List, [], length, Option, Some, None, Result, Ok, Err, refl, sym}
+use Rattle.std.proofs.Common.{ap, ◌∙◌, subst, arith}
+use Rattle.std.specs.Prelude.{◌≢◌, ◌==◌, ◌/◌, ◌*◌, nat_lt, nat_le, is_none, ◌&&◌, if◌then◌else◌}
+use Rattle.std.proofs.lemmas.Bool.{eqb-true}
+use Rattle.tftp_wire.specs.Reading.{has_error_opcode}
+use Rattle.tftp_wire.specs.declared.mode.Mode.{Mode}
+use Rattle.tftp_wire.specs.declared.packet.Packet.{Packet}
+use Rattle.tftp_wire.specs.declared.packet.Packet.TheVariants.{Read, Write, Data, Ack, Error, Oack}
+use Rattle.tftp_negotiate.specs.Agreement.{agreement}
+use Rattle.tftp_negotiate.specs.declared.asked.Asked.{Asked}
+use Rattle.tftp_negotiate.specs.declared.known.Kind.TheVariants as kinds
+use Rattle.tftp_negotiate.specs.declared.known.Known.{Known}
+use Rattle.tftp_negotiate.specs.declared.limits.TheConstants.{DEFAULT_BLOCK}
+use Rattle.tftp_negotiate.specs.declared.refusal.Refusal.{Refusal}
+use Rattle.tftp_negotiate.specs.declared.refusal.Refusal.TheVariants as refusals
+use Rattle.tftp_ends.specs.declared.action.Action.{Action}
+use Rattle.tftp_ends.specs.declared.action.Action.TheVariants.{Respond, Send, Store}
+use Rattle.tftp_ends.specs.declared.action.Response.{Response}
+use Rattle.tftp_ends.specs.declared.action.Response.TheVariants.{Ignore, WrongPeer, ResendReply, Close, Refuse, Accept}
+use Rattle.tftp_ends.specs.declared.action.Response.TheVariants.{Complete}
+use Rattle.tftp_ends.specs.declared.error_reply.ErrorReply.{ErrorReply}
+use Rattle.tftp_ends.specs.declared.outcome.Outcome.{Outcome}
+use Rattle.tftp_ends.specs.declared.outcome.Outcome.TheVariants as outcomes
+use Rattle.tftp_ends.specs.declared.phase.Phase.{Phase}
+use Rattle.tftp_ends.specs.declared.phase.Phase.TheVariants.{Waiting, Sending, Receiving, Dallying, Closed}
+use Rattle.tftp_ends.specs.declared.phase.Terms.{Terms}
+use Rattle.tftp_ends.specs.End.{EndState, is_sender, is_client, terms_of}
+use Rattle.tftp_ends.specs.Action.{is_wrong_peer, garbled_response, packet_action, datagram_action}
+use Rattle.tftp_ends.specs.Sender.{sender_action}
+use Rattle.tftp_ends.specs.Receiver.{receiver_action, next_action, dally_response}
+use Rattle.tftp_ends.specs.Text.{is_readable}
+use Rattle.tftp_ends.specs.Waiting.{reader_action, writer_action, accept_action, begin_action, begin_with_action}
+use Rattle.tftp_ends.specs.Waiting.{refusal_action, default_terms, agreed_terms}
+use Rattle.tftp_rules.specs.Machine.{Endpoint}
+use Rattle.tftp_player.specs.Closing.{Blames}
+
+-- an answer that is no OACK
+abbrev pub IsPlainAnswer : Option Packet → Type 0
+IsPlainAnswer (Some (Data number piece)) = Unit {0}
+IsPlainAnswer (Some (Ack number)) = number ≡ 0
+IsPlainAnswer decoded = ⊥
+
+-- the terms are the end's own; if it has none yet, those of a plain answer, or of an OACK
+pub data HasTerms (known : Option Terms) (from : Endpoint) (decoded : Option Packet) (wrong : Bool) : Terms → Type 0
+  where
+    Agreed : (terms : Terms) → known ≡ Some terms → HasTerms known from decoded wrong terms
+    By_default : wrong ≡ false → known ≡ None → IsPlainAnswer decoded →
+        HasTerms known from decoded wrong (default_terms from)
+    By_oack : (ks : List Known) → known ≡ None → HasTerms known from decoded wrong (agreed_terms from ks)
+
+-- an action of an end with these terms; `wrong` says that the datagram is from a wrong peer
+pub data MayTake (known : Option Terms) (from : Endpoint) (decoded : Option Packet) (wrong : Bool) : Action → Type 0
+  where
+    Ignores : MayTake known from decoded wrong (Respond Ignore)
+    Resends : MayTake known from decoded wrong (Respond ResendReply)
+    Completes : MayTake known from decoded wrong (Respond Complete)
+    Stranger : wrong ≡ true → MayTake known from decoded wrong (Respond WrongPeer)
+    Garbled : MayTake known from decoded wrong (Respond (Close outcomes.Illegal))
+    Hears : (code : ℕ) (text : List ℕ) → wrong ≡ false → decoded ≡ Some (Error code text) →
+        MayTake known from decoded wrong (Respond (Close (outcomes.PeerError code)))
+    Refuses_answer : (reply : ErrorReply) (outcome : Outcome) → known ≡ None → Blames outcome →
+        MayTake known from decoded wrong (Respond (Refuse None reply outcome))
+    Refuses_peer : (terms : Terms) (reply : ErrorReply) (outcome : Outcome) → HasTerms known from decoded wrong terms →
+        Blames outcome → MayTake known from decoded wrong (Respond (Refuse (Some terms) reply outcome))
+    Accepts : (ks : List Known) → known ≡ None → MayTake known from decoded wrong (Respond (Accept (agreed_terms from ks)))
+    Sends_block : (terms : Terms) (n : ℕ) → HasTerms known from decoded wrong terms → n ≢ 0 →
+        MayTake known from decoded wrong (Send terms n)
+    Stores_block : (terms : Terms) (n : ℕ) → HasTerms known from decoded wrong terms →
+        MayTake known from decoded wrong (Store terms n)
+
+module _ (known : Option Terms) (from : Endpoint) (decoded : Option Packet) (wrong : Bool) where
+  abbrev May : Action → Type 0
+  May action = MayTake known from decoded wrong action
+
+  abbrev Has : Terms → Type 0
+  Has terms = HasTerms known from decoded wrong terms
+
+  either : (b : Bool) (one two : Action) → May one → May two → May (if b then one else two)
+  either true one two h k = h
+  either false one two h k = k
+
+  either_if : (b : Bool) (one two : Action) → (b ≡ true → May one) → May two → May (if b then one else two)
+  either_if true one two h k = h refl
+  either_if false one two h k = k
+
+  says_either : (b : Bool) (one two : Response) → May (Respond one) → May (Respond two) →
+      May (Respond (if b then one else two))
+  says_either true one two h k = h
+  says_either false one two h k = k
+
+  illegal : (terms : Terms) (reply : ErrorReply) → Has terms →
+      May (Respond (Refuse (Some terms) reply outcomes.Illegal))
+  illegal terms reply h = Refuses_peer terms reply outcomes.Illegal h tt
+
+  module _ (right : wrong ≡ false) where
+    sender_takes : (client : Bool) (count : ℕ) (terms : Terms) (n : ℕ) (d : Option Packet) → decoded ≡ d → Has terms →
+        May (sender_action client count terms n d)
+    sender_takes client count terms n None is h = illegal terms _ h
+    sender_takes client count terms n (Some (Read request)) is h = illegal terms _ h
+    sender_takes client count terms n (Some (Write request)) is h = illegal terms _ h
+    sender_takes client count terms n (Some (Data number piece)) is h = illegal terms _ h
+    sender_takes client count terms n (Some (Ack acked)) is h =
+        either (acked == n) _ _
+        (either (nat_lt n (count / terms.size + 1)) _ _ (Sends_block terms (n + 1) h (λ e. omega (arith, e))) Completes)
+        (either (nat_lt acked n) _ _ Ignores (illegal terms _ h))
+    sender_takes client count terms n (Some (Error code text)) is h = Hears code text right is
+    sender_takes client count terms n (Some (Oack options)) is h =
+        either (client && terms.by_oack) _ _ Ignores (illegal terms _ h)
+
+    next_takes : (mode : Mode) (held : List ℕ) (terms : Terms) (n : ℕ) (piece : List ℕ) → Has terms →
+        May (next_action mode held terms n piece)
+    next_takes mode held terms n piece h =
+        either (nat_lt terms.size (length piece)) _ _ (illegal terms _ h)
+        (either (n == 65535 && (length piece == terms.size)) _ _ (Refuses_peer terms _ outcomes.TooLarge h tt)
+        (either (is_readable mode held piece (nat_lt (length piece) terms.size)) _ _ (Stores_block terms n h)
+        (Refuses_peer terms _ outcomes.NotNetascii h tt)))
+
+    receiver_takes : (client : Bool) (mode : Mode) (held : List ℕ) (terms : Terms) (n : ℕ) (d : Option Packet) →
+        decoded ≡ d → Has terms → May (receiver_action client mode held terms n d)
+    receiver_takes client mode held terms n None is h = illegal terms _ h
+    receiver_takes client mode held terms n (Some (Read request)) is h = illegal terms _ h
+    receiver_takes client mode held terms n (Some (Write request)) is h = illegal terms _ h
+    receiver_takes client mode held terms n (Some (Data number piece)) is h =
+        either (number == n) _ _ Resends
+        (either (nat_lt number n) _ _ Ignores
+        (either (number == n + 1) _ _ (next_takes mode held terms number piece h) (illegal terms _ h)))
+    receiver_takes client mode held terms n (Some (Ack acked)) is h = illegal terms _ h
+    receiver_takes client mode held terms n (Some (Error code text)) is h = Hears code text right is
+    receiver_takes client mode held terms n (Some (Oack options)) is h =
+        either (client && terms.by_oack) _ _ (either (n == 0) _ _ Resends Ignores) (illegal terms _ h)
+
+    dally_takes : (n : ℕ) (d : Option Packet) → May (Respond (dally_response n d))
+    dally_takes n None = Ignores
+    dally_takes n (Some (Read request)) = Ignores
+    dally_takes n (Some (Write request)) = Ignores
+    dally_takes n (Some (Data number piece)) = says_either (number == n) _ _ Resends Ignores
+    dally_takes n (Some (Ack acked)) = Ignores
+    dally_takes n (Some (Error code text)) = Ignores
+    dally_takes n (Some (Oack options)) = Ignores
+
+    begin_takes : (count : ℕ) (terms : Terms) → known ≡ None → Has terms → May (begin_action count terms)
+    begin_takes count terms none h =
+        either (nat_lt count (65535 * terms.size)) _ _ (Sends_block terms 1 h (λ e. omega (arith, e)))
+        (Refuses_answer _ outcomes.TooLarge none tt)
+
+    -- ---- an end that waits
+    module _ (none : known ≡ None) where
+      no_answer_takes : (reply : ErrorReply) → May (Respond (Refuse None reply outcomes.Illegal))
+      no_answer_takes reply = Refuses_answer reply outcomes.Illegal none tt
+
+      refusal_takes : (refusal : Refusal) → May (refusal_action refusal)
+      refusal_takes refusals.Repeated = Refuses_answer _ (outcomes.Refused refusals.Repeated) none tt
+      refusal_takes refusals.TooLarge = Refuses_answer _ outcomes.TooLarge none tt
+      refusal_takes refusals.NotAsked = Refuses_answer _ (outcomes.Refused refusals.NotAsked) none tt
+      refusal_takes refusals.BadValue = Refuses_answer _ (outcomes.Refused refusals.BadValue) none tt
+
+      accept_takes : (r : Result (List Known) Refusal) → May (accept_action from r)
+      accept_takes (Ok ks) = Accepts ks none
+      accept_takes (Err refusal) = refusal_takes refusal
+
+      begin_with_takes : (count : ℕ) (r : Result (List Known) Refusal) → May (begin_with_action from count r)
+      begin_with_takes count (Ok ks) = begin_takes count (agreed_terms from ks) none (By_oack ks none)
+      begin_with_takes count (Err refusal) = refusal_takes refusal
+
+      plain : (d : Option Packet) → decoded ≡ d → IsPlainAnswer d → Has (default_terms from)
+      plain d is h = By_default right none (subst IsPlainAnswer (sym is) h)
+
+      reader_takes : (mode : Mode) (asked : Asked) (limit : ℕ) (d : Option Packet) → decoded ≡ d →
+          May (reader_action mode asked limit from d)
+      reader_takes mode asked limit None is = no_answer_takes _
+      reader_takes mode asked limit (Some (Read request)) is = no_answer_takes _
+      reader_takes mode asked limit (Some (Write request)) is = no_answer_takes _
+      reader_takes mode asked limit (Some (Data number piece)) is =
+          either (number == 1 && nat_le (length piece) DEFAULT_BLOCK) _ _
+          (receiver_takes true mode [] (default_terms from) 0 (Some (Data number piece)) is
+          (plain (Some (Data number piece)) is tt)) (no_answer_takes _)
+      reader_takes mode asked limit (Some (Ack acked)) is = no_answer_takes _
+      reader_takes mode asked limit (Some (Error code text)) is = Hears code text right is
+      reader_takes mode asked limit (Some (Oack options)) is =
+          accept_takes (agreement asked kinds.Read mode options limit)
+
+      writer_takes : (mode : Mode) (asked : Asked) (limit count : ℕ) (d : Option Packet) → decoded ≡ d →
+          May (writer_action mode asked limit count from d)
+      writer_takes mode asked limit count None is = no_answer_takes _
+      writer_takes mode asked limit count (Some (Read request)) is = no_answer_takes _
+      writer_takes mode asked limit count (Some (Write request)) is = no_answer_takes _
+      writer_takes mode asked limit count (Some (Data number piece)) is = no_answer_takes _
+      writer_takes mode asked limit count (Some (Ack number)) is =
+          either_if (number == 0) _ _
+          (λ z. begin_takes count (default_terms from) none (plain (Some (Ack number)) is (eqb-true number 0 z)))
+          (no_answer_takes _)
+      writer_takes mode asked limit count (Some (Error code text)) is = Hears code text right is
+      writer_takes mode asked limit count (Some (Oack options)) is =
+          begin_with_takes count (agreement asked kinds.Write mode options limit)
+
+    packet_takes : (e : EndState) (phase : Phase) → known ≡ terms_of phase → May (packet_action e from decoded phase)
+    packet_takes e (Waiting asked limit) none =
+        either (is_sender e.role.side) _ _ (writer_takes none e.role.mode asked limit e.role.length decoded refl)
+        (reader_takes none e.role.mode asked limit decoded refl)
+    packet_takes e (Sending terms n) has =
+        sender_takes (is_client e.role.side) e.role.length terms n decoded refl (Agreed terms has)
+    packet_takes e (Receiving terms n) has =
+        receiver_takes (is_client e.role.side) e.role.mode e.position.held_back terms n decoded refl (Agreed terms has)
+    packet_takes e (Dallying terms n dally) has = dally_takes n decoded
+    packet_takes e (Closed terms n complete outcome) has = Ignores
+
+  garbled_takes : (phase : Phase) → May (Respond (garbled_response phase))
+  garbled_takes (Waiting asked limit) = Garbled
+  garbled_takes (Sending terms n) = Garbled
+  garbled_takes (Receiving terms n) = Garbled
+  garbled_takes (Dallying terms n dally) = Ignores
+  garbled_takes (Closed terms n complete outcome) = Ignores
+
+  cases_wrong : (b : Bool) (one two : Action) → wrong ≡ b → (b ≡ true → May one) → (b ≡ false → May two) →
+      May (if b then one else two)
+  cases_wrong true one two is h k = h refl
+  cases_wrong false one two is h k = k refl
+
+-- so it is of the action of an end on a datagram
+pub datagram_takes : (e : EndState) (from : Endpoint) (bytes : List ℕ) (decoded : Option Packet) →
+    MayTake (terms_of e.position.phase) from decoded
+    (is_wrong_peer (terms_of e.position.phase) e.position.last_sent_to from) (datagram_action e from bytes decoded)
+datagram_takes e from bytes decoded =
+    let known = terms_of e.position.phase in
+    let wrong = is_wrong_peer known e.position.last_sent_to from in
+    cases_wrong known from decoded wrong wrong _ _ refl
+    (λ yes. either known from decoded wrong (has_error_opcode bytes) _ _ Ignores (Stranger yes))
+    (λ no. either known from decoded wrong (has_error_opcode bytes && is_none decoded) _ _
+    (garbled_takes known from decoded wrong e.position.phase)
+    (packet_takes known from decoded wrong no e e.position.phase refl))
