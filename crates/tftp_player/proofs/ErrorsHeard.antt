@@ -1,8 +1,8 @@
 -- An end that closed by an ERROR got it from its peer, and an established end closes as it may.
 -- For the law no_end_is_blamed.
-use Rattle.std.proofs.Common.{◌≡◌, ℕ, Bool, true, false, List, [], ◌∷◌, ◌++◌, Option, Some, None, Result, Ok, Err, refl, sym, ap}
-use Rattle.std.proofs.Common.{◌∙◌, subst, inl, inr}
-use Rattle.std.specs.Prelude.{◌≢◌, ◌⊎◌, if◌then◌else◌, option_map, slice_get}
+use Rattle.std.proofs.Common.{◌≡◌, ℕ, Bool, true, false, List, [], ◌∷◌, ◌++◌, Option, Some, None, refl, sym, ap, ◌∙◌}
+use Rattle.std.proofs.Common.{subst, inl, inr}
+use Rattle.std.specs.Prelude.{◌≢◌, ◌⊎◌, option_map, slice_get}
 use Rattle.std.specs.List.{Contains}
 use Rattle.std.proofs.lemmas.List.Elements.{Contains-append_left}
 use Rattle.std.proofs.lemmas.Option.{same_Some}
@@ -10,14 +10,12 @@ use Rattle.tftp_wire.specs.Spelling.{Spells}
 use Rattle.tftp_wire.specs.declared.packet.Packet.{Packet}
 use Rattle.tftp_wire.specs.declared.packet.Packet.TheVariants.{Error}
 use Rattle.tftp_wire.proofs.SpellingLemmas.{one_meaning}
-use Rattle.tftp_file.specs.Memory.{memory_source}
 use Rattle.tftp_file.specs.declared.fault.StoreFault.{StoreFault}
 use Rattle.tftp_file.specs.declared.fault.StoreFault.TheVariants as faults
 use Rattle.tftp_file.specs.declared.files.Files.{Files}
 use Rattle.tftp_file.specs.declared.files.Files.TheVariants.{Source, Sink}
 use Rattle.tftp_file.specs.Sink.{Holding}
 use Rattle.tftp_ends.specs.declared.action.Action.{Action}
-use Rattle.tftp_ends.specs.declared.action.Action.TheVariants.{Respond, Send, Store}
 use Rattle.tftp_ends.specs.declared.action.Response.{Response}
 use Rattle.tftp_ends.specs.declared.action.Response.TheVariants.{Ignore, WrongPeer, ResendReply, Retransmit, Wait}
 use Rattle.tftp_ends.specs.declared.action.Response.TheVariants.{Close, Refuse, Accept, Complete}
@@ -31,9 +29,8 @@ use Rattle.tftp_ends.specs.declared.phase.Terms.{Terms}
 use Rattle.tftp_ends.specs.End.{EndState, is_client, terms_of, outcome_of}
 use Rattle.tftp_ends.specs.ErrorReply.{code_of, text_of, error_packet}
 use Rattle.tftp_ends.specs.Action.{is_wrong_peer, datagram_action, timeout_response}
-use Rattle.tftp_ends.specs.Step.{sent_turn, refused_turn, ack_bytes, data_bytes}
-use Rattle.tftp_ends.specs.Step.{Turn, Acts, SendsFrom, StoresIn, GoesOn, Done, committed_turn, result_count_is}
-use Rattle.tftp_ends.specs.Step.{block_length, holding, response_turn, timeout_turn, commit_reply, error_bytes}
+use Rattle.tftp_ends.specs.Step.{sent_turn, refused_turn, ack_bytes, data_bytes, Turn, holding, response_turn}
+use Rattle.tftp_ends.specs.Step.{timeout_turn, commit_reply, error_bytes}
 use Rattle.tftp_rules.specs.Hosts.{host_of, two_hosts}
 use Rattle.tftp_rules.specs.Machine.{Endpoint, Elsewhere}
 use Rattle.tftp_rules.specs.OpenEnds.{OpenEnd, end_after, peer_of}
@@ -41,24 +38,25 @@ use Rattle.tftp_rules.proofs.EndMoves.{valid_error}
 use Rattle.tftp_rules.proofs.SaidLemmas.{says_spelled, spells_own}
 use Rattle.tftp_rules.proofs.Steps.{own_of}
 use Rattle.tftp_player.specs.Closing.{Blames, MayCloseAs, EstablishedEndsCloseSo}
-use Rattle.tftp_player.specs.World.{WorldState, ClosedEnd, WorldEnd, Open_end, Closed_end, standing, by_outcome, datagram}
+use Rattle.tftp_player.specs.World.{WorldState, WorldEnd, Open_end, Closed_end, standing, by_outcome, datagram}
 use Rattle.tftp_player.specs.World.{in_the_way, file_at, new_world, end_address, end_record}
 use Rattle.tftp_player.specs.WorldKept.{Refines}
 use Rattle.tftp_player.specs.WorldRuns.{PlaysAll}
-use Rattle.tftp_player.specs.WorldSteps.{world_sink, may_refuse_commit, armed_end}
+use Rattle.tftp_player.specs.WorldSteps.{may_refuse_commit, armed_end}
 use Rattle.tftp_player.specs.declared.datagram.Datagram.{Datagram}
 use Rattle.tftp_player.specs.declared.event.Event.{Event}
 use Rattle.tftp_player.proofs.AnsweringEnds.{reached_ok}
 use Rattle.tftp_player.proofs.Blameless.{none_is_blamed}
 use Rattle.tftp_player.proofs.BlamelessTurns.{waited_open}
-use Rattle.tftp_player.proofs.EndsCame.{Came, Was, Opened, Armed, Timed, Took, Arrives, came}
-use Rattle.tftp_player.proofs.ErrorAnswers.{IsRefusal}
+use Rattle.tftp_player.proofs.EndsCame.{Came, Was, Opened, Armed, Timed, Took, came}
 use Rattle.tftp_player.proofs.ErrorReasons.{IsErrorOf, Tells, TellsBy, datagram_tells, timeout_tells}
-use Rattle.tftp_player.proofs.ErrorsKnown.{refusals_are_told, armed_address, stands_address}
+use Rattle.tftp_player.proofs.ErrorsKnown.{refusals_are_told}
 use Rattle.tftp_player.proofs.OneLemmas.{events_add_one_at_most}
 use Rattle.tftp_player.proofs.StorableBlocks.{the_peer}
 use Rattle.tftp_player.proofs.WorldFacts.{m, holds, matched}
 use Rattle.tftp_player.proofs.WorldRuns.{new_ok, step_keeps}
+use Rattle.tftp_player.proofs.TurnCases.{TurnBy, Responds, Sends_data, Cannot_read, Has_stored, Has_all, Cannot_append}
+use Rattle.tftp_player.proofs.TurnCases.{Cannot_commit, acts_by}
 
 -- ---- a turn closes by an ERROR only if that is the packet, and from the peer
 module _ (e : EndState) (wrong : Bool) (decoded : Option Packet) (still : outcome_of e.position.phase ≡ None) where
@@ -70,9 +68,6 @@ module _ (e : EndState) (wrong : Bool) (decoded : Option Packet) (still : outcom
   Hears turn =
       (code : ℕ) (p : Endpoint) → outcome_of turn.position.phase ≡ Some (outcomes.PeerError code) →
       peer_of turn.position.phase ≡ Some p → Heard code p
-
-  hears_as : (turn turn' : Turn) → turn ≡ turn' → Hears turn' → Hears turn
-  hears_as turn turn' is h = subst Hears (sym is) h
 
   goes_on_so : (turn : Turn) → outcome_of turn.position.phase ≡ None → Hears turn
   goes_on_so turn none code p o is = absurd (let f : None ≡ Some (outcomes.PeerError code) = sym none ∙ o in cc)
@@ -113,55 +108,22 @@ module _ (e : EndState) (wrong : Bool) (decoded : Option Packet) (still : outcom
   response_hears (Accept terms) from t = goes_on_so (response_turn (Accept terms) from e) refl
   response_hears Complete from t = ends_as (response_turn Complete from e) outcomes.Complete refl no_end
 
-  one_hears : (b : Bool) (one two : Turn) → Hears one → Hears two → Hears (if b then one else two)
-  one_hears true one two h k = h
-  one_hears false one two h k = k
-
-  module _ (refuses_commit : Holding → StoreFault → Type 0) (from : Endpoint) (bytes : List ℕ) where
-    committed_hears : (terms : Terms) (number : ℕ) (s : EndState) (answer : Result Done StoreFault) →
-        Hears (committed_turn terms number from s answer)
-    committed_hears terms number s (Ok done) =
-        goes_on_so (sent_turn (Dallying terms number Fresh) from (ack_bytes number) s) refl
-    committed_hears terms number s (Err fault) =
-        ends_as (refused_turn terms (commit_reply fault) outcomes.StoreFault from s) outcomes.StoreFault refl no_fault
-
-    goes_hears :
-        (terms : Terms) (number : ℕ) (last : Bool) (after : List ℕ) (mid sink' : Holding)
-        (answer : Result Done StoreFault) (turn : Turn) →
-        GoesOn (world_sink refuses_commit) terms number from e last after mid answer turn sink' → Hears turn
-    goes_hears terms number last after mid sink' (Err fault) turn g =
-        hears_as turn _ g.0
-        (ends_as (refused_turn terms DiskFull outcomes.StoreFault from e) outcomes.StoreFault refl no_fault)
-    goes_hears terms number true after mid sink' (Ok done) turn g =
-        hears_as turn _ g.answers (committed_hears terms number (holding after e) g.answer)
-    goes_hears terms number false after mid sink' (Ok done) turn g =
-        hears_as turn _ g.0
-        (goes_on_so (sent_turn (Receiving terms number) from (ack_bytes number) (holding after e)) refl)
-
-    stores_hears : (terms : Terms) (number : ℕ) (piece : List ℕ) (files files' : Files (List ℕ) Holding)
-        (turn : Turn) →
-        StoresIn memory_source (world_sink refuses_commit) terms number from piece e files turn files' → Hears turn
-    stores_hears terms number piece (Sink sink) (Sink sink') turn d =
-        goes_hears terms number _ d.after d.mid sink' d.answer turn d.rest
-    stores_hears terms number piece (Sink sink) (Source left) turn d = absurd d
-    stores_hears terms number piece (Source left) files' turn d = absurd d
-
-    sends_hears : (terms : Terms) (number : ℕ) (files files' : Files (List ℕ) Holding) (turn : Turn) →
-        SendsFrom memory_source (world_sink refuses_commit) terms number from e files turn files' → Hears turn
-    sends_hears terms number (Source left) (Source left') turn d =
-        hears_as turn _ d.answers
-        (one_hears (result_count_is (block_length e.role.length terms.size number) d.answer) _ _
-        (goes_on_so (sent_turn (Sending terms number) from (data_bytes number d.piece) e) refl)
-        (ends_as (refused_turn terms FileChanged outcomes.SourceFault from e) outcomes.SourceFault refl no_source))
-    sends_hears terms number (Source left) (Sink sink) turn d = absurd d
-    sends_hears terms number (Sink sink) files' turn d = absurd d
-
-    acts_hears : (action : Action) (files files' : Files (List ℕ) Holding) (turn : Turn) →
-        TellsBy (terms_of e.position.phase) wrong decoded action →
-        Acts memory_source (world_sink refuses_commit) action from bytes e files turn files' → Hears turn
-    acts_hears (Respond response) files files' turn t a = hears_as turn _ a.0 (response_hears response from t)
-    acts_hears (Send terms number) files files' turn t a = sends_hears terms number files files' turn a
-    acts_hears (Store terms number) files files' turn t a = stores_hears terms number a.0 files files' turn a.2
+  turn_hears : (from : Endpoint) (action : Action) (turn : Turn) →
+      TellsBy (terms_of e.position.phase) wrong decoded action → TurnBy from e action turn → Hears turn
+  turn_hears from action turn t (Responds response) = response_hears response from t
+  turn_hears from action turn t (Sends_data terms n piece) =
+      goes_on_so (sent_turn (Sending terms n) from (data_bytes n piece) e) refl
+  turn_hears from action turn t (Cannot_read terms n) =
+      ends_as (refused_turn terms FileChanged outcomes.SourceFault from e) outcomes.SourceFault refl no_source
+  turn_hears from action turn t (Has_stored terms n after positive) =
+      goes_on_so (sent_turn (Receiving terms n) from (ack_bytes n) (holding after e)) refl
+  turn_hears from action turn t (Has_all terms n after) =
+      goes_on_so (sent_turn (Dallying terms n Fresh) from (ack_bytes n) (holding after e)) refl
+  turn_hears from action turn t (Cannot_append terms n) =
+      ends_as (refused_turn terms DiskFull outcomes.StoreFault from e) outcomes.StoreFault refl no_fault
+  turn_hears from action turn t (Cannot_commit terms n after fault) =
+      ends_as (refused_turn terms (commit_reply fault) outcomes.StoreFault from (holding after e)) outcomes.StoreFault refl
+      no_fault
 
 -- ---- the ends of a world that closed by an ERROR
 -- an ERROR of this code was sent there, from a peer
@@ -214,9 +176,10 @@ came_by w ok h j z (Took x from bytes turn held i arrives d) =
     let wrong = is_wrong_peer (terms_of e.position.phase) e.position.last_sent_to from in
     stands_by w x turn held (λ code p o is own.
     let r =
-    acts_hears e wrong d.decoded still
-    (may_refuse_commit (is_client e.role.side) (in_the_way w.overwrite (file_at w.files x.path))) from bytes
-    (datagram_action e from bytes d.decoded) _ held turn (datagram_tells e from bytes d.decoded) d.acts code p o is in
+    turn_hears e wrong d.decoded still from (datagram_action e from bytes d.decoded) turn
+    (datagram_tells e from bytes d.decoded)
+    (acts_by (may_refuse_commit (is_client e.role.side) (in_the_way w.overwrite (file_at w.files x.path))) from bytes e
+    (datagram_action e from bytes d.decoded) _ held turn d.acts) code p o is in
     let sender : from ≡ p =
     sym (the_peer r.0 e.position.last_sent_to from
     (sym (ap (λ (t : Option Terms). is_wrong_peer t e.position.last_sent_to from) r.1) ∙ r.3))

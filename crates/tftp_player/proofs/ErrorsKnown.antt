@@ -55,7 +55,8 @@ use Rattle.tftp_player.proofs.SentAgain.{second}
 use Rattle.tftp_player.proofs.WorldSafe.{kept_is_safe, ip_at_home}
 use Rattle.tftp_player.proofs.WorldTurns.{nothing_in, one_in}
 use Rattle.tftp_player.proofs.ErrorReasons.{IsErr, datagram_tells, no_ack, no_data}
-use Rattle.tftp_player.proofs.ErrorAnswers.{IsRefusal, Answers, ToldAt, acts_answers, timeout_answers}
+use Rattle.tftp_player.proofs.ErrorAnswers.{IsRefusal, Answers, ToldAt, turn_answers, timeout_answers}
+use Rattle.tftp_player.proofs.TurnCases.{acts_by}
 
 -- ---- the ends of a world, by the ERRORs that they sent
 abbrev Told : WorldEnd → Endpoint → List ℕ → Type 0
@@ -381,11 +382,12 @@ module _ (old new : WorldState) (known : Known_world old) (ok' : Refines true ne
       let still = (ok.ends k (Open_end x) there).stands.still in
       turn_spoken old new ok ok' spoken k x takes.turn takes.held there
       (ap (λ (w : WorldState). w.sent) takes.turns.is) (ap (λ (w : WorldState). w.ends) takes.turns.is)
-      (acts_answers may from bytes x.state
+      (turn_answers from x.state
       (is_wrong_peer (terms_of x.state.position.phase) x.state.position.last_sent_to from) d.decoded
       (stranger_told k x there from bytes (error_bytes UnknownTransferId) come) (newest_told k x there)
-      (datagram_action x.state from bytes d.decoded) (files_of x) takes.held takes.turn
-      (datagram_tells x.state from bytes d.decoded) d.again d.acts)
+      (datagram_action x.state from bytes d.decoded) takes.turn (datagram_tells x.state from bytes d.decoded) d.again
+      (acts_by may from bytes x.state (datagram_action x.state from bytes d.decoded) (files_of x) takes.held takes.turn
+      d.acts))
       (acts_blameless may from bytes x (datagram_action x.state from bytes d.decoded) takes.held takes.turn
       (datagram_fine old ok known.plain k x there from bytes come d.decoded d.says) still d.acts)
       (λ t e. step_has t may from bytes x.state (files_of x) takes.held takes.turn e d)

@@ -34,6 +34,7 @@ pub mod ArrivalLemmas
 pub mod RefusingLemmas
 pub mod RepeatedLemmas
 mod ActionCases
+mod TurnCases
 pub mod TermsKept
 pub mod RepeatingLemmas
 pub mod AskingLemmas

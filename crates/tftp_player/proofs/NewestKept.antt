@@ -1,7 +1,7 @@
 -- What an open end sent last: a sender its newest block, or the OACK before its first.
 -- For RecoveringRuns.
-use Rattle.std.proofs.Common.{◌≡◌, ℕ, suc, zero, Bool, true, false, List, [], ◌∷◌, Option, Some, None, Result, Ok, Err}
-use Rattle.std.proofs.Common.{refl, sym, ap, ◌∙◌, subst, inl, inr}
+use Rattle.std.proofs.Common.{◌≡◌, ℕ, suc, zero, Bool, true, false, List, [], ◌∷◌, Option, Some, None, refl, sym, ap}
+use Rattle.std.proofs.Common.{◌∙◌, subst, inl, inr}
 use Rattle.std.specs.Prelude.{◌≢◌, ◌==◌, if◌then◌else◌, slice_get}
 use Rattle.std.proofs.lemmas.Bool.{true≢false}
 use Rattle.tftp_wire.specs.Spelling.{canonical}
@@ -12,7 +12,6 @@ use Rattle.tftp_wire.specs.declared.packet.Packet.TheVariants.{Oack}
 use Rattle.tftp_negotiate.specs.Agreed.{agreed_options}
 use Rattle.tftp_negotiate.specs.declared.known.Known.{Known}
 use Rattle.tftp_file.specs.Memory.{memory_source}
-use Rattle.tftp_file.specs.declared.fault.FileFault.{FileFault}
 use Rattle.tftp_file.specs.declared.fault.StoreFault.{StoreFault}
 use Rattle.tftp_file.specs.declared.files.Files.{Files}
 use Rattle.tftp_file.specs.declared.files.Files.TheVariants.{Source, Sink}
@@ -31,8 +30,7 @@ use Rattle.tftp_ends.specs.End.{EndState, is_sender, is_client, terms_of, outcom
 use Rattle.tftp_ends.specs.Action.{datagram_action, timeout_response}
 use Rattle.tftp_ends.specs.Opening.{serving_read, serving_write}
 use Rattle.tftp_ends.specs.Phase.{waited}
-use Rattle.tftp_ends.specs.Step.{Turn, DatagramStep, Acts, SendsFrom, StoresIn, GoesOn, Done, response_turn, data_bytes}
-use Rattle.tftp_ends.specs.Step.{filled_turn, committed_turn, result_count_is, block_length, timeout_turn, holding}
+use Rattle.tftp_ends.specs.Step.{Turn, DatagramStep, response_turn, data_bytes, timeout_turn}
 use Rattle.tftp_rules.specs.Machine.{Endpoint}
 use Rattle.tftp_rules.specs.OpenEnds.{OpenEnd, end_after}
 use Rattle.tftp_rules.proofs.Indices.{slice_get-set_cases, slice_get-push_cases}
@@ -48,6 +46,8 @@ use Rattle.tftp_player.specs.declared.report.Report.{Report}
 use Rattle.tftp_server.specs.declared.config.Config.{Config}
 use Rattle.tftp_player.proofs.ActionCases.{MayTake, datagram_takes, Ignores, Resends, Completes, Stranger, Garbled}
 use Rattle.tftp_player.proofs.ActionCases.{Hears, Refuses_answer, Refuses_peer, Accepts, Sends_block, Stores_block}
+use Rattle.tftp_player.proofs.TurnCases.{TurnBy, Responds, Sends_data, Cannot_read, Has_stored, Has_all, Cannot_append}
+use Rattle.tftp_player.proofs.TurnCases.{Cannot_commit, acts_by}
 
 -- the newest datagram of a sender at this number
 abbrev pub IsNewest : List ℕ → ℕ → Type 0
@@ -108,9 +108,6 @@ module _ (client : Bool) where
   abbrev Has : Position → Type 0
   Has position = Newest client position.last_sent position.phase
 
-  kept : (turn turn' : Turn) → turn ≡ turn' → Has turn'.position → Has turn.position
-  kept turn turn' is h = subst (λ (t : Turn). Has t.position) (sym is) h
-
   waited_has : (sent : List ℕ) (phase : Phase) → Newest client sent phase → Newest client sent (waited phase)
   waited_has sent (Waiting asked limit) h = h
   waited_has sent (Sending terms n) h = h
@@ -135,59 +132,24 @@ module _ (client : Bool) where
       response_has (timeout_response e.position.retries_left e.position.phase) e.position.last_sent_to e
       (timeout_says e.position.retries_left e.position.phase) h
 
-  one_of : (b : Bool) (one two : Turn) → Has one.position → Has two.position → Has (if b then one else two).position
-  one_of true one two h k = h
-  one_of false one two h k = k
-
-  filled_has :
-      (terms : Terms) (number : ℕ) (from : Endpoint) (piece : List ℕ) (e : EndState) (answer : Result ℕ FileFault) →
-      number ≢ 0 → Has (filled_turn terms number from piece e answer).position
-  filled_has terms number from piece e answer s =
-      one_of (result_count_is (block_length e.role.length terms.size number) answer) _ _ (newest_data number piece s) tt
-
-  committed_has : (terms : Terms) (number : ℕ) (from : Endpoint) (e : EndState) (answer : Result Done StoreFault) →
-      Has (committed_turn terms number from e answer).position
-  committed_has terms number from e (Ok done) = tt
-  committed_has terms number from e (Err fault) = tt
+  turn_has : (from : Endpoint) (e : EndState) (action : Action) (turn : Turn) → Names action → Has e.position →
+      TurnBy from e action turn → Has turn.position
+  turn_has from e action turn s h (Responds response) = response_has response from e s h
+  turn_has from e action turn s h (Sends_data terms n piece) = newest_data n piece s
+  turn_has from e action turn s h (Cannot_read terms n) = tt
+  turn_has from e action turn s h (Has_stored terms n after positive) = λ z _. absurd (positive z)
+  turn_has from e action turn s h (Has_all terms n after) = tt
+  turn_has from e action turn s h (Cannot_append terms n) = tt
+  turn_has from e action turn s h (Cannot_commit terms n after fault) = tt
 
   module _ (refuses_commit : Holding → StoreFault → Type 0) (from : Endpoint) (bytes : List ℕ) (e : EndState) where
-    goes_has :
-        (terms : Terms) (number : ℕ) (last : Bool) (after : List ℕ) (mid sink' : Holding)
-        (answer : Result Done StoreFault) (turn : Turn) → number ≢ 0 →
-        GoesOn (world_sink refuses_commit) terms number from e last after mid answer turn sink' → Has turn.position
-    goes_has terms number last after mid sink' (Err fault) turn s g = kept turn _ g.0 tt
-    goes_has terms number true after mid sink' (Ok done) turn s g =
-        kept turn _ g.answers (committed_has terms number from (holding after e) g.answer)
-    goes_has terms number false after mid sink' (Ok done) turn s g = kept turn _ g.0 (λ z _. absurd (s z))
-
-    stores_has : (terms : Terms) (number : ℕ) (piece : List ℕ) (files files' : Files (List ℕ) Holding) (turn : Turn) →
-        number ≢ 0 →
-        StoresIn memory_source (world_sink refuses_commit) terms number from piece e files turn files' →
-        Has turn.position
-    stores_has terms number piece (Sink sink) (Sink sink') turn s d =
-        goes_has terms number _ d.after d.mid sink' d.answer turn s d.rest
-    stores_has terms number piece (Sink sink) (Source left) turn s d = absurd d
-    stores_has terms number piece (Source left) files' turn s d = absurd d
-
-    sends_has : (terms : Terms) (number : ℕ) (files files' : Files (List ℕ) Holding) (turn : Turn) → number ≢ 0 →
-        SendsFrom memory_source (world_sink refuses_commit) terms number from e files turn files' → Has turn.position
-    sends_has terms number (Source left) (Source left') turn s d =
-        kept turn _ d.answers (filled_has terms number from d.piece e d.answer s)
-    sends_has terms number (Source left) (Sink sink) turn s d = absurd d
-    sends_has terms number (Sink sink) files' turn s d = absurd d
-
-    acts_has : (action : Action) (files files' : Files (List ℕ) Holding) (turn : Turn) → Names action → Has e.position →
-        Acts memory_source (world_sink refuses_commit) action from bytes e files turn files' → Has turn.position
-    acts_has (Respond response) files files' turn s h a = kept turn _ a.0 (response_has response from e s h)
-    acts_has (Send terms number) files files' turn s h a = sends_has terms number files files' turn s a
-    acts_has (Store terms number) files files' turn s h a =
-        stores_has terms number a.0 files files' turn a.1.valid.0 a.2
-
     step_has : (files files' : Files (List ℕ) Holding) (turn : Turn) → Has e.position →
         DatagramStep memory_source (world_sink refuses_commit) from bytes e files turn files' → Has turn.position
     step_has files files' turn h d =
-        acts_has (datagram_action e from bytes d.decoded) files files' turn (names (terms_of e.position.phase) from d.decoded _ _ (datagram_takes e from bytes d.decoded)) h
-        d.acts
+        let action = datagram_action e from bytes d.decoded in
+        turn_has from e action turn
+        (names (terms_of e.position.phase) from d.decoded _ action (datagram_takes e from bytes d.decoded)) h
+        (acts_by refuses_commit from bytes e action files files' turn d.acts)
 
 -- ---- the ends of a world
 abbrev pub EndNewest : WorldEnd → Type 0

@@ -1,7 +1,7 @@
 -- A client that took no OACK has a peer that was opened without options.
 -- For BlamelessActions, Blameless and ErrorsKnown.
-use Rattle.std.proofs.Common.{◌≡◌, ℕ, ◌≤◌, Bool, true, false, List, ◌++◌, Option, Some, None, Result, Ok, Err, refl}
-use Rattle.std.proofs.Common.{sym, ap, ◌∙◌, subst, arith, inl, inr}
+use Rattle.std.proofs.Common.{◌≡◌, ℕ, ◌≤◌, Bool, true, false, List, ◌++◌, Option, Some, None, refl, sym, ap, ◌∙◌, subst}
+use Rattle.std.proofs.Common.{arith, inl, inr}
 use Rattle.std.specs.Prelude.{◌≢◌, ◌==◌, ◌+◌, not, if◌then◌else◌, option_map, slice_get}
 use Rattle.std.specs.List.{Contains}
 use Rattle.std.specs.Cmp.Lexicographic.{same_text}
@@ -29,8 +29,7 @@ use Rattle.tftp_ends.specs.declared.phase.Terms.{Terms}
 use Rattle.tftp_ends.specs.End.{EndState, is_sender, is_client, terms_of, outcome_of, Position}
 use Rattle.tftp_ends.specs.Action.{Decodes, is_wrong_peer, datagram_action, timeout_response, same_address}
 use Rattle.tftp_ends.specs.Phase.{waited}
-use Rattle.tftp_ends.specs.Step.{Turn, DatagramStep, Acts, SendsFrom, StoresIn, GoesOn, Done, response_turn}
-use Rattle.tftp_ends.specs.Step.{committed_turn, result_count_is, block_length, timeout_turn, holding}
+use Rattle.tftp_ends.specs.Step.{Turn, DatagramStep, response_turn, timeout_turn}
 use Rattle.tftp_ends.specs.Waiting.{default_terms, agreed_terms}
 use Rattle.tftp_rules.specs.EndKept.{PhaseKept}
 use Rattle.tftp_rules.specs.Hosts.{host_of, two_hosts}
@@ -53,6 +52,8 @@ use Rattle.tftp_player.proofs.WorldRuns.{steps_are_rules}
 use Rattle.tftp_player.proofs.ActionCases.{IsPlainAnswer, HasTerms, MayTake, datagram_takes, Agreed, By_default}
 use Rattle.tftp_player.proofs.ActionCases.{By_oack, Ignores, Resends, Completes, Stranger, Garbled, Hears}
 use Rattle.tftp_player.proofs.ActionCases.{Refuses_answer, Refuses_peer, Accepts, Sends_block, Stores_block}
+use Rattle.tftp_player.proofs.TurnCases.{TurnBy, Responds, Sends_data, Cannot_read, Has_stored, Has_all, Cannot_append}
+use Rattle.tftp_player.proofs.TurnCases.{Cannot_commit, acts_by}
 
 -- ---- the terms that an end has after a step are of a kind
 module _ (P : Terms → Type 0) where
@@ -112,9 +113,6 @@ module _ (P : Terms → Type 0) where
   abbrev Has : Position → Type 0
   Has position = Are (terms_of position.phase)
 
-  kept : (turn turn' : Turn) → turn ≡ turn' → Has turn'.position → Has turn.position
-  kept turn turn' is h = subst (λ (t : Turn). Has t.position) (sym is) h
-
   waited_terms : (phase : Phase) → Are (terms_of phase) → Are (terms_of (waited phase))
   waited_terms (Waiting asked limit) h = h
   waited_terms (Sending terms n) h = h
@@ -140,49 +138,17 @@ module _ (P : Terms → Type 0) where
       response_has (timeout_response e.position.retries_left e.position.phase) e.position.last_sent_to e
       (timeout_says e.position.retries_left e.position.phase) h
 
-  one_of : (b : Bool) (one two : Turn) → Has one.position → Has two.position → Has (if b then one else two).position
-  one_of true one two h k = h
-  one_of false one two h k = k
+  turn_has : (from : Endpoint) (e : EndState) (action : Action) (turn : Turn) → Names action → Has e.position →
+      TurnBy from e action turn → Has turn.position
+  turn_has from e action turn s h (Responds response) = response_has response from e s h
+  turn_has from e action turn s h (Sends_data terms n piece) = are_some terms s
+  turn_has from e action turn s h (Cannot_read terms n) = are_some terms s
+  turn_has from e action turn s h (Has_stored terms n after positive) = are_some terms s
+  turn_has from e action turn s h (Has_all terms n after) = are_some terms s
+  turn_has from e action turn s h (Cannot_append terms n) = are_some terms s
+  turn_has from e action turn s h (Cannot_commit terms n after fault) = are_some terms s
 
   module _ (refuses_commit : Holding → StoreFault → Type 0) (from : Endpoint) (bytes : List ℕ) (e : EndState) where
-    committed_has : (terms : Terms) (number : ℕ) (s : EndState) (answer : Result Done StoreFault) → P terms →
-        Has (committed_turn terms number from s answer).position
-    committed_has terms number s (Ok done) p = are_some terms p
-    committed_has terms number s (Err fault) p = are_some terms p
-
-    goes_has :
-        (terms : Terms) (number : ℕ) (last : Bool) (after : List ℕ) (mid sink' : Holding)
-        (answer : Result Done StoreFault) (turn : Turn) → P terms →
-        GoesOn (world_sink refuses_commit) terms number from e last after mid answer turn sink' → Has turn.position
-    goes_has terms number last after mid sink' (Err fault) turn s g = kept turn _ g.0 (are_some terms s)
-    goes_has terms number true after mid sink' (Ok done) turn s g =
-        kept turn _ g.answers (committed_has terms number (holding after e) g.answer s)
-    goes_has terms number false after mid sink' (Ok done) turn s g = kept turn _ g.0 (are_some terms s)
-
-    stores_has : (terms : Terms) (number : ℕ) (piece : List ℕ) (files files' : Files (List ℕ) Holding) (turn : Turn) →
-        P terms →
-        StoresIn memory_source (world_sink refuses_commit) terms number from piece e files turn files' →
-        Has turn.position
-    stores_has terms number piece (Sink sink) (Sink sink') turn s d =
-        goes_has terms number _ d.after d.mid sink' d.answer turn s d.rest
-    stores_has terms number piece (Sink sink) (Source left) turn s d = absurd d
-    stores_has terms number piece (Source left) files' turn s d = absurd d
-
-    sends_has : (terms : Terms) (number : ℕ) (files files' : Files (List ℕ) Holding) (turn : Turn) → P terms →
-        SendsFrom memory_source (world_sink refuses_commit) terms number from e files turn files' → Has turn.position
-    sends_has terms number (Source left) (Source left') turn s d =
-        kept turn _ d.answers
-        (one_of (result_count_is (block_length e.role.length terms.size number) d.answer) _ _ (are_some terms s)
-        (are_some terms s))
-    sends_has terms number (Source left) (Sink sink) turn s d = absurd d
-    sends_has terms number (Sink sink) files' turn s d = absurd d
-
-    acts_has : (action : Action) (files files' : Files (List ℕ) Holding) (turn : Turn) → Names action → Has e.position →
-        Acts memory_source (world_sink refuses_commit) action from bytes e files turn files' → Has turn.position
-    acts_has (Respond response) files files' turn s h a = kept turn _ a.0 (response_has response from e s h)
-    acts_has (Send terms number) files files' turn s h a = sends_has terms number files files' turn s a
-    acts_has (Store terms number) files files' turn s h a = stores_has terms number a.0 files files' turn s a.2
-
     -- after a datagram
     pub step_are : (files files' : Files (List ℕ) Holding) (turn : Turn) → Has e.position →
         ((ks : List Known) → P (agreed_terms from ks)) →
@@ -191,10 +157,11 @@ module _ (P : Terms → Type 0) where
         terms_of e.position.phase ≡ None → IsPlainAnswer decoded → P (default_terms from)) →
         DatagramStep memory_source (world_sink refuses_commit) from bytes e files turn files' → Has turn.position
     step_are files files' turn h agreed plain d =
-        acts_has (datagram_action e from bytes d.decoded) files files' turn
+        let action = datagram_action e from bytes d.decoded in
+        turn_has from e action turn
         (names from (terms_of e.position.phase) d.decoded
-        (is_wrong_peer (terms_of e.position.phase) e.position.last_sent_to from) h agreed (plain d.decoded d.says)
-        (datagram_action e from bytes d.decoded) (datagram_takes e from bytes d.decoded)) h d.acts
+        (is_wrong_peer (terms_of e.position.phase) e.position.last_sent_to from) h agreed (plain d.decoded d.says) action
+        (datagram_takes e from bytes d.decoded)) h (acts_by refuses_commit from bytes e action files files' turn d.acts)
 
 -- ---- the clients of a world
 abbrev pub HasPlainPeer : (Endpoint → Party) → Terms → Type 0

@@ -1,15 +1,12 @@
 -- The agreed terms stay, for all later steps of an end.
-use Rattle.std.proofs.Common.{◌≡◌, ℕ, Bool, true, false, List, Option, Some, None, Result, Ok, Err, refl, sym, ap, ◌∙◌}
-use Rattle.std.proofs.Common.{subst}
+use Rattle.std.proofs.Common.{◌≡◌, ℕ, Bool, true, false, List, Option, Some, None, refl, sym, ap, ◌∙◌}
 use Rattle.std.specs.Prelude.{◌==◌, is_some, if◌then◌else◌, option_map}
 use Rattle.std.proofs.lemmas.Bool.{true≢false}
 use Rattle.std.proofs.lemmas.Option.{same_Some}
 use Rattle.tftp_wire.specs.declared.packet.Packet.{Packet}
 use Rattle.tftp_file.specs.Memory.{memory_source}
-use Rattle.tftp_file.specs.declared.fault.FileFault.{FileFault}
 use Rattle.tftp_file.specs.declared.fault.StoreFault.{StoreFault}
 use Rattle.tftp_file.specs.declared.files.Files.{Files}
-use Rattle.tftp_file.specs.declared.files.Files.TheVariants.{Source, Sink}
 use Rattle.tftp_file.specs.Sink.{Holding}
 use Rattle.tftp_ends.specs.declared.action.Action.{Action}
 use Rattle.tftp_ends.specs.declared.action.Action.TheVariants.{Respond, Send, Store}
@@ -23,14 +20,15 @@ use Rattle.tftp_ends.specs.declared.phase.Terms.{Terms}
 use Rattle.tftp_ends.specs.End.{EndState, terms_of, Position}
 use Rattle.tftp_ends.specs.Action.{datagram_action, timeout_response}
 use Rattle.tftp_ends.specs.Phase.{waited}
-use Rattle.tftp_ends.specs.Step.{Turn, DatagramStep, Acts, SendsFrom, StoresIn, GoesOn, Done, response_turn}
-use Rattle.tftp_ends.specs.Step.{filled_turn, committed_turn, result_count_is, block_length, timeout_turn, holding}
+use Rattle.tftp_ends.specs.Step.{Turn, DatagramStep, response_turn, timeout_turn}
 use Rattle.tftp_rules.specs.Machine.{Endpoint}
 use Rattle.tftp_rules.specs.OpenEnds.{peer_of}
 use Rattle.tftp_player.specs.WorldSteps.{world_sink}
 use Rattle.tftp_player.proofs.ActionCases.{HasTerms, MayTake, datagram_takes, Agreed, By_default, By_oack, Ignores}
 use Rattle.tftp_player.proofs.ActionCases.{Resends, Completes, Stranger, Garbled, Hears, Refuses_answer, Refuses_peer}
 use Rattle.tftp_player.proofs.ActionCases.{Accepts, Sends_block, Stores_block}
+use Rattle.tftp_player.proofs.TurnCases.{TurnBy, Responds, Sends_data, Cannot_read, Has_stored, Has_all, Cannot_append}
+use Rattle.tftp_player.proofs.TurnCases.{Cannot_commit, acts_by}
 
 module _ (agreed : Terms) where
   -- the response and the action name no other terms
@@ -86,9 +84,6 @@ module _ (agreed : Terms) where
   abbrev Has : Position → Type 0
   Has position = terms_of position.phase ≡ Some agreed
 
-  kept : (turn turn' : Turn) → turn ≡ turn' → Has turn'.position → Has turn.position
-  kept turn turn' is h = subst (λ (t : Turn). Has t.position) (sym is) h
-
   waited_terms : (phase : Phase) → terms_of (waited phase) ≡ terms_of phase
   waited_terms (Waiting asked limit) = refl
   waited_terms (Sending terms n) = refl
@@ -113,58 +108,24 @@ module _ (agreed : Terms) where
       response_has (timeout_response e.position.retries_left e.position.phase) e.position.last_sent_to e
       (timeout_says e.position.retries_left e.position.phase) h
 
-  one_of : (b : Bool) (one two : Turn) → Has one.position → Has two.position → Has (if b then one else two).position
-  one_of true one two h k = h
-  one_of false one two h k = k
-
-  filled_has :
-      (terms : Terms) (number : ℕ) (from : Endpoint) (piece : List ℕ) (e : EndState) (answer : Result ℕ FileFault) →
-      terms ≡ agreed → Has (filled_turn terms number from piece e answer).position
-  filled_has terms number from piece e answer s =
-      one_of (result_count_is (block_length e.role.length terms.size number) answer) _ _ (ap Some s) (ap Some s)
-
-  committed_has : (terms : Terms) (number : ℕ) (from : Endpoint) (e : EndState) (answer : Result Done StoreFault) →
-      terms ≡ agreed → Has (committed_turn terms number from e answer).position
-  committed_has terms number from e (Ok done) s = ap Some s
-  committed_has terms number from e (Err fault) s = ap Some s
+  turn_has : (from : Endpoint) (e : EndState) (action : Action) (turn : Turn) → Names action → Has e.position →
+      TurnBy from e action turn → Has turn.position
+  turn_has from e action turn s h (Responds response) = response_has response from e s h
+  turn_has from e action turn s h (Sends_data terms n piece) = ap Some s
+  turn_has from e action turn s h (Cannot_read terms n) = ap Some s
+  turn_has from e action turn s h (Has_stored terms n after positive) = ap Some s
+  turn_has from e action turn s h (Has_all terms n after) = ap Some s
+  turn_has from e action turn s h (Cannot_append terms n) = ap Some s
+  turn_has from e action turn s h (Cannot_commit terms n after fault) = ap Some s
 
   module _ (refuses_commit : Holding → StoreFault → Type 0) (from : Endpoint) (bytes : List ℕ) (e : EndState) where
-    goes_has :
-        (terms : Terms) (number : ℕ) (last : Bool) (after : List ℕ) (mid sink' : Holding)
-        (answer : Result Done StoreFault) (turn : Turn) → terms ≡ agreed →
-        GoesOn (world_sink refuses_commit) terms number from e last after mid answer turn sink' → Has turn.position
-    goes_has terms number last after mid sink' (Err fault) turn s g = kept turn _ g.0 (ap Some s)
-    goes_has terms number true after mid sink' (Ok done) turn s g =
-        kept turn _ g.answers (committed_has terms number from (holding after e) g.answer s)
-    goes_has terms number false after mid sink' (Ok done) turn s g = kept turn _ g.0 (ap Some s)
-
-    stores_has : (terms : Terms) (number : ℕ) (piece : List ℕ) (files files' : Files (List ℕ) Holding) (turn : Turn) →
-        terms ≡ agreed →
-        StoresIn memory_source (world_sink refuses_commit) terms number from piece e files turn files' →
-        Has turn.position
-    stores_has terms number piece (Sink sink) (Sink sink') turn s d =
-        goes_has terms number _ d.after d.mid sink' d.answer turn s d.rest
-    stores_has terms number piece (Sink sink) (Source left) turn s d = absurd d
-    stores_has terms number piece (Source left) files' turn s d = absurd d
-
-    sends_has : (terms : Terms) (number : ℕ) (files files' : Files (List ℕ) Holding) (turn : Turn) → terms ≡ agreed →
-        SendsFrom memory_source (world_sink refuses_commit) terms number from e files turn files' → Has turn.position
-    sends_has terms number (Source left) (Source left') turn s d =
-        kept turn _ d.answers (filled_has terms number from d.piece e d.answer s)
-    sends_has terms number (Source left) (Sink sink) turn s d = absurd d
-    sends_has terms number (Sink sink) files' turn s d = absurd d
-
-    acts_has : (action : Action) (files files' : Files (List ℕ) Holding) (turn : Turn) → Names action → Has e.position →
-        Acts memory_source (world_sink refuses_commit) action from bytes e files turn files' → Has turn.position
-    acts_has (Respond response) files files' turn s h a = kept turn _ a.0 (response_has response from e s h)
-    acts_has (Send terms number) files files' turn s h a = sends_has terms number files files' turn s a
-    acts_has (Store terms number) files files' turn s h a = stores_has terms number a.0 files files' turn s a.2
-
     pub step_has : (files files' : Files (List ℕ) Holding) (turn : Turn) → Has e.position →
         DatagramStep memory_source (world_sink refuses_commit) from bytes e files turn files' → Has turn.position
     step_has files files' turn h d =
-        acts_has (datagram_action e from bytes d.decoded) files files' turn (names (terms_of e.position.phase) from d.decoded _ _ h (datagram_takes e from bytes d.decoded)) h
-        d.acts
+        let action = datagram_action e from bytes d.decoded in
+        turn_has from e action turn
+        (names (terms_of e.position.phase) from d.decoded _ action h (datagram_takes e from bytes d.decoded)) h
+        (acts_by refuses_commit from bytes e action files files' turn d.acts)
 
 -- the peer stays known
 pub still_known : (old new : Option Terms) → ((agreed : Terms) → old ≡ Some agreed → new ≡ Some agreed) →

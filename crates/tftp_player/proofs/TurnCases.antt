@@ -1,0 +1,93 @@
+-- The turns by which an open end carries out an action.
+-- For TermsKept, NewestKept, OacksTaken, ErrorAnswers and ErrorsHeard.
+use Rattle.std.proofs.Common.{◌≡◌, ℕ, Bool, true, false, List, Result, Ok, Err, sym, subst}
+use Rattle.std.specs.Prelude.{◌≢◌, if◌then◌else◌}
+use Rattle.tftp_file.specs.Memory.{memory_source}
+use Rattle.tftp_file.specs.Sink.{Holding}
+use Rattle.tftp_file.specs.declared.fault.StoreFault.{StoreFault}
+use Rattle.tftp_file.specs.declared.files.Files.{Files}
+use Rattle.tftp_file.specs.declared.files.Files.TheVariants.{Source, Sink}
+use Rattle.tftp_ends.specs.declared.action.Action.{Action}
+use Rattle.tftp_ends.specs.declared.action.Action.TheVariants.{Respond, Send, Store}
+use Rattle.tftp_ends.specs.declared.action.Response.{Response}
+use Rattle.tftp_ends.specs.declared.error_reply.ErrorReply.TheVariants.{DiskFull, FileChanged}
+use Rattle.tftp_ends.specs.declared.outcome.Outcome.TheVariants as outcomes
+use Rattle.tftp_ends.specs.declared.phase.Dally.TheVariants.{Fresh}
+use Rattle.tftp_ends.specs.declared.phase.Phase.TheVariants.{Sending, Receiving, Dallying}
+use Rattle.tftp_ends.specs.declared.phase.Terms.{Terms}
+use Rattle.tftp_ends.specs.End.{EndState}
+use Rattle.tftp_ends.specs.Step.{Turn, Acts, SendsFrom, StoresIn, GoesOn, Done, response_turn, sent_turn, refused_turn}
+use Rattle.tftp_ends.specs.Step.{committed_turn, commit_reply, result_count_is, block_length, holding, ack_bytes, data_bytes}
+use Rattle.tftp_rules.specs.Machine.{Endpoint}
+use Rattle.tftp_player.specs.WorldSteps.{world_sink}
+
+-- a turn of the end that carries out this action, on a datagram from there
+pub data TurnBy (from : Endpoint) (e : EndState) : Action → Turn → Type 0 where
+  Responds : (response : Response) → TurnBy from e (Respond response) (response_turn response from e)
+  Sends_data : (terms : Terms) (n : ℕ) (piece : List ℕ) →
+      TurnBy from e (Send terms n) (sent_turn (Sending terms n) from (data_bytes n piece) e)
+  Cannot_read : (terms : Terms) (n : ℕ) →
+      TurnBy from e (Send terms n) (refused_turn terms FileChanged outcomes.SourceFault from e)
+  Has_stored : (terms : Terms) (n : ℕ) (after : List ℕ) → n ≢ 0 →
+      TurnBy from e (Store terms n) (sent_turn (Receiving terms n) from (ack_bytes n) (holding after e))
+  Has_all : (terms : Terms) (n : ℕ) (after : List ℕ) →
+      TurnBy from e (Store terms n) (sent_turn (Dallying terms n Fresh) from (ack_bytes n) (holding after e))
+  Cannot_append : (terms : Terms) (n : ℕ) →
+      TurnBy from e (Store terms n) (refused_turn terms DiskFull outcomes.StoreFault from e)
+  Cannot_commit : (terms : Terms) (n : ℕ) (after : List ℕ) (fault : StoreFault) →
+      TurnBy from e (Store terms n)
+      (refused_turn terms (commit_reply fault) outcomes.StoreFault from (holding after e))
+
+module _ (refuses_commit : Holding → StoreFault → Type 0) (from : Endpoint) (bytes : List ℕ) (e : EndState) where
+  moved : (action : Action) (turn turn' : Turn) → turn ≡ turn' → TurnBy from e action turn' → TurnBy from e action turn
+  moved action turn turn' is h = subst (λ (t : Turn). TurnBy from e action t) (sym is) h
+
+  one_of : (action : Action) (b : Bool) (one two : Turn) → TurnBy from e action one → TurnBy from e action two →
+      TurnBy from e action (if b then one else two)
+  one_of action true one two h k = h
+  one_of action false one two h k = k
+
+  committed : (terms : Terms) (number : ℕ) (after : List ℕ) (answer : Result Done StoreFault) →
+      TurnBy from e (Store terms number) (committed_turn terms number from (holding after e) answer)
+  committed terms number after (Ok done) = Has_all terms number after
+  committed terms number after (Err fault) = Cannot_commit terms number after fault
+
+  goes :
+      (terms : Terms) (number : ℕ) (last : Bool) (after : List ℕ) (mid sink' : Holding)
+      (answer : Result Done StoreFault) (turn : Turn) → number ≢ 0 →
+      GoesOn (world_sink refuses_commit) terms number from e last after mid answer turn sink' →
+      TurnBy from e (Store terms number) turn
+  goes terms number last after mid sink' (Err fault) turn positive g =
+      moved (Store terms number) turn _ g.0 (Cannot_append terms number)
+  goes terms number true after mid sink' (Ok done) turn positive g =
+      moved (Store terms number) turn _ g.answers (committed terms number after g.answer)
+  goes terms number false after mid sink' (Ok done) turn positive g =
+      moved (Store terms number) turn _ g.0 (Has_stored terms number after positive)
+
+  stores : (terms : Terms) (number : ℕ) (piece : List ℕ) (files files' : Files (List ℕ) Holding) (turn : Turn) →
+      number ≢ 0 →
+      StoresIn memory_source (world_sink refuses_commit) terms number from piece e files turn files' →
+      TurnBy from e (Store terms number) turn
+  stores terms number piece (Sink sink) (Sink sink') turn positive d =
+      goes terms number _ d.after d.mid sink' d.answer turn positive d.rest
+  stores terms number piece (Sink sink) (Source left) turn positive d = absurd d
+  stores terms number piece (Source left) files' turn positive d = absurd d
+
+  sends : (terms : Terms) (number : ℕ) (files files' : Files (List ℕ) Holding) (turn : Turn) →
+      SendsFrom memory_source (world_sink refuses_commit) terms number from e files turn files' →
+      TurnBy from e (Send terms number) turn
+  sends terms number (Source left) (Source left') turn d =
+      moved (Send terms number) turn _ d.answers
+      (one_of (Send terms number) (result_count_is (block_length e.role.length terms.size number) d.answer)
+      (sent_turn (Sending terms number) from (data_bytes number d.piece) e)
+      (refused_turn terms FileChanged outcomes.SourceFault from e) (Sends_data terms number d.piece)
+      (Cannot_read terms number))
+  sends terms number (Source left) (Sink sink) turn d = absurd d
+  sends terms number (Sink sink) files' turn d = absurd d
+
+  -- it carries it out by one of these
+  pub acts_by : (action : Action) (files files' : Files (List ℕ) Holding) (turn : Turn) →
+      Acts memory_source (world_sink refuses_commit) action from bytes e files turn files' → TurnBy from e action turn
+  acts_by (Respond response) files files' turn a = moved (Respond response) turn _ a.0 (Responds response)
+  acts_by (Send terms number) files files' turn a = sends terms number files files' turn a
+  acts_by (Store terms number) files files' turn a = stores terms number a.0 files files' turn a.1.valid.0 a.2
