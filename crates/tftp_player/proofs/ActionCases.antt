@@ -1,7 +1,7 @@
 -- The actions that a datagram may lead to, each with what is known where it does.
 -- For TermsKept, NewestKept, OacksTaken and ErrorReasons.
 use Rattle.std.proofs.Common.{◌≡◌, ℕ, ◌+◌, Bool, true, false, List, [], length, Option, Some, None, Result, Ok, Err, refl, sym}
-use Rattle.std.proofs.Common.{ap, ◌∙◌, subst, arith}
+use Rattle.std.proofs.Common.{subst, arith}
 use Rattle.std.specs.Prelude.{◌≢◌, ◌==◌, ◌/◌, ◌*◌, nat_lt, nat_le, is_none, ◌&&◌, if◌then◌else◌}
 use Rattle.std.proofs.lemmas.Bool.{eqb-true}
 use Rattle.tftp_wire.specs.Reading.{has_error_opcode}

@@ -1,7 +1,7 @@
 -- A client that waits, and an end of the server that has it as its peer.
 -- For RecoveringReads, RecoveringWrites and RecoveringRequests.
-use Rattle.std.proofs.Common.{◌≡◌, ℕ, ◌+◌, ◌*◌, ◌-◌, Bool, true, false, not, List, [], ◌∷◌, ◌++◌, length, take, Some}
-use Rattle.std.proofs.Common.{None, refl, sym, ap, ◌∙◌, subst, arith, length-append}
+use Rattle.std.proofs.Common.{◌≡◌, ℕ, ◌*◌, Bool, true, false, not, List, [], ◌∷◌, ◌++◌, length, take, Some}
+use Rattle.std.proofs.Common.{None, refl, sym, ap, ◌∙◌, subst, arith}
 use Rattle.std.specs.Prelude.{◌≢◌, if◌then◌else◌, slice_get, option_map}
 use Rattle.std.specs.List.{Contains}
 use Rattle.std.proofs.lemmas.Bool.{true≢false}
@@ -24,7 +24,6 @@ use Rattle.tftp_rules.specs.Machine.{Endpoint, Elsewhere, Machine}
 use Rattle.tftp_rules.specs.OpenEnds.{OpenEnd, peer_of}
 use Rattle.tftp_rules.specs.Shows.{Matches}
 use Rattle.tftp_rules.proofs.Grows.{HasPeer, peer_of as peer_is}
-use Rattle.tftp_rules.proofs.Indices.{slice_get-push_new}
 use Rattle.tftp_rules.proofs.Steps.{own_of}
 use Rattle.tftp_player.specs.Recovering.{IsReached, IsAnswering, Behaves, TakesPeer}
 use Rattle.tftp_player.specs.World.{WorldState, Open_end, datagram, view_of_end, new_world}
@@ -35,7 +34,7 @@ use Rattle.tftp_player.proofs.WorldFacts.{holds, matched, spoken, m}
 use Rattle.tftp_player.proofs.SentAgain.{ready_with, decoded_is, Resent, resends, timed_out}
 use Rattle.tftp_player.proofs.StraightActions.{from_server}
 use Rattle.tftp_player.proofs.StraightRuns.{IsReady, stays_at, set_at}
-use Rattle.tftp_player.proofs.WorldRuns.{step_keeps, run_keeps, new_ok, any_may}
+use Rattle.tftp_player.proofs.WorldRuns.{run_keeps, new_ok, any_may}
 use Rattle.tftp_player.proofs.WorldSafe.{kept_is_safe}
 
 not_true : (b : Bool) → not b ≡ true → b ≡ false

@@ -2,7 +2,7 @@
 -- For BlamelessActions, Blameless and ErrorsKnown.
 use Rattle.std.proofs.Common.{◌≡◌, ℕ, ◌≤◌, Bool, true, false, List, ◌++◌, Option, Some, None, refl, sym, ap, ◌∙◌, subst}
 use Rattle.std.proofs.Common.{arith, inl, inr}
-use Rattle.std.specs.Prelude.{◌≢◌, ◌==◌, ◌+◌, not, if◌then◌else◌, option_map, slice_get}
+use Rattle.std.specs.Prelude.{◌≢◌, ◌==◌, not, if◌then◌else◌, option_map, slice_get}
 use Rattle.std.specs.List.{Contains}
 use Rattle.std.specs.Cmp.Lexicographic.{same_text}
 use Rattle.std.proofs.lemmas.Bool.{true≢false, cases_Bool}

@@ -1,9 +1,8 @@
 -- `settle` makes as many deliveries as a recovery needs, if its limit is not below.
 -- For the law a_recovery_settles.
-use Rattle.std.proofs.Common.{◌≡◌, ℕ, ◌+◌, ◌*◌, ◌<◌, ◌≤◌, length, inl, inr, arith, ◌∙◌}
+use Rattle.std.proofs.Common.{ℕ, ◌+◌, ◌*◌, ◌<◌, ◌≤◌, length, inl, inr, arith, ◌∙◌}
 use Rattle.tftp_negotiate.specs.declared.asked.Asked.{Asked}
 use Rattle.tftp_file.specs.Block.{block_count}
-use Rattle.tftp_ends.specs.declared.phase.Terms.{Terms}
 use Rattle.tftp_server.specs.Port.{Service, Sends, Takes}
 use Rattle.tftp_rules.specs.OpenEnds.{OpenEnd}
 use Rattle.tftp_player.specs.Recovering.{Behaves, EndsAfter, HasSettled, SettlesAfter, StoresTake, left_to_add}

@@ -1,6 +1,6 @@
 -- A transfer recovers whose request was lost: its client sends it again, and the port accepts it.
 -- For the law a_request_recovers.
-use Rattle.std.proofs.Common.{◌≡◌, ℕ, ◌+◌, true, false, List, [], ◌∷◌, ◌++◌, length, sym, ap, ◌∙◌, subst, inl, inr}
+use Rattle.std.proofs.Common.{◌≡◌, ℕ, true, false, List, [], ◌∷◌, ◌++◌, length, sym, ap, ◌∙◌, subst, inl, inr}
 use Rattle.tftp_player.specs.Straight.{IsAccepted, read_adds, write_adds}
 use Rattle.tftp_player.specs.Requests.{IsRepeated, service}
 use Rattle.tftp_ends.specs.Action.{Decodes}

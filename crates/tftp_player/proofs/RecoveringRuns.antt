@@ -2,7 +2,6 @@
 -- For the law a_transfer_recovers.
 use Rattle.std.proofs.Common.{◌≡◌, ℕ, ◌+◌, ◌*◌, ◌-◌, ◌<◌, ◌≤◌, suc, zero, Bool, true, false, not, List, [], ◌∷◌, ◌++◌}
 use Rattle.std.proofs.Common.{length, take, Option, Some, None, refl, sym, ap, ◌∙◌, subst, arith, inl, inr}
-use Rattle.std.proofs.Common.{length-append}
 use Rattle.std.specs.Prelude.{◌≢◌, ◌⊎◌, ◌&&◌, ◌==◌, if◌then◌else◌, nat_lt, slice_get, option_map}
 use Rattle.std.specs.List.{Contains}
 use Rattle.std.proofs.lemmas.Bool.{true≢false, eq-eqb, cases_eq}
@@ -32,14 +31,12 @@ use Rattle.tftp_rules.specs.Hosts.{two_hosts}
 use Rattle.tftp_rules.specs.Machine.{Endpoint, Machine}
 use Rattle.tftp_rules.specs.OpenEnds.{OpenEnd, peer_of, goes_on}
 use Rattle.tftp_rules.specs.Rules.{run}
-use Rattle.tftp_rules.proofs.Indices.{slice_get-push_new}
 use Rattle.tftp_rules.proofs.SaidLemmas.{spells_own}
 use Rattle.tftp_rules.proofs.SourceMoves.{number_fits}
 use Rattle.tftp_player.specs.Recovering.{IsEstablished, Behaves, AreThrough, left_to_add, TransfersRecover}
 use Rattle.tftp_player.specs.Straight.{AllTaken}
 use Rattle.tftp_player.specs.World.{WorldState, Open_end, datagram, new_world}
 use Rattle.tftp_player.specs.WorldKept.{Refines}
-use Rattle.tftp_player.specs.declared.datagram.Datagram.{Datagram}
 use Rattle.tftp_player.specs.declared.event.Event.TheVariants.{Timeout}
 use Rattle.tftp_player.proofs.NewestKept.{IsNewest, Newest, EndNewest, AllNewest, run_newest, new_newest}
 use Rattle.tftp_player.proofs.RunsLeft.{UnlessReads, IsWilling, IsLeft, GoesOn, Reaches, IsOver, walks, ends_here}
@@ -47,7 +44,7 @@ use Rattle.tftp_player.proofs.StraightActions.{from_peer}
 use Rattle.tftp_player.proofs.StraightRuns.{IsReady, ready_next, stays_at, set_at, SendsAt, AwaitsAt, fit_of}
 use Rattle.tftp_player.proofs.StraightRuns.{awaits_now, ack_ready, ack_sender, ack_receiver, ack_over, from_data}
 use Rattle.tftp_player.proofs.StraightSteps.{ports_of, delivered}
-use Rattle.tftp_player.proofs.WorldRuns.{step_keeps, run_keeps, new_ok, any_may}
+use Rattle.tftp_player.proofs.WorldRuns.{run_keeps, new_ok, any_may}
 use Rattle.tftp_player.proofs.SentAgain.{MaySendAgain, ready_with, Again, Resent, data_short, handles_again, next_of, oack_alone, resends}
 use Rattle.tftp_player.proofs.SentAgain.{MaySendAgain, ready_with, retransmits, timed_out}
 use Rattle.tftp_player.proofs.WorldFacts.{all_blocks, apart, at_y, attests, has_more, has_text, high, low, m, mode_same}

@@ -1,20 +1,20 @@
 -- A write recovers whose client has no peer yet: ACK 0 or the OACK of the server arrives.
 -- For the law a_transfer_recovers.
 use Rattle.std.proofs.Common.{◌≡◌, ℕ, ◌+◌, ◌*◌, ◌-◌, Bool, true, false, not, List, ◌++◌, length, take, Some, None, refl}
-use Rattle.std.proofs.Common.{sym, ap, ◌∙◌, subst, arith, ◌<◌, ◌≤◌, Result, Ok, Err, inl, inr, drop}
+use Rattle.std.proofs.Common.{sym, ap, ◌∙◌, subst, arith, ◌≤◌, Result, Ok, Err, inl, inr, drop}
 use Rattle.std.specs.Prelude.{◌≢◌, if◌then◌else◌, ◌==◌, nat_lt}
-use Rattle.std.proofs.lemmas.Bool.{true≢false, ne_eqb, eqb-true}
+use Rattle.std.proofs.lemmas.Bool.{true≢false, eqb-true}
 use Rattle.std.proofs.lemmas.Option.{same_Some}
 use Rattle.tftp_wire.specs.declared.packet.Packet.{Packet}
 use Rattle.tftp_wire.specs.Spelling.{Spells}
 use Rattle.tftp_negotiate.specs.Agreed.{size}
 use Rattle.tftp_negotiate.specs.declared.asked.Asked.{Asked}
 use Rattle.tftp_negotiate.specs.declared.refusal.Refusal.{Refusal}
-use Rattle.tftp_ends.specs.declared.action.Response.TheVariants.{Retransmit, Close, Refuse}
+use Rattle.tftp_ends.specs.declared.action.Response.TheVariants.{Refuse}
 use Rattle.tftp_ends.specs.declared.phase.Phase.{Phase}
 use Rattle.tftp_ends.specs.declared.phase.Phase.TheVariants.{Waiting, Receiving}
 use Rattle.tftp_ends.specs.End.{terms_of, is_sender, is_complete, number_of, size_of}
-use Rattle.tftp_ends.specs.Action.{datagram_action, packet_action, timeout_response}
+use Rattle.tftp_ends.specs.Action.{datagram_action, packet_action}
 use Rattle.tftp_rules.specs.EndKept.{PhaseKept}
 use Rattle.tftp_rules.specs.Facts.{Attests}
 use Rattle.tftp_rules.specs.Hosts.{two_hosts}

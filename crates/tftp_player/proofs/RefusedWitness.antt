@@ -1,13 +1,12 @@
 -- A write whose receiver's store refuses: the receiver sends ERROR 3, and the sender closes by it.
 -- For the law no_end_is_blamed, which is then of some ends.
-use Rattle.std.proofs.Common.{ℕ, [], ◌∷◌, Option, Some, Err, true, refl, arith, rules}
+use Rattle.std.proofs.Common.{[], ◌∷◌, Option, Some, Err, refl, arith, rules}
 use Rattle.std.specs.Prelude.{slice_get, slice_set}
 use Rattle.tftp_wire.specs.Parts.{packet_in}
 use Rattle.tftp_negotiate.specs.Negotiation.{occurrences_of}
 use Rattle.tftp_negotiate.specs.declared.known.Kind.TheVariants.{Write}
 use Rattle.tftp_file.specs.Sink.{Holding, disarmed}
 use Rattle.tftp_file.specs.declared.fault.StoreFault.TheVariants.{Full}
-use Rattle.tftp_file.specs.declared.files.Files.{Files}
 use Rattle.tftp_file.specs.declared.files.Files.TheVariants.{Sink}
 use Rattle.tftp_ends.specs.declared.error_reply.ErrorReply.TheVariants.{DiskFull}
 use Rattle.tftp_ends.specs.declared.outcome.Outcome.TheVariants as outcomes

@@ -1,6 +1,6 @@
 -- An end sends its newest datagram again, or acknowledges again.
 -- For the laws on recovery, and for what ERRORs say (ErrorAnswers).
-use Rattle.std.proofs.Common.{◌≡◌, ℕ, ◌+◌, ◌-◌, ◌<◌, ◌≤◌, Bool, true, false, List, [], ◌∷◌, ◌++◌, length, Option, Some}
+use Rattle.std.proofs.Common.{◌≡◌, ℕ, ◌+◌, ◌<◌, ◌≤◌, Bool, true, false, List, [], ◌∷◌, ◌++◌, length, Option, Some}
 use Rattle.std.proofs.Common.{None, refl, sym, ap, ◌∙◌, subst, arith, inl, inr, length-append}
 use Rattle.std.specs.Prelude.{◌≢◌, ◌⊎◌, ◌==◌, if◌then◌else◌, nat_lt, slice_get, slice_set}
 use Rattle.std.proofs.lemmas.Bool.{ne_eqb, cases_Bool, ltb-true, ltb-false}
@@ -24,7 +24,6 @@ use Rattle.tftp_ends.specs.declared.outcome.Outcome.{Outcome}
 use Rattle.tftp_ends.specs.declared.outcome.Outcome.TheVariants as outcomes
 use Rattle.tftp_ends.specs.declared.phase.Phase.{Phase}
 use Rattle.tftp_ends.specs.declared.phase.Phase.TheVariants.{Waiting, Sending, Receiving, Dallying, Closed}
-use Rattle.tftp_ends.specs.declared.phase.Terms.{Terms}
 use Rattle.tftp_ends.specs.End.{is_sender, is_client, outcome_of, number_of}
 use Rattle.tftp_ends.specs.Action.{Decodes, datagram_action, timeout_response}
 use Rattle.tftp_ends.specs.Step.{Turn, Acts, AcksAgain, IsAck, Reply, response_turn, after_turn, ack_bytes, data_bytes}

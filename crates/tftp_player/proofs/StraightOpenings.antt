@@ -1,6 +1,6 @@
 -- A run without loss completes: a client opens, and the port of the server accepts its request.
 -- For the law a_straight_run_completes.
-use Rattle.std.proofs.Common.{◌≡◌, ℕ, Bool, true, false, List, length, Some, refl, ap, ◌∙◌, subst}
+use Rattle.std.proofs.Common.{◌≡◌, ℕ, Bool, true, List, length, Some, refl, ap, ◌∙◌, subst}
 use Rattle.std.proofs.lemmas.Bool.{true≢false}
 use Rattle.tftp_player.specs.Straight.{IsAccepted, read_adds, write_adds, ReadsComplete, WritesComplete}
 use Rattle.tftp_negotiate.specs.declared.asked.Asked.{Asked}
