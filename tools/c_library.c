@@ -1,8 +1,8 @@
 /* Holds tftp.h to the types of the library: each field of each struct has the value that the library gives the field of
  * that name, each struct its size, and each number its value, which a call returns. Builds packets and reads options.
- * Tries the request port of a server and its table. Counts the requests for memory of transfers. Then refuses each of a
- * get, and of a served write, in turn: the call reports it, changes nothing, and does its work when it is made again.
- * It is linked with --wrap for malloc and realloc. */
+ * Tries the request port of a server and its table, transfers that are aborted, and NULL. Counts the requests for memory
+ * of transfers. Then refuses each of an opening, of a get, and of a served write, in turn: the call reports it, changes
+ * nothing, and does its work when it is made again. It is linked with --wrap for malloc and realloc. */
 #include "tftp.h"
 #include <stdio.h>
 #include <stdlib.h>
@@ -22,6 +22,16 @@ void *__wrap_malloc(size_t len) {
 void *__wrap_realloc(void *bytes, size_t len) {
     return ++asked == refused ? NULL : __real_realloc(bytes, len);
 }
+
+/* Of the static library, for this test alone: the size of each struct, and a different number in each field. */
+struct tftp_sizes {
+    uint8_t endpoint, options, event, packet, end, question, server;
+};
+void tftp_samples(struct tftp_endpoint *endpoint, struct tftp_options *options, struct tftp_event *event,
+                  struct tftp_packet *packet, struct tftp_question *question, struct tftp_sizes *sizes);
+
+/* Options with these fields, and zeros. */
+#define OPTIONS(...) {.size = sizeof(struct tftp_options), __VA_ARGS__}
 
 static void expect(const char *what, unsigned long long found, unsigned long long expected) {
     if (found != expected) {
@@ -55,7 +65,7 @@ static void take(struct tftp_end *end, const char *data, size_t len, char *file,
 /* A get of two blocks of 8 bytes while the request for memory of this number is refused. Whether it was. */
 static int lacking(int number) {
     static const struct tftp_endpoint server = {{10, 0, 0, 1}, 69};
-    struct tftp_options options = {.max_file = 100, .blksize = 8, .is_netascii = true};
+    struct tftp_options options = OPTIONS(.max_file = 100, .blksize = 8, .is_netascii = true);
     struct tftp_end end = {0};
     struct tftp_event event = {0};
     uint8_t request[TFTP_MAX_REQUEST], oack[] = "\0\6blksize\0008";
@@ -85,7 +95,7 @@ static int lacking(int number) {
  * block; a get in netascii asks for that at its first block. No other of 100 blocks of 8 bytes asks. */
 static void blocks(bool puts, bool is_netascii) {
     static const struct tftp_endpoint server = {{10, 0, 0, 1}, 69}, peer = {{10, 0, 0, 1}, 1024};
-    struct tftp_options options = {.max_file = 1000, .blksize = 8, .retries = 5, .is_netascii = is_netascii};
+    struct tftp_options options = OPTIONS(.max_file = 1000, .blksize = 8, .retries = 5, .is_netascii = is_netascii);
     struct tftp_end end = {0};
     struct tftp_event event = {0};
     uint8_t out[TFTP_MAX_REQUEST], block[8], oack[] = "\0\6blksize\0008", datagram[12] = {0, 3};
@@ -119,7 +129,7 @@ static void served(bool writes, bool agrees) {
     static const uint8_t file[2000];
     const size_t size = sizeof file;
     static uint8_t out[TFTP_HEADER + 1428], stored[1428], datagram[TFTP_HEADER + 1428];
-    struct tftp_options options = {.max_file = 5000, .retries = 5};
+    struct tftp_options options = OPTIONS(.max_file = 5000, .retries = 5);
     struct tftp_end end = {0};
     struct tftp_event event = {0};
     uint8_t request[TFTP_MAX_REQUEST];
@@ -169,7 +179,8 @@ static uint8_t outcome(bool puts, struct tftp_options options, const uint8_t *by
 static void numbers(void) {
     static const struct tftp_endpoint at = {{10, 0, 0, 1}, 69};
     static uint8_t out[TFTP_HEADER + TFTP_DEFAULT_BLOCK], file[TFTP_DEFAULT_BLOCK];
-    struct tftp_options none = {0}, text = {.is_netascii = 1}, sized = {.asks_tsize = 1}, large = {.max_file = 600};
+    struct tftp_options none = OPTIONS(.retries = 0), text = OPTIONS(.is_netascii = 1), sized = OPTIONS(.asks_tsize = 1),
+                        large = OPTIONS(.max_file = 600);
     struct tftp_event event = {0};
     struct tftp_end end = {0};
     size_t most = sizeof out;
@@ -200,6 +211,309 @@ static void numbers(void) {
         expect("a block size", fault, i % 3 ? TFTP_OK : TFTP_BAD_REQUEST);
     }
     tftp_close(&end);
+}
+
+/* A server's largest block size is a block size or 0 for any: else it serves nothing, and does not open. */
+static void limits(void) {
+    static const struct { uint16_t limit; const char *oack; } tried[] = {{0, "600"}, {1, NULL}, {7, NULL}, {8, "8"},
+        {600, "600"}, {TFTP_MAX_BLOCK, "600"}, {TFTP_MAX_BLOCK + 1, NULL}};
+    static const struct tftp_endpoint at = {{10, 0, 0, 1}, 69};
+    static const char read[] = "\0\1a\0octet\0blksize\000600", write[] = "\0\2a\0octet\0blksize\000600";
+    uint8_t out[TFTP_MIN_REPLY], text[TFTP_MAX_REQUEST];
+    struct tftp_event event = {0};
+    struct tftp_end end = {0};
+    struct tftp_server server = {0};
+    for (size_t i = 0; i < sizeof tried / sizeof *tried; i++) {
+        struct tftp_options options = OPTIONS(.max_file = 1000, .retries = 5, .blksize = tried[i].limit);
+        uint8_t wanted = tried[i].oack ? TFTP_OK : TFTP_BAD_REQUEST;
+        uint8_t fault = tftp_serve_get(&end, &at, (const uint8_t *)read, sizeof read, 3, TEXT("abc"), &options, out,
+                                       sizeof out, &event);
+        expect("a limit of a read", fault, wanted);
+        if (!fault) {
+            size_t len = tftp_find_option(out, event.send_len, TEXT("blksize"), text, sizeof text);
+            expect("the length of its blksize", len, strlen(tried[i].oack) + 9);
+            expect("its blksize", strcmp((const char *)text + 8, tried[i].oack), 0);
+        }
+        fault = tftp_serve_put(&end, &at, (const uint8_t *)write, sizeof write, &options, out, sizeof out, &event);
+        expect("a limit of a write", fault, wanted);
+        expect("whether the end is open", end.is_open, !fault);
+        expect("a limit of a server", tftp_server_open(&server, &options, 1), wanted);
+        expect("whether the server is open", server.is_open, !fault);
+    }
+    tftp_close(&end);
+    tftp_server_close(&server);
+}
+
+/* Options that did not begin as TFTP_OPTIONS_INIT are refused, also those of all bytes zero. */
+static void sizes_of_options(void) {
+    static const struct tftp_endpoint at = {{10, 0, 0, 1}, 69};
+    static const char read[] = "\0\1a\0octet", write[] = "\0\2a\0octet";
+    struct tftp_options options = TFTP_OPTIONS_INIT;
+    uint8_t out[TFTP_MIN_REPLY];
+    struct tftp_event event = {0};
+    struct tftp_end end = {0};
+    struct tftp_server server = {0};
+    FIELD(options, size, sizeof options);
+    FIELD(options, max_file, UINT64_MAX);
+    FIELD(options, blksize, 0);
+    FIELD(options, timeout, 0);
+    FIELD(options, retries, 5);
+    FIELD(options, asks_tsize, 0);
+    FIELD(options, is_netascii, 0);
+    for (int i = 0; i < 4; i++) {
+        options.size = i == 0 ? 0 : i == 1 ? sizeof options : i == 2 ? sizeof options - 1 : sizeof options + 1;
+        uint8_t wanted = i == 1 ? TFTP_OK : TFTP_BAD_OPTIONS;
+        expect("a get", tftp_get(&end, &at, TEXT("a"), &options, out, sizeof out, &event), wanted);
+        expect("a put", tftp_put(&end, &at, TEXT("a"), 1, &options, out, sizeof out, &event), wanted);
+        expect("a served read", tftp_serve_get(&end, &at, (const uint8_t *)read, sizeof read, 1, TEXT("a"), &options, out,
+                                               sizeof out, &event), wanted);
+        expect("a served write", tftp_serve_put(&end, &at, (const uint8_t *)write, sizeof write, &options, out, sizeof out,
+                                                &event), wanted);
+        expect("whether it is open", end.is_open, wanted == TFTP_OK);
+        expect("a server", tftp_server_open(&server, &options, 1), wanted);
+    }
+    tftp_close(&end);
+    tftp_server_close(&server);
+}
+
+/* An opening of this kind, at an end or at a server. */
+static uint8_t opening(int kind, struct tftp_end *end, struct tftp_server *server, uint8_t *out, size_t room,
+                       struct tftp_event *event) {
+    static const struct tftp_endpoint at = {{10, 0, 0, 1}, 1024};
+    static const char read[] = "\0\1a\0octet", write[] = "\0\2a\0octet";
+    const uint8_t *asks = (const uint8_t *)(kind % 2 ? write : read);
+    struct tftp_options options = OPTIONS(.max_file = 1000, .retries = 5);
+    switch (kind) {
+    case 0: return tftp_get(end, &at, TEXT("a"), &options, out, room, event);
+    case 1: return tftp_put(end, &at, TEXT("a"), 3, &options, out, room, event);
+    case 2: return tftp_serve_get(end, &at, asks, sizeof read, 3, TEXT("abc"), &options, out, room, event);
+    case 3: return tftp_serve_put(end, &at, asks, sizeof write, &options, out, room, event);
+    case 4: return tftp_server_get(server, 7, &at, asks, sizeof read, 3, TEXT("abc"), out, room, event);
+    default: return tftp_server_put(server, 7, &at, asks, sizeof write, out, room, event);
+    }
+}
+
+/* Each of the openings while each of its requests for memory is refused: then neither the event nor the buffer has
+ * changed, so that a caller that sends what an event says sends nothing, and nothing is open. */
+static void openings_without_memory(void) {
+    struct tftp_options options = OPTIONS(.max_file = 1000, .retries = 5);
+    for (int kind = 0; kind < 6; kind++) {
+        int number = 0, lacked = 0;
+        uint8_t fault;
+        do {
+            struct tftp_end end = {0};
+            struct tftp_server server = {0};
+            struct tftp_event event = {0}, before;
+            uint8_t out[TFTP_MIN_REPLY], was[TFTP_MIN_REPLY];
+            memset(out, 0xEE, sizeof out);
+            memcpy(was, out, sizeof out);
+            event.number = 77;
+            before = event;
+            refused = 0;
+            expect("a server", tftp_server_open(&server, &options, 2), TFTP_OK);
+            asked = 0;
+            refused = ++number;
+            fault = opening(kind, &end, &server, out, sizeof out, &event);
+            refused = 0;
+            if (fault) {
+                expect("an opening without memory", fault, TFTP_MEMORY);
+                expect("the event after it", memcmp(&event, &before, sizeof event), 0);
+                expect("the buffer after it", memcmp(out, was, sizeof out), 0);
+                expect("whether it is open", end.is_open, 0);
+                expect("whether the server has it", tftp_server_give_up(&server, 7), 0);
+                lacked++;
+            } else
+                expect("whether something is to be sent", event.send_len > 0, 1);
+            tftp_close(&end);
+            tftp_server_close(&server);
+        } while (fault);
+        expect("whether an opening lacked memory", lacked > 1, 1);
+    }
+}
+
+static void expect_bytes(const char *what, const uint8_t *found, size_t len, const char *expected, size_t count);
+
+/* A transfer of this kind that is aborted after this many datagrams of its peer. */
+static void aborted(int kind, int steps) {
+    static const struct tftp_endpoint peer = {{10, 0, 0, 1}, 1024};
+    struct tftp_end end = {0};
+    struct tftp_server server = {0};
+    struct tftp_event event = {0}, before;
+    uint8_t out[TFTP_MIN_REPLY], file[512];
+    bool sends = kind == 1 || kind == 2, has_peer = kind > 1 || steps > 0;
+    expect("an opening", opening(kind, &end, &server, out, sizeof out, &event), TFTP_OK);
+    if (steps) /* three bytes: the file is whole, and a receiver dallies */
+        expect("a step", sends ? tftp_send(&end, &peer, TEXT("\0\4\0\0"), TEXT("abc"), out, sizeof out, &event)
+               : tftp_receive(&end, &peer, TEXT("\0\3\0\1abc"), file, sizeof file, out, sizeof out, &event), TFTP_OK);
+    before = event;
+    memset(out, 0xEE, sizeof out);
+    expect("an ERROR with a zero byte", tftp_abort(&end, 3, TEXT("a\0b"), out, sizeof out, &event), TFTP_BAD_REQUEST);
+    expect("a text that is too long", tftp_abort(&end, 3, file, 508, out, sizeof out, &event), TFTP_BAD_REQUEST);
+    asked = 0;
+    refused = 1;
+    expect("an abort without memory", tftp_abort(&end, 3, TEXT("full"), out, sizeof out, &event), TFTP_MEMORY);
+    refused = 0;
+    expect("the event after these", memcmp(&event, &before, sizeof event), 0);
+    expect("the buffer after these", out[0], 0xEE);
+    expect("whether the end is open still", end.is_open, 1);
+    expect("an abort", tftp_abort(&end, 3, TEXT("full"), out, sizeof out, &event), TFTP_OK);
+    if (has_peer) {
+        expect_bytes("its ERROR", out, event.send_len, "\0\5\0\3full", 9);
+        expect("whether it is for the peer", event.to.port, 1024);
+    } else
+        expect("what is sent without a peer", event.send_len, 0);
+    FIELD(event, outcome, TFTP_ABORTED);
+    FIELD(event, complete, 0);
+    FIELD(event, progress, 0);
+    FIELD(event, file_len, 0);
+    expect("whether the end is open", end.is_open, 0);
+    expect("a second abort", tftp_abort(&end, 3, TEXT("full"), out, sizeof out, &event), TFTP_NOT_OPEN);
+    tftp_close(&end);
+}
+
+static void aborts(void) {
+    static const struct tftp_endpoint peer = {{10, 0, 0, 1}, 1024};
+    struct tftp_options options = OPTIONS(.max_file = 1000, .retries = 5);
+    struct tftp_end end = {0};
+    struct tftp_server server = {0};
+    struct tftp_event event = {0};
+    uint8_t out[TFTP_MIN_REPLY];
+    for (int kind = 0; kind < 4; kind++)
+        for (int steps = 0; steps < (kind == 2 ? 1 : 2); steps++) aborted(kind, steps);
+    /* what is over is not aborted */
+    expect("a served read", opening(2, &end, &server, out, sizeof out, &event), TFTP_OK);
+    expect("its ACK", tftp_send(&end, &peer, TEXT("\0\4\0\1"), out, 0, out, sizeof out, &event), TFTP_OK);
+    expect("its outcome", event.outcome, TFTP_COMPLETE);
+    expect("an abort of it", tftp_abort(&end, 3, TEXT("full"), out, sizeof out, &event), TFTP_CLOSED);
+    FIELD(event, outcome, TFTP_COMPLETE);
+    tftp_close(&end);
+    /* the same at a server */
+    expect("a closed server", tftp_server_abort(&server, 7, 3, TEXT("full"), out, sizeof out, &event), TFTP_NOT_OPEN);
+    expect("a server", tftp_server_open(&server, &options, 2), TFTP_OK);
+    expect("no transfer", tftp_server_abort(&server, 7, 3, TEXT("full"), out, sizeof out, &event), TFTP_NO_TRANSFER);
+    expect("a transfer", opening(5, &end, &server, out, sizeof out, &event), TFTP_OK);
+    expect("a bad text", tftp_server_abort(&server, 7, 3, TEXT("\0"), out, sizeof out, &event), TFTP_BAD_REQUEST);
+    asked = 0;
+    refused = 1;
+    expect("no memory", tftp_server_abort(&server, 7, 3, TEXT("full"), out, sizeof out, &event), TFTP_MEMORY);
+    refused = 0;
+    expect("an abort", tftp_server_abort(&server, 7, 3, TEXT("full"), out, sizeof out, &event), TFTP_OK);
+    expect_bytes("its ERROR", out, event.send_len, "\0\5\0\3full", 9);
+    FIELD(event, outcome, TFTP_ABORTED);
+    expect("its port", event.to.port, 1024);
+    expect("whether it is held", tftp_server_give_up(&server, 7), 0);
+    expect("a transfer", opening(4, &end, &server, out, sizeof out, &event), TFTP_OK);
+    expect("its ACK", tftp_server_send(&server, 7, &peer, TEXT("\0\4\0\1"), out, 0, out, sizeof out, &event), TFTP_OK);
+    expect("one that is over", tftp_server_abort(&server, 7, 3, TEXT("x"), out, sizeof out, &event), TFTP_NO_TRANSFER);
+    expect("whether it is held", tftp_server_give_up(&server, 7), 1);
+    tftp_server_close(&server);
+}
+
+/* NULL where the header allows it: a buffer without a length, and what is closed. */
+static void nulls(void) {
+    static const struct tftp_endpoint at = {{10, 0, 0, 1}, 1024};
+    static const char read[] = "\0\1a\0octet", write[] = "\0\2a\0octet";
+    struct tftp_options options = OPTIONS(.max_file = 1000, .retries = 5);
+    struct tftp_end end = {0};
+    struct tftp_server server = {0};
+    struct tftp_event event = {0};
+    struct tftp_packet packet = {0};
+    struct tftp_question question = {0};
+    uint64_t length = 5;
+    uint8_t out[TFTP_MAX_REQUEST];
+    tftp_close(NULL);
+    tftp_server_close(NULL);
+    expect("a name of NULL", tftp_get(&end, &at, NULL, 0, &options, NULL, 0, &event), TFTP_BAD_REQUEST);
+    expect("a request of NULL", tftp_get(&end, &at, TEXT("a"), &options, NULL, 0, &event), TFTP_OK);
+    expect("what was to be sent", event.send_len, 10);
+    expect("a datagram of NULL", tftp_receive(&end, &at, NULL, 0, NULL, 0, NULL, 0, &event), TFTP_OK);
+    expect("its answer", event.send_len > 0, 1);
+    expect("a timeout to NULL", tftp_timeout(&end, NULL, 0, &event), TFTP_CLOSED);
+    expect("a put to NULL", tftp_put(&end, &at, TEXT("a"), 0, &options, NULL, 0, &event), TFTP_OK);
+    expect("an empty file of NULL", tftp_send(&end, &at, TEXT("\0\4\0\0"), NULL, 0, NULL, 0, &event), TFTP_OK);
+    expect("its DATA", event.send_len, 4);
+    expect("an abort without a text", tftp_abort(&end, 0, NULL, 0, NULL, 0, &event), TFTP_OK);
+    expect("its ERROR", event.send_len, 5);
+    expect("a served empty file of NULL", tftp_serve_get(&end, &at, (const uint8_t *)read, sizeof read, 0, NULL, 0,
+                                                         &options, NULL, 0, &event), TFTP_OK);
+    expect("a read of NULL", tftp_serve_get(&end, &at, NULL, 0, 0, NULL, 0, &options, NULL, 0, &event), TFTP_BAD_REQUEST);
+    expect("a write to NULL", tftp_serve_put(&end, &at, (const uint8_t *)write, sizeof write, &options, NULL, 0, &event),
+           TFTP_OK);
+    expect("a write of NULL", tftp_serve_put(&end, &at, NULL, 0, &options, NULL, 0, &event), TFTP_BAD_REQUEST);
+    expect("a server", tftp_server_open(&server, &options, 1), TFTP_OK);
+    expect("a question of NULL", tftp_server_request(&server, &at, NULL, 0, NULL, 0, NULL, 0, &question), TFTP_OK);
+    expect("its ERROR", question.send_len > 5, 1);
+    expect("a transfer of NULL", tftp_server_get(&server, 1, &at, (const uint8_t *)read, sizeof read, 0, NULL, 0, NULL, 0,
+                                                 &event), TFTP_OK);
+    expect("its timeout", tftp_server_timeout(&server, 1, NULL, 0, &event), TFTP_OK);
+    expect("its abort", tftp_server_abort(&server, 1, 0, NULL, 0, NULL, 0, &event), TFTP_OK);
+    tftp_server_close(&server);
+    expect("a packet of NULL", tftp_decode(NULL, 0, &packet), TFTP_DECODE_SHORT);
+    expect("an option of NULL", tftp_option(NULL, 0, 0, NULL, 0), 0);
+    expect("a name of NULL", tftp_find_option(TEXT("\0\6a\0001\0"), NULL, 0, NULL, 0), 0);
+    expect("a length of NULL", tftp_stated_length(NULL, 0, &length), 0);
+    expect("what it was", length, 5);
+    expect("a request to NULL", tftp_request(1, 1, TEXT("a"), NULL, 0), 0);
+    expect("an option without a value", tftp_add_option(0, TEXT("a"), NULL, 0, out, sizeof out), 3);
+    expect("an option to NULL", tftp_add_option(0, TEXT("a"), NULL, 0, NULL, 0), 0);
+    expect("an ERROR without a text", tftp_error(1, NULL, 0, out, sizeof out), 5);
+    expect("an ERROR to NULL", tftp_error(1, NULL, 0, NULL, 0), 0);
+    expect("no text", tftp_wire_length(NULL, 0), 0);
+    expect("no wire text", tftp_to_wire(NULL, 0, NULL, 0), 0);
+}
+
+/* The length that a packet states: of a request or an OACK, in any case of the name, and a number alone. */
+static void stated(void) {
+    static const struct { const char *datagram; size_t len; bool states; uint64_t length; } tried[] = {
+        {"\0\6tsize\0" "1234\0", 13, true, 1234}, {"\0\6TSize\0" "0\0", 10, true, 0},
+        {"\0\2a\0octet\0blksize\0008\0tsize\0" "18446744073709551615\0", 47, true, UINT64_MAX},
+        {"\0\6tsize\0" "18446744073709551616\0", 29, false, 0}, {"\0\6tsize\0x\0", 10, false, 0},
+        {"\0\6blksize\0008\0", 12, false, 0}, {"\0\3\0\1tsize\0" "1\0", 12, false, 0}, {"\0\6tsize\0" "1", 9, false, 0}};
+    for (size_t i = 0; i < sizeof tried / sizeof *tried; i++) {
+        uint64_t length = 77;
+        expect("whether a length is stated", tftp_stated_length((const uint8_t *)tried[i].datagram, tried[i].len, &length),
+               tried[i].states);
+        expect("the length", length, tried[i].states ? tried[i].length : 77);
+    }
+}
+
+/* Each number has a text of its own, and the numbers around them have none. */
+static void texts(void) {
+    expect("a text of no fault", strcmp(tftp_strfault(TFTP_BAD_OPTIONS + 1), "unknown fault"), 0);
+    expect("a text of no outcome", strcmp(tftp_stroutcome(TFTP_ABORTED + 1), "unknown outcome"), 0);
+    expect("a text of no code", strcmp(tftp_strerror(TFTP_ERROR_OPTIONS + 1), "unknown code"), 0);
+    expect("a text of no fault", strcmp(tftp_strdecode(TFTP_DECODE_EMPTY_OACK + 1), "unknown fault"), 0);
+    for (unsigned i = 0; i <= 11; i++)
+        for (unsigned j = 0; j < i; j++) {
+            expect("two faults with a text", strcmp(tftp_strfault((uint8_t)i), tftp_strfault((uint8_t)j)) != 0, 1);
+            expect("two faults with a text", strcmp(tftp_strdecode((uint8_t)i), tftp_strdecode((uint8_t)j)) != 0, 1);
+            if (i <= TFTP_ABORTED)
+                expect("two outcomes with a text", strcmp(tftp_stroutcome((uint8_t)i), tftp_stroutcome((uint8_t)j)) != 0, 1);
+            if (i <= TFTP_ERROR_OPTIONS)
+                expect("two codes with a text", strcmp(tftp_strerror((uint16_t)i), tftp_strerror((uint16_t)j)) != 0, 1);
+        }
+}
+
+/* Each fault of a datagram, at its offset. */
+static void faults_of_packets(void) {
+    static const struct { uint8_t fault; const char *datagram; size_t len, at; } tried[] = {
+        {TFTP_DECODE_SHORT, "\0\3\0", 3, 2}, {TFTP_DECODE_OPCODE, "\0\7", 2, 0},
+        {TFTP_DECODE_UNTERMINATED, "\0\1abc", 5, 2}, {TFTP_DECODE_EMPTY_NAME, "\0\1\0octet\0", 9, 2},
+        {TFTP_DECODE_MODE, "\0\1a\0mail\0", 9, 4}, {TFTP_DECODE_NO_VALUE, "\0\6tsize\0", 8, 2},
+        {TFTP_DECODE_EMPTY_OPTION, "\0\6\0001\0", 5, 2}, {TFTP_DECODE_TRAILING, "\0\4\0\1x", 5, 4},
+        {TFTP_DECODE_BLOCK_ZERO, "\0\3\0\0", 4, 2}, {TFTP_DECODE_EMPTY_OACK, "\0\6", 2, 2}};
+    static uint8_t longest[TFTP_HEADER + TFTP_MAX_BLOCK + 1] = {0, 3, 0, 1};
+    struct tftp_packet packet;
+    for (size_t i = 0; i < sizeof tried / sizeof *tried; i++) {
+        memset(&packet, 0, sizeof packet);
+        expect("a fault", tftp_decode((const uint8_t *)tried[i].datagram, tried[i].len, &packet), tried[i].fault);
+        FIELD(packet, fault, tried[i].fault);
+        FIELD(packet, opcode, 0);
+        FIELD(packet, fault_at, tried[i].at);
+    }
+    expect("the longest DATA", tftp_decode(longest, sizeof longest - 1, &packet), 0);
+    FIELD(packet, opcode, TFTP_OPCODE_DATA);
+    expect("a longer one", tftp_decode(longest, sizeof longest, &packet), TFTP_DECODE_TOO_LONG);
 }
 
 static void expect_bytes(const char *what, const uint8_t *found, size_t len, const char *expected, size_t count) {
@@ -293,7 +607,7 @@ static uint8_t ask(struct tftp_server *server, uint16_t port, const uint8_t *dat
 
 /* What the request port of a server asks and answers. */
 static void request_port(void) {
-    struct tftp_options options = {.max_file = 1000, .retries = 5};
+    struct tftp_options options = OPTIONS(.max_file = 1000, .retries = 5);
     struct tftp_server server = {0};
     struct tftp_question question;
     struct tftp_endpoint from = {{10, 0, 0, 1}, 1};
@@ -318,6 +632,10 @@ static void request_port(void) {
     EXPECT_ASKED("an ACK", 0, "", 4 + 1);
     ask(&server, 1, TEXT("\0\5\0\1\0"), name, reply, &question);
     EXPECT_ASKED("an ERROR", 0, "", 0);
+    ask(&server, 0, TEXT("\0\1a\0octet\0"), name, reply, &question);
+    EXPECT_ASKED("a read from port 0", 0, "", 0);
+    ask(&server, 0, TEXT("\0\4\0\1"), name, reply, &question);
+    EXPECT_ASKED("an ACK from port 0", 0, "", 0);
 
     static const char read[] = "\0\1a\0octet";
     const uint8_t *bytes = (const uint8_t *)read;
@@ -356,7 +674,7 @@ static void request_port(void) {
 /* A server that receives two blocks while the request for memory of this number is refused: the call that it refused
  * is made again. Whether it was. */
 static int lacking_server(int number) {
-    struct tftp_options options = {.max_file = 1000, .retries = 5};
+    struct tftp_options options = OPTIONS(.max_file = 1000, .retries = 5);
     struct tftp_server server = {0};
     struct tftp_question question;
     struct tftp_endpoint from = {{10, 0, 0, 1}, 1};
@@ -412,6 +730,7 @@ int main(void) {
 
     for (int i = 0; i < 4; i++) expect("ip", endpoint.it.ip[i], (unsigned)i + 1);
     FIELD(endpoint.it, port, 5);
+    FIELD(options.it, size, 28);
     FIELD(options.it, max_file, 6);
     FIELD(options.it, blksize, 7);
     FIELD(options.it, timeout, 8);
@@ -460,7 +779,7 @@ int main(void) {
     struct tftp_end end = {0};
     uint8_t name[TFTP_MAX_REQUEST], bytes[TFTP_MAX_REQUEST], ack[4] = {0, 4, 0, 0};
     memset(name, 'a', sizeof name);
-    struct tftp_options plain = {0};
+    struct tftp_options plain = OPTIONS(.retries = 0);
     const struct tftp_endpoint *at = &endpoint.it;
     struct tftp_event *told = &event.it;
     size_t most = sizeof bytes;
@@ -469,7 +788,8 @@ int main(void) {
     expect("TFTP_OK", tftp_get(&end, at, name, TFTP_MAX_REQUEST - 9, &plain, bytes, most, told), TFTP_OK);
     expect("TFTP_MAX_REQUEST", event.it.send_len, TFTP_MAX_REQUEST);
     expect("TFTP_WRONG_SIDE", tftp_send(&end, at, ack, sizeof ack, name, 1, bytes, most, told), TFTP_WRONG_SIDE);
-    expect("TFTP_TIMED_OUT", (tftp_timeout(&end, bytes, most, told), event.it.outcome), TFTP_TIMED_OUT);
+    expect("a timeout", tftp_timeout(&end, bytes, most, told), TFTP_OK);
+    expect("TFTP_TIMED_OUT", event.it.outcome, TFTP_TIMED_OUT);
     expect("TFTP_CLOSED", tftp_timeout(&end, bytes, most, told), TFTP_CLOSED);
     size_t longer = TFTP_MAX_REQUEST - 8;
     expect("a longer request", tftp_get(&end, at, name, longer, &plain, bytes, most, told), TFTP_BAD_REQUEST);
@@ -479,9 +799,18 @@ int main(void) {
     tftp_close(&end);
     tftp_close(&end);
 
+    expect("the version", tftp_version(), TFTP_VERSION);
     packets();
+    faults_of_packets();
+    stated();
+    texts();
     without_memory();
     numbers();
+    limits();
+    sizes_of_options();
+    openings_without_memory();
+    aborts();
+    nulls();
     for (int kind = 0; kind < 4; kind++) {
         blocks(kind & 1, kind & 2);
         served(kind & 1, kind & 2);

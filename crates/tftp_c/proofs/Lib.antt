@@ -1,3 +1,4 @@
+pub mod AbortLemmas
 pub mod FaultLemmas
 pub mod HoldingLemmas
 pub mod ListedLemmas
@@ -6,5 +7,6 @@ pub mod ReplyLemmas
 pub mod ServerSlotValues
 pub mod SinkLemmas
 pub mod SlotValues
+pub mod StatedLemmas
 pub mod StoredLemmas
 pub mod TransferLemmas

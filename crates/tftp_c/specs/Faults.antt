@@ -24,9 +24,10 @@ use Rattle.tftp_server.specs.declared.fault.ServerFault.TheVariants as table_fau
 use Rattle.tftp_c.specs.declared.event.TftpEndpoint.{TftpEndpoint}
 use Rattle.tftp_c.specs.declared.event.TftpOptions.{TftpOptions}
 use Rattle.tftp_c.specs.Opens.{asked_of, mode_of}
+use Rattle.tftp_c.specs.Options.{HasSize}
 use Rattle.tftp_c.specs.Reports.{endpoint_of}
 use Rattle.tftp_c.specs.HeldServer.{Table, config_of, table_fault}
-use Rattle.tftp_c.specs.ServerOpens.{limits_of}
+use Rattle.tftp_c.specs.ServerOpens.{limits_of, LimitsBlocks}
 
 -- the number of a fault of an end
 abbrev pub open_fault : OpenFault → ℕ
@@ -40,6 +41,11 @@ pub record Returns (because : OpenFault → Type 0) (returned : ℕ) : Type 0 wh
   pub fault : OpenFault
   pub number : returned ≡ open_fault fault
   pub why : because fault
+
+-- the options have no size (11), or an opening with them fails so
+abbrev pub FailsWith : TftpOptions → Type 0 → ℕ → Type 0
+FailsWith options fails returned =
+    ((returned ≡ 11) × (HasSize options → ⊥)) ⊎ (HasSize options × fails)
 
 -- ---- a client
 -- it does not get: its request is not allowed, or memory is lacking for one that is
@@ -58,6 +64,15 @@ PutRefused name whole options Memory =
 PutRefused name whole options TooLarge =
     PutsTooLarge name (mode_of options) (asked_of options whole) whole
 PutRefused name whole options SourceFault = ⊥
+
+-- it does not open, and the call returns this number
+abbrev pub GetFault : List ℕ → TftpOptions → ℕ → Type 0
+GetFault name options returned =
+    FailsWith options (Returns (GetRefused name options) returned) returned
+
+abbrev pub PutFault : List ℕ → ℕ → TftpOptions → ℕ → Type 0
+PutFault name whole options returned =
+    FailsWith options (Returns (PutRefused name whole options) returned) returned
 
 -- ---- a server's end
 -- an end does not send a file of this length: it has too many blocks, or, without an option, `next`
@@ -105,26 +120,38 @@ pub record PutAnswered (datagram : List ℕ) (options : TftpOptions) : Type 0 wh
   pub agreed : List Known
   pub answers : answer request.options kinds.Write request.mode 0 (limits_of options) ≡ Ok agreed
 
--- a read request is not served
+-- a read request is not served: the largest block size is none, or the datagram is no read request
 abbrev pub GetUnserved : List ℕ → ℕ → List ℕ → TftpOptions → ℕ → Type 0
 GetUnserved datagram whole next options returned =
-    ((returned ≡ 2) × NoRead datagram)
+    ((returned ≡ 2) × (LimitsBlocks options → ⊥))
+    ⊎ ((returned ≡ 2) × NoRead datagram)
     ⊎ ((returned ≡ 7) × GetOptionsRefused datagram whole options)
     ⊎ GetUnopened datagram whole next options returned
 
 -- a write request is not served: its end lacks only memory
 abbrev pub PutUnserved : List ℕ → TftpOptions → ℕ → Type 0
 PutUnserved datagram options returned =
-    ((returned ≡ 2) × NoWrite datagram)
+    ((returned ≡ 2) × (LimitsBlocks options → ⊥))
+    ⊎ ((returned ≡ 2) × NoWrite datagram)
     ⊎ ((returned ≡ 7) × PutOptionsRefused datagram options)
     ⊎ ((returned ≡ 3) × PutAnswered datagram options)
+
+-- the end of a handle does not open for it
+abbrev pub ServeGetFault : List ℕ → ℕ → List ℕ → TftpOptions → ℕ → Type 0
+ServeGetFault datagram whole next options returned =
+    FailsWith options (GetUnserved datagram whole next options returned) returned
+
+abbrev pub ServePutFault : List ℕ → TftpOptions → ℕ → Type 0
+ServePutFault datagram options returned =
+    FailsWith options (PutUnserved datagram options returned) returned
 
 -- ---- a server, and a transfer of it
 -- a server does not open: a number is out of its range, or memory is lacking
 abbrev pub StartRefused : TftpOptions → ℕ → ℕ → Type 0
 StartRefused options transfers returned =
-    ((returned ≡ 2) × (IsConfig (config_of options transfers) → ⊥))
-    ⊎ ((returned ≡ 3) × IsConfig (config_of options transfers))
+    FailsWith options
+    (((returned ≡ 2) × (IsConfig (config_of options transfers) → ⊥))
+    ⊎ ((returned ≡ 3) × IsConfig (config_of options transfers))) returned
 
 -- what the port decides for a request asks for such a file, or for none
 pub record AsksFile (table : Table) (from : TftpEndpoint) (request : List ℕ)

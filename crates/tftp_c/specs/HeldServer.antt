@@ -81,6 +81,12 @@ pub record AsksFor (table : Table) (from : TftpEndpoint) (datagram name reply : 
   pub admits : Admits table (endpoint_of from) datagram ask
   pub asks : Asks ask name reply question
 
+-- a datagram from port 0 is ignored, since no answer can come to it; any other is handled
+pub record AsksOf (table : Table) (from : TftpEndpoint) (datagram name reply : List ℕ)
+    (question : TftpQuestion) : Type 0 where
+  pub no_port : from.port ≡ 0 → Asks Ignores name reply question
+  pub handled : (from.port ≡ 0 → ⊥) → AsksFor table from datagram name reply question
+
 -- ---- the transfers
 
 -- a request that the port admits has a new transfer, whose end serves it; nothing else changes

@@ -1,9 +1,11 @@
+pub mod Aborted
 pub mod Built
 pub mod Elsewhere
 pub mod Faults
 pub mod Handled
 pub mod Listed
 pub mod Modes
+pub mod Options
 pub mod Opens
 pub mod Owned
 pub mod Reports
@@ -11,3 +13,4 @@ pub mod HeldServer
 pub mod ServerOpens
 pub mod Shown
 pub mod Slices
+pub mod Stated

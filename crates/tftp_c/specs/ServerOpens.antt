@@ -1,12 +1,12 @@
 -- How a server's end opens for C.
-use Rattle.std.specs.Prelude.{ℕ, ◌≡◌, ◌-◌, ◌*◌, ◌<◌, if◌then◌else◌, List, length, Option, Some, None, Ok}
+use Rattle.std.specs.Prelude.{ℕ, ◌≡◌, ◌-◌, ◌*◌, ◌<◌, ◌==◌, if◌then◌else◌, List, length, Option, Some, None, Ok}
 use Rattle.tftp_wire.specs.Spelling.{Spells}
 use Rattle.tftp_wire.specs.declared.limits.TheConstants.{MAX_BLOCK}
 use Rattle.tftp_wire.specs.declared.packet.Packet.TheVariants.{Read, Write}
 use Rattle.tftp_wire.specs.declared.packet.Request.{Request}
 use Rattle.tftp_negotiate.specs.Agreed as agreements
 use Rattle.tftp_negotiate.specs.Answer.{answer}
-use Rattle.tftp_negotiate.specs.Ranges.{block_sizes, is_in}
+use Rattle.tftp_negotiate.specs.Ranges.{IsBlockSize}
 use Rattle.tftp_negotiate.specs.declared.known.Kind.TheVariants as kinds
 use Rattle.tftp_negotiate.specs.declared.known.Known.{Known}
 use Rattle.tftp_negotiate.specs.declared.limits.Limits.{Limits}
@@ -20,13 +20,17 @@ use Rattle.tftp_c.specs.declared.event.TftpEvent.{TftpEvent}
 use Rattle.tftp_c.specs.declared.event.TftpOptions.{TftpOptions}
 use Rattle.tftp_c.specs.Reports.{endpoint_of, Sends, Reports}
 
--- the limits of a server: the block size that C gives is the largest, if it is one
+-- the limits of a server: the block size that C gives is the largest, and 0 is for any
 abbrev pub limits_of : TftpOptions → Limits
 limits_of options =
     record {
-      max_block = if is_in block_sizes options.blksize then options.blksize else MAX_BLOCK;
+      max_block = if options.blksize == 0 then MAX_BLOCK else options.blksize;
       max_file = options.max_file;
     }
+
+-- the largest block size is one (RFC 2348, "Blocksize Option Specification")
+abbrev pub LimitsBlocks : TftpOptions → Type 0
+LimitsBlocks options = IsBlockSize (limits_of options).max_block
 
 -- an end that opened sends its first datagram
 pub record FirstSent (e : EndState) (peer : Endpoint) (reply : List ℕ) (event : TftpEvent) : Type 0
@@ -34,10 +38,11 @@ pub record FirstSent (e : EndState) (peer : Endpoint) (reply : List ℕ) (event 
     pub sends : Sends (Some peer) e.position.last_sent reply event
     pub reports : Reports e event
 
--- a read request is served: its options are answered, and what is sent comes from `next`, of which
--- `rest` is left
-pub record ServesGet (client : TftpEndpoint) (datagram : List ℕ) (size : ℕ) (next : List ℕ)
-    (options : TftpOptions) (e : EndState) (reply : List ℕ) (event : TftpEvent) : Type 0 where
+-- a read request has such an end: its options are answered, and the `count` bytes that are sent come
+-- from `next`, of which `rest` is left
+pub record AnswersGet (client : TftpEndpoint) (datagram : List ℕ) (size : ℕ) (next : List ℕ)
+    (options : TftpOptions) (e : EndState) (count : ℕ) : Type 0 where
+  pub limits : LimitsBlocks options
   pub request : Request
   pub asked : Spells (Read request) datagram
   pub agreed : List Known
@@ -46,17 +51,30 @@ pub record ServesGet (client : TftpEndpoint) (datagram : List ℕ) (size : ℕ) 
   pub rest : List ℕ
   pub serves : ServesRead memory_source agreed (endpoint_of client) request.mode size
       options.retries next rest e
-  pub taken : event.file_len ≡ length next - length rest
-  pub sent : FirstSent e (endpoint_of client) reply event
+  pub taken : count ≡ length next - length rest
 
--- a write request is served: its options are answered
-pub record ServesPut (client : TftpEndpoint) (datagram : List ℕ) (options : TftpOptions)
-    (e : EndState) (reply : List ℕ) (event : TftpEvent) : Type 0 where
+-- a write request has such an end: its options are answered
+pub record AnswersPut (client : TftpEndpoint) (datagram : List ℕ) (options : TftpOptions)
+    (e : EndState) : Type 0 where
+  pub limits : LimitsBlocks options
   pub request : Request
   pub asked : Spells (Write request) datagram
   pub agreed : List Known
   pub answers : answer request.options kinds.Write request.mode 0 (limits_of options) ≡ Ok agreed
   pub state : e ≡ serving_write agreed (endpoint_of client) request.mode options.retries
+
+-- a read request is served: its end has sent its first datagram, and `count` bytes of the file
+pub record ServesGet (client : TftpEndpoint) (datagram : List ℕ) (size : ℕ) (next : List ℕ)
+    (options : TftpOptions) (e : EndState) (reply : List ℕ) (event : TftpEvent) : Type 0 where
+  pub count : ℕ
+  pub answers : AnswersGet client datagram size next options e count
+  pub taken : event.file_len ≡ count
+  pub sent : FirstSent e (endpoint_of client) reply event
+
+-- a write request is served
+pub record ServesPut (client : TftpEndpoint) (datagram : List ℕ) (options : TftpOptions)
+    (e : EndState) (reply : List ℕ) (event : TftpEvent) : Type 0 where
+  pub answers : AnswersPut client datagram options e
   pub file : event.file_len ≡ 0
   pub sent : FirstSent e (endpoint_of client) reply event
 

@@ -2,7 +2,7 @@
 
 ghost use Rattle.std.specs.Prelude.{◌≡◌, ◌≤◌, length, take, IfSome};
 ghost use Rattle.tftp_ends.specs.Step.{error_bytes};
-ghost use Rattle.tftp_c.specs.HeldServer.{Asks, AsksFor, Copied};
+ghost use Rattle.tftp_c.specs.HeldServer.{Asks, AsksOf, Copied};
 
 use crate::elsewhere::Elsewhere;
 use crate::event::{self, TftpEndpoint, TftpQuestion};
@@ -70,7 +70,8 @@ fn question_of(
     }
 }
 
-/// Reads a datagram at the request port. The server is unchanged.
+/// Reads a datagram at the request port. The server is unchanged. One from port 0 is ignored, since no
+/// answer can come to it.
 pub(crate) fn request(
     alloc: Global,
     server: &Server<Elsewhere>,
@@ -81,9 +82,13 @@ pub(crate) fn request(
     question: &mut TftpQuestion,
 ) -> u8
     ensures ok { result ≡ 0
-        → AsksFor server.now from.now datagram.now name.new reply.new question.new }
+        → AsksOf server.now from.now datagram.now name.new reply.new question.new }
     ensures unmoved { (result ≡ 0 → ⊥) → question.new ≡ question.old }
 {
+    if from.port == 0 {
+        *question = answered(0);
+        return 0;
+    }
     let Ok(admission) = server.admit(endpoint(from), datagram) else {
         return event::MEMORY;
     };

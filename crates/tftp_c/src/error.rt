@@ -1,9 +1,10 @@
 //! An ERROR of a caller in C, which no end sends.
 
-ghost use Rattle.std.specs.Prelude.{◌≡◌, ◌≤◌, length, take};
+ghost use Rattle.std.specs.Prelude.{◌≡◌, ◌≤◌, ◌↔◌, IfSome, IsTrue, length, take};
 ghost use Rattle.tftp_wire.specs.Spelling.{canonical};
 ghost use Rattle.tftp_wire.specs.Texts.{IsText};
 ghost use Rattle.tftp_wire.specs.declared.packet.Packet.TheVariants.{Error};
+ghost use Rattle.tftp_c.specs.Aborted.{MayTell};
 
 use crate::report::copy;
 use std::alloc::Global;
@@ -23,6 +24,24 @@ pub(crate) fn copy_whole(bytes: &[u8], to: &mut [u8]) -> usize
     copy(bytes, to)
 }
 
+/// Whether an ERROR may have this text.
+pub(crate) fn may_tell(text: &[u8]) -> bool
+    ensures { IsTrue result ↔ MayTell text.now }
+{
+    text.len() <= MAX_REQUEST - AROUND && is_text(text)
+}
+
+/// The bytes of an ERROR, or `None` out of memory.
+pub(crate) fn error_packet(alloc: Global, code: u16, text: &[u8]) -> Option<Vec<u8>>
+    ensures { IfSome result (λ v. v.items ≡ canonical (Error code text.now)) }
+{
+    let mut out = Vec::new(alloc);
+    match append_error(&mut out, code, text) {
+        Ok(()) => Some(out),
+        Err(_) => None,
+    }
+}
+
 /// Writes an ERROR, and returns its length; or 0 if the text has a zero byte, or the ERROR has more
 /// than 512 bytes or does not fit, or without memory.
 pub(crate) fn write_error(alloc: Global, code: u16, text: &[u8], datagram: &mut [u8]) -> usize
@@ -30,15 +49,11 @@ pub(crate) fn write_error(alloc: Global, code: u16, text: &[u8], datagram: &mut 
     ensures len { (result ≡ 0 → ⊥) → result ≡ length (canonical (Error code text.now)) }
     ensures text { (result ≡ 0 → ⊥) → IsText text.now }
 {
-    if !is_text(text) {
+    if !may_tell(text) {
         return 0;
     }
-    if text.len() > MAX_REQUEST - AROUND {
-        return 0;
-    }
-    let mut out = Vec::new(alloc);
-    match append_error(&mut out, code, text) {
-        Ok(()) => copy_whole(out.as_slice(), datagram),
-        Err(_) => 0,
+    match error_packet(alloc, code, text) {
+        Some(error) => copy_whole(error.as_slice(), datagram),
+        None => 0,
     }
 }

@@ -1,5 +1,8 @@
 //! What crosses to C by value.
 
+ghost use Rattle.std.specs.Prelude.{◌↔◌, IsTrue};
+ghost use Rattle.tftp_c.specs.Options.{HasSize};
+
 /// The numbers that the calls return: 0 is success.
 pub(crate) const NOT_OPEN: u8 = 1;
 
@@ -21,6 +24,14 @@ pub(crate) const NO_TRANSFER: u8 = 9;
 
 pub(crate) const IN_USE: u8 = 10;
 
+pub(crate) const BAD_OPTIONS: u8 = 11;
+
+/// How an end closed that its caller aborts; 1 to 9 are the numbers of `Outcome`.
+pub(crate) const ABORTED: u8 = 10;
+
+/// The size of [`TftpOptions`] in bytes, which its field `size` states.
+pub(crate) const OPTIONS_SIZE: usize = 24;
+
 /// What a server asks its caller for: to open a file that is read, or to begin one that is written.
 pub(crate) const WANTS_OPEN: u8 = 1;
 
@@ -38,7 +49,9 @@ pub struct TftpEndpoint {
 #[repr(C)]
 #[derive(Clone, Copy)]
 pub struct TftpOptions {
-    /// The longest file that is accepted, where the server states its length.
+    /// The size of this struct where the caller was compiled: a later one has further fields.
+    pub size: usize,
+    /// The longest file that is accepted, where the peer states its length.
     pub max_file: u64,
     /// The block size, or 0 for none.
     pub blksize: u16,
@@ -48,6 +61,15 @@ pub struct TftpOptions {
     pub retries: u8,
     pub asks_tsize: bool,
     pub is_netascii: bool,
+}
+
+impl TftpOptions {
+    /// Whether the caller has set the size: then it knows these fields, and no other.
+    pub(crate) fn has_size(&self) -> bool
+        ensures { IsTrue result ↔ HasSize self.now }
+    {
+        self.size == OPTIONS_SIZE
+    }
 }
 
 /// What a call did, and the state of the end after it.
@@ -66,7 +88,7 @@ pub struct TftpEvent {
     pub number: u16,
     /// The block size in bytes; 512 while there is no peer.
     pub block_size: u16,
-    /// How the end closed, 1 to 9, or 0.
+    /// How the end closed, 1 to 10, or 0.
     pub outcome: u8,
     /// The timeout interval in seconds.
     pub interval: u8,

@@ -5,12 +5,15 @@ ghost use Rattle.tftp_ends.specs.Files.{AreFilesOf};
 ghost use Rattle.tftp_server.specs.Config.{IsConfig};
 ghost use Rattle.tftp_c.specs.Faults.{GetFails, PutFails, ReturnsHeld, StartRefused};
 ghost use Rattle.tftp_c.specs.HeldServer.{config_of, table_fault, OpensAt, OpensGet, OpensPut, Starts};
+ghost use Rattle.tftp_c.specs.Options.{HasSize};
+ghost use Rattle.tftp_c.specs.Reports.{endpoint_of};
+ghost use Rattle.tftp_c.specs.ServerOpens.{FirstSent};
 
 use crate::elsewhere::{Absent, Elsewhere};
 use crate::event::{self, TftpEndpoint, TftpEvent, TftpOptions};
 use crate::held_server::HeldServer;
-use crate::report::endpoint;
-use crate::serving::{limits, serve_get, serve_put};
+use crate::report::{endpoint, report_opening};
+use crate::serving::{Served, limits, serve_get, serve_put};
 use std::alloc::Global;
 use tftp_ends::End;
 use tftp_file::Files;
@@ -30,9 +33,13 @@ fn config(options: &TftpOptions, transfers: u8) -> Config
 /// A server without transfers, which holds so many at once.
 pub(crate) fn start(alloc: Global, options: &TftpOptions, transfers: u8) -> Result<HeldServer, u8>
     ensures ok { IfOk result (Starts options.now transfers) }
-    ensures allowed { OnOk result (IsConfig (config_of options.now transfers)) }
+    ensures allowed { OnOk result (HasSize options.now
+        × IsConfig (config_of options.now transfers)) }
     ensures err { IfErr result (StartRefused options.now transfers) }
 {
+    if !options.has_size() {
+        return Err(event::BAD_OPTIONS);
+    }
     let config = config(options, transfers);
     if !config.is_valid() {
         return Err(event::BAD_REQUEST);
@@ -90,6 +97,42 @@ fn hold(
     }
 }
 
+/// Holds the end that has opened for a request, and only then reports its opening.
+fn open(
+    server: &mut Server<Elsewhere>,
+    tid: u16,
+    from: &TftpEndpoint,
+    request: &[u8],
+    served: Served,
+    reply: &mut [u8],
+    event: &mut TftpEvent,
+) -> u8
+    requires { served.first.items ≡ served.end.position.last_sent }
+    ensures ok { result ≡ 0
+        → OpensAt tid from.now request.now (λ e. e ≡ served.end) server.old server.new }
+    ensures sent { result ≡ 0
+        → FirstSent served.end (endpoint_of from.now) reply.new event.new }
+    ensures file { result ≡ 0 → event.new.file_len ≡ served.count }
+    ensures fault { (result ≡ 0 → ⊥) → ReturnsHeld tid from.now request.now server.old result }
+    ensures err { (result ≡ 0 → ⊥) → server.new ≡ server.old }
+    ensures unmoved { (result ≡ 0 → ⊥) → (event.new ≡ event.old) × (reply.new ≡ reply.old) }
+{
+    let Served { end, count, first } = served;
+    let state = end.record();
+    let fault = hold(server, tid, from, request, end);
+    if fault == 0 {
+        report_opening(
+            &state,
+            endpoint(from),
+            first.as_slice(),
+            reply,
+            count,
+            event,
+        );
+    }
+    fault
+}
+
 /// Opens a transfer that sends the file of a read request, whose first bytes are `next`.
 pub(crate) fn get(
     alloc: Global,
@@ -108,18 +151,10 @@ pub(crate) fn get(
         served.old.options served.old.server result }
     ensures options { served.new.options ≡ served.old.options }
     ensures err { (result ≡ 0 → ⊥) → served.new ≡ served.old }
+    ensures unmoved { (result ≡ 0 → ⊥) → (event.new ≡ event.old) × (reply.new ≡ reply.old) }
 {
-    match serve_get(
-        alloc,
-        from,
-        request,
-        length,
-        next,
-        &served.options,
-        reply,
-        event,
-    ) {
-        Ok(client) => hold(&mut served.server, tid, from, request, client.end),
+    match serve_get(alloc, from, request, length, next, &served.options) {
+        Ok(opened) => open(&mut served.server, tid, from, request, opened, reply, event),
         Err(fault) => fault,
     }
 }
@@ -140,9 +175,10 @@ pub(crate) fn put(
         served.old.server result }
     ensures options { served.new.options ≡ served.old.options }
     ensures err { (result ≡ 0 → ⊥) → served.new ≡ served.old }
+    ensures unmoved { (result ≡ 0 → ⊥) → (event.new ≡ event.old) × (reply.new ≡ reply.old) }
 {
-    match serve_put(alloc, from, request, &served.options, reply, event) {
-        Ok(client) => hold(&mut served.server, tid, from, request, client.end),
+    match serve_put(alloc, from, request, &served.options) {
+        Ok(opened) => open(&mut served.server, tid, from, request, opened, reply, event),
         Err(fault) => fault,
     }
 }

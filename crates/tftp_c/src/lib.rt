@@ -5,6 +5,7 @@
 //! file. `include/tftp.h` declares the calls, with what a caller in C owes.
 #![tactic(auto)]
 
+mod aborting;
 mod asking;
 mod building;
 mod client;
@@ -27,11 +28,13 @@ mod serving;
 mod slice_sink;
 mod slice_source;
 mod slot;
+mod stated;
 mod stepping;
 mod transfers;
 mod wire_text;
 
-ghost use Rattle.std.specs.Prelude.{◌≡◌, ◌++◌, ◌^◌, ◌-◌, Some, None, length, min, take};
+ghost use Rattle.std.specs.Prelude.{◌≡◌, ◌⊎◌, ◌++◌, ◌^◌, ◌-◌, Some, None, length, min, take};
+ghost use Rattle.std.specs.Prelude.{true, false};
 ghost use Rattle.tftp_wire.specs.Reading.{first_fault};
 ghost use Rattle.tftp_wire.specs.Faults.{kind_number};
 ghost use Rattle.tftp_wire.specs.Spelling.{Spells, canonical};
@@ -41,13 +44,16 @@ ghost use Rattle.tftp_wire.specs.declared.fault.PacketFault.{PacketFault};
 ghost use Rattle.tftp_file.specs.Netascii.{netascii_text};
 ghost use Rattle.tftp_wire.specs.Options.{option_bytes};
 ghost use Rattle.tftp_ends.specs.Opening.{MayGet, MayPut};
+ghost use Rattle.tftp_c.specs.Aborted.{AbortRefused, AbortsOpen, OnRecord};
 ghost use Rattle.tftp_c.specs.Built.{BuildsRequest};
 ghost use Rattle.tftp_c.specs.Handled.{OnEnd, Received, Sent, TimedOut};
 ghost use Rattle.tftp_c.specs.Listed.{option_at, option_named, WritesOption};
-ghost use Rattle.tftp_c.specs.Faults.{GetRefused, GetUnserved, PutRefused, PutUnserved, Returns};
+ghost use Rattle.tftp_c.specs.Faults.{GetFault, PutFault, ServeGetFault, ServePutFault};
 ghost use Rattle.tftp_c.specs.Opens.{asked_of, gets, mode_of, puts, Opens};
+ghost use Rattle.tftp_c.specs.Options.{HasSize};
 ghost use Rattle.tftp_c.specs.ServerOpens.{HoldsSuch, ServesGet, ServesPut};
 ghost use Rattle.tftp_c.specs.Shown.{Shows};
+ghost use Rattle.tftp_c.specs.Stated.{States, StatesNone};
 
 use crate::error::write_error;
 use crate::event::{TftpEndpoint, TftpEvent, TftpOptions, TftpQuestion};
@@ -55,6 +61,9 @@ use crate::handle::TftpEnd;
 use crate::packet::{TftpPacket, decode};
 use crate::samples::TftpSizes;
 use std::alloc::Global;
+
+/// 0.1.0, as `TFTP_VERSION` of `tftp.h`.
+const VERSION: u32 = 0x00_01_00;
 
 /// Reads a datagram, and returns 0 or the number of its first fault.
 #[unsafe(no_mangle)]
@@ -81,21 +90,20 @@ pub extern "C" fn tftp_get(
 ) -> u8
     ensures ok { result ≡ 0 → Opens end.new.slot.value (gets server.now name.now options.now)
         server.now request.new event.new }
-    ensures allowed { result ≡ 0
-        → MayGet name.now (mode_of options.now) (asked_of options.now 0) }
-    ensures fault { (result ≡ 0 → ⊥) → Returns (GetRefused name.now options.now) result }
+    ensures allowed { result ≡ 0 → HasSize options.now
+        × MayGet name.now (mode_of options.now) (asked_of options.now 0) }
+    ensures fault { (result ≡ 0 → ⊥) → GetFault name.now options.now result }
     ensures err { (result ≡ 0 → ⊥) → end.new.slot.value ≡ None }
+    ensures unmoved { (result ≡ 0 → ⊥)
+        → (event.new ≡ event.old) × (request.new ≡ request.old) }
 {
     end.close(alloc);
     match opening::get(alloc, server, name, options, request, event) {
-        Ok(opened) => match Box::new(alloc, opened) {
-            Ok(opened) => {
-                end.put(opened);
-                0
-            }
-            Err(_) => event::MEMORY,
-        },
-        Err(fault) => opening::number(fault),
+        Ok(opened) => {
+            end.put(opened);
+            0
+        }
+        Err(fault) => fault,
     }
 }
 
@@ -114,21 +122,20 @@ pub extern "C" fn tftp_put(
 ) -> u8
     ensures ok { result ≡ 0 → Opens end.new.slot.value
         (puts server.now name.now length options.now) server.now request.new event.new }
-    ensures allowed { result ≡ 0
-        → MayPut name.now (mode_of options.now) (asked_of options.now length) length }
-    ensures fault { (result ≡ 0 → ⊥) → Returns (PutRefused name.now length options.now) result }
+    ensures allowed { result ≡ 0 → HasSize options.now
+        × MayPut name.now (mode_of options.now) (asked_of options.now length) length }
+    ensures fault { (result ≡ 0 → ⊥) → PutFault name.now length options.now result }
     ensures err { (result ≡ 0 → ⊥) → end.new.slot.value ≡ None }
+    ensures unmoved { (result ≡ 0 → ⊥)
+        → (event.new ≡ event.old) × (request.new ≡ request.old) }
 {
     end.close(alloc);
     match opening::put(alloc, server, name, length, options, request, event) {
-        Ok(opened) => match Box::new(alloc, opened) {
-            Ok(opened) => {
-                end.put(opened);
-                0
-            }
-            Err(_) => event::MEMORY,
-        },
-        Err(fault) => opening::number(fault),
+        Ok(opened) => {
+            end.put(opened);
+            0
+        }
+        Err(fault) => fault,
     }
 }
 
@@ -215,9 +222,48 @@ pub extern "C" fn tftp_timeout(
     }
 }
 
-/// Closes the end and frees its memory, if there is one.
+/// Ends the transfer by an ERROR, which is written to `reply` for the peer, and closes the end.
+///
+/// It is for a caller that cannot go on, as one that could not store a block, and so has not sent the
+/// ACK of it. A client that has no answer yet has no peer, and no ERROR to send.
 #[unsafe(no_mangle)]
-pub extern "C" fn tftp_close(alloc: Global, end: &mut TftpEnd)
+pub extern "C" fn tftp_abort(
+    alloc: Global,
+    end: &mut TftpEnd,
+    code: u16,
+    text: &[u8],
+    reply: &mut [u8],
+    event: &mut TftpEvent,
+) -> u8
+    ensures ok { result ≡ 0 → OnRecord end.old.slot.value
+        (λ r. AbortsOpen r code text.now reply.new event.new) }
+    ensures closed { result ≡ 0 → end.new.slot.value ≡ None }
+    ensures fault { (result ≡ 0 → ⊥) → (end.old.slot.value ≡ None)
+        ⊎ OnRecord end.old.slot.value (λ r. AbortRefused 4 r text.now result) }
+    ensures err { (result ≡ 0 → ⊥)
+        → OnEnd end.old.slot.value end.new.slot.value (λ before e. e ≡ before) }
+    ensures unmoved { (result ≡ 0 → ⊥) → (event.new ≡ event.old) × (reply.new ≡ reply.old) }
+    ensures none { end.old.slot.value ≡ None → result ≡ 1 }
+{
+    match end.take(alloc) {
+        Some(held) => {
+            let state = held.end.record();
+            match aborting::abort(alloc, &state, code, text, reply, event) {
+                Ok(()) => 0,
+                Err(fault) => {
+                    end.put(held);
+                    aborting::number(fault, event::CLOSED)
+                }
+            }
+        }
+        None => event::NOT_OPEN,
+    }
+}
+
+/// Closes the end and frees its memory, if there is one. `tftp_close` of `tftp.h` calls it, which
+/// allows null.
+#[unsafe(no_mangle)]
+pub extern "C" fn tftp_close_end(alloc: Global, end: &mut TftpEnd)
     ensures { end.new.slot.value ≡ None }
 {
     end.close(alloc);
@@ -239,19 +285,18 @@ pub extern "C" fn tftp_serve_get(
 ) -> u8
     ensures ok { result ≡ 0 → HoldsSuch end.new.slot.value (λ e. ServesGet client.now request.now
         length next.now options.now e reply.new event.new) }
+    ensures allowed { result ≡ 0 → HasSize options.now }
     ensures fault { (result ≡ 0 → ⊥)
-        → GetUnserved request.now length next.now options.now result }
+        → ServeGetFault request.now length next.now options.now result }
     ensures err { (result ≡ 0 → ⊥) → end.new.slot.value ≡ None }
+    ensures unmoved { (result ≡ 0 → ⊥) → (event.new ≡ event.old) × (reply.new ≡ reply.old) }
 {
     end.close(alloc);
-    match serving::serve_get(alloc, client, request, length, next, options, reply, event) {
-        Ok(opened) => match Box::new(alloc, opened) {
-            Ok(opened) => {
-                end.put(opened);
-                0
-            }
-            Err(_) => event::MEMORY,
-        },
+    match serving::open_get(alloc, client, request, length, next, options, reply, event) {
+        Ok(opened) => {
+            end.put(opened);
+            0
+        }
         Err(fault) => fault,
     }
 }
@@ -270,18 +315,17 @@ pub extern "C" fn tftp_serve_put(
 ) -> u8
     ensures ok { result ≡ 0 → HoldsSuch end.new.slot.value (λ e. ServesPut client.now request.now
         options.now e reply.new event.new) }
-    ensures fault { (result ≡ 0 → ⊥) → PutUnserved request.now options.now result }
+    ensures allowed { result ≡ 0 → HasSize options.now }
+    ensures fault { (result ≡ 0 → ⊥) → ServePutFault request.now options.now result }
     ensures err { (result ≡ 0 → ⊥) → end.new.slot.value ≡ None }
+    ensures unmoved { (result ≡ 0 → ⊥) → (event.new ≡ event.old) × (reply.new ≡ reply.old) }
 {
     end.close(alloc);
-    match serving::serve_put(alloc, client, request, options, reply, event) {
-        Ok(opened) => match Box::new(alloc, opened) {
-            Ok(opened) => {
-                end.put(opened);
-                0
-            }
-            Err(_) => event::MEMORY,
-        },
+    match serving::open_put(alloc, client, request, options, reply, event) {
+        Ok(opened) => {
+            end.put(opened);
+            0
+        }
         Err(fault) => fault,
     }
 }
@@ -320,6 +364,31 @@ pub extern "C" fn tftp_find_option(
     ensures { (result ≡ 0 → ⊥) → WritesOption (option_named name.now) datagram.now text.new result }
 {
     options::write_named(alloc, datagram, name, text)
+}
+
+/// Whether the packet that a datagram spells states the length of its file, which is written to
+/// `length`.
+#[unsafe(no_mangle)]
+pub extern "C" fn tftp_stated_length(datagram: &[u8], length: &mut u64) -> bool
+    ensures stated { result ≡ true → States datagram.now length.new }
+    ensures none { result ≡ false → StatesNone datagram.now }
+    ensures unmoved { result ≡ false → length.new ≡ length.old }
+{
+    match stated::stated_length(datagram) {
+        Some(stated) => {
+            *length = stated;
+            true
+        }
+        None => false,
+    }
+}
+
+/// The version of the library: `major * 65,536 + minor * 256 + patch`.
+#[unsafe(no_mangle)]
+pub extern "C" fn tftp_version() -> u32
+    ensures { result ≡ 256 }
+{
+    VERSION
 }
 
 /// Writes a request without options, and returns its length, or 0.

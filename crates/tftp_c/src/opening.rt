@@ -1,16 +1,17 @@
 //! How a client opens for C.
 
-ghost use Rattle.std.specs.Prelude.{◌≡◌, IfOk, IfErr, OnOk, Some};
-ghost use Rattle.tftp_ends.specs.Opening.{MayGet, MayPut};
-ghost use Rattle.tftp_c.specs.Faults.{open_fault, GetRefused, PutRefused};
+ghost use Rattle.std.specs.Prelude.{◌≡◌, IfOk, IfErr, OnOk, OnErr, Some};
+ghost use Rattle.tftp_ends.specs.Opening.{MayGet, MayPut, getting, putting};
+ghost use Rattle.tftp_c.specs.Faults.{open_fault, GetFault, GetRefused, PutFault, PutRefused};
 ghost use Rattle.tftp_c.specs.Opens.{asked_of, gets, mode_of, puts, Opened};
+ghost use Rattle.tftp_c.specs.Options.{HasSize};
 ghost use Rattle.tftp_c.specs.Reports.{Reports, Sends};
 
 use crate::client::Client;
 use crate::event::{self, TftpEndpoint, TftpEvent, TftpOptions};
-use crate::report::{endpoint, report};
+use crate::report::{endpoint, report_opening};
 use std::alloc::Global;
-use tftp_ends::{End, EndConfig, Endpoint, OpenFault, Outgoing, Step};
+use tftp_ends::{End, EndConfig, Endpoint, OpenFault, Outgoing};
 use tftp_negotiate::{Asked, Limits};
 use tftp_wire::{MAX_BLOCK, Mode};
 
@@ -71,18 +72,63 @@ pub(crate) fn number(fault: OpenFault) -> u8
     }
 }
 
-/// Reports the opening of a client, whose request is for `to`.
-fn report_opening(end: &End, to: Endpoint, request: &mut [u8], event: &mut TftpEvent)
-    ensures sends { Sends (Some to) end.now.position.last_sent request.new event.new }
-    ensures file { event.new.file_len ≡ 0 }
-    ensures reports { Reports end.now event.new }
+/// A client that gets, behind a pointer, before anything is reported.
+fn open_get(
+    alloc: Global,
+    to: Endpoint,
+    name: &[u8],
+    options: &TftpOptions,
+) -> Result<Box<Client>, OpenFault>
+    ensures ok { IfOk result (λ c. c.value.end ≡ getting to name.now (mode_of options.now)
+        (asked_of options.now 0) options.now.max_file options.now.retries) }
+    ensures allowed { OnOk result
+        (MayGet name.now (mode_of options.now) (asked_of options.now 0)) }
+    ensures err { IfErr result (GetRefused name.now options.now) }
 {
-    let step = Step {
-        to: Some(to),
-        progress: false,
-        closed: None,
-    };
-    report(end, step, Outgoing::LastSent, request, 0, event);
+    let asked = asked(options, 0);
+    match End::open_get(alloc, to, name, mode(options), &asked, &config(options)) {
+        Ok(end) => match Box::new(alloc, Client { end }) {
+            Ok(client) => Ok(client),
+            Err(_) => Err(OpenFault::Memory),
+        },
+        Err(fault) => Err(fault),
+    }
+}
+
+/// A client that puts a file of `length` bytes, behind a pointer, before anything is reported.
+fn open_put(
+    alloc: Global,
+    to: Endpoint,
+    name: &[u8],
+    length: u64,
+    options: &TftpOptions,
+) -> Result<Box<Client>, OpenFault>
+    ensures ok { IfOk result (λ c. c.value.end ≡ putting to name.now (mode_of options.now)
+        (asked_of options.now length) length options.now.max_file options.now.retries) }
+    ensures allowed { OnOk result
+        (MayPut name.now (mode_of options.now) (asked_of options.now length) length) }
+    ensures err { IfErr result (PutRefused name.now length options.now) }
+{
+    let asked = asked(options, length);
+    let config = config(options);
+    match End::open_put(alloc, to, name, mode(options), &asked, length, &config) {
+        Ok(end) => match Box::new(alloc, Client { end }) {
+            Ok(client) => Ok(client),
+            Err(_) => Err(OpenFault::Memory),
+        },
+        Err(fault) => Err(fault),
+    }
+}
+
+/// Reports that a client has opened, whose request is for `to`.
+fn report_client(client: &Client, to: Endpoint, request: &mut [u8], event: &mut TftpEvent)
+    ensures sends { Sends (Some to) client.now.end.position.last_sent request.new event.new }
+    ensures file { event.new.file_len ≡ 0 }
+    ensures reports { Reports client.now.end event.new }
+{
+    let state = client.end.record();
+    let datagram = client.end.bytes_of(Outgoing::LastSent);
+    report_opening(&state, to, datagram, request, 0, event);
 }
 
 /// Opens a client that gets.
@@ -93,21 +139,24 @@ pub(crate) fn get(
     options: &TftpOptions,
     request: &mut [u8],
     event: &mut TftpEvent,
-) -> Result<Client, OpenFault>
-    ensures ok { IfOk result (λ c. Opened c.end (gets server.now name.now options.now) server.now
-        request.new event.new) }
-    ensures allowed { OnOk result
-        (MayGet name.now (mode_of options.now) (asked_of options.now 0)) }
-    ensures err { IfErr result (GetRefused name.now options.now) }
+) -> Result<Box<Client>, u8>
+    ensures ok { IfOk result (λ c. Opened c.value.end (gets server.now name.now options.now)
+        server.now request.new event.new) }
+    ensures allowed { OnOk result (HasSize options.now
+        × MayGet name.now (mode_of options.now) (asked_of options.now 0)) }
+    ensures err { IfErr result (GetFault name.now options.now) }
+    ensures unmoved { OnErr result ((event.new ≡ event.old) × (request.new ≡ request.old)) }
 {
+    if !options.has_size() {
+        return Err(event::BAD_OPTIONS);
+    }
     let to = endpoint(server);
-    let asked = asked(options, 0);
-    match End::open_get(alloc, to, name, mode(options), &asked, &config(options)) {
-        Ok(end) => {
-            report_opening(&end, to, request, event);
-            Ok(Client { end })
+    match open_get(alloc, to, name, options) {
+        Ok(client) => {
+            report_client(&client, to, request, event);
+            Ok(client)
         }
-        Err(fault) => Err(fault),
+        Err(fault) => Err(number(fault)),
     }
 }
 
@@ -120,21 +169,23 @@ pub(crate) fn put(
     options: &TftpOptions,
     request: &mut [u8],
     event: &mut TftpEvent,
-) -> Result<Client, OpenFault>
-    ensures ok { IfOk result (λ c. Opened c.end (puts server.now name.now length options.now)
+) -> Result<Box<Client>, u8>
+    ensures ok { IfOk result (λ c. Opened c.value.end (puts server.now name.now length options.now)
         server.now request.new event.new) }
-    ensures allowed { OnOk result
-        (MayPut name.now (mode_of options.now) (asked_of options.now length) length) }
-    ensures err { IfErr result (PutRefused name.now length options.now) }
+    ensures allowed { OnOk result (HasSize options.now
+        × MayPut name.now (mode_of options.now) (asked_of options.now length) length) }
+    ensures err { IfErr result (PutFault name.now length options.now) }
+    ensures unmoved { OnErr result ((event.new ≡ event.old) × (request.new ≡ request.old)) }
 {
+    if !options.has_size() {
+        return Err(event::BAD_OPTIONS);
+    }
     let to = endpoint(server);
-    let asked = asked(options, length);
-    let config = config(options);
-    match End::open_put(alloc, to, name, mode(options), &asked, length, &config) {
-        Ok(end) => {
-            report_opening(&end, to, request, event);
-            Ok(Client { end })
+    match open_put(alloc, to, name, length, options) {
+        Ok(client) => {
+            report_client(&client, to, request, event);
+            Ok(client)
         }
-        Err(fault) => Err(fault),
+        Err(fault) => Err(number(fault)),
     }
 }

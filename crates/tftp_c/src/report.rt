@@ -1,6 +1,6 @@
 //! What the calls report to C.
 
-ghost use Rattle.std.specs.Prelude.{◌≡◌, ◌≤◌, length, take, option_map};
+ghost use Rattle.std.specs.Prelude.{◌≡◌, ◌≤◌, Some, length, take, option_map};
 ghost use Rattle.tftp_ends.specs.Step.{lent};
 ghost use Rattle.tftp_c.specs.Reports.{endpoint_of, outcome_number, peer_code, Reports};
 ghost use Rattle.tftp_c.specs.Reports.{ReportsRecord, Sends};
@@ -107,4 +107,25 @@ pub(crate) fn report(
         file_len,
         event,
     );
+}
+
+/// Reports an opening, and copies its first datagram, which is for `to`.
+pub(crate) fn report_opening(
+    state: &Record,
+    to: Endpoint,
+    datagram: &[u8],
+    reply: &mut [u8],
+    file_len: usize,
+    event: &mut TftpEvent,
+)
+    ensures sends { Sends (Some to) datagram.now reply.new event.new }
+    ensures file { event.new.file_len ≡ file_len }
+    ensures reports { ReportsRecord state.now event.new }
+{
+    let step = Step {
+        to: Some(to),
+        progress: false,
+        closed: None,
+    };
+    report_record(state, step, datagram, reply, file_len, event);
 }

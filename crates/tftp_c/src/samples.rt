@@ -3,7 +3,7 @@
 
 ghost use Rattle.std.specs.Prelude.{◌≡◌, [], ◌∷◌, true, false};
 
-use crate::event::{TftpEndpoint, TftpEvent, TftpOptions, TftpQuestion};
+use crate::event::{OPTIONS_SIZE, TftpEndpoint, TftpEvent, TftpOptions, TftpQuestion};
 use crate::handle::TftpEnd;
 use crate::packet::TftpPacket;
 use crate::server_handle::TftpServer;
@@ -23,7 +23,7 @@ pub struct TftpSizes {
 
 const _: () = prove!(size_of::<TftpEndpoint>() == 6);
 
-const _: () = prove!(size_of::<TftpOptions>() == 16);
+const _: () = prove!(size_of::<TftpOptions>() == OPTIONS_SIZE);
 
 const _: () = prove!(size_of::<TftpEvent>() == 32);
 
@@ -47,6 +47,7 @@ pub(crate) fn endpoint() -> TftpEndpoint
 
 pub(crate) fn options() -> TftpOptions
     ensures { result ≡ record {
+      size = 28;
       max_file = 6;
       blksize = 7;
       timeout = 8;
@@ -56,6 +57,7 @@ pub(crate) fn options() -> TftpOptions
     } }
 {
     TftpOptions {
+        size: 28,
         max_file: 6,
         blksize: 7,
         timeout: 8,
@@ -130,7 +132,7 @@ pub(crate) fn question() -> TftpQuestion
 pub(crate) fn sizes() -> TftpSizes
     ensures { result ≡ record {
       endpoint = 6;
-      options = 16;
+      options = 24;
       event = 32;
       packet = 40;
       end = 16;
@@ -140,7 +142,7 @@ pub(crate) fn sizes() -> TftpSizes
 {
     TftpSizes {
         endpoint: 6,
-        options: 16,
+        options: 24,
         event: 32,
         packet: 40,
         end: 16,

@@ -5,13 +5,15 @@ ghost use Rattle.tftp_server.specs.CallersFiles.{is_open_receiver, is_open_sende
 ghost use Rattle.tftp_server.specs.Config.{IsConfig};
 ghost use Rattle.tftp_server.specs.State.{at, is_open, without};
 ghost use Rattle.tftp_c.specs.Faults.{GetFails, PutFails, StartRefused};
-ghost use Rattle.tftp_c.specs.HeldServer.{AsksFor, HoldsServer, OnServer, OpensGet, OpensPut};
+ghost use Rattle.tftp_c.specs.HeldServer.{AsksOf, HoldsServer, OnServer, OpensGet, OpensPut};
+ghost use Rattle.tftp_c.specs.Aborted.{AbortsAt, AtFault};
 ghost use Rattle.tftp_c.specs.HeldServer.{config_of};
 ghost use Rattle.tftp_c.specs.HeldServer.{ReceivedAt, SentAt, Starts, TimedOutAt};
+ghost use Rattle.tftp_c.specs.Options.{HasSize};
 
 use crate::event::{self, TftpEndpoint, TftpEvent, TftpOptions, TftpQuestion};
 use crate::server_handle::TftpServer;
-use crate::{asking, holding, transfers};
+use crate::{aborting, asking, holding, transfers};
 use std::alloc::Global;
 
 /// Opens a server that holds at most so many transfers at once, after closing what `server` held.
@@ -25,7 +27,8 @@ pub extern "C" fn tftp_server_open(
 ) -> u8
     ensures ok { result ≡ 0
         → HoldsServer server.new.slot.value (λ s. Starts options.now transfers s) }
-    ensures allowed { result ≡ 0 → IsConfig (config_of options.now transfers) }
+    ensures allowed { result ≡ 0
+        → HasSize options.now × IsConfig (config_of options.now transfers) }
     ensures fault { (result ≡ 0 → ⊥) → StartRefused options.now transfers result }
     ensures err { (result ≡ 0 → ⊥) → server.new.slot.value ≡ None }
 {
@@ -55,7 +58,7 @@ pub extern "C" fn tftp_server_request(
     question: &mut TftpQuestion,
 ) -> u8
     ensures ok { OnServer server.old.slot.value server.new.slot.value (λ s _. result ≡ 0
-        → AsksFor s.server from.now datagram.now name.new reply.new question.new) }
+        → AsksOf s.server from.now datagram.now name.new reply.new question.new) }
     ensures same { server.new.slot.value ≡ server.old.slot.value }
     ensures unmoved { (result ≡ 0 → ⊥) → question.new ≡ question.old }
     ensures none { server.old.slot.value ≡ None → result ≡ 1 }
@@ -100,6 +103,7 @@ pub extern "C" fn tftp_server_get(
     ensures options { OnServer server.old.slot.value server.new.slot.value (λ s t.
         t.options ≡ s.options) }
     ensures err { (result ≡ 0 → ⊥) → server.new.slot.value ≡ server.old.slot.value }
+    ensures unmoved { (result ≡ 0 → ⊥) → (event.new ≡ event.old) × (reply.new ≡ reply.old) }
     ensures none { server.old.slot.value ≡ None → result ≡ 1 }
 {
     match server.take(alloc) {
@@ -132,6 +136,7 @@ pub extern "C" fn tftp_server_put(
     ensures options { OnServer server.old.slot.value server.new.slot.value (λ s t.
         t.options ≡ s.options) }
     ensures err { (result ≡ 0 → ⊥) → server.new.slot.value ≡ server.old.slot.value }
+    ensures unmoved { (result ≡ 0 → ⊥) → (event.new ≡ event.old) × (reply.new ≡ reply.old) }
     ensures none { server.old.slot.value ≡ None → result ≡ 1 }
 {
     match server.take(alloc) {
@@ -246,6 +251,37 @@ pub extern "C" fn tftp_server_timeout(
     }
 }
 
+/// Ends the transfer with the identifier by an ERROR, as `tftp_abort`, and removes it.
+#[unsafe(no_mangle)]
+pub extern "C" fn tftp_server_abort(
+    alloc: Global,
+    server: &mut TftpServer,
+    tid: u16,
+    code: u16,
+    text: &[u8],
+    reply: &mut [u8],
+    event: &mut TftpEvent,
+) -> u8
+    ensures ok { OnServer server.old.slot.value server.new.slot.value (λ s t. result ≡ 0
+        → AbortsAt tid code text.now reply.new event.new s.server t.server) }
+    ensures options { OnServer server.old.slot.value server.new.slot.value (λ s t.
+        t.options ≡ s.options) }
+    ensures fault { OnServer server.old.slot.value server.new.slot.value (λ s _.
+        (result ≡ 0 → ⊥) → AtFault tid text.now s.server result) }
+    ensures err { (result ≡ 0 → ⊥) → server.new.slot.value ≡ server.old.slot.value }
+    ensures unmoved { (result ≡ 0 → ⊥) → (event.new ≡ event.old) × (reply.new ≡ reply.old) }
+    ensures none { server.old.slot.value ≡ None → result ≡ 1 }
+{
+    match server.take(alloc) {
+        Some(mut held) => {
+            let answer = aborting::abort_at(alloc, &mut held.server, tid, code, text, reply, event);
+            server.put(held);
+            answer
+        }
+        None => event::NOT_OPEN,
+    }
+}
+
 /// Removes the transfer with the identifier, open or closed, and returns whether there was one.
 #[unsafe(no_mangle)]
 pub extern "C" fn tftp_server_give_up(alloc: Global, server: &mut TftpServer, tid: u16) -> bool
@@ -266,9 +302,10 @@ pub extern "C" fn tftp_server_give_up(alloc: Global, server: &mut TftpServer, ti
     }
 }
 
-/// Closes the server and its transfers, and frees their memory, if there is one.
+/// Closes the server and its transfers, and frees their memory, if there is one. `tftp_server_close`
+/// of `tftp.h` calls it, which allows null.
 #[unsafe(no_mangle)]
-pub extern "C" fn tftp_server_close(alloc: Global, server: &mut TftpServer)
+pub extern "C" fn tftp_close_server(alloc: Global, server: &mut TftpServer)
     ensures { server.new.slot.value ≡ None }
 {
     server.close(alloc);

@@ -1,6 +1,6 @@
 -- A datagram that spells no read request is not served.
-use Rattle.std.proofs.Common.{inl, refl}
+use Rattle.std.proofs.Common.{inl, inr, refl}
 use Rattle.tftp_c.proofs.serving.serve_get.Goals as goal
 
 pub returns-in-None-clause-err : goal.returns-in-None-clause-err
-returns-in-None-clause-err c = inl (refl, c.in-None.ensures.none refl)
+returns-in-None-clause-err c = inr (inl (refl, c.in-None.ensures.none refl))

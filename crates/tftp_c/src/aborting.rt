@@ -1,0 +1,106 @@
+//! A transfer that its caller ends by an ERROR.
+
+ghost use Rattle.std.specs.Prelude.{◌≡◌, ◌⊎◌, IfErr, None, OnErr, OnOk, IsSome};
+ghost use Rattle.tftp_server.specs.State.{at};
+ghost use Rattle.tftp_c.specs.Aborted.{AbortFails, AbortsOpen, AbortsAt, AtFault, Tells};
+ghost use Rattle.tftp_c.specs.Aborted.{abort_number};
+
+use crate::elsewhere::Elsewhere;
+use crate::error::{error_packet, may_tell};
+use crate::event::{self, TftpEvent};
+use crate::report::report_record;
+use std::alloc::Global;
+use tftp_ends::{Record, Step};
+use tftp_server::Server;
+
+/// Why a transfer is not aborted.
+#[derive(Clone, Copy)]
+pub(crate) enum AbortFault {
+    /// It is over.
+    Over,
+    /// No ERROR has this text.
+    BadText,
+    Memory,
+}
+
+/// The number of a fault; `over` is that of a transfer which is over.
+pub(crate) fn number(fault: AbortFault, over: u8) -> u8
+    ensures { result ≡ abort_number over fault }
+{
+    match fault {
+        AbortFault::Over => over,
+        AbortFault::BadText => event::BAD_REQUEST,
+        AbortFault::Memory => event::MEMORY,
+    }
+}
+
+/// Reports the abort of a transfer, and copies its ERROR for the peer, if there is one yet.
+fn report_abort(state: &Record, error: &[u8], reply: &mut [u8], event: &mut TftpEvent)
+    requires { state.now.outcome ≡ None }
+    ensures { Tells state.now error.now reply.new event.new }
+{
+    let step = Step {
+        to: state.peer,
+        progress: false,
+        closed: None,
+    };
+    report_record(state, step, error, reply, 0, event);
+    event.complete = false;
+    event.outcome = event::ABORTED;
+}
+
+/// Aborts an open transfer, of which this is the record.
+pub(crate) fn abort(
+    alloc: Global,
+    state: &Record,
+    code: u16,
+    text: &[u8],
+    reply: &mut [u8],
+    event: &mut TftpEvent,
+) -> Result<(), AbortFault>
+    ensures ok { OnOk result (AbortsOpen state.now code text.now reply.new event.new) }
+    ensures err { IfErr result (AbortFails state.now text.now) }
+    ensures unmoved { OnErr result ((event.new ≡ event.old) × (reply.new ≡ reply.old)) }
+{
+    if state.outcome.is_some() {
+        return Err(AbortFault::Over);
+    }
+    if !may_tell(text) {
+        return Err(AbortFault::BadText);
+    }
+    match error_packet(alloc, code, text) {
+        Some(error) => {
+            report_abort(state, error.as_slice(), reply, event);
+            Ok(())
+        }
+        None => Err(AbortFault::Memory),
+    }
+}
+
+/// Aborts the transfer of this number, and removes it.
+pub(crate) fn abort_at(
+    alloc: Global,
+    server: &mut Server<Elsewhere>,
+    tid: u16,
+    code: u16,
+    text: &[u8],
+    reply: &mut [u8],
+    event: &mut TftpEvent,
+) -> u8
+    ensures ok { result ≡ 0
+        → AbortsAt tid code text.now reply.new event.new server.old server.new }
+    ensures fault { (result ≡ 0 → ⊥) → AtFault tid text.now server.old result }
+    ensures err { (result ≡ 0 → ⊥) → server.new ≡ server.old }
+    ensures unmoved { (result ≡ 0 → ⊥) → (event.new ≡ event.old) × (reply.new ≡ reply.old) }
+{
+    let Some(state) = server.record(tid) else {
+        return event::NO_TRANSFER;
+    };
+    match abort(alloc, &state, code, text, reply, event) {
+        Ok(()) => {
+            server.give_up(tid);
+            0
+        }
+        Err(fault) => number(fault, event::NO_TRANSFER),
+    }
+}
