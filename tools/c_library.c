@@ -477,20 +477,23 @@ static void stated(void) {
     }
 }
 
+/* (a compiler that knows the texts would compare them itself, and says so) */
+static bool differ(const char *volatile one, const char *volatile other) { return strcmp(one, other) != 0; }
+
 /* Each number has a text of its own, and the numbers around them have none. */
 static void texts(void) {
-    expect("a text of no fault", strcmp(tftp_strfault(TFTP_BAD_OPTIONS + 1), "unknown fault"), 0);
-    expect("a text of no outcome", strcmp(tftp_stroutcome(TFTP_ABORTED + 1), "unknown outcome"), 0);
-    expect("a text of no code", strcmp(tftp_strerror(TFTP_ERROR_OPTIONS + 1), "unknown code"), 0);
-    expect("a text of no fault", strcmp(tftp_strdecode(TFTP_DECODE_EMPTY_OACK + 1), "unknown fault"), 0);
-    for (unsigned i = 0; i <= 11; i++)
+    expect("a text of no fault", differ(tftp_strfault(TFTP_BAD_OPTIONS + 1), "unknown fault"), 0);
+    expect("a text of no outcome", differ(tftp_stroutcome(TFTP_ABORTED + 1), "unknown outcome"), 0);
+    expect("a text of no code", differ(tftp_strerror(TFTP_ERROR_OPTIONS + 1), "unknown code"), 0);
+    expect("a text of no fault", differ(tftp_strdecode(TFTP_DECODE_EMPTY_OACK + 1), "unknown fault"), 0);
+    for (unsigned i = 0; i <= 12; i++)
         for (unsigned j = 0; j < i; j++) {
-            expect("two faults with a text", strcmp(tftp_strfault((uint8_t)i), tftp_strfault((uint8_t)j)) != 0, 1);
-            expect("two faults with a text", strcmp(tftp_strdecode((uint8_t)i), tftp_strdecode((uint8_t)j)) != 0, 1);
-            if (i <= TFTP_ABORTED)
-                expect("two outcomes with a text", strcmp(tftp_stroutcome((uint8_t)i), tftp_stroutcome((uint8_t)j)) != 0, 1);
-            if (i <= TFTP_ERROR_OPTIONS)
-                expect("two codes with a text", strcmp(tftp_strerror((uint16_t)i), tftp_strerror((uint16_t)j)) != 0, 1);
+            expect("two faults with a text", differ(tftp_strfault((uint8_t)i), tftp_strfault((uint8_t)j)), 1);
+            expect("two faults with a text", differ(tftp_strdecode((uint8_t)i), tftp_strdecode((uint8_t)j)), 1);
+            if (i <= TFTP_ABORTED + 1)
+                expect("two outcomes with a text", differ(tftp_stroutcome((uint8_t)i), tftp_stroutcome((uint8_t)j)), 1);
+            if (i <= TFTP_ERROR_OPTIONS + 1)
+                expect("two codes with a text", differ(tftp_strerror((uint16_t)i), tftp_strerror((uint16_t)j)), 1);
         }
 }
 
@@ -499,7 +502,7 @@ static void faults_of_packets(void) {
     static const struct { uint8_t fault; const char *datagram; size_t len, at; } tried[] = {
         {TFTP_DECODE_SHORT, "\0\3\0", 3, 2}, {TFTP_DECODE_OPCODE, "\0\7", 2, 0},
         {TFTP_DECODE_UNTERMINATED, "\0\1abc", 5, 2}, {TFTP_DECODE_EMPTY_NAME, "\0\1\0octet\0", 9, 2},
-        {TFTP_DECODE_MODE, "\0\1a\0mail\0", 9, 4}, {TFTP_DECODE_NO_VALUE, "\0\6tsize\0", 8, 2},
+        {TFTP_DECODE_MODE, "\0\1a\0mail\0", 9, 4}, {TFTP_DECODE_NO_VALUE, "\0\6tsize\0", 8, 8},
         {TFTP_DECODE_EMPTY_OPTION, "\0\6\0001\0", 5, 2}, {TFTP_DECODE_TRAILING, "\0\4\0\1x", 5, 4},
         {TFTP_DECODE_BLOCK_ZERO, "\0\3\0\0", 4, 2}, {TFTP_DECODE_EMPTY_OACK, "\0\6", 2, 2}};
     static uint8_t longest[TFTP_HEADER + TFTP_MAX_BLOCK + 1] = {0, 3, 0, 1};

@@ -1,13 +1,14 @@
 #!/usr/bin/env python3
 """Tries the library for C by its examples: c_library.py [TFTP TFTPD]
 
-Takes the programs of bin/, or else those that `rt ci` built, and builds examples/ for each checker that is here: in C by
-each compiler with AddressSanitizer and UndefinedBehaviorSanitizer, and for valgrind; in Rust and in Python with
-AddressSanitizer and for valgrind. Each example that gets or puts does so at tftpd, at the example that serves, and at
-each server of another project that is here (in.tftpd, atftpd, which ATFTPD may name, dnsmasq), through a good network and
-through one that loses, duplicates and reorders datagrams; each file is compared byte for byte. Trials run side by side,
-each at an address of its own; one that fails while this host stalled is run once more, alone, and that is said. The last
-line is a count, and says what was skipped.
+Takes the programs of bin/, or else those that `rt ci` built, and builds examples/ for each checker that is here: in C and
+C++ by each compiler with AddressSanitizer and UndefinedBehaviorSanitizer, in C for valgrind, too; in Rust and in Python
+with AddressSanitizer and for valgrind; and in Go. Each example that gets or puts does so at tftpd, at the example that
+serves, and at each server of another project that is here (in.tftpd, atftpd, which ATFTPD may name, dnsmasq), through a
+good network and through one that loses, duplicates and reorders datagrams; each file is compared byte for byte. Each is
+refused a file that is not there. A get whose file fails ends at its server, too. Trials run side by side, each at an
+address of its own; one that fails while this host stalled is run once more, alone, and that is said. The last line is a
+count, and says what was skipped.
 """
 import os
 import random
@@ -67,15 +68,32 @@ def of_bare(example, built, way, name, local, _) -> Words:
     return built.command(example), {"SERVER": way[0], "PORT": way[1], "NAME": name, "LOCAL": local}
 
 
+def of_rust(example, built, way, name, local, blksize) -> Words:
+    return built.command(example, ":".join(way), *named(example, name, local), blksize), {}
+
+
+def of_client(example, built, way, name, local, blksize) -> Words:
+    return built.command(example, *way, *named(example, name, local), blksize), {}
+
+
+def named(example, name, local) -> list[str]:
+    """The name at the server, and the file: a put takes the file that a get would ask for, and names it as that is stored."""
+    return [local, name] if example.startswith("put") else [name, local]
+
+
 WORDS: dict[str, Callable[..., Words]] = {
     "get": lambda built, way, name, local, blksize: (built.command("get", *way, name, local, blksize), {}),
     "put": lambda built, way, name, local, blksize: (built.command("put", *way, name, local, blksize), {}),
     "bare": partial(of_bare, "bare"),
     "bare over valgrind's malloc": partial(of_bare, "bare over valgrind's malloc"),
-    "get in Rust": lambda built, way, name, local, blksize: (
-        built.command("get in Rust", ":".join(way), name, local, blksize), {}),
-    "get.py": lambda built, way, name, local, blksize: (built.command("get.py", *way, name, local, blksize), {}),
+    **{f"{verb} in Rust": partial(of_rust, f"{verb} in Rust") for verb in ["get", "put"]},
+    **{f"{verb} in {language}": partial(of_client, f"{verb} in {language}") for verb in ["get", "put"]
+       for language in ["C++", "Python", "Go"]},
 }
+
+
+def puts(example) -> bool:
+    return example.startswith("put")
 
 
 class Site:
@@ -94,7 +112,7 @@ def transfers(site, built, example, seed, length, blksize, compare=None) -> None
     is not complete has to say so."""
     scene = site.scene
     for number in range(TRIES if site.lossy else 1):
-        stored = f"{example.split()[-1]}{length}.{number}"
+        stored = f"{re.sub('[^a-z0-9]', '', example.lower())}{length}.{number}"
         words, more = WORDS[example](built, site.way(seed + 100 * number), f"f{length}", stored, blksize)
         done = subprocess.run(words, cwd=scene.folder, env={**built.env, **more}, stdin=subprocess.DEVNULL,
                               capture_output=True, text=True, timeout=PATIENCE)
@@ -107,14 +125,21 @@ def transfers(site, built, example, seed, length, blksize, compare=None) -> None
     raise AssertionError(f"{example} of {length} bytes was complete in none of {TRIES} tries")
 
 
+def refused(site, built, example) -> None:
+    """A file that the server has not: the example says that it is not complete."""
+    words, more = WORDS[example](built, site.way(0), "none.at.all", "none.got", 0)
+    run(*words, cwd=site.scene.folder, env={**built.env, **more}, status=1)
+
+
 def is_stored(scene, local, length, what) -> None:
     expect((scene.folder / local).read_bytes(), content(length), f"what {what} stored of {length} bytes")
 
 
 def at_server(site, built, put=True) -> None:
     """All that these examples do at a server, at the same time."""
-    examples = [it for it in WORDS if built.has(it) and (put or it != "put")]
-    jobs: list[Callable[[], None]] = []
+    examples = [it for it in WORDS if built.has(it) and (put or not puts(it))]
+    jobs: list[Callable[[], None]] = [partial(refused, site, built, it) for it in examples
+                                      if it.startswith("get") and not site.lossy]
     for number, length in enumerate(lengths(built, site.lossy)):
         site.scene.make(f"f{length}", content(length))
         for example in examples:
@@ -130,6 +155,7 @@ def lengths(built, lossy) -> list[int]:
 
 def by_tftpd(scene, built, lossy) -> None:
     each = len([it for it in WORDS if built.has(it)])
+    # a request that is refused is no transfer
     count = each * len(lengths(built, lossy)) + 3 * built.has("put")
     server = scene.serve(*(["--forever"] if lossy else ["--transfers", str(count)]))
     at_server(Site("tftpd", scene, server, lossy), built)
@@ -190,11 +216,33 @@ def by_library(scene, built, lossy) -> None:
 
     examples = [it for it in WORDS if built.has(it)]
     together([partial(transfers, site, built, it, seed, FEW[seed % 2], [0, 1428][seed % 2],
-                      is_read_by_tftp if it == "put" else None) for seed, it in enumerate(examples)]
+                      is_read_by_tftp if puts(it) else None) for seed, it in enumerate(examples)]
              + [partial(is_read_by_tftp, scene, "memory", 3_000, "memory", 10)])
     run(*built.command("get", *way, "none", "none.got"), cwd=scene.folder, env=built.env, status=1)
+    is_aborted(scene, built, way, process)
+    is_shown(scene, built, way)
     in_netascii(scene, built, server)
     ended(process)
+
+
+def is_aborted(scene, built, way, process) -> None:
+    """A get whose file cannot be stored, as on a disk that is full: its server has an ERROR in place of a silent client, and
+    ends the transfer at once. A client that leaves in silence is one that has timed out (outcome 2)."""
+    begun = time.monotonic()
+    run(*built.command("get", *way, "memory", "/dev/full"), cwd=scene.folder, env=built.env, status=1)
+    while "read memory" not in (line := next_line(process.stdout)) or not re.search("outcome [^1]", line):
+        expect(line != "", True, "that serve says how the get of /dev/full has ended")
+    expect(line.split(" outcome ")[1], "3\n", "how a get of /dev/full has ended at its server")
+    expect(time.monotonic() - begun < (60 if built.is_slow else 20), True, "that the server did not wait for it")
+
+
+def is_shown(scene, built, way) -> None:
+    """The example of the manual gets a file to its standard output."""
+    with (scene.folder / "shown").open("wb") as shown:
+        done = subprocess.run(built.command("manual", *way, f"f{FEW[0]}"), env=built.env, stdin=subprocess.DEVNULL,
+                              stdout=shown, stderr=subprocess.PIPE, timeout=PATIENCE)
+    expect((done.returncode, done.stderr), (0, b"complete\n"), "how the manual's example has ended")
+    is_stored(scene, "shown", FEW[0], "the manual's example")
 
 
 # ---- other projects' servers
@@ -325,7 +373,7 @@ def by_others(scene, built, program) -> None:
 # ---- all trials
 
 def archive(room) -> None:
-    """libtftp.a and libtftp.so.0 in the folder, of what `rt lib` built."""
+    """libtftp.a and libtftp.so.1 in the folder, of what `rt lib` built."""
     if not (TOP / "crates/tftp_c/out/libtftp_c.a").is_file():
         run("rt", "lib", "--cpu=x86-64", cwd=TOP / "crates/tftp_c")
     run(TOP / "tools/library.sh", room)
@@ -333,6 +381,7 @@ def archive(room) -> None:
 
 def layout(scene, built) -> None:
     run(*built.command("layout"), env=built.env)
+    expect(run(*built.command("shards"), env=built.env), "1000 transfers at once, 1000 complete\n", "what shards prints")
 
 
 def tests(found, skipped) -> Iterator[tuple[str, Any]]:

@@ -90,8 +90,8 @@ def main() -> None:
         serve(room)
         run(TOP / "tools/library.sh", room, folder=TOP)
         print(f"libtftp.a: {(room / 'libtftp.a').stat().st_size:,} bytes")
-        print(f"libtftp.so.0: {(room / 'libtftp.so.0').stat().st_size:,} bytes, "
-              f"of it code and constants {sizes(room / 'libtftp.so.0')[0]:,}")
+        print(f"libtftp.so.1: {(room / 'libtftp.so.1').stat().st_size:,} bytes, "
+              f"of it code and constants {sizes(room / 'libtftp.so.1')[0]:,}")
         run("cc", *SMALL, TOP / "examples/c/get.c", room / "libtftp.a", "-o", room / "get", folder=room)
         print(f"examples/c/get: {beyond_empty(room, room / 'get')}")
 

@@ -6,7 +6,7 @@
 enum { BLOCK = 1428 };
 
 static const struct tftp_endpoint there = {{127, 0, 0, 1}, 1024}, other = {{127, 0, 0, 1}, 1025};
-static const struct tftp_options options = {.max_file = 1 << 20, .blksize = BLOCK, .retries = 5, .asks_tsize = true};
+static const struct tftp_options options = {.size = sizeof options, .max_file = 1 << 20, .blksize = BLOCK, .retries = 5, .asks_tsize = true};
 static struct tftp_end end;
 static struct tftp_server server;
 static struct tftp_event event;

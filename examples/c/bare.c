@@ -63,7 +63,10 @@ int main(void) {
     struct tftp_endpoint server = {0}, from = {0};
     char name[128];
     machine_server(&server, name, sizeof name);
-    struct tftp_options options = {.max_file = ROOM, .blksize = BLOCK, .retries = 5, .asks_tsize = true};
+    struct tftp_options options = TFTP_OPTIONS_INIT;
+    options.max_file = ROOM; /* a longer file is refused at once, if its length is stated */
+    options.blksize = BLOCK;
+    options.asks_tsize = true;
     struct tftp_event event = {0};
     size_t len = 0;
     uint8_t fault = tftp_get(&end, &server, (const uint8_t *)name, strlen(name), &options, reply, sizeof reply, &event);
@@ -75,7 +78,7 @@ int main(void) {
         if (got != SIZE_MAX) {
             /* the block goes to its place in the image: nothing is copied twice */
             fault = tftp_receive(&end, &from, datagram, got, image + len, ROOM - len, reply, sizeof reply, &event);
-            if (fault == TFTP_MEMORY) { fault = 0; continue; }
+            if (fault == TFTP_MEMORY) { fault = 0; continue; } /* nothing has changed: the peer sends again */
         } else if (machine_clock() - began >= 1000u * event.interval) {
             fault = tftp_timeout(&end, reply, sizeof reply, &event);
             began = machine_clock();

@@ -6,7 +6,8 @@ static uint8_t datagram[TFTP_HEADER + TFTP_MAX_BLOCK + 1], block[TFTP_MAX_BLOCK]
 int main(int argc, char **argv) {
     if (argc < 5) return 2;
     struct tftp_endpoint server = udp_endpoint(argv[1], argv[2]), from;
-    struct tftp_options options = {.max_file = UINT64_MAX, .retries = 5, .asks_tsize = true};
+    struct tftp_options options = TFTP_OPTIONS_INIT;
+    options.asks_tsize = true;
     if (argc > 5) options.blksize = (uint16_t)atoi(argv[5]);
     options.is_netascii = argc > 6; /* LF is stored for CR LF */
     struct tftp_end end = {0};
@@ -16,7 +17,7 @@ int main(int argc, char **argv) {
     uint8_t fault = tftp_get(&end, &server, (const uint8_t *)argv[3], strlen(argv[3]), &options, reply,
                              sizeof reply, &event);
     if (fault) {
-        fprintf(stderr, "the request cannot be sent: fault %d\n", fault);
+        fprintf(stderr, "the request cannot be sent: %s\n", tftp_strfault(fault));
         return 2;
     }
     FILE *local = fopen(argv[4], "wb");
@@ -39,6 +40,8 @@ int main(int argc, char **argv) {
         if (fault) break;
         if (fwrite(block, 1, event.file_len, local) != event.file_len || (event.complete && fflush(local))) {
             perror(argv[4]); /* not acknowledged, so that the server does not take it for stored */
+            abort_transfer(fd, &end, TFTP_ERROR_DISK_FULL, "file not stored");
+            event.complete = false;
             break;
         }
         total += event.file_len;

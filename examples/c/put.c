@@ -8,7 +8,8 @@ int main(int argc, char **argv) {
     struct tftp_endpoint server = udp_endpoint(argv[1], argv[2]), from;
     size_t length = 0, taken = 0; /* the calls take each block from where the last one ended */
     uint8_t *file = read_file(argv[3], &length);
-    struct tftp_options options = {.retries = 5, .asks_tsize = true};
+    struct tftp_options options = TFTP_OPTIONS_INIT;
+    options.asks_tsize = true;
     if (argc > 5) options.blksize = (uint16_t)atoi(argv[5]);
     if (argc > 6) { /* a text is sent with CR LF and CR NUL */
         uint8_t *text = file, *wire = malloc(tftp_wire_length(text, length) + 1);
@@ -25,7 +26,7 @@ int main(int argc, char **argv) {
     uint8_t fault = tftp_put(&end, &server, (const uint8_t *)argv[4], strlen(argv[4]), length, &options,
                              reply, sizeof reply, &event);
     if (fault) {
-        fprintf(stderr, "the request cannot be sent: fault %d\n", fault);
+        fprintf(stderr, "the request cannot be sent: %s\n", tftp_strfault(fault));
         free(file);
         return 2;
     }

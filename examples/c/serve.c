@@ -6,7 +6,8 @@
 #include "files.h"
 #include <signal.h>
 
-enum { AT_ONCE = 16 };
+/* `max_file` bounds the length that a write states; this bounds the one that arrives, too */
+enum { AT_ONCE = 16, LONGEST = 1 << 30 };
 
 struct transfer {
     bool is_open;
@@ -33,15 +34,31 @@ static void shut(struct transfer *it) {
     it->is_open = false;
 }
 
+static void report(const struct transfer *it, const struct tftp_event *event) {
+    printf("%s %s: %zu bytes, outcome %d\n", it->writes ? "write" : "read", it->file.name, it->at, event->outcome);
+    fflush(stdout);
+}
+
+/* Ends a transfer whose file has failed: its client is told why, and does not wait. */
+static void fail(struct transfer *it, uint16_t code) {
+    const char *why = tftp_strerror(code);
+    struct tftp_event event = {0};
+    if (tftp_server_abort(&server, number(it), code, (const uint8_t *)why, strlen(why), reply, sizeof reply, &event) == TFTP_OK)
+        udp_send(it->fd, &event.to, reply, event.send_len);
+    report(it, &event);
+    shut(it);
+}
+
 static void answer(struct transfer *it, const struct tftp_event *event, bool timed_out) {
     /* before the last ACK, which says that the file is stored */
-    if (it->writes && event->complete && it->owns && (it->owns = !publish(&it->file))) event = NULL;
-    if (event) udp_send(it->fd, &event->to, reply, event->send_len);
-    if (event && (timed_out || event->progress)) it->due = now() + event->interval;
-    if (event && !event->outcome) return;
-    printf("%s %s: %zu bytes, outcome %d\n", it->writes ? "write" : "read", it->file.name, it->at,
-           event ? event->outcome : -1);
-    fflush(stdout);
+    if (it->writes && event->complete && it->owns && (it->owns = !publish(&it->file))) {
+        fail(it, find(it->file.name) ? TFTP_ERROR_EXISTS : TFTP_ERROR_DISK_FULL);
+        return;
+    }
+    udp_send(it->fd, &event->to, reply, event->send_len);
+    if (timed_out || event->progress) it->due = now() + event->interval;
+    if (!event->outcome) return;
+    report(it, event);
     shut(it);
 }
 
@@ -50,18 +67,18 @@ static const char *open_for(struct transfer *it, const struct tftp_endpoint *fro
                             struct tftp_event *event, uint16_t *code) {
     struct file *file = find(it->file.name);
     struct tftp_packet asked = {0};
-    *code = it->writes ? 6 : 1;
-    if (it->writes == (file != NULL)) return it->writes ? "file exists" : "file not found";
+    *code = it->writes ? TFTP_ERROR_EXISTS : TFTP_ERROR_NOT_FOUND;
+    if (it->writes == (file != NULL)) return tftp_strerror(*code);
     if (file) it->file = *file;
-    *code = 0;
-    tftp_decode(datagram, len, &asked);
-    if (file && asked.mode == 2 && !(it->owns = wire_copy(file, &it->file))) return "out of memory";
+    *code = TFTP_ERROR_UNDEFINED;
+    (void)tftp_decode(datagram, len, &asked);
+    if (file && asked.mode == TFTP_MODE_NETASCII && !(it->owns = wire_copy(file, &it->file))) return "out of memory";
     uint8_t fault = it->writes
         ? tftp_server_put(&server, number(it), from, datagram, len, reply, sizeof reply, event)
         : tftp_server_get(&server, number(it), from, datagram, len, it->file.len, it->file.bytes, it->file.len, reply,
                           sizeof reply, event);
-    *code = fault == TFTP_REFUSED_OPTIONS ? 8 : 0;
-    return fault == 0 ? NULL : *code ? "options refused" : "cannot be served";
+    if (fault == TFTP_REFUSED_OPTIONS) *code = TFTP_ERROR_OPTIONS;
+    return fault == TFTP_OK ? NULL : tftp_strfault(fault);
 }
 
 /* A datagram at the request port: the server reads it, and asks for the file. */
@@ -70,8 +87,8 @@ static void request(size_t len, const struct tftp_endpoint *from) {
     struct tftp_event event = {0};
     struct transfer *it = transfers, new = {0};
     uint16_t code;
-    if (tftp_server_request(&server, from, datagram, len, (uint8_t *)new.file.name, sizeof new.file.name - 1, reply,
-                            sizeof reply, &question))
+    if (tftp_server_request(&server, from, datagram, len, (uint8_t *)new.file.name, TFTP_MAX_PATH, reply, sizeof reply,
+                            &question)) /* the name's struct is zeros, so that a zero byte ends it */
         return; /* out of memory: the client sends again */
     udp_send(requests, from, reply, question.send_len);
     if (!question.wants) return;
@@ -93,11 +110,15 @@ static void request(size_t len, const struct tftp_endpoint *from) {
 static void step(struct transfer *it, ssize_t len, const struct tftp_endpoint *from) {
     struct tftp_event event = {0};
     uint8_t fault;
+    if (len >= 0 && it->writes && (it->file.len > LONGEST || !grow(&it->file, TFTP_MAX_BLOCK))) {
+        fail(it, TFTP_ERROR_DISK_FULL);
+        return;
+    }
     if (len < 0)
         fault = tftp_server_timeout(&server, number(it), reply, sizeof reply, &event);
     else if (it->writes)
-        fault = !grow(&it->file, TFTP_MAX_BLOCK) ? TFTP_MEMORY : tftp_server_receive(&server, number(it), from,
-            datagram, (size_t)len, it->file.bytes + it->at, it->file.room - it->at, reply, sizeof reply, &event);
+        fault = tftp_server_receive(&server, number(it), from, datagram, (size_t)len, it->file.bytes + it->at,
+                                    it->file.room - it->at, reply, sizeof reply, &event);
     else
         fault = tftp_server_send(&server, number(it), from, datagram, (size_t)len, it->file.bytes + it->at,
                                  it->file.len - it->at, reply, sizeof reply, &event);
@@ -110,7 +131,8 @@ static void step(struct transfer *it, ssize_t len, const struct tftp_endpoint *f
 static void end(int signal) { (void)signal, ended = 1; }
 
 int main(int argc, char **argv) {
-    struct tftp_options options = {.max_file = 1 << 30, .retries = 5};
+    struct tftp_options options = TFTP_OPTIONS_INIT;
+    options.max_file = LONGEST;
     if (argc < 3 || tftp_server_open(&server, &options, AT_ONCE)) return 2;
     signal(SIGTERM, end);
     own = udp_endpoint(argv[1], argv[2]);

@@ -37,6 +37,14 @@ static inline void udp_send(int fd, const struct tftp_endpoint *to, const uint8_
         perror("sendto"); /* as a datagram that was lost */
 }
 
+/* Ends a transfer whose file has failed: its peer is told why, and does not wait. */
+static inline void abort_transfer(int fd, struct tftp_end *end, uint16_t code, const char *text) {
+    uint8_t error[TFTP_MAX_REQUEST];
+    struct tftp_event event = {0};
+    if (tftp_abort(end, code, (const uint8_t *)text, strlen(text), error, sizeof error, &event) == TFTP_OK)
+        udp_send(fd, &event.to, error, event.send_len);
+}
+
 /* Waits for a datagram until `due`, and returns its length, or -1 for a timeout. */
 static inline ssize_t udp_receive(int fd, double due, struct tftp_endpoint *from, uint8_t *bytes, size_t room) {
     for (;;) {
@@ -83,9 +91,7 @@ static inline struct tftp_endpoint udp_endpoint(const char *ip, const char *port
 
 /* The text of the peer's ERROR, which is the last datagram that a call handled. */
 static inline void print_outcome(const struct tftp_event *event, const uint8_t *datagram, size_t len) {
-    static const char *const words[] = {"open", "complete", "timed out", "peer's error", "illegal packet",
-        "options refused", "too large", "store fault", "source fault", "not netascii"};
-    printf("%s", words[event->outcome]);
+    printf("%s", tftp_stroutcome(event->outcome));
     struct tftp_packet packet = {0};
     if (event->outcome == TFTP_PEER_ERROR && tftp_decode(datagram, len, &packet) == 0)
         printf(" %d (%.*s)", event->peer_code, (int)packet.body_len, (const char *)datagram + packet.body_at);

@@ -77,8 +77,10 @@ def in_c(room: Path, compiler: str, checker: str) -> Built:
     it = Built(f"C ({compiler}, {checker})", bool(before))
     folder, words = room / f"{compiler}-{checker}", [compiler, *WARNINGS, *flags]
     folder.mkdir()
-    for name in ["get", "put", "serve"]:
-        it.words[name] = [*before, linked(words, folder / name, EXAMPLES / f"c/{name}.c", room / "libtftp.a")]
+    (folder / "manual.c").write_text(of_the_manual())
+    for name in ["get", "put", "serve", "shards", "manual"]:
+        source = folder / "manual.c" if name == "manual" else EXAMPLES / f"c/{name}.c"
+        it.words[name] = [*before, linked([*words, "-I", str(EXAMPLES / "c")], folder / name, source, room / "libtftp.a")]
     bare = of_the_arena(room, folder, words, checker)
     it.words["bare"] = [*before, *(ARENA if before else []), bare]
     if before:
@@ -89,8 +91,49 @@ def in_c(room: Path, compiler: str, checker: str) -> Built:
     return it
 
 
+def of_the_manual() -> str:
+    """The example of tftp(3)."""
+    shown = (TOP / "man/tftp.3").read_text().split(".Bd -literal\n")[1].split(".Ed\n")[0]
+    return shown.replace("\\e", "\\")
+
+
+def in_cpp(room: Path, compiler: str, checker: str) -> Built:
+    """The example in C++, without exceptions in it."""
+    flags = SANITIZED if checker == "sanitized" else PLAIN
+    before = [*VALGRIND, *LEAKS] if checker == "valgrind" else []
+    it = Built(f"C++ ({compiler}, {checker})", bool(before))
+    folder = room / f"{compiler}-{checker}"
+    folder.mkdir()
+    words = [compiler, "-std=c++17", *WARNINGS[1:], *flags]
+    client = linked(words, folder / "client", EXAMPLES / "cpp/client.cpp", room / "libtftp.a")
+    for verb in ["get", "put"]:
+        it.words[f"{verb} in C++"] = [*before, client, verb]
+    return it
+
+
+def in_go(room: Path) -> Built:
+    """The package's test is run, and its client is built, with the checks of pointers that cgo has."""
+    it = Built("Go", False)
+    folder, client = EXAMPLES / "go", room / "go-client"
+    env = {**os.environ, "CGO_ENABLED": "1", "CGO_CFLAGS": f"-I{TOP / 'include'}", "CGO_LDFLAGS": f"-L{room}",
+           "GOFLAGS": "-mod=mod", "GOPROXY": "off", "GOTOOLCHAIN": "local", "LD_LIBRARY_PATH": str(room),
+           "GODEBUG": "cgocheck=2" if go_checks_pointers() else "cgocheck=1"}
+    run("go", "vet", "./...", cwd=folder, env=env)
+    run("go", "test", "./...", cwd=folder, env=env)
+    run("go", "build", "-o", client, "./cmd/client", cwd=folder, env=env)
+    it.env.update(LD_LIBRARY_PATH=str(room))
+    for verb in ["get", "put"]:
+        it.words[f"{verb} in Go"] = [str(client), verb]
+    return it
+
+
+def go_checks_pointers() -> bool:
+    """Whether this Go takes its strictest check of pointers at run time: from 1.21 on it is an experiment of the build."""
+    return run("go", "env", "GOVERSION").strip().startswith(("go1.18", "go1.19", "go1.20"))
+
+
 def in_rust(room: Path, checker: str) -> Built:
-    """The crate's doc tests are run, and its example is built."""
+    """The crate's tests are run, those of its documentation too, and its example is built."""
     folder = room / f"rust-{checker}"
     shutil.copytree(EXAMPLES / "rust", folder, ignore=shutil.ignore_patterns("target", "Cargo.lock"))
     env = {**os.environ, "TFTP_LIB": str(room)}
@@ -102,13 +145,14 @@ def in_rust(room: Path, checker: str) -> Built:
         run("cargo", "--offline", "--quiet", *words, *target, cwd=folder, env=env)
     before = [*VALGRIND, *LOST] if checker == "valgrind" else []
     it = Built(f"Rust ({checker})", bool(before))
-    it.words["get in Rust"] = [*before, str(folder / "target" / RUST_TARGET / "debug/examples/get")]
+    for verb in ["get", "put"]:
+        it.words[f"{verb} in Rust"] = [*before, str(folder / "target" / RUST_TARGET / "debug/examples/client"), verb]
     return it
 
 
 def in_python(room: Path, checker: str) -> Built:
-    """The example in Python, whose buffers are blocks of malloc, with the library that it loads."""
-    before, env = list[str](), {"PYTHONMALLOC": "malloc"}
+    """The module for Python as a program, whose buffers are blocks of malloc, with the library that it loads."""
+    before, env = list[str](), {"PYTHONMALLOC": "malloc", "TFTP_LIBRARY": str(room / "libtftp.so.1")}
     if checker == "sanitized":
         # (the interpreter frees not all at its end)
         runtime = run("gcc", "-print-file-name=libasan.so").strip()
@@ -117,7 +161,8 @@ def in_python(room: Path, checker: str) -> Built:
         (room / "suppressed").write_text(INTERPRETER)
         before = [*VALGRIND, f"--suppressions={room / 'suppressed'}"]
     it = Built(f"Python ({checker})", bool(before), **env)
-    it.words["get.py"] = [*before, sys.executable, "-S", str(EXAMPLES / "python/get.py"), str(room / "libtftp.so.0")]
+    for verb in ["get", "put"]:
+        it.words[f"{verb} in Python"] = [*before, sys.executable, "-S", str(EXAMPLES / "python/tftp.py"), verb]
     return it
 
 
@@ -138,13 +183,16 @@ def to_build(room: Path, skipped: list[str]) -> list[Callable[[], Built]]:
     memcheck, objcopy = has("valgrind"), has("objcopy")
     found = [partial(in_c, room, it, "sanitized") for it in compilers if objcopy]
     found += [partial(in_c, room, it, "valgrind") for it in compilers[:1] if memcheck]
+    found += [partial(in_cpp, room, it, "sanitized") for it in ["g++", "clang++"] if has(it)]
     if has("cargo", " (Rust)"):
         if rust_has_sanitizer():
             found.append(partial(in_rust, room, "sanitized"))
         else:
             skipped.append("Rust's AddressSanitizer")
         found.append(partial(in_rust, room, "valgrind" if memcheck else "plain"))
-    if (room / "libtftp.so.0").is_file():
+    if has("go", " (Go)") and compilers and (room / "libtftp.so.1").is_file():
+        found.append(partial(in_go, room))
+    if (room / "libtftp.so.1").is_file():
         found += [partial(in_python, room, "sanitized")] * ("gcc" in compilers)
         found += [partial(in_python, room, "valgrind")] * memcheck
     else:

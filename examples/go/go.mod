@@ -1,0 +1,3 @@
+module example.org/tftp
+
+go 1.19

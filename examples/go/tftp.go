@@ -1,0 +1,163 @@
+// Package tftp has the ends of a TFTP transfer, by the proved steps of libtftp: a client that gets or puts, as a state
+// machine without IO. tftp.h says what each call does. Build it with CGO_CFLAGS and CGO_LDFLAGS of pkg-config.
+package tftp
+
+// #cgo LDFLAGS: -ltftp
+// #include <tftp.h>
+import "C"
+
+import (
+	"net"
+	"runtime"
+	"time"
+	"unsafe"
+)
+
+// Outcomes of a transfer, as in tftp.h.
+const (
+	Open      = 0
+	Complete  = C.TFTP_COMPLETE
+	TimedOut  = C.TFTP_TIMED_OUT
+	PeerError = C.TFTP_PEER_ERROR
+	Aborted   = C.TFTP_ABORTED
+	MaxBlock  = C.TFTP_MAX_BLOCK
+	Header    = C.TFTP_HEADER
+	DiskFull  = C.TFTP_ERROR_DISK_FULL
+)
+
+// Fault says why a call did nothing. Nothing has changed then.
+type Fault uint8
+
+func (fault Fault) Error() string { return C.GoString(C.tftp_strfault(C.uint8_t(fault))) }
+
+// OutOfMemory is the fault after which the peer sends again.
+const OutOfMemory = Fault(C.TFTP_MEMORY)
+
+// Outcome is how a transfer ended.
+type Outcome uint8
+
+func (outcome Outcome) String() string { return C.GoString(C.tftp_stroutcome(C.uint8_t(outcome))) }
+
+// Options of a request; zeros ask for none.
+type Options struct {
+	Blksize   uint16
+	Timeout   uint8
+	AsksTsize bool
+}
+
+// Event is what a call did: Send goes to To, and Moved bytes of the file were stored in the buffer, or taken from it.
+type Event struct {
+	Send      []byte // valid until the next call
+	To        *net.UDPAddr
+	Moved     int
+	PeerCode  uint16
+	Number    uint16
+	BlockSize uint16
+	Outcome   Outcome
+	Interval  time.Duration
+	Progress  bool
+	Complete  bool
+}
+
+// Client is one end of one transfer, used by one goroutine at a time. Close frees it; so does the collector.
+type Client struct {
+	end   C.struct_tftp_end
+	event C.struct_tftp_event
+	reply []byte
+}
+
+func pointer(bytes []byte) *C.uint8_t {
+	if len(bytes) == 0 {
+		return nil
+	}
+	return (*C.uint8_t)(unsafe.Pointer(&bytes[0]))
+}
+
+func size(bytes []byte) C.size_t { return C.size_t(len(bytes)) }
+
+func endpoint(at *net.UDPAddr) (to C.struct_tftp_endpoint) {
+	for place, part := range at.IP.To4() {
+		to.ip[place] = C.uint8_t(part)
+	}
+	to.port = C.uint16_t(at.Port)
+	return to
+}
+
+func (options Options) of() (made C.struct_tftp_options) {
+	made = C.struct_tftp_options{max_file: C.UINT64_MAX, retries: 5}
+	made.size = C.size_t(unsafe.Sizeof(made))
+	made.blksize, made.timeout = C.uint16_t(options.Blksize), C.uint8_t(options.Timeout)
+	made.asks_tsize = C.bool(options.AsksTsize)
+	return made
+}
+
+func newClient(blksize uint16) *Client {
+	if blksize < C.TFTP_DEFAULT_BLOCK {
+		blksize = C.TFTP_DEFAULT_BLOCK
+	}
+	client := &Client{reply: make([]byte, int(blksize)+Header)}
+	runtime.SetFinalizer(client, (*Client).Close)
+	return client
+}
+
+func (client *Client) did(fault C.uint8_t) (Event, error) {
+	it := &client.event
+	if fault != C.TFTP_OK {
+		return Event{}, Fault(fault)
+	}
+	event := Event{Moved: int(it.file_len), PeerCode: uint16(it.peer_code), Number: uint16(it.number),
+		BlockSize: uint16(it.block_size), Outcome: Outcome(it.outcome), Interval: time.Duration(it.interval) * time.Second,
+		Progress: bool(it.progress), Complete: bool(it.complete)}
+	if it.send_len > 0 && int(it.send_len) <= len(client.reply) {
+		event.Send = client.reply[:it.send_len]
+		event.To = &net.UDPAddr{IP: net.IPv4(byte(it.to.ip[0]), byte(it.to.ip[1]), byte(it.to.ip[2]), byte(it.to.ip[3])),
+			Port: int(it.to.port)}
+	}
+	return event, nil
+}
+
+// Get opens a client that gets a file.
+func Get(server *net.UDPAddr, name string, options Options) (*Client, Event, error) {
+	client, to, made, asked := newClient(options.Blksize), endpoint(server), options.of(), []byte(name)
+	event, fault := client.did(C.tftp_get(&client.end, &to, pointer(asked), size(asked), &made, pointer(client.reply),
+		size(client.reply), &client.event))
+	return client, event, fault
+}
+
+// Put opens a client that puts a file of this length.
+func Put(server *net.UDPAddr, name string, length uint64, options Options) (*Client, Event, error) {
+	client, to, made, asked := newClient(options.Blksize), endpoint(server), options.of(), []byte(name)
+	event, fault := client.did(C.tftp_put(&client.end, &to, pointer(asked), size(asked), C.uint64_t(length), &made,
+		pointer(client.reply), size(client.reply), &client.event))
+	return client, event, fault
+}
+
+// Receive handles a datagram of a get: the next event.Moved bytes of the file are at the start of block. Store them before
+// event.Send is sent, which acknowledges them.
+func (client *Client) Receive(from *net.UDPAddr, datagram, block []byte) (Event, error) {
+	at := endpoint(from)
+	return client.did(C.tftp_receive(&client.end, &at, pointer(datagram), size(datagram), pointer(block), size(block),
+		pointer(client.reply), size(client.reply), &client.event))
+}
+
+// Send handles a datagram of a put: event.Moved bytes were taken from the start of next.
+func (client *Client) Send(from *net.UDPAddr, datagram, next []byte) (Event, error) {
+	at := endpoint(from)
+	return client.did(C.tftp_send(&client.end, &at, pointer(datagram), size(datagram), pointer(next), size(next),
+		pointer(client.reply), size(client.reply), &client.event))
+}
+
+// Timeout says that event.Interval has passed.
+func (client *Client) Timeout() (Event, error) {
+	return client.did(C.tftp_timeout(&client.end, pointer(client.reply), size(client.reply), &client.event))
+}
+
+// Abort ends a transfer that cannot go on, by an ERROR for its peer.
+func (client *Client) Abort(code uint16, why string) (Event, error) {
+	text := []byte(why)
+	return client.did(C.tftp_abort(&client.end, C.uint16_t(code), pointer(text), size(text), pointer(client.reply),
+		size(client.reply), &client.event))
+}
+
+// Close frees the client. Closing twice is allowed.
+func (client *Client) Close() { C.tftp_close_end(&client.end) }

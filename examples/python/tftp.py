@@ -1,0 +1,242 @@
+"""TFTP over UDP, by the proved steps of libtftp.
+
+    import tftp
+    image = tftp.get("192.0.2.1", "boot.img")
+    tftp.put("192.0.2.1", "log.txt", b"...")
+
+`get` and `put` are whole transfers. `Client` is one step at a time, for a caller with a socket and a clock of its own. The
+library is that of TFTP_LIBRARY, or libtftp.so.1. As a program: tftp.py get|put HOST PORT NAME LOCAL [BLKSIZE]
+"""
+import ctypes
+import os
+import socket
+import sys
+import time
+from ctypes import POINTER, byref, c_bool, c_char_p, c_size_t, c_uint8, c_uint16, c_uint32, c_uint64, c_void_p
+from typing import Optional, Union
+
+__all__ = ["Client", "TftpError", "get", "put"]
+
+DEFAULT_BLOCK, HEADER, MIN_REPLY, MAX_BLOCK = 512, 4, 516, 65464
+COMPLETE, PEER_ERROR, MEMORY = 1, 3, 3
+DISK_FULL = 3
+OUTCOMES = ["open", "complete", "timed out", "peer's error", "illegal packet", "options refused", "too large", "store fault",
+            "source fault", "not netascii", "aborted"]
+FAULTS = ["success", "the handle is closed", "the request is not allowed", "out of memory", "the transfer is over",
+          "the end does not go this way", "the file has more than 65,535 blocks", "the options of the request are refused",
+          "the first block is not there", "no such transfer is open", "a transfer has this number",
+          "the options have no size"]
+
+
+class Endpoint(ctypes.Structure):
+    _fields_ = [("ip", c_uint8 * 4), ("port", c_uint16)]
+
+    @classmethod
+    def of(cls, address) -> "Endpoint":
+        return cls((c_uint8 * 4)(*socket.inet_aton(address[0])), address[1])
+
+    @property
+    def address(self) -> tuple[str, int]:
+        return socket.inet_ntoa(bytes(self.ip)), self.port
+
+
+class Options(ctypes.Structure):
+    _fields_ = [("size", c_size_t), ("max_file", c_uint64), ("blksize", c_uint16), ("timeout", c_uint8),
+                ("retries", c_uint8), ("asks_tsize", c_bool), ("is_netascii", c_bool)]
+
+    def __init__(self, blksize=0, timeout=0, retries=5, max_file=2**64 - 1, asks_tsize=True) -> None:
+        super().__init__(ctypes.sizeof(type(self)), max_file, blksize, timeout, retries, asks_tsize, False)
+
+
+class Event(ctypes.Structure):
+    """What a call did: `to_send` bytes of the client's reply are for `to`, and `file_len` bytes of the file have moved."""
+    _fields_ = [("send_len", c_size_t), ("file_len", c_size_t), ("to", Endpoint), ("peer_code", c_uint16),
+                ("number", c_uint16), ("block_size", c_uint16), ("outcome", c_uint8), ("interval", c_uint8),
+                ("progress", c_bool), ("complete", c_bool)]
+
+
+class End(ctypes.Structure):
+    _fields_ = [("is_open", c_bool), ("opaque", c_void_p)]
+
+
+class Packet(ctypes.Structure):
+    _fields_ = [("fault_at", c_size_t), ("name_len", c_size_t), ("body_at", c_size_t), ("body_len", c_size_t),
+                ("opcode", c_uint16), ("number", c_uint16), ("mode", c_uint8), ("fault", c_uint8)]
+
+
+class TftpError(OSError):
+    """A transfer that is not complete. `outcome` and `code` are those of its event, where it had opened."""
+
+    def __init__(self, text, outcome=0, code=0) -> None:
+        super().__init__(text)
+        self.outcome, self.code = outcome, code
+
+
+def _library() -> ctypes.CDLL:
+    library = ctypes.CDLL(os.environ.get("TFTP_LIBRARY", "libtftp.so.1"))
+    end, at, event = POINTER(End), POINTER(Endpoint), POINTER(Event)
+    read, room = [c_char_p, c_size_t], [c_void_p, c_size_t]
+    for name, words in {
+            "tftp_get": [end, at, *read, POINTER(Options), *room, event],
+            "tftp_put": [end, at, *read, c_uint64, POINTER(Options), *room, event],
+            "tftp_receive": [end, at, *read, *room, *room, event],
+            "tftp_send": [end, at, *read, *read, *room, event],
+            "tftp_timeout": [end, *room, event],
+            "tftp_abort": [end, c_uint16, *read, *room, event],
+            "tftp_decode": [*read, POINTER(Packet)]}.items():
+        call = getattr(library, name)
+        call.argtypes, call.restype = words, c_uint8
+    library.tftp_close_end.argtypes, library.tftp_close_end.restype = [end], None
+    library.tftp_version.restype = c_uint32
+    return library
+
+
+_TFTP = _library()
+
+
+class Client:
+    """One transfer of a client. It owns no socket and no clock: `start` and each later call return the datagram to send to
+    `event.to.address`, or nothing."""
+
+    def __init__(self, blksize=0, **options) -> None:
+        self.options = Options(blksize, **options)
+        self.event, self._end = Event(), End()
+        block = max(blksize, DEFAULT_BLOCK)
+        self._reply = ctypes.create_string_buffer(block + HEADER)
+        self._block = ctypes.create_string_buffer(block)
+        self._file, self._moved = b"", 0
+        self.received = bytearray()
+
+    def __enter__(self) -> "Client":
+        return self
+
+    def __exit__(self, *_) -> None:
+        self.close()
+
+    def __del__(self) -> None:
+        self.close()
+
+    def close(self) -> None:
+        _TFTP.tftp_close_end(byref(self._end))
+
+    @property
+    def is_open(self) -> bool:
+        return bool(self._end.is_open) and self.event.outcome == 0
+
+    def _sent(self, fault) -> bytes:
+        if fault:
+            raise MemoryError() if fault == MEMORY else TftpError(FAULTS[fault])
+        return self._reply.raw[:self.event.send_len]
+
+    def _room(self) -> tuple:
+        return self._reply, len(self._reply), byref(self.event)
+
+    def start_get(self, server, name) -> bytes:
+        asked = os.fsencode(name)
+        return self._sent(_TFTP.tftp_get(byref(self._end), Endpoint.of(server), asked, len(asked), byref(self.options),
+                                         *self._room()))
+
+    def start_put(self, server, name, file) -> bytes:
+        asked, self._file = os.fsencode(name), bytes(file)
+        return self._sent(_TFTP.tftp_put(byref(self._end), Endpoint.of(server), asked, len(asked), len(self._file),
+                                         byref(self.options), *self._room()))
+
+    def receive(self, peer, datagram) -> bytes:
+        """Of a get: the bytes of the file that came are at the end of `received`."""
+        sent = self._sent(_TFTP.tftp_receive(byref(self._end), Endpoint.of(peer), datagram, len(datagram), self._block,
+                                             len(self._block), *self._room()))
+        self.received += self._block.raw[:self.event.file_len]
+        return sent
+
+    def send(self, peer, datagram) -> bytes:
+        """Of a put: the next bytes are those behind the ones that earlier calls have taken."""
+        left = self._file[self._moved:self._moved + len(self._block)]
+        sent = self._sent(_TFTP.tftp_send(byref(self._end), Endpoint.of(peer), datagram, len(datagram), left, len(left),
+                                          *self._room()))
+        self._moved += self.event.file_len
+        return sent
+
+    def timeout(self) -> bytes:
+        return self._sent(_TFTP.tftp_timeout(byref(self._end), *self._room()))
+
+    def abort(self, code, text) -> bytes:
+        """Ends a transfer that cannot go on, and returns the ERROR that says so to its peer."""
+        why = text.encode()
+        return self._sent(_TFTP.tftp_abort(byref(self._end), code, why, len(why), *self._room()))
+
+
+def _text_of(datagram) -> str:
+    """The text of an ERROR."""
+    packet = Packet()
+    if _TFTP.tftp_decode(datagram, len(datagram), byref(packet)):
+        return ""
+    return datagram[packet.body_at:packet.body_at + packet.body_len].decode(errors="replace")
+
+
+def _run(client, udp, first, step) -> None:
+    """Sends and receives until the transfer is over."""
+    def send(datagram) -> None:
+        if datagram:
+            udp.sendto(datagram, client.event.to.address)
+
+    datagram = b""
+    try:
+        send(first)
+        due = time.monotonic() + client.event.interval
+        while client.is_open:
+            udp.settimeout(max(due - time.monotonic(), 0.001))
+            try:
+                datagram, peer = udp.recvfrom(HEADER + MAX_BLOCK + 1)
+            except (TimeoutError, socket.timeout):
+                answer, waited = client.timeout(), True
+            except ConnectionError:
+                continue  # an ICMP error, which anyone may send
+            else:
+                answer, waited = step(peer, datagram), False
+            send(answer)
+            if waited or client.event.progress:
+                due = time.monotonic() + client.event.interval
+    except BaseException:
+        if client.is_open:
+            send(client.abort(0, "given up"))
+        raise
+    event = client.event
+    if not event.complete:
+        code = event.peer_code
+        why = f" {code}: {_text_of(datagram)}" if event.outcome == PEER_ERROR else ""
+        raise TftpError(OUTCOMES[event.outcome] + why, event.outcome, code)
+
+
+def get(host, name, port=69, **options) -> bytes:
+    """The file of this name, as the server at `host` has it. Options: blksize, timeout, retries, max_file, asks_tsize."""
+    with Client(**options) as client, socket.socket(socket.AF_INET, socket.SOCK_DGRAM) as udp:
+        _run(client, udp, client.start_get((socket.gethostbyname(host), port), name), client.receive)
+        return bytes(client.received)
+
+
+def put(host, name, file: Union[bytes, bytearray], port=69, **options) -> None:
+    """Stores these bytes under this name at the server."""
+    with Client(**options) as client, socket.socket(socket.AF_INET, socket.SOCK_DGRAM) as udp:
+        _run(client, udp, client.start_put((socket.gethostbyname(host), port), name, file), client.send)
+
+
+def main(words) -> Optional[str]:
+    verb, host, port, name, local, *blksize = words
+    options = {"port": int(port), "blksize": int(blksize[0]) if blksize else 0}
+    try:
+        if verb == "put":
+            with open(local, "rb") as source:
+                put(host, name, source.read(), **options)
+        else:
+            image = get(host, name, **options)
+            with open(local, "wb") as stored:
+                stored.write(image)
+    except TftpError as error:
+        print(error)
+        return str(error)
+    print("complete")
+    return None
+
+
+if __name__ == "__main__":
+    sys.exit(main(sys.argv[1:]))
