@@ -1,7 +1,7 @@
 # make, make build: proves the four programs and the library for C, and builds them into bin/
 # make run: the four programs on a small sample, out of bin/, or from source by `rt try` where bin/ is not up to date
 # make tftp-show, tftp-play, tftp or tftpd: proves and builds that program alone, which takes less than all four
-# make libtftp: proves and builds the library for C alone: bin/libtftp.a, and with a C compiler bin/libtftp.so.0
+# make libtftp: proves and builds the library for C alone: bin/libtftp.a, and with a C compiler bin/libtftp.so.1
 # make test: the gate, every proof from nothing, and then what is tried of the programs that it built; with REQUIRE_ALL=1
 #   nothing may be skipped. The last line is `N passed, N failed`
 # make quick CRATE=NAME: what a change of one crate is tried by in minutes
@@ -42,8 +42,8 @@ CHECKS := tools/same_options.py tools/check_install.py tools/check_documents.py 
 	tools/one_journal.py tools/disk_calls.py tools/disk_trace.py tools/power_cuts.py tools/same_pictures.sh tools/lint.py \
 	tools/processors.py \
 	'$(MAKE) --no-print-directory run' tools/statuses.py tools/captures.py tools/memory_in_turn.py tools/lost_requests.py \
-	tools/out_of_memory.py 'python3 -m unittest $(TESTS)' tools/mutants.py tools/c_library.py tools/loopback/run.py \
-	tools/behaviours.py 'tools/network.py bin/tftp bin/tftpd' tools/soak/run.py
+	tools/out_of_memory.py 'python3 -m unittest $(TESTS)' tools/mutants.py tools/c_library.py tools/library_abi.py \
+	tools/loopback/run.py tools/behaviours.py 'tools/network.py bin/tftp bin/tftpd' tools/soak/run.py
 
 .PHONY: build programs libtftp run sample tftp-show tftp-play tftp tftpd test quick docs slips install uninstall dist deb soak \
 	behaviours coverage mutants bench bench-udp clean

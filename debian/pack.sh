@@ -1,6 +1,6 @@
 #!/bin/sh
 # Packs what `make install` installs into packages for Debian: pack.sh VERSION. The library for C, if it is built, is in
-# one of its own, libfanjuvery-dev. It needs dpkg-deb, and builds nothing.
+# two of its own: libtftp1, which programs need at run time, and libtftp-dev. It needs dpkg-deb, and builds nothing.
 set -eu
 umask 022
 cd "$(dirname "$0")/.."
@@ -18,18 +18,58 @@ architecture=$(dpkg --print-architecture)
 libdir=/usr/lib/$(dpkg-architecture -qDEB_HOST_MULTIARCH 2> /dev/null || echo "$(uname -m)-linux-gnu")
 tools/install.sh install DESTDIR="$root" PREFIX=/usr UNITDIR=/lib/systemd/system LIBDIR="$libdir" > /dev/null
 
-# the library is apart
-dev=$room/dev
+# the newest version of the C library that these files ask for
+libc_of() {
+    grep -aoh 'GLIBC_[0-9.]*' "$@" | sed 's/^GLIBC_//' | sort -uV | tail -n 1
+}
+
+# a package of the library, PACKAGE at FOLDER: its documents and its control files
+library_package() {
+    docs=$2/usr/share/doc/$1
+    mkdir -p "$docs" "$2/DEBIAN"
+    cp debian/copyright "$docs/copyright"
+    gzip -9nc debian/changelog > "$docs/changelog.gz"
+    find "$2/usr" -type d -exec chmod 755 {} +
+    sed "s/@VERSION@/$version/
+        s/@ARCHITECTURE@/$architecture/
+        s/@LIBC@/$3/
+        s/@SIZE@/$(du -sk --exclude=DEBIAN "$2" | cut -f 1)/" "debian/control.$1" > "$2/DEBIAN/control"
+    (cd "$2" && find usr -type f -print0 | LC_ALL=C sort -z | xargs -0 md5sum) > "$2/DEBIAN/md5sums"
+}
+
+# the library is apart: what a program needs at run time, and what its build needs
+lib=$room/libtftp1 dev=$room/libtftp-dev
+if test -e "$root$libdir/libtftp.so.1"; then
+    mkdir -p "$lib$libdir" "$lib/DEBIAN"
+    mv "$root$libdir/libtftp.so.1" "$lib$libdir/libtftp.so.1"
+    ! command -v strip > /dev/null || strip --strip-unneeded --remove-section=.comment --remove-section=.note \
+        "$lib$libdir/libtftp.so.1"
+    echo "libtftp 1 libtftp1 (>= 0.1.0)" > "$lib/DEBIAN/shlibs"
+    {
+        echo "libtftp.so.1 libtftp1 #MINVER#"
+        echo " LIBTFTP_1@LIBTFTP_1 0.1.0"
+        sed -n 's/^ *\(tftp_[a-z_]*\);$/ \1@LIBTFTP_1 0.1.0/p' packaging/libtftp.map
+    } > "$lib/DEBIAN/symbols"
+    echo "activate-noawait ldconfig" > "$lib/DEBIAN/triggers"
+    library_package libtftp1 "$lib" "$(libc_of "$lib$libdir/libtftp.so.1")"
+fi
 if test -e "$root$libdir/libtftp.a"; then
-    examples=$dev/usr/share/doc/libfanjuvery-dev
-    mkdir -p "$dev/usr/share/man" "$examples/rust" "$dev/usr/lib"
+    examples=$dev/usr/share/doc/libtftp-dev/examples
+    mkdir -p "$dev/usr/share/man" "$dev/usr/lib" "$examples"
     mv "$root/usr/include" "$dev/usr/include"
     mv "$root$libdir" "$dev/usr/lib/"
     rmdir "$root/usr/lib"
     mv "$root/usr/share/man/man3" "$dev/usr/share/man/"
     gzip -9n "$dev"/usr/share/man/man3/*
-    cp debian/copyright examples/c/*.[ch] examples/python/get.py "$examples/"
-    (cd examples/rust && cp -R Cargo.toml build.rs src examples "$examples/rust/")
+    ! command -v strip > /dev/null || strip --strip-debug --enable-deterministic-archives "$dev$libdir/libtftp.a"
+    for language in c cpp rust go python; do
+        (cd examples && git ls-files "$language" 2> /dev/null | grep . || find "$language" -type f) |
+            while read -r file; do
+                mkdir -p "$examples/$(dirname "$file")"
+                install -m 644 "examples/$file" "$examples/$file"
+            done
+    done
+    library_package libtftp-dev "$dev" ''
 fi
 
 # where Debian has them
@@ -47,8 +87,7 @@ if command -v strip > /dev/null; then
 else
     echo "pack.sh: strip is not installed: the programs keep their symbols" >&2
 fi
-# the newest version of the C library that a program asks for
-libc=$(grep -aoh 'GLIBC_[0-9.]*' "$root"/usr/bin/* | sed 's/^GLIBC_//' | sort -uV | tail -n 1)
+libc=$(libc_of "$root"/usr/bin/*)
 mkdir "$root/DEBIAN"
 sed "s/@VERSION@/$version/
     s/@ARCHITECTURE@/$architecture/
@@ -59,14 +98,6 @@ for script in postinst prerm postrm; do
 done
 (cd "$root" && find usr lib -type f -print0 | LC_ALL=C sort -z | xargs -0 md5sum) > "$root/DEBIAN/md5sums"
 
-if test -d "$dev"; then
-    mkdir "$dev/DEBIAN"
-    sed "s/@VERSION@/$version/
-        s/@ARCHITECTURE@/$architecture/
-        s/@SIZE@/$(du -sk --exclude=DEBIAN "$dev" | cut -f 1)/" debian/control.dev > "$dev/DEBIAN/control"
-    (cd "$dev" && find usr -type f -print0 | LC_ALL=C sort -z | xargs -0 md5sum) > "$dev/DEBIAN/md5sums"
-fi
-
 mkdir -p out
 # the time of the commit, or else that of the changelog
 SOURCE_DATE_EPOCH=$(git log -1 --format=%ct 2> /dev/null ||
@@ -75,8 +106,9 @@ export SOURCE_DATE_EPOCH
 package=out/fanjuvery_${version}_$architecture.deb
 dpkg-deb --root-owner-group --build "$root" "$room/package.deb" > /dev/null
 mv "$room/package.deb" "$package"
-if test -d "$dev"; then
-    dpkg-deb --root-owner-group --build "$dev" "$room/dev.deb" > /dev/null
-    mv "$room/dev.deb" "out/libfanjuvery-dev_${version}_$architecture.deb"
-fi
+for library in libtftp1 libtftp-dev; do
+    test -d "$room/$library" || continue
+    dpkg-deb --root-owner-group --build "$room/$library" "$room/library.deb" > /dev/null
+    mv "$room/library.deb" "out/${library}_${version}_$architecture.deb"
+done
 echo "$package"

@@ -19,7 +19,8 @@ TOP = Path(__file__).resolve().parent.parent
 PROGRAMS = ["tftp", "tftpd", "tftp-show", "tftp-play"]
 COPIED = ["Makefile", "LICENSE", "SECURITY.md", "crates.txt", "completions", "debian", "docs/OPERATING.md", "examples",
           "include", "man", "packaging", "tools"]
-LIBRARY = ["include/tftp.h", "lib/libtftp.a", "lib/libtftp.so", "lib/libtftp.so.0", "lib/pkgconfig/tftp.pc",
+LIBRARY = ["include/tftp.h", "include/tftp.hpp", "lib/libtftp.a", "lib/libtftp.so", "lib/libtftp.so.1",
+           "lib/cmake/tftp/tftp-config.cmake", "lib/cmake/tftp/tftp-config-version.cmake", "lib/pkgconfig/tftp.pc",
            "man/man3/tftp.3"]
 WORDS = ["PREFIX=/usr", "PROGRAM_PREFIX=x-", "MANDIR=/usr/man", "UNITDIR=/usr/units"]
 SHELLS = {"bash": ["bash", "-n"], "zsh": ["zsh", "-f", "-n"], "fish": ["fish", "--no-execute"]}
@@ -185,6 +186,13 @@ class Trial:
         for name in names[2:]:
             self.run("sh", "-n", control / name)
         self.check_removal(package)
+        if not shutil.which("lintian"):
+            self.skipped.append("lintian")
+            return
+        root = ["--allow-root"] * (os.geteuid() == 0)
+        for built in sorted((self.top / "out").glob("*_9_*.deb")):
+            told = self.run("lintian", *root, "--fail-on", "none", built)
+            self.expect([line for line in told.splitlines() if line.startswith("E:")], [], f"lintian's errors of {built.name}")
 
     def check_removal(self, package) -> None:
         """The package is installed below a folder, where its scripts start nothing, and a purge leaves nothing of it."""
@@ -203,28 +211,79 @@ class Trial:
         left = [name for name in files_below(root) if "tftp" in name or "fanjuvery" in name]
         self.expect(left, [], "what a purge leaves")
 
+    def unpacked(self, package) -> Path:
+        root = self.room / package
+        self.run("dpkg-deb", "-x", next((self.top / "out").glob(f"{package}_9_*.deb")), root)
+        return root
+
     def check_library(self) -> None:
-        """With the package for development and a compiler the examples are built as any program is, and run."""
+        """With the packages of the library and a compiler a program is built as any is, linked to either library, and run; its
+        own package would depend on libtftp1; ctypes and gold find the library."""
         if not self.library or not shutil.which("dpkg-deb") or not shutil.which("pkg-config"):
             self.skipped.append("a program over the library")
             return
-        root, example = self.room / "dev", self.room / "example"
-        self.run("dpkg-deb", "-x", next((self.top / "out").glob("libfanjuvery-dev_9_*.deb")), root)
+        root = self.unpacked("libtftp-dev")
+        shutil.copytree(self.unpacked("libtftp1"), root, dirs_exist_ok=True, symlinks=True)
         found = next(root.rglob("tftp.pc"), None)
         self.expect(bool(found), True, "whether the package for development has tftp.pc")
         if not found:
             return
+        libdir = found.parent.parent
+        shared = libdir / "libtftp.so.1"
+        self.expect((shared.stat().st_mode & 0o777, (libdir / "libtftp.so").readlink()), (0o644, Path("libtftp.so.1")),
+                    "the mode of libtftp.so.1, and where libtftp.so leads")
         config = ["env", f"PKG_CONFIG_PATH={found.parent}", f"PKG_CONFIG_SYSROOT_DIR={root}", "pkg-config"]
+        source = root / "usr/share/doc/libtftp-dev/examples/c/get.c"
         flags = self.run(*config, "--cflags", "--libs", "tftp").split()
-        self.run("cc", "examples/c/get.c", "-o", example, *flags, f"-Wl,-rpath,{found.parent.parent}")
-        self.run(example, status=2)
-        examples = root / "usr/share/doc/libfanjuvery-dev"
-        self.run(examples / "get.py", found.parent.parent / "libtftp.so.0", "127.0.0.1", "9", "", "none", status=1)
+        # (some versions of pkg-config put the folder before a variable, and some do not)
+        archive = self.run(*config, "--variable=archive", "tftp").strip().removeprefix(str(root))
+        within = [*self.run(*config, "--cflags", "tftp").split(), f"{root}{archive}"]
+        example = self.room / "example"
+        linkers = [["-fuse-ld=gold"]] * bool(shutil.which("ld.gold")) + [[]]
+        for words in [within, *([*flags, f"-Wl,-rpath,{libdir}", *more] for more in linkers)]:
+            self.run("cc", source, "-o", example, *words)
+            self.run(example, status=2)
+        self.run("python3", "-c", f"import ctypes; assert ctypes.CDLL({os.fspath(libdir / 'libtftp.so')!r}).tftp_version() == 256")
+        self.depends(libdir, example)
+        if shutil.which("cmake"):
+            self.by_cmake(root, libdir, source)
+        else:
+            self.skipped.append("CMake")
         if not shutil.which("cargo"):
-            self.skipped.append("the example in Rust over the library (no cargo)")
+            self.skipped.append("the crate for Rust over the library (no cargo)")
             return
-        self.run(*config[:-1], "cargo", "--offline", "--quiet", "build", "--examples", folder=examples / "rust")
-        self.run(examples / "rust/target/debug/examples/get", status=1)
+        crate = root / "usr/share/doc/libtftp-dev/examples/rust"
+        self.run(*config[:-1], "cargo", "--offline", "--quiet", "test", folder=crate)
+
+    def depends(self, libdir, example) -> None:
+        """dpkg-shlibdeps finds the package that a program needs, by the symbols of libtftp1."""
+        if not shutil.which("dpkg-shlibdeps"):
+            self.skipped.append("dpkg-shlibdeps")
+            return
+        room = self.room / "depends"
+        (room / "debian/libtftp1").mkdir(parents=True)
+        (room / "debian/control").write_text("Source: p\nMaintainer: p <p@example.org>\n\nPackage: p\nArchitecture: any\n")
+        shutil.copy(example, room / "p")
+        self.run("dpkg-deb", "-e", next((self.top / "out").glob("libtftp1_9_*.deb")), room / "debian/libtftp1/DEBIAN")
+        shutil.copytree(libdir, room / "debian/libtftp1" / libdir.relative_to(self.room / "libtftp-dev"), symlinks=True)
+        found = self.run("dpkg-shlibdeps", "-O", "-e./p", "-Sdebian/libtftp1", folder=room)
+        self.expect("libtftp1 (>= 0.1.0)" in found, True, f"whether a program depends on libtftp1: {found}")
+
+    def by_cmake(self, root, libdir, source) -> None:
+        """A project for CMake finds both libraries."""
+        room = self.room / "cmake"
+        room.mkdir()
+        for name in ["tftp-config.cmake"]:  # the package is below a folder here, and its paths are of the system
+            place = libdir / "cmake/tftp" / name
+            place.write_text(place.read_text().replace('"/usr', f'"{root}/usr'))
+        (room / "CMakeLists.txt").write_text(
+            "cmake_minimum_required(VERSION 3.16)\nproject(p C)\nfind_package(tftp 0.1 REQUIRED)\n"
+            f"add_executable(shared {source})\ntarget_link_libraries(shared tftp::tftp)\n"
+            f"add_executable(static {source})\ntarget_link_libraries(static tftp::archive)\n")
+        self.run("cmake", "-S", room, "-B", room / "out", f"-Dtftp_DIR={libdir / 'cmake/tftp'}")
+        self.run("cmake", "--build", room / "out")
+        for name in ["shared", "static"]:
+            self.run(room / "out" / name, status=2)
 
     def check_completions(self) -> None:
         """Each shell that is there reads its completions."""

@@ -4,7 +4,7 @@
 # Usage: install.sh install|uninstall [NAME=VALUE..], install.sh dist VERSION, or install.sh check
 # NAME is DESTDIR, PREFIX (/usr/local), PROGRAM_PREFIX (put before each program's name), MANDIR (PREFIX/share/man),
 # UNITDIR (PREFIX/lib/systemd/system) or LIBDIR (PREFIX/lib). Without bin/libtftp.a no library is installed. Nothing is
-# written or removed but the files below; one that is the same already stays as it is.
+# written or removed but the files below; one that is the same already stays as it is. No ldconfig is run.
 set -eu
 umask 022
 cd "$(dirname "$0")"
@@ -80,18 +80,29 @@ named() {
     echo "$room/${1##*/}"
 }
 
-# the library, a file a line, if it is built: the linker finds libtftp.so.0 by libtftp.so
+# one of the room's files: the source, with the folders of the library
+placed() {
+    prefix=$(printf '%s' "$PREFIX" | sed 's/[&\\|]/\\&/g')
+    libdir=$(printf '%s' "$LIBDIR" | sed 's/[&\\|]/\\&/g')
+    sed "s|@PREFIX@|$prefix|; s|@LIBDIR@|$libdir|" "$1" > "$room/${1##*/}"
+    echo "$room/${1##*/}"
+}
+
+# the library, a file a line, if it is built: the linker finds libtftp.so.1 by libtftp.so, a link
 library() {
     test -e bin/libtftp.a -o "$verb" = uninstall || return 0
     echo "644 $LIBDIR/libtftp.a bin/libtftp.a"
-    if test -e bin/libtftp.so.0 -o "$verb" = uninstall; then
-        echo 'INPUT(-l:libtftp.so.0)' > "$room/libtftp.so"
-        echo "755 $LIBDIR/libtftp.so.0 bin/libtftp.so.0"
-        echo "644 $LIBDIR/libtftp.so $room/libtftp.so"
+    if test -e bin/libtftp.so.1 -o "$verb" = uninstall; then
+        echo "644 $LIBDIR/libtftp.so.1 bin/libtftp.so.1"
+        echo "link $LIBDIR/libtftp.so libtftp.so.1"
     fi
-    echo "644 $PREFIX/include/tftp.h include/tftp.h"
-    sed "s|^prefix=.*|prefix=$PREFIX|; s|^libdir=.*|libdir=$LIBDIR|" packaging/tftp.pc > "$room/tftp.pc"
-    echo "644 $LIBDIR/pkgconfig/tftp.pc $room/tftp.pc"
+    for header in tftp.h tftp.hpp; do
+        echo "644 $PREFIX/include/$header include/$header"
+    done
+    echo "644 $LIBDIR/pkgconfig/tftp.pc $(placed packaging/tftp.pc)"
+    for file in tftp-config.cmake tftp-config-version.cmake; do
+        echo "644 $LIBDIR/cmake/tftp/$file $(placed "packaging/$file")"
+    done
     echo "644 $MANDIR/man3/tftp.3 man/tftp.3"
 }
 
@@ -121,7 +132,7 @@ files() {
 # what is in the archive: what is installed, and what `check` needs
 packed() {
     for program in $programs; do echo "bin/$program"; done
-    for file in bin/libtftp.a bin/libtftp.so.0; do test ! -e "$file" || echo "$file"; done
+    for file in bin/libtftp.a bin/libtftp.so.1; do test ! -e "$file" || echo "$file"; done
     ls -d completions/* man/*.[1-8] packaging/* include/* examples/c/*
     echo LICENSE SECURITY.md docs/OPERATING.md examples/loopback.sh examples/packets.hex | tr ' ' '\n'
 }
@@ -136,9 +147,16 @@ install)
     while IFS=' ' read -r mode rest; do
         source=${rest##* } place=${rest% *}
         mkdir -p "$DESTDIR${place%/*}"
-        install -C -m "$mode" "$source" "$DESTDIR$place"
+        if test "$mode" = link; then
+            ln -sf "$source" "$DESTDIR$place"
+        else
+            install -C -m "$mode" "$source" "$DESTDIR$place"
+        fi
     done < "$room/files"
     echo "installed below $DESTDIR$PREFIX"
+    if test -e bin/libtftp.so.1; then
+        echo "this ran no ldconfig, which finds a new library in $LIBDIR"
+    fi
     ;;
 uninstall)
     files | while IFS=' ' read -r _ rest; do rm -f "$DESTDIR${rest% *}"; done

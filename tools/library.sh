@@ -1,5 +1,5 @@
 #!/bin/sh
-# Makes libtftp.a and, where a C compiler is, libtftp.so.0: library.sh FOLDER
+# Makes libtftp.a and, where a C compiler is, libtftp.so.1: library.sh FOLDER
 # Of the archive that `rt lib` builds of tftp_c, and of the kit's calls of malloc. It proves nothing. CC is the compiler.
 set -eu
 cd "$(dirname "$0")/.."
@@ -26,10 +26,12 @@ rm -f "$folder/libtftp.a"
 cc=${CC:-cc}
 if command -v "$cc" > /dev/null; then
     # only the calls of tftp.h are seen from outside
-    echo '{ global: tftp_*; local: *; };' > "$room/names"
-    "$cc" -shared -Wl,-soname,libtftp.so.0 -Wl,--version-script="$room/names" -Wl,--gc-sections -Wl,-z,defs \
-        -o "$folder/libtftp.so.0" "$room"/*.o
-    ln -sf libtftp.so.0 "$folder/libtftp.so"
+    "$cc" -shared -Wl,-soname,libtftp.so.1 -Wl,--version-script=packaging/libtftp.map -Wl,--gc-sections -Wl,-z,defs \
+        -Wl,-z,relro,-z,now,-z,noexecstack -o "$room/libtftp.so.1" "$room"/*.o
+    # a program of the system only maps it
+    chmod 644 "$room/libtftp.so.1"
+    mv "$room/libtftp.so.1" "$folder/libtftp.so.1"
+    ln -sf libtftp.so.1 "$folder/libtftp.so"
 else
     echo "library.sh: no $cc: no shared library" >&2
 fi
