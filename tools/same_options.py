@@ -3,7 +3,7 @@
 
 What `--help` prints is compared with the program's manual in man/ and its completions for bash, zsh and fish, and for
 tftpd with docs/OPERATING.md. What examples and the units give to a program is among its options, `--version` prints the
-version of the Makefile and the line of `rt version`, mandoc finds no error, and systemd-analyze nothing. The last line
+version of the Makefile and the logic of `rt version`, mandoc finds no error, and systemd-analyze nothing. The last line
 says what was skipped: either of them where it is not installed, or where systemd is older than the settings of the units.
 
 Reads the programs of bin/, or else those that `rt ci` left in crates/*_main/out. A line for each difference, and the
@@ -129,7 +129,8 @@ class Comparison:
     def __init__(self, paths) -> None:
         self.differences, self.skipped = [], []
         self.paths = paths
-        self.toolchain = printed("rt", "version").strip() if shutil.which("rt") else ""
+        # (a kit with the same logic proves the same under another name)
+        self.logic = printed("rt", "version").strip().partition(" ")[2] if shutil.which("rt") else ""
         self.options = {
             (name, verb): help_options(printed(paths[name], *verb.split(), "--help"))
             for name, verbs in VERBS.items()
@@ -152,7 +153,7 @@ class Comparison:
         for verb in VERBS[name]:
             if not {"-h", "--help"} <= self.options[name, verb]:
                 self.differences.append(f"{name} {verb}: the help lists no options")
-        wanted = f"{name} {version} ({self.toolchain})" if self.toolchain else f"{name} {version} "
+        wanted = f"{name} {version} ({self.logic})" if self.logic else f"{name} {version} "
         if not printed(self.paths[name], "--version").startswith(wanted):
             self.differences.append(f"{name} --version: is not `{wanted}`, as by the Makefile and `rt version`")
 

@@ -5,8 +5,8 @@ GET, PUT = (("tftp", way, "127.0.0.1:69", "a", "b") for way in ("get", "put"))
 
 # Command lines that end with status 0, and a part of what they print
 HELP = [
-    (("tftpd", "--version"), "tftpd 0.1.0 (rattle-kit-"),
-    (("tftp", "--version"), "tftp 0.1.0 (rattle-kit-"),
+    (("tftpd", "--version"), "tftpd 0.1.0 (logic "),
+    (("tftp", "--version"), "tftp 0.1.0 (logic "),
     (("tftpd", "--help"), "Examples:\n  tftpd "),
     (("tftp", "--help"), "Examples:\n  tftp get "),
     (("tftp", "get", "--help"), "--blksize <8..65464>"),

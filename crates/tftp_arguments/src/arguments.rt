@@ -13,9 +13,9 @@ use std::env;
 use std::io::{self, ErrorKind};
 use std::rt::Runtime;
 
-/// The text that `--version` prints after a program's name: the version, and the toolchain that
-/// proves and builds it, as `rt version` prints it.
-pub const VERSION: &str = "0.1.0 (rattle-kit-13f logic dac8208d650f15bf)";
+/// The text that `--version` prints after a program's name: the version, and the logic of the
+/// toolchain that proves it, as `rt version` prints that.
+pub const VERSION: &str = "0.1.0 (logic dac8208d650f15bf)";
 
 /// What is printed of a command line with a word that is not UTF-8, as `clap` prints its faults.
 const NOT_TEXT: &str = "\
