@@ -314,7 +314,7 @@ def test_progress_is_shown_on_a_terminal(scene) -> None:
     end.is_answered(ABC, ack(1))
     client.ends(0, "complete 3\n", None)
     text = written_to(shown).decode()
-    expect(bool(re.search(r"\r3 bytes, \d+\.\d MB/s", text)), True, f"whether 3 bytes are in {text!r}")
+    expect(bool(re.search(r"\r3 bytes, \d+\.\d KB/s", text)), True, f"whether 3 bytes are in {text!r}")
     (scene.folder / "local").unlink()
     is_got(scene, "--progress")
 

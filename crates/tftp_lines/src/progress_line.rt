@@ -1,12 +1,16 @@
 //! The progress line of a client's transfer, and when one is due.
 
 ghost use Rattle.std.specs.Prelude.{◌≡◌, ◌↔◌, IsTrue, if◌then◌else◌, Some};
-ghost use Rattle.tftp_lines.specs.ProgressLine.{IsLineDue, percent_of, tenths_of};
+ghost use Rattle.tftp_lines.specs.ProgressLine.{IsLineDue, kilo_tenths_of, percent_of, seconds_left};
+ghost use Rattle.tftp_lines.specs.ProgressLine.{tenths_of};
 
 use std::fmt;
 
 /// The least time between two lines, in milliseconds.
 const LINE_INTERVAL: u64 = 100;
+
+/// The longest time that is shown as what is left, in seconds: 100 hours.
+const LONGEST_LEFT: u128 = 360_000;
 
 /// When the newest line was written.
 #[derive(Clone, Copy, Debug, Default, PartialEq, Eq)]
@@ -31,8 +35,8 @@ impl LineClock {
     }
 }
 
-/// The progress of a transfer. `{}` writes its bytes, their share of the file if its length is
-/// known, and the speed.
+/// The progress of a transfer. `{}` writes its bytes, the speed, and, if the length of the file is
+/// known, their share of it and how long the rest takes at this speed.
 #[derive(Clone, Copy, Debug, PartialEq, Eq)]
 pub struct ProgressLine {
     /// The number of bytes transferred.
@@ -61,6 +65,70 @@ impl ProgressLine {
     {
         self.bytes / 100 / self.millis.max(1)
     }
+
+    /// The speed in tenths of a kilobyte (100 bytes) a second.
+    fn kilo_tenths(self) -> u128
+        ensures { result ≡ kilo_tenths_of self.bytes self.millis }
+    {
+        u128::from(self.bytes) * 10 / u128::from(self.millis.max(1))
+    }
+
+    /// How long the rest takes at this speed, in seconds, rounded up; nothing at the end, before the
+    /// first byte, and if it is longer than what is shown.
+    fn seconds_left(self, total: u64) -> Option<u128>
+        ensures { result ≡ seconds_left self.bytes total self.millis }
+    {
+        if self.bytes == 0 || self.bytes >= total {
+            return None;
+        }
+        let rest = u128::from(total - self.bytes) * u128::from(self.millis);
+        let left = rest.saturating_sub(1) / u128::from(self.bytes) / 1000 + 1;
+        if left <= LONGEST_LEFT {
+            Some(left)
+        } else {
+            None
+        }
+    }
+}
+
+/// The speed of a transfer: in kilobytes a second below a megabyte.
+#[derive(Clone, Copy)]
+struct Speed(ProgressLine);
+
+impl fmt::Display for Speed {
+    ghost use Rattle.std.specs.Prelude.{Some};
+    ghost use Rattle.tftp_lines.specs.ProgressLine.{speed_text};
+
+    ghost output = { λ speed. Some (speed_text speed.0.bytes speed.0.millis) };
+
+    fn fmt<W: fmt::Write>(&self, f: &mut fmt::Formatter<W>) -> fmt::Result {
+        let tenths = self.0.tenths();
+        if tenths < 10 {
+            let tenths = self.0.kilo_tenths();
+            let (whole, tenth) = (tenths / 10, tenths % 10);
+            return write!(f, "{whole}.{tenth} KB/s");
+        }
+        let (whole, tenth) = (tenths / 10, tenths % 10);
+        write!(f, "{whole}.{tenth} MB/s")
+    }
+}
+
+/// The end of a line: how long the rest takes, if known.
+#[derive(Clone, Copy)]
+struct Left(Option<u128>);
+
+impl fmt::Display for Left {
+    ghost use Rattle.std.specs.Prelude.{Some};
+    ghost use Rattle.tftp_lines.specs.ProgressLine.{left_text};
+
+    ghost output = { λ left. Some (left_text left.0) };
+
+    fn fmt<W: fmt::Write>(&self, f: &mut fmt::Formatter<W>) -> fmt::Result {
+        match self.0 {
+            Some(seconds) => write!(f, ", {seconds} s left"),
+            None => Ok(()),
+        }
+    }
 }
 
 impl fmt::Display for ProgressLine {
@@ -71,14 +139,14 @@ impl fmt::Display for ProgressLine {
 
     fn fmt<W: fmt::Write>(&self, f: &mut fmt::Formatter<W>) -> fmt::Result {
         let bytes = self.bytes;
-        let tenths = self.tenths();
-        let (whole, tenth) = (tenths / 10, tenths % 10);
+        let speed = Speed(*self);
         match self.total {
             Some(total) => {
                 let percent = self.percent(total);
-                write!(f, "{bytes} bytes, {percent}%, {whole}.{tenth} MB/s")
+                let left = Left(self.seconds_left(total));
+                write!(f, "{bytes} bytes, {percent}%, {speed}{left}")
             }
-            None => write!(f, "{bytes} bytes, {whole}.{tenth} MB/s"),
+            None => write!(f, "{bytes} bytes, {speed}"),
         }
     }
 }
