@@ -2,12 +2,13 @@
 
 use crate::expect::{expect_equal, expect_text};
 use std::fmt::Display;
+use std::io;
 use std::process::Abort;
 use std::test::Fail;
 use tftp_ends::{Endpoint, OpenFault, Outcome};
 use tftp_lines::{
     ClientOutcome, LineClock, LogLine, Logged, Lost, Printed, ProgressLine, Reason, RequestLine,
-    Why,
+    Why, reason_of,
 };
 
 /// A value prints this.
@@ -82,9 +83,22 @@ fn progress_lines(rt: HostRuntime) -> Result<(), Fail> {
     prints(
         &rt,
         &line(999, Some(1_000), 1_000),
-        "999 bytes, 99%, 0.0 MB/s",
+        "999 bytes, 99%, 0.9 KB/s, 1 s left",
     )?;
-    prints(&rt, &line(0, Some(0), 0), "0 bytes, 100%, 0.0 MB/s")?;
+    prints(&rt, &line(0, Some(0), 0), "0 bytes, 100%, 0.0 KB/s")?;
+    prints(&rt, &line(0, Some(5), 0), "0 bytes, 0%, 0.0 KB/s")?;
+    prints(&rt, &line(999_999, None, 1_000), "999999 bytes, 999.9 KB/s")?;
+    prints(
+        &rt,
+        &line(1_000_000, None, 1_000),
+        "1000000 bytes, 1.0 MB/s",
+    )?;
+    prints(
+        &rt,
+        &line(25_600, Some(102_400), 1_000),
+        "25600 bytes, 25%, 25.6 KB/s, 3 s left",
+    )?;
+    prints(&rt, &line(1, Some(400_000), 1_000), "1 bytes, 0%, 0.0 KB/s")?;
     Ok(())
 }
 
@@ -216,4 +230,22 @@ fn priorities(rt: HostRuntime) -> Result<(), Fail> {
     };
     let expected = "<4>lost 10.0.0.2:1024 RRQ b octet: out of memory";
     prints(&rt, &logged(lost), expected)
+}
+
+/// Numbers of errno(3), and their words; the last has none.
+const REASONS: [(i32, &str); 5] = [
+    (16, "busy"),
+    (17, "file exists"),
+    (21, "is a folder"),
+    (39, "folder not empty"),
+    (133, "system error 133"),
+];
+
+#[test]
+fn reasons_have_words(rt: HostRuntime) -> Result<(), Fail> {
+    for &(number, words) in &REASONS {
+        let error = io::Error::from_raw_os_error(number);
+        prints(&rt, &reason_of(&error), words)?;
+    }
+    Ok(())
 }

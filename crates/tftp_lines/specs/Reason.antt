@@ -10,28 +10,45 @@ abbrev pub reason_of_number : ℕ → Reason
 reason_of_number number =
     if number == 1 then reasons.PermissionDenied else
     if number == 2 then reasons.NotFound else
+    if number == 4 then reasons.Interrupted else
     if number == 5 then reasons.InputOutput else
+    if number == 6 then reasons.NoDevice else
+    if number == 11 then reasons.TryAgain else
     if number == 12 then reasons.OutOfMemory else
     if number == 13 then reasons.PermissionDenied else
+    if number == 16 then reasons.Busy else
+    if number == 17 then reasons.FileExists else
     if number == 18 then reasons.AnotherDevice else
+    if number == 19 then reasons.NoDevice else
     if number == 20 then reasons.NotAFolder else
+    if number == 21 then reasons.IsAFolder else
     if number == 22 then reasons.InvalidArgument else
     if number == 23 then reasons.TooManyOpenFiles else
     if number == 24 then reasons.TooManyOpenFiles else
+    if number == 26 then reasons.ProgramRuns else
     if number == 27 then reasons.FileTooLarge else
     if number == 28 then reasons.NoSpace else
     if number == 30 then reasons.ReadOnlyFileSystem else
     if number == 32 then reasons.BrokenPipe else
     if number == 36 then reasons.NameTooLong else
+    if number == 38 then reasons.NotSupported else
+    if number == 39 then reasons.FolderNotEmpty else
     if number == 40 then reasons.TooManyLinks else
+    if number == 75 then reasons.ValueTooLarge else
     if number == 90 then reasons.MessageTooLong else
+    if number == 95 then reasons.NotSupported else
+    if number == 97 then reasons.NoAddressFamily else
     if number == 98 then reasons.AddressInUse else
     if number == 99 then reasons.AddressNotAvailable else
     if number == 100 then reasons.NetworkDown else
     if number == 101 then reasons.NetworkUnreachable else
     if number == 105 then reasons.NoBufferSpace else
+    if number == 110 then reasons.TimedOut else
     if number == 111 then reasons.ConnectionRefused else
+    if number == 112 then reasons.HostDown else
     if number == 113 then reasons.HostUnreachable else
+    if number == 116 then reasons.StaleFile else
+    if number == 117 then reasons.DamagedFileSystem else
     if number == 122 then reasons.QuotaExceeded else
     reasons.System number
 
@@ -65,6 +82,21 @@ reason_text reasons.NetworkUnreachable = codes "network unreachable"
 reason_text reasons.NoBufferSpace = codes "no buffer space"
 reason_text reasons.ConnectionRefused = codes "connection refused"
 reason_text reasons.HostUnreachable = codes "host unreachable"
+reason_text reasons.Interrupted = codes "interrupted"
+reason_text reasons.NoDevice = codes "no such device"
+reason_text reasons.TryAgain = codes "temporarily unavailable"
+reason_text reasons.Busy = codes "busy"
+reason_text reasons.FileExists = codes "file exists"
+reason_text reasons.IsAFolder = codes "is a folder"
+reason_text reasons.ProgramRuns = codes "program runs"
+reason_text reasons.NotSupported = codes "not supported"
+reason_text reasons.FolderNotEmpty = codes "folder not empty"
+reason_text reasons.ValueTooLarge = codes "value too large"
+reason_text reasons.NoAddressFamily = codes "address family not supported"
+reason_text reasons.TimedOut = codes "timed out"
+reason_text reasons.HostDown = codes "host down"
+reason_text reasons.StaleFile = codes "stale file"
+reason_text reasons.DamagedFileSystem = codes "damaged file system"
 reason_text reasons.DraftReplaced = codes "draft replaced"
 reason_text reasons.FileReplaced = codes "file replaced"
 reason_text reasons.FolderReplaced = codes "folder replaced"
@@ -77,5 +109,6 @@ reason_text reasons.ReadOnlyServer = codes "read-only server"
 reason_text reasons.NotInUploads = codes "not in uploads"
 reason_text reasons.LengthUnknown = codes "length unknown"
 reason_text reasons.NameNotAllowed = codes "name not allowed"
+reason_text reasons.LongerThanMaxFile = codes "longer than --max-file"
 reason_text (reasons.System number) = codes "system error " ++ decimal number
 reason_text reasons.Other = codes "another error"

@@ -55,6 +55,36 @@ pub enum Reason {
     ConnectionRefused,
     /// The host is not reached, as where its neighbour does not answer.
     HostUnreachable,
+    /// A signal came before the call had done anything.
+    Interrupted,
+    /// The device is not there.
+    NoDevice,
+    /// The call can be made again later, as when the system has no room for another process.
+    TryAgain,
+    /// The device or the file is in use.
+    Busy,
+    /// A file has the name already.
+    FileExists,
+    /// The path ends at a folder, where a file is wanted.
+    IsAFolder,
+    /// The file is a program that runs.
+    ProgramRuns,
+    /// The system, or the file system, has no such call.
+    NotSupported,
+    /// The folder has files.
+    FolderNotEmpty,
+    /// A number of the file is larger than the call can give.
+    ValueTooLarge,
+    /// The system has no sockets over IPv4.
+    NoAddressFamily,
+    /// The device or the host did not answer in time.
+    TimedOut,
+    /// The host is down.
+    HostDown,
+    /// The file of another host is no longer there.
+    StaleFile,
+    /// The file system has to be repaired.
+    DamagedFileSystem,
     /// Another file has the name of the draft.
     DraftReplaced,
     /// A file was replaced between the look at it and its opening.
@@ -79,6 +109,8 @@ pub enum Reason {
     LengthUnknown,
     /// The name is no path that the server serves.
     NameNotAllowed,
+    /// The length that a write announces is more than the server takes (`--max-file`).
+    LongerThanMaxFile,
     /// Another error of the system, by its number.
     System(u32),
     /// None of these.
@@ -102,28 +134,45 @@ fn reason_of_number(number: u32) -> Reason
     match number {
         1 => Reason::PermissionDenied,
         2 => Reason::NotFound,
+        4 => Reason::Interrupted,
         5 => Reason::InputOutput,
+        6 => Reason::NoDevice,
+        11 => Reason::TryAgain,
         12 => Reason::OutOfMemory,
         13 => Reason::PermissionDenied,
+        16 => Reason::Busy,
+        17 => Reason::FileExists,
         18 => Reason::AnotherDevice,
+        19 => Reason::NoDevice,
         20 => Reason::NotAFolder,
+        21 => Reason::IsAFolder,
         22 => Reason::InvalidArgument,
         23 => Reason::TooManyOpenFiles,
         24 => Reason::TooManyOpenFiles,
+        26 => Reason::ProgramRuns,
         27 => Reason::FileTooLarge,
         28 => Reason::NoSpace,
         30 => Reason::ReadOnlyFileSystem,
         32 => Reason::BrokenPipe,
         36 => Reason::NameTooLong,
+        38 => Reason::NotSupported,
+        39 => Reason::FolderNotEmpty,
         40 => Reason::TooManyLinks,
+        75 => Reason::ValueTooLarge,
         90 => Reason::MessageTooLong,
+        95 => Reason::NotSupported,
+        97 => Reason::NoAddressFamily,
         98 => Reason::AddressInUse,
         99 => Reason::AddressNotAvailable,
         100 => Reason::NetworkDown,
         101 => Reason::NetworkUnreachable,
         105 => Reason::NoBufferSpace,
+        110 => Reason::TimedOut,
         111 => Reason::ConnectionRefused,
+        112 => Reason::HostDown,
         113 => Reason::HostUnreachable,
+        116 => Reason::StaleFile,
+        117 => Reason::DamagedFileSystem,
         122 => Reason::QuotaExceeded,
         _ => Reason::System(number),
     }
@@ -160,6 +209,21 @@ impl fmt::Display for Reason {
             Reason::NoBufferSpace => f.write_str("no buffer space"),
             Reason::ConnectionRefused => f.write_str("connection refused"),
             Reason::HostUnreachable => f.write_str("host unreachable"),
+            Reason::Interrupted => f.write_str("interrupted"),
+            Reason::NoDevice => f.write_str("no such device"),
+            Reason::TryAgain => f.write_str("temporarily unavailable"),
+            Reason::Busy => f.write_str("busy"),
+            Reason::FileExists => f.write_str("file exists"),
+            Reason::IsAFolder => f.write_str("is a folder"),
+            Reason::ProgramRuns => f.write_str("program runs"),
+            Reason::NotSupported => f.write_str("not supported"),
+            Reason::FolderNotEmpty => f.write_str("folder not empty"),
+            Reason::ValueTooLarge => f.write_str("value too large"),
+            Reason::NoAddressFamily => f.write_str("address family not supported"),
+            Reason::TimedOut => f.write_str("timed out"),
+            Reason::HostDown => f.write_str("host down"),
+            Reason::StaleFile => f.write_str("stale file"),
+            Reason::DamagedFileSystem => f.write_str("damaged file system"),
             Reason::DraftReplaced => f.write_str("draft replaced"),
             Reason::FileReplaced => f.write_str("file replaced"),
             Reason::FolderReplaced => f.write_str("folder replaced"),
@@ -172,6 +236,7 @@ impl fmt::Display for Reason {
             Reason::NotInUploads => f.write_str("not in uploads"),
             Reason::LengthUnknown => f.write_str("length unknown"),
             Reason::NameNotAllowed => f.write_str("name not allowed"),
+            Reason::LongerThanMaxFile => f.write_str("longer than --max-file"),
             Reason::System(number) => write!(f, "system error {number}"),
             Reason::Other => f.write_str("another error"),
         }
