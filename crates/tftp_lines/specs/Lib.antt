@@ -3,3 +3,4 @@ pub mod LogLine
 pub mod Printed
 pub mod ProgressLine
 pub mod Reason
+pub mod WholeLine

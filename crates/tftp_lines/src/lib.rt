@@ -10,9 +10,11 @@ mod log_line;
 mod printed;
 mod progress_line;
 mod reason;
+mod whole_line;
 
 pub use client_outcome::ClientOutcome;
 pub use log_line::{LogLine, Logged, Lost, RequestLine, Why};
 pub use printed::Printed;
 pub use progress_line::{LineClock, ProgressLine};
 pub use reason::{Reason, reason_of};
+pub use whole_line::{LONGEST_LINE, WholeLine};

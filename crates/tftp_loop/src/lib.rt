@@ -11,6 +11,7 @@
 
 mod datagram;
 mod drain;
+mod error_lines;
 pub mod laws;
 mod log;
 mod log_entry;
@@ -27,6 +28,7 @@ mod sockets;
 mod transfer_port;
 
 pub use drain::{DrainSignal, NoSignal};
+pub use error_lines::{ErrorLines, WholeLines};
 pub use port_order::{PortOrder, PortRange};
 pub use server_udp::{Load, ServerUdp};
 pub use serving::{Ending, LoopConfig, LoopFault, serve};

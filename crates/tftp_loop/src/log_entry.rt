@@ -160,10 +160,12 @@ fn data_length(datagram: &[u8]) -> u64 {
 }
 
 /// Why a request was refused without asking the store, if more is known than its answer: an access
-/// violation is of a name that is no path.
+/// violation is of a name that is no path, a full disk of a file whose announced length is more than
+/// the server takes.
 pub(crate) fn reason_unasked(answer: &[u8]) -> Option<Reason> {
     match decode_ref(answer) {
         Ok(PacketRef::Error { code: 2, .. }) => Some(Reason::NameNotAllowed),
+        Ok(PacketRef::Error { code: 3, .. }) => Some(Reason::LongerThanMaxFile),
         _ => None,
     }
 }
