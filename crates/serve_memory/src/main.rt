@@ -66,6 +66,7 @@ fn config_of(words: &[String]) -> Option<LoopConfig> {
             rounds: u64::MAX,
         },
         longest: None,
+        requests_only: false,
         drains: false,
         logs: false,
         has_priority: false,

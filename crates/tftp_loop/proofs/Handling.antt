@@ -1,6 +1,6 @@
 -- What becomes of a datagram of the request port before a server sleeps.
 use Rattle.std.proofs.Common.{arith, ◌≡◌, ◌≤◌, ◌==◌, ◌||◌, ◌&&◌, not, ◌⊎◌, ℕ, Bool, true, false, List, ◌∷◌, cond, Option, Some}
-use Rattle.std.proofs.Common.{None, map, sym, ap, subst, ◌∙◌, inl, inr}
+use Rattle.std.proofs.Common.{None, map, refl, sym, ap, subst, ◌∙◌, inl, inr}
 use Rattle.std.specs.Prelude.{is_some, All, ◌≢◌}
 use Rattle.std.specs.List.{list_any}
 use Rattle.std.proofs.lemmas.Bool.{ne_eqb}
@@ -12,9 +12,11 @@ use Rattle.tftp_store.specs.Store.{StoreMeaning}
 use Rattle.tftp_sockets.specs.Journal.{SocketEvent, answered, replied}
 use Rattle.tftp_sockets.specs.Journal.SocketEvent.{Received, Elapsed}
 use Rattle.tftp_sockets.specs.Quiet.{is_among, was_tried}
+use Rattle.tftp_server.specs.State.{ServerState}
+use Rattle.tftp_loop.specs.declared.serving.LoopConfig.{LoopConfig}
 use Rattle.tftp_loop.specs.Run.{Run}
 use Rattle.tftp_loop.specs.Run.Run.{Start, Then}
-use Rattle.tftp_loop.specs.Steps.{Timer, PortState, LoopState, PortStep, LoopStep, Waits, ReceivesRequest, port_state}
+use Rattle.tftp_loop.specs.Steps.{Timer, PortState, LoopState, PortStep, LoopStep, Waits, ReceivesRequest, port_state, at_start}
 use Rattle.tftp_loop.specs.Steps.{set_by, until_look}
 use Rattle.tftp_loop.specs.Steps.PortStep.{A_datagram, A_lost_datagram, A_late_datagram, Nothing_found}
 use Rattle.tftp_loop.specs.Steps.PortStep.{A_failed_receive, A_timeout, A_missed_timeout, Work}
@@ -25,7 +27,7 @@ use Rattle.tftp_loop.specs.Steps.LoopStep.{Drain_begun}
 use Rattle.tftp_loop.specs.Steps.{is_draining, reads_requests}
 use Rattle.tftp_loop.specs.Reported.{GoesOn, Goes_by, IsNoWait}
 use Rattle.tftp_loop.specs.Handled.{By_answer, By_loss, IsResolved}
-use Rattle.tftp_loop.specs.Sleeps.{HasItsOwnPort}
+use Rattle.tftp_loop.proofs.OwnPorts.{HasItsOwnPort, own_from}
 use Rattle.tftp_loop.proofs.NoteLemmas.{note_tried}
 use Rattle.tftp_loop.proofs.PortStays.{or_left, or_right, own_receive, replied_tries, stays_at}
 use Rattle.tftp_loop.proofs.RunLemmas.{onward}
@@ -220,12 +222,17 @@ module _ {S F D : Type 0} (meaning : StoreMeaning S D) (sources : SourceMeaning 
         })
       ]
 
-  pub handles_by_the_next_wait : (old received waiting woken last new : LoopState S F D)
-      (receives : ReceivesRequest meaning sources old received) → Run (LoopStep meaning sources) received waiting
+  pub handles_by_the_next_wait : (config : LoopConfig) (port : ℕ) (server : ServerState S F D)
+      (before : List SocketEvent) (old received waiting woken last new : LoopState S F D)
+      → Run (LoopStep meaning sources) (at_start config port server before) old
+      → (receives : ReceivesRequest meaning sources old received) → Run (LoopStep meaning sources) received waiting
       → Waits meaning sources waiting woken → Run (GoesOn meaning sources) woken last
-      → HasItsOwnPort meaning sources woken last → Waits meaning sources last new
+      → Waits meaning sources last new
       → IsResolved meaning sources receives.from receives.bytes received last
-  handles_by_the_next_wait old received waiting woken last new receives run waits goes own next =
+  handles_by_the_next_wait config port server before old received waiting woken last new begins receives run waits goes next =
+      let own : HasItsOwnPort meaning sources woken last =
+      own_from meaning sources (at_start config port server before) woken last refl
+      (onward begins (onward (Then Start (Request_received receives)) (Then run (Waited waits)))) in
       elim (untried_along receives.from receives.bytes received woken last (Then run (Waited waits))
       (ap (λ (u : LoopState S F D). was_tried u.requests u.events) waits.is)
       (ap (λ (u : LoopState S F D). u.pending) receives.is) goes own) [

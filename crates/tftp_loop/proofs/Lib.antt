@@ -21,6 +21,7 @@ pub mod Unclosed
 pub mod Receipts
 pub mod Drained
 pub mod Looking
+pub mod OwnPorts
 pub mod Sleeping
 pub mod Reporting
 pub mod PoolLemmas
@@ -33,3 +34,4 @@ pub mod InTime
 pub mod Expiring
 pub mod Handling
 pub mod Draining
+pub mod Dropping

@@ -8,7 +8,7 @@ use Rattle.std.proofs.lemmas.List.Sorted.{All-permutation, length_permutation}
 use Rattle.tftp_sockets.specs.Journal.{SocketEvent}
 use Rattle.tftp_sockets.specs.Journal.SocketEvent.{Quiet}
 use Rattle.tftp_sockets.specs.Journal.QuietEvent.{New_socket, No_socket}
-use Rattle.tftp_loop.specs.Run.Run.{Start, Then}
+use Rattle.tftp_loop.specs.Run.Run.{Then}
 use Rattle.tftp_loop.specs.PortOrder.{HasPorts, IsOneOf, IsOrderOf, UsesNext, coming, ports_of}
 use Rattle.tftp_loop.specs.PortPool.{Binds, TriesInVain, TriesPorts}
 use Rattle.tftp_loop.specs.declared.port_order.PortOrder.{PortOrder}
@@ -79,6 +79,10 @@ pub next_within : (old new : PortOrder) (made : Option ℕ) → HasPorts old →
     → IfSome made (IsOneOf (Some old.range))
 next_within old new None has uses = tt
 next_within old new (Some port) has uses = used_within old new port has uses
+
+pub next_uses : (old new : PortOrder) (made : Option ℕ) → MayUseNext old new made → IfSome made (UsesNext old new)
+next_uses old new None uses = tt
+next_uses old new (Some port) uses = uses
 
 -- a port comes
 pub next_some : (old new : PortOrder) (made : Option ℕ) → HasPorts old → MayUseNext old new made → IsSome made

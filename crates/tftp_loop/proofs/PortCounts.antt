@@ -1,9 +1,8 @@
 -- How many datagrams of a port the journal has between two waits.
-use Rattle.std.proofs.Common.{arith, ◌≡◌, ◌≤◌, ◌<◌, ◌+◌, ◌*◌, ◌==◌, ◌⊎◌, ℕ, Bool, true, false, List, [], ◌∷◌, map, length, Option, Some, None}
+use Rattle.std.proofs.Common.{arith, ◌≡◌, ◌≤◌, ◌<◌, ◌+◌, ◌*◌, ℕ, Bool, true, false, List, [], ◌∷◌, length, Option, Some, None}
 use Rattle.std.proofs.Common.{refl, sym, ap, subst, ◌∙◌, inl, inr}
 use Rattle.std.specs.Prelude.{All, if◌then◌else◌, is_some, slice_index_or, slice_set}
 use Rattle.std.proofs.lemmas.Bool.{cases_eq, eq-eqb, ne_eqb}
-use Rattle.std.proofs.lemmas.List.{length-map}
 use Rattle.tftp_file.specs.Source.{SourceMeaning}
 use Rattle.tftp_ends.specs.declared.endpoint.Endpoint.{Endpoint}
 use Rattle.tftp_ends.specs.Step.{Reply}
@@ -16,7 +15,7 @@ use Rattle.tftp_loop.specs.MayWait.{AreKept}
 use Rattle.tftp_loop.specs.Run.{Run}
 use Rattle.tftp_loop.specs.Run.Run.{Start, Then}
 use Rattle.tftp_loop.specs.Steps.{Timer, PortState, LoopState, PortStep, LoopStep, RequestNote, Found_no_port, Found_port, Found_no_memory}
-use Rattle.tftp_loop.specs.Steps.{interval_at, marked_by, most_in_round, note_event, port_state, set_by, started, with_timer}
+use Rattle.tftp_loop.specs.Steps.{interval_at, most_in_round, note_event, port_state, started, with_timer}
 use Rattle.tftp_loop.specs.Steps.LoopStep.{Waited, At_port, Request_received, No_request_found, Request_not_received}
 use Rattle.tftp_loop.specs.Steps.LoopStep.{Request_noted, Request_answered, Request_lost, Clock_read, Store_set}
 use Rattle.tftp_loop.specs.Steps.LoopStep.{Drain_begun, Transfer_closed}
@@ -27,7 +26,6 @@ use Rattle.tftp_loop.proofs.Counting.{AreFew, IsFew, few_along, port_few}
 use Rattle.tftp_loop.proofs.LoopStays.{all_appended, all_removed, all_set, other_port}
 use Rattle.tftp_loop.proofs.PortEnds.{same_timer}
 use Rattle.tftp_loop.proofs.PortStays.{after_received}
-use Rattle.tftp_loop.proofs.Waits.{waited_at}
 
 abbrev one : Bool → ℕ
 one true = 1

@@ -117,6 +117,7 @@ module _ {S F D : Type 0} (meaning : StoreMeaning S D) (sources : SourceMeaning 
         })
         (ap (λ (d : ServerLoop S F D). d.sockets.requests.port) is)
         (ap (λ (d : ServerLoop S F D). d.sockets.pool.range) is) (ap (λ (d : ServerLoop S F D). d.longest) is)
+        (ap (λ (d : ServerLoop S F D). d.requests_only) is)
         (ap (λ (d : ServerLoop S F D). d.server) is) refl (ap (λ (d : ServerLoop S F D). (loop_state None d).timers) is)
         (ap (λ (d : ServerLoop S F D). d.sockets.watch.now) is)
         (ap (λ (d : ServerLoop S F D). d.sockets.limit) is) refl
@@ -181,6 +182,7 @@ module _ {S F D : Type 0} (meaning : StoreMeaning S D) (sources : SourceMeaning 
       (record (state_of before old) { marked = ready; events = event ∷ old.journal.events })
       (ap (λ (d : ServerLoop S F D). d.sockets.requests.port) is)
       (ap (λ (d : ServerLoop S F D). d.sockets.pool.range) is) (ap (λ (d : ServerLoop S F D). d.longest) is)
+      (ap (λ (d : ServerLoop S F D). d.requests_only) is)
       (ap (λ (d : ServerLoop S F D). d.server) is)
       (ap (λ (d : ServerLoop S F D). pending_in d.pending after) is
       ∙ (ap (λ (p : Option (Endpoint × ℕ)). pending_in p after) none

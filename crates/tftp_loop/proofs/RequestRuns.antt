@@ -1,7 +1,7 @@
 -- What happens at the request port.
 use Rattle.std.proofs.Common.{◌≡◌, ◌≢◌, ◌⊎◌, ℕ, Bool, true, false, List, [], ◌∷◌, ◌++◌, Option, Some, None, IsSome, refl, sym, ap}
 use Rattle.std.proofs.Common.{subst, ◌∙◌, inl, inr}
-use Rattle.std.specs.Prelude.{Ok, Err, is_ok, IfSome, is_some, ◌||◌}
+use Rattle.std.specs.Prelude.{Ok, Err, is_ok, IfSome, is_some, ◌||◌, ◌&&◌, not}
 use Rattle.std.proofs.lemmas.Bool.{true≢false}
 use Rattle.tftp_file.specs.Source.{SourceMeaning}
 use Rattle.tftp_ends.specs.declared.endpoint.Endpoint.{Endpoint}
@@ -10,27 +10,27 @@ use Rattle.tftp_server.specs.State.{ServerState, at}
 use Rattle.tftp_server.specs.Request.{Admits, AdmissionState, CarriesOut, RequestStep, Left, Goes, Came, left_by}
 use Rattle.tftp_server.specs.Request.{Nothing, Error_reply}
 use Rattle.tftp_server.specs.Port.{Ask, Ignores, Refuses, Reads, Writes, asks_store}
-use Rattle.tftp_server.specs.Shortage.{NamesAPath}
 use Rattle.tftp_server.specs.CallersFiles.{refusal}
 use Rattle.tftp_ends.specs.declared.error_reply.ErrorReply.{ErrorReply}
 use Rattle.tftp_ends.specs.Step.{error_bytes}
 use Rattle.tftp_server.specs.declared.opened.Opened.{Opened}
 use Rattle.tftp_sockets.specs.Journal.{SocketEvent, replied}
 use Rattle.tftp_sockets.specs.Journal.SocketEvent.{Received, Quiet}
-use Rattle.tftp_sockets.specs.Journal.QuietEvent.{New_socket, Out_of_memory}
+use Rattle.tftp_sockets.specs.Journal.QuietEvent.{Out_of_memory}
+use Rattle.tftp_loop.specs.OnlyRequests.{IsHandledBy, begins_as_request}
 use Rattle.tftp_loop.specs.PortOrder.{IsOneOf}
 use Rattle.tftp_loop.specs.PortPool.{Binds, TriesInVain, TriesPorts}
 use Rattle.tftp_loop.specs.Run.{Run}
 use Rattle.tftp_loop.specs.Run.Run.{Start, Then}
 use Rattle.tftp_loop.specs.MayOpen.{LacksMemoryToOpen, MayOpen}
-use Rattle.tftp_loop.specs.Steps.{LoopState, AnswersRequest, IsSet, LosesRequest, NotesRequest, RequestLoss}
+use Rattle.tftp_loop.specs.Steps.{LoopState, AnswersRequest, IsSet, LosesRequest, RequestLoss, No_request}
 use Rattle.tftp_loop.specs.Steps.{RequestNote, Found_no_port, Found_port, Found_no_memory, No_memory_to_open, No_port}
 use Rattle.tftp_loop.specs.Steps.{Same_port, SetsStore, after_request, is_taken, note_event, with_timer}
 use Rattle.tftp_loop.specs.Steps.{answering_port, is_draining}
 use Rattle.tftp_loop.specs.Steps.LoopStep.{Request_noted, Request_received, Request_answered, Request_lost, Store_set}
 use Rattle.tftp_loop.specs.LoopStates.{IsAdmission, Work_by}
 use Rattle.tftp_loop.specs.MayWait.{Concludes, Prepares, Notes_it, Sets_store}
-use Rattle.tftp_loop.proofs.RunLemmas.{idle, once, onward}
+use Rattle.tftp_loop.proofs.RunLemmas.{once, onward}
 use Rattle.tftp_loop.proofs.LoopRuns.{Runs}
 use Rattle.tftp_loop.proofs.Tables.{free_identifier}
 
@@ -42,6 +42,12 @@ refused_to from (Some reply) = Some from
 abbrev pub refused_bytes : Option ErrorReply → List ℕ
 refused_bytes None = []
 refused_bytes (Some reply) = error_bytes reply
+
+-- the one holds, and the other does not
+and_not : (one other : Bool) → (one && not other) ≡ true → (one ≡ true) × (other ≡ false)
+and_not true true h = absurd (true≢false (sym h))
+and_not true false h = (refl, refl)
+and_not false other h = absurd (true≢false (sym h))
 
 module _ {S F D : Type 0} (meaning : StoreMeaning S D) (sources : SourceMeaning F) where
   -- a datagram was received
@@ -162,6 +168,14 @@ module _ {S F D : Type 0} (meaning : StoreMeaning S D) (sources : SourceMeaning 
     ends = inr (record { from = from; bytes = bytes; pending = pending; why = why; is = is });
   }
 
+  -- only requests are handled, and the datagram, which is none, was lost
+  pub drops_as : (s t : LoopState S F D) (from : Endpoint) (bytes : List ℕ) → s.pending ≡ Some (from, bytes) →
+      (s.requests_only && not (begins_as_request bytes)) ≡ true → t ≡ record s { pending = None }
+      → Concludes meaning sources s t
+  drops_as s t from bytes pending drops is =
+      let both = and_not s.requests_only (begins_as_request bytes) drops in
+      loses_as s t from bytes pending (No_request both.0 both.1) is
+
   -- memory was refused, and the datagram was lost
   pub loses_for_memory : (s t : LoopState S F D) (from : Endpoint) (bytes : List ℕ) → s.pending ≡ Some (from, bytes) →
       LacksMemoryToOpen meaning sources s.server from bytes
@@ -209,7 +223,7 @@ module _ {S F D : Type 0} (meaning : StoreMeaning S D) (sources : SourceMeaning 
   -- the store was set, and an admission was carried out and answered
   pub sets_and_answers : (s t : LoopState S F D) (from : Endpoint) (bytes : List ℕ) (tid : ℕ)
       (set new : ServerState S F D) (admission : AdmissionState) (cleared out : List ℕ) (opened : Opened)
-      → s.pending ≡ Some (from, bytes) → IsAdmission s.server from bytes admission
+      → s.pending ≡ Some (from, bytes) → IsAdmission s.server from bytes admission → IsHandledBy s.requests_only bytes
       → set ≡ record s.server { store = set.store } → meaning.stored set.store ≡ meaning.stored s.server.store →
       IsSet meaning s.server.store set.store
       → (sent : List ℕ) × (out ≡ cleared ++ sent) × CarriesOut meaning sources set admission.from admission.bytes
@@ -223,7 +237,7 @@ module _ {S F D : Type 0} (meaning : StoreMeaning S D) (sources : SourceMeaning 
         events = replied (answering_port s.requests opened.tid) opened.to out s.events;
       }
       → Concludes meaning sources s t
-  sets_and_answers s t from bytes tid set new admission cleared out opened pending admitted rest same behind carried
+  sets_and_answers s t from bytes tid set new admission cleared out opened pending admitted handled rest same behind carried
       free port own empty is =
       let sent = carried.0 in
       let left : Left S F D = record { new = new; opened = opened; sent = sent } in
@@ -241,6 +255,7 @@ module _ {S F D : Type 0} (meaning : StoreMeaning S D) (sources : SourceMeaning 
           from = from;
           bytes = bytes;
           pending = pending;
+          handled = handled;
           tid = tid;
           free = free;
           left = left;
@@ -275,11 +290,12 @@ module _ {S F D : Type 0} (meaning : StoreMeaning S D) (sources : SourceMeaning 
   -- ---- a datagram for which no store is asked
   -- it is answered by an ERROR, or not at all
   refused_step : (s t : LoopState S F D) (from : Endpoint) (bytes : List ℕ) (ask : Ask) (tid : ℕ) (came : Came S F D)
-      → s.pending ≡ Some (from, bytes) → Admits s.server from bytes ask → Goes meaning sources s.server from bytes ask came
+      → s.pending ≡ Some (from, bytes) → IsHandledBy s.requests_only bytes → Admits s.server from bytes ask
+      → Goes meaning sources s.server from bytes ask came
       → at tid s.server.held ≡ None → IfSome (left_by came s.server from tid).opened.tid (IsOneOf s.range)
       → IfSome (left_by came s.server from tid).opened.tid (λ port. port ≢ s.requests)
       → t ≡ after_request s from (left_by came s.server from tid) → Concludes meaning sources s t
-  refused_step s t from bytes ask tid came pending admits goes free port own is =
+  refused_step s t from bytes ask tid came pending handled admits goes free port own is =
       record {
         middle = s;
         prepares = Start;
@@ -287,6 +303,7 @@ module _ {S F D : Type 0} (meaning : StoreMeaning S D) (sources : SourceMeaning 
           from = from;
           bytes = bytes;
           pending = pending;
+          handled = handled;
           tid = tid;
           free = free;
           left = left_by came s.server from tid;
@@ -299,21 +316,22 @@ module _ {S F D : Type 0} (meaning : StoreMeaning S D) (sources : SourceMeaning 
       }
 
   pub refuses_as : (s t : LoopState S F D) (from : Endpoint) (bytes : List ℕ) (ask : Ask)
-      → s.pending ≡ Some (from, bytes) → Admits s.server from bytes ask → asks_store ask ≡ false
+      → s.pending ≡ Some (from, bytes) → IsHandledBy s.requests_only bytes → Admits s.server from bytes ask
+      → asks_store ask ≡ false
       → t ≡ record s {
         pending = None;
         events = replied s.requests (refused_to from (refusal ask)) (refused_bytes (refusal ask)) s.events;
       }
       → Concludes meaning sources s t
-  refuses_as s t from bytes Ignores pending admits none is =
+  refuses_as s t from bytes Ignores pending handled admits none is =
       let unused = free_identifier s.server.held in
-      refused_step s t from bytes Ignores unused.0 Nothing pending admits refl unused.1 tt tt is
-  refuses_as s t from bytes (Refuses reply) pending admits none is =
+      refused_step s t from bytes Ignores unused.0 Nothing pending handled admits refl unused.1 tt tt is
+  refuses_as s t from bytes (Refuses reply) pending handled admits none is =
       let unused = free_identifier s.server.held in
-      refused_step s t from bytes (Refuses reply) unused.0 (Error_reply reply s.server.store) pending admits refl
+      refused_step s t from bytes (Refuses reply) unused.0 (Error_reply reply s.server.store) pending handled admits refl
       unused.1 tt tt is
-  refuses_as s t from bytes (Reads path mode options) pending admits none is = absurd (true≢false none)
-  refuses_as s t from bytes (Writes path mode agreed) pending admits none is = absurd (true≢false none)
+  refuses_as s t from bytes (Reads path mode options) pending handled admits none is = absurd (true≢false none)
+  refuses_as s t from bytes (Writes path mode agreed) pending handled admits none is = absurd (true≢false none)
 
 -- an empty option
 pub is_free : {T : Type 0} (o : Option T) → (IsSome o → ⊥) → o ≡ None

@@ -21,7 +21,8 @@ use Rattle.tftp_loop.specs.Steps.LoopStep.{Transfer_closed}
 use Rattle.tftp_loop.specs.Steps.LoopStep.{Drain_begun}
 use Rattle.tftp_loop.specs.Steps.{is_draining, reads_requests}
 use Rattle.tftp_loop.specs.LoopStates.{Work_by}
-use Rattle.tftp_loop.specs.Sleeps.{HasItsOwnPort, MaySleep}
+use Rattle.tftp_loop.specs.Sleeps.{MaySleep}
+use Rattle.tftp_loop.proofs.OwnPorts.{HasItsOwnPort, has_its_own_port}
 use Rattle.tftp_loop.specs.MayWait.{AreKept}
 use Rattle.tftp_loop.proofs.Drained.{port_drained, replied_drained}
 use Rattle.tftp_loop.proofs.Looking.{AreLooked, looked_at_rest, read_looked, step_looked}
@@ -181,12 +182,12 @@ look_longest now (timer ∷ timers) = let rest = look_longest now timers in omeg
 
 module _ {S F D : Type 0} (meaning : StoreMeaning S D) (sources : SourceMeaning F) where
   pub rests_before_it_sleeps : (config : LoopConfig) (port : ℕ) (server : ServerState S F D) (before : List SocketEvent)
-      (old new : LoopState S F D) → Run (LoopStep meaning sources) (at_start config port server before) old
-      → HasItsOwnPort meaning sources (at_start config port server before) old →
+      (old new : LoopState S F D) → Run (LoopStep meaning sources) (at_start config port server before) old →
       (waits : Waits meaning sources old new) → 1 ≤ waits.millis →
       MaySleep meaning sources (read_at waits.time old) waits.millis
-  rests_before_it_sleeps config port server before old new run own waits some =
-      let was = quiet_along meaning sources config port server before old run own in
+  rests_before_it_sleeps config port server before old new run waits some =
+      let was = quiet_along meaning sources config port server before old run
+      (has_its_own_port meaning sources config port server before old) in
       let set = map (set_by waits.time) old.timers in
       let until = until_look waits.time set in
       let longest = waits.may.longest in

@@ -4,12 +4,14 @@ use Rattle.std.specs.Prelude.{ℕ, ◌≡◌, ◌≤◌, true, false, List}
 use Rattle.tftp_file.specs.Source.{SourceMeaning}
 use Rattle.tftp_ends.specs.declared.endpoint.Endpoint.{Endpoint}
 use Rattle.tftp_store.specs.Store.{StoreMeaning}
+use Rattle.tftp_server.specs.State.{ServerState}
+use Rattle.tftp_sockets.specs.Journal.{SocketEvent}
 use Rattle.tftp_sockets.specs.Quiet.{is_among, was_tried}
 use Rattle.tftp_loop.specs.Run.{Run}
 use Rattle.tftp_loop.specs.Steps.{LoopState, LoopStep, Waits, ReceivesRequest, AnswersRequest}
-use Rattle.tftp_loop.specs.Steps.{LosesRequest, is_draining}
+use Rattle.tftp_loop.specs.Steps.{LosesRequest, at_start, is_draining}
 use Rattle.tftp_loop.specs.Reported.{GoesOn}
-use Rattle.tftp_loop.specs.Sleeps.{HasItsOwnPort}
+use Rattle.tftp_loop.specs.declared.serving.LoopConfig.{LoopConfig}
 
 module _ {S F D : Type 0} (meaning : StoreMeaning S D) (sources : SourceMeaning F) where
   -- this datagram is answered, or lost for a reason
@@ -39,13 +41,15 @@ module _ {S F D : Type 0} (meaning : StoreMeaning S D) (sources : SourceMeaning 
       → IsResolved receives.from receives.bytes received last
 
   -- and before the second wait after its receipt, whether that takes time or not: the first one
-  -- finds it pending, and receives none. No transfer has the request port
+  -- finds it pending, and receives none
   abbrev pub HandlesByTheNextWait : Type 0
   HandlesByTheNextWait =
+      (config : LoopConfig) (port : ℕ) (server : ServerState S F D) (before : List SocketEvent)
       (old received waiting woken last new : LoopState S F D)
+      → Run (LoopStep meaning sources) (at_start config port server before) old
       → (receives : ReceivesRequest meaning sources old received)
       → Run (LoopStep meaning sources) received waiting → Waits meaning sources waiting woken
-      → Run (GoesOn meaning sources) woken last → HasItsOwnPort meaning sources woken last
+      → Run (GoesOn meaning sources) woken last
       → Waits meaning sources last new
       → IsResolved receives.from receives.bytes received last
 

@@ -3,6 +3,7 @@ pub mod MayOpen
 pub mod Steps
 pub mod WholeRun
 pub mod LoopStates
+pub mod OnlyRequests
 pub mod PortOrder
 pub mod PortPool
 pub mod PortVisit
@@ -14,3 +15,4 @@ pub mod Expiry
 pub mod Handled
 pub mod PortsInTurn
 pub mod Draining
+pub mod Dropped

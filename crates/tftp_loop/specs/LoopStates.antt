@@ -106,6 +106,7 @@ module _ {S F D : Type 0} where
         requests = d.sockets.requests.port;
         range = d.sockets.pool.range;
         longest = d.longest;
+        requests_only = d.requests_only;
         server = d.server;
         pending = pending;
         timers = map timer_of d.ports.items;
@@ -170,6 +171,7 @@ module _ {S F D : Type 0} where
     pub requests : new.sockets.requests.port ≡ old.sockets.requests.port
     pub range : new.sockets.pool.range ≡ old.sockets.pool.range
     pub longest : new.longest ≡ old.longest
+    pub requests_only : new.requests_only ≡ old.requests_only
     pub port : IfSome opened.tid (IsOneOf old.sockets.pool.range)
     pub own : IfSome opened.tid (λ port. port ≢ old.sockets.requests.port)
     pub server : new.server ≡ old.server

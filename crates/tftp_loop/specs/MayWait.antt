@@ -244,6 +244,7 @@ module _ {S F D : Type 0} where
     pub requests : new.sockets.requests.port ≡ old.sockets.requests.port
     pub range : new.sockets.pool.range ≡ old.sockets.pool.range
     pub longest : new.longest ≡ old.longest
+    pub requests_only : new.requests_only ≡ old.requests_only
     pub server : new.server ≡ old.server
     pub pending : new.pending ≡ old.pending
     pub ports : new.ports.items ≡ old.ports.items
@@ -264,6 +265,7 @@ module _ {S F D : Type 0} where
     pub requests : new.sockets.requests.port ≡ old.sockets.requests.port
     pub range : new.sockets.pool.range ≡ old.sockets.pool.range
     pub longest : new.longest ≡ old.longest
+    pub requests_only : new.requests_only ≡ old.requests_only
     pub server : new.server ≡ old.server
     pub pending : new.pending ≡ old.pending
     pub timers : timers_of new ≡ timers_of old
@@ -284,6 +286,7 @@ module _ {S F D : Type 0} where
     pub requests : new.sockets.requests.port ≡ old.sockets.requests.port
     pub range : new.sockets.pool.range ≡ old.sockets.pool.range
     pub longest : new.longest ≡ old.longest
+    pub requests_only : new.requests_only ≡ old.requests_only
     pub server : new.server ≡ old.server
     pub pending : new.pending ≡ old.pending
     pub timers : timers_of new

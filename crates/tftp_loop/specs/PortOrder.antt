@@ -1,5 +1,5 @@
 -- The order in which a server uses its ports (ours).
-use Rattle.std.specs.Prelude.{ℕ, ◌≡◌, ◌≤◌, ◌-◌, ⊤, List, [], ◌∷◌, ◌++◌, length, take, drop}
+use Rattle.std.specs.Prelude.{ℕ, ◌≡◌, ◌≤◌, ◌-◌, ◌+◌, ⊤, List, [], ◌∷◌, ◌++◌, length, take, drop}
 use Rattle.std.specs.Prelude.{Option, Some, None, All, IsPermutation}
 use Rattle.std.specs.List.{range_with_len}
 use Rattle.tftp_loop.specs.declared.port_order.PortOrder.{PortOrder}
@@ -8,6 +8,10 @@ use Rattle.tftp_loop.specs.declared.port_order.PortRange.{PortRange}
 -- the ports of a range, from the first to the last
 abbrev pub ports_of : PortRange → List ℕ
 ports_of range = range_with_len range.first (range.last - range.first) ++ range.last ∷ []
+
+-- how many ports a range has
+abbrev pub count_of : PortRange → ℕ
+count_of range = (range.last - range.first) + 1
 
 -- a range of ports that a socket can be bound to: 0 stands for any port
 abbrev pub IsRange : PortRange → Type 0

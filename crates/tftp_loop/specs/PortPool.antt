@@ -1,11 +1,11 @@
 -- The ports that transfers are bound to (RFC 1350, section 4).
 use Rattle.std.specs.Prelude.{ℕ, ◌≡◌, List, ◌∷◌, Option, Some, None, IfSome, Result, Ok, Err}
-use Rattle.std.specs.Prelude.{option_map}
+use Rattle.std.specs.Prelude.{option_map, min}
 use Rattle.tftp_sockets.specs.Journal.{SocketEvent}
 use Rattle.tftp_sockets.specs.Journal.SocketEvent.{Quiet}
 use Rattle.tftp_sockets.specs.Journal.QuietEvent.{New_socket, No_socket}
 use Rattle.tftp_sockets.specs.declared.sockets.ServerSocket.{ServerSocket}
-use Rattle.tftp_loop.specs.PortOrder.{HasPorts, IsOneOf}
+use Rattle.tftp_loop.specs.PortOrder.{HasPorts, IsOneOf, count_of}
 use Rattle.tftp_loop.specs.declared.port_order.PortOrder.{PortOrder}
 use Rattle.tftp_loop.specs.Run.{Run}
 use Rattle.tftp_loop.specs.declared.port_order.PortRange.{PortRange}
@@ -24,11 +24,15 @@ pub record IsOfPool (pool : PoolState) (socket : ServerSocket) : Type 0 where
 abbrev pub pool_state : List ℕ → Option PortOrder → PoolState
 pool_state ip order = record { ip = ip; range = option_map (λ (o : PortOrder). o.range) order }
 
--- some port of the range comes, if there is one, and the spare socket is of the pool
-pub record IsPool (ip : List ℕ) (order : Option PortOrder)
-    (spare : Option ServerSocket) : Type 0 where
-  pub ports : IfSome order HasPorts
-  pub socket : IfSome spare (IsOfPool (pool_state ip order))
+-- some port of the range comes, if there is one
+abbrev pub IsPool : Option PortOrder → Type 0
+IsPool order = IfSome order HasPorts
+
+-- how many transfers, of so many, have a port each at once: no more than the range has ports, if
+-- there is one
+abbrev pub most_of : ℕ → Option PortRange → ℕ
+most_of cap None = cap
+most_of cap (Some range) = min (count_of range) cap
 
 -- from one journal to the other no socket could be bound to a port, one of the range, if there is
 -- one

@@ -1,5 +1,5 @@
 -- What a server has done before a wait that may sleep.
-use Rattle.std.specs.Prelude.{ℕ, ◌≡◌, ◌≢◌, ◌≤◌, ◌+◌, ◌⊎◌, true, false, List, None, All}
+use Rattle.std.specs.Prelude.{ℕ, ◌≡◌, ◌≤◌, ◌+◌, ◌⊎◌, true, false, List, None, All}
 use Rattle.tftp_file.specs.Source.{SourceMeaning}
 use Rattle.tftp_store.specs.Store.{StoreMeaning}
 use Rattle.tftp_server.specs.State.{ServerState}
@@ -21,13 +21,6 @@ pub record Rests (events : List SocketEvent) (now millis : ℕ) (timer : Timer) 
   pub look : timer.look_at ≤ timer.deadline
 
 module _ {S F D : Type 0} (meaning : StoreMeaning S D) (sources : SourceMeaning F) where
-  -- at each time of a run no transfer has the request port
-  abbrev pub HasItsOwnPort : LoopState S F D → LoopState S F D → Type 0
-  HasItsOwnPort first last =
-      (now : LoopState S F D) → Run (LoopStep meaning sources) first now
-      → Run (LoopStep meaning sources) now last
-      → All (λ (timer : Timer). timer.port ≢ now.requests) now.timers
-
   -- the server may sleep for so long
   pub record MaySleep (old : LoopState S F D) (millis : ℕ) : Type 0 where
     -- the last event of the request port is that a receive found nothing there, unless it drains
@@ -42,6 +35,5 @@ module _ {S F D : Type 0} (meaning : StoreMeaning S D) (sources : SourceMeaning 
       (config : LoopConfig) (port : ℕ) (server : ServerState S F D) (before : List SocketEvent)
       (old new : LoopState S F D)
       → Run (LoopStep meaning sources) (at_start config port server before) old
-      → HasItsOwnPort (at_start config port server before) old
       → (waits : Waits meaning sources old new) → 1 ≤ waits.millis
       → MaySleep (read_at waits.time old) waits.millis

@@ -34,6 +34,7 @@ use Rattle.tftp_sockets.specs.Journal.QuietEvent.{Out_of_memory}
 use Rattle.tftp_sockets.specs.Journal.QuietEvent.{Slept, Woke}
 use Rattle.tftp_sockets.specs.Quiet.{has_woken, is_among, was_tried}
 use Rattle.tftp_loop.specs.MayOpen.{LacksMemoryToOpen, MayOpen}
+use Rattle.tftp_loop.specs.OnlyRequests.{IsHandledBy, begins_as_request}
 use Rattle.tftp_loop.specs.PortOrder.{IsOneOf}
 use Rattle.tftp_loop.specs.declared.drain.Drain.{Drain}
 use Rattle.tftp_loop.specs.declared.drain.Drain.TheVariants.{Never, Awaited, Begun}
@@ -76,6 +77,8 @@ pub record LoopState (S F D : Type 0) : Type 0 where
   pub range : Option PortRange
   -- the age behind which a transfer makes no progress, in seconds, if there is one
   pub longest : Option ℕ
+  -- whether only requests are handled at the request port
+  pub requests_only : Bool
   pub server : ServerState S F D
   -- the datagram received there and not handled yet
   pub pending : Option (Endpoint × List ℕ)
@@ -384,6 +387,9 @@ module _ {S F D : Type 0} (meaning : StoreMeaning S D) (sources : SourceMeaning 
   pub data RequestLoss : Type 0 where
     -- no answer can come to its sender, which is at port 0
     No_answer : from.port ≡ 0 → RequestLoss
+    -- only requests are handled, and it begins neither as RRQ nor as WRQ: it is dropped, as if the
+    -- network had lost it (RFC 1350, section 5)
+    No_request : old.requests_only ≡ true → begins_as_request bytes ≡ false → RequestLoss
     -- memory was refused for its path, or for the transfer that it opens, and the last event is
     -- that it was
     No_memory_to_open : LacksMemoryToOpen meaning sources old.server from bytes
@@ -552,11 +558,12 @@ module _ {S F D : Type 0} (meaning : StoreMeaning S D) (sources : SourceMeaning 
   -- the server, as it is now, handles the pending datagram, and the answer is sent at once: an
   -- ERROR from the request port, or the first datagram of a transfer from a port that no transfer
   -- has, that is not the request port, and that is one of the range, if there is one (RFC 1350,
-  -- section 4; RFC 2347, "Negotiation Protocol")
+  -- section 4; RFC 2347, "Negotiation Protocol"). If only requests are handled, it begins as one
   pub record AnswersRequest : Type 0 where
     pub from : Endpoint
     pub bytes : List ℕ
     pub pending : old.pending ≡ Some (from, bytes)
+    pub handled : IsHandledBy old.requests_only bytes
     pub tid : ℕ
     pub free : at tid old.server.held ≡ None
     pub left : Left S F D
@@ -643,6 +650,7 @@ at_start config requests server events =
       requests = requests;
       range = config.ports;
       longest = config.longest;
+      requests_only = config.requests_only;
       server = server;
       pending = None;
       timers = [];

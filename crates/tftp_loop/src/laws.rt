@@ -1,6 +1,7 @@
 //! Laws of a server's runs, over the definitions alone. Its store is of any type.
 
 ghost use Rattle.tftp_loop.specs.Draining.{DrainsByASignal, OnlyFinishes};
+ghost use Rattle.tftp_loop.specs.Dropped.{AnswersOnlyRequests, DropsNoRequest, DropsOnlyIfTold};
 ghost use Rattle.tftp_loop.specs.Expiry.{ClosesOverAge, ClosesWithoutProgress, TimesOutInSilence};
 ghost use Rattle.tftp_loop.specs.Fair.{CountsReceived, ReceivesFew, ReceivesFewAtAPort};
 ghost use Rattle.tftp_loop.specs.Handled.{HandlesBeforeItSleeps, HandlesByTheNextWait};
@@ -15,8 +16,7 @@ use tftp_store::Store;
 /// and no wait has reported the port since; no datagram is pending, and no port of a transfer is
 /// marked. The same holds of each such port, or it is left for a while after an opening or
 /// progress, and read again within half a second. The server sleeps no longer than until the next
-/// port is read, which is at a deadline at the latest, and at most a second. The system gives each
-/// socket a port of its own.
+/// port is read, which is at a deadline at the latest, and at most a second.
 pub fn a_server_rests_before_it_sleeps<T: Store>()
     ensures { RestsBeforeItSleeps T.meaning T.Source.meaning }
 {}
@@ -42,6 +42,15 @@ pub fn a_server_handles_before_it_sleeps<T: Store>()
 pub fn a_server_that_drains_only_finishes<T: Store>()
     ensures finishes { OnlyFinishes T.meaning T.Source.meaning }
     ensures signal { DrainsByASignal T.meaning T.Source.meaning }
+{}
+
+/// A request is never dropped, whatever the server is told: what is dropped spells neither an RRQ
+/// nor a WRQ (RFC 1350, section 5). A server that is to handle only requests answers nothing at its
+/// request port that begins as neither, and one that is not drops nothing there.
+pub fn a_server_drops_no_request<T: Store>()
+    ensures requests { DropsNoRequest T.meaning T.Source.meaning }
+    ensures told { DropsOnlyIfTold T.meaning T.Source.meaning }
+    ensures only { AnswersOnlyRequests T.meaning T.Source.meaning }
 {}
 
 /// A transfer that makes no progress is closed in time, whatever is sent to its port. At each wait

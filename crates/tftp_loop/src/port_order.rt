@@ -1,7 +1,8 @@
 //! The order in which transfers use the ports of a range.
 
 ghost use Rattle.std.specs.Prelude.{◌≡◌, ◌≤◌, [], length, IfOk, MatchOption};
-ghost use Rattle.tftp_loop.specs.PortOrder.{IsOrderOf, UsesNext, coming, coming_from, ports_of};
+ghost use Rattle.tftp_loop.specs.PortOrder.{IsOrderOf, UsesNext, coming, coming_from};
+ghost use Rattle.tftp_loop.specs.PortOrder.{count_of, ports_of};
 
 use rand::make_rng;
 use rand::rngs::StdRng;
@@ -15,6 +16,15 @@ use std::random::RandomSource;
 pub struct PortRange {
     pub first: u16,
     pub last: u16,
+}
+
+impl PortRange {
+    /// The number of ports.
+    pub(crate) fn len(self) -> usize
+        ensures { result ≡ count_of self }
+    {
+        usize::from(self.last.saturating_sub(self.first)) + 1
+    }
 }
 
 /// The ports of a range in an order that an outsider cannot foretell: each once before any again.
@@ -40,6 +50,13 @@ impl PortOrder {
             ports,
             next: 0,
         })
+    }
+
+    /// The range that the ports are of.
+    pub(crate) fn range(&self) -> PortRange
+        ensures { result ≡ self.now.range }
+    {
+        self.range
     }
 
     /// The number of ports.

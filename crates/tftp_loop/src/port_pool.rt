@@ -1,9 +1,10 @@
-//! The ports that transfers are bound to: the order in which they are used, and a spare one.
+//! The ports that transfers are bound to, and the order in which they are used.
 
 ghost use Rattle.std.specs.Prelude.{◌≡◌, IfOk, IfSome, IsSome, None, Some, option_map};
 ghost use Rattle.tftp_sockets.specs.Bound.{IsBoundTo};
-ghost use Rattle.tftp_loop.specs.PortOrder.{HasPorts, IsOneOf, IsOrderOf};
-ghost use Rattle.tftp_loop.specs.PortPool.{IsOfPool, Tries, after_bind};
+ghost use Rattle.tftp_loop.specs.PortOrder.{HasPorts, IsOneOf, IsOrderOf, UsesNext};
+ghost use Rattle.tftp_loop.specs.PortPool.{IsOfPool, Tries, after_bind, most_of};
+ghost use Rattle.tftp_loop.specs.PortsInTurn.{TriesInTurn};
 
 use crate::port_order::{PortOrder, PortRange};
 use crate::server_udp::ServerUdp;
@@ -21,8 +22,6 @@ pub(crate) struct PortPool {
     ip: [u8; 4],
     /// The order of the ports; `None` if the system chooses each.
     order: Option<PortOrder>,
-    /// A bound port without a transfer.
-    spare: Option<ServerSocket>,
     /// Why the newest bind failed, if one did.
     bind_error: Option<Reason>,
 }
@@ -34,7 +33,7 @@ impl Model for PortPool {
 
     ghost view = { λ pool. pool_state pool.ip pool.order };
 
-    ghost invariant = { λ pool. IsPool pool.ip pool.order pool.spare };
+    ghost invariant = { λ pool. IsPool pool.order };
 }
 
 impl PortPool {
@@ -52,21 +51,23 @@ impl PortPool {
         Ok(PortPool {
             ip,
             order,
-            spare: None,
             bind_error: None,
         })
     }
 
-    /// Takes the spare port, if there is one.
-    pub(crate) fn take_spare(&mut self) -> Option<ServerSocket>
-        ensures same { self.new ≡ self.old }
-        ensures port { IfSome result (IsOfPool self.old) }
+    /// The most transfers that have a port each at once, of so many.
+    pub(crate) fn most(&self, cap: u8) -> usize
+        ensures { result ≡ most_of cap self.now.range }
     {
-        self.spare.take()
+        match &self.order {
+            Some(order) => order.range().len().min(usize::from(cap)),
+            None => usize::from(cap),
+        }
     }
 
     /// Binds a port: the next of the order that is not in use, if there is an order. `None` if that
-    /// fails: at least one port was tried, and each failure is noted.
+    /// fails: at least one port was tried, and each failure is noted. If no transfer opens there the
+    /// port comes again after all others, as one that was used.
     pub(crate) fn bind_port<N: ServerUdp>(
         &mut self,
         net: &N,
@@ -86,14 +87,6 @@ impl PortPool {
     /// Why the newest bind failed, if one did.
     pub(crate) fn bind_error(&self) -> Option<Reason> {
         self.bind_error
-    }
-
-    /// Stores a spare port for the next transfer.
-    pub(crate) fn give_back(&mut self, spare: ServerSocket)
-        requires { IsOfPool self.old spare }
-        ensures { self.new ≡ self.old }
-    {
-        self.spare = Some(spare);
     }
 }
 
@@ -156,6 +149,7 @@ fn bind_next<N: ServerUdp>(
     ensures ports { HasPorts order.new }
     ensures bound { IfSome result (IsOfPool (record { ip = ip; range = Some order.old.range })) }
     ensures tries { Tries (Some order.old.range) journal.old.events journal.new.events result }
+    ensures turns { TriesInTurn ip order.old order.new result }
 {
     let mut left = order.len();
     loop {
@@ -179,6 +173,7 @@ fn next_port(order: &mut PortOrder) -> Option<u16>
     ensures range { order.new.range ≡ order.old.range }
     ensures ports { HasPorts order.new }
     ensures port { IfSome result (IsOneOf (Some order.old.range)) }
+    ensures uses { IfSome result (UsesNext order.old order.new) }
     ensures some { IsSome result }
 {
     order.next()

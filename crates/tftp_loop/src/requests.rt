@@ -1,8 +1,8 @@
 //! The datagrams of the request port, and the transfers that they open.
 
 ghost use Rattle.std.specs.Prelude.{◌≡◌, ◌≢◌, ◌<◌, ◌≤◌, ◌++◌, ◌∷◌, ◌==◌, ◌||◌, [], true, false, None};
-ghost use Rattle.std.specs.Prelude.{Some, IfOk, is_some};
-ghost use Rattle.std.specs.Prelude.{IfSome, vec_len, vec_capacity, map, take, length};
+ghost use Rattle.std.specs.Prelude.{Some, IfOk, ◌&&◌, not};
+ghost use Rattle.std.specs.Prelude.{IfSome, is_some, vec_len, vec_capacity, map, take, length};
 ghost use Rattle.std.specs.Prelude.{◌+◌, ◌*◌, if◌then◌else◌};
 ghost use Rattle.tftp_server.specs.Port.{asks_store};
 ghost use Rattle.tftp_server.specs.Request.{Admits};
@@ -10,8 +10,9 @@ ghost use Rattle.tftp_server.specs.State.{at};
 ghost use Rattle.tftp_sockets.specs.Journal.SocketEvent.{Quiet};
 ghost use Rattle.tftp_sockets.specs.Journal.QuietEvent.{Out_of_memory};
 ghost use Rattle.tftp_loop.specs.PortOrder.{IsOneOf};
-ghost use Rattle.tftp_loop.specs.PortPool.{IsOfPool};
+ghost use Rattle.tftp_loop.specs.PortPool.{IsOfPool, most_of};
 ghost use Rattle.tftp_loop.specs.Steps.{IsSet, answering_port, interval_at, started, with_timer};
+ghost use Rattle.tftp_loop.specs.OnlyRequests.{IsHandledBy, begins_as_request};
 ghost use Rattle.tftp_loop.specs.LoopStates.{HasAnswered, HasRoom, IsAdmission, WorksRound, timer_of};
 ghost use Rattle.tftp_loop.specs.MayWait.{AnswersPending, HandlesReceived, HasTriedRequests};
 ghost use Rattle.tftp_loop.specs.MayWait.{HasFew, IsSettled, reads_of};
@@ -90,6 +91,10 @@ impl<S: ServedStore<Reason> + Drop> ServerLoop<S> {
         ensures rounds { self.new.rounds ≡ self.old.rounds }
         ensures room { HasRoom self.new }
     {
+        if self.drops(datagram.bytes) {
+            self.ignore(rt, datagram);
+            return;
+        }
         let Ok(admission) = self.server.admit(datagram.from, datagram.bytes) else {
             self.lose_for_memory(rt, datagram);
             return;
@@ -131,18 +136,20 @@ impl<S: ServedStore<Reason> + Drop> ServerLoop<S> {
     /// How much the server has to do.
     fn load(&self) -> Load
         ensures open { result.open ≡ length self.now.ports.items }
-        ensures cap { result.cap ≡ self.now.server.config.cap }
+        ensures cap { result.cap
+            ≡ most_of self.now.server.config.cap self.now.sockets.pool.range }
     {
         Load {
             open: self.ports.len(),
-            cap: usize::from(self.server.cap()),
+            cap: self.sockets.most_open(self.server.cap()),
         }
     }
 
     /// Handles a datagram that was received at the request port. One from port 0 is ignored, since no
-    /// answer can come there. One that would open no transfer stays pending: the datagrams of
-    /// transfers are handled first, and then it is admitted again, since an acknowledgement that its
-    /// client sent just before may free a slot.
+    /// answer can come there, and so is what does not begin as a request, if only requests are
+    /// handled. One that would open no transfer stays pending: the datagrams of transfers are handled
+    /// first, and then it is admitted again, since an acknowledgement that its client sent just
+    /// before may free a slot.
     fn take_received<N: ServerUdp + Eprint>(
         &mut self,
         rt: &N,
@@ -164,6 +171,10 @@ impl<S: ServedStore<Reason> + Drop> ServerLoop<S> {
             self.ignore(rt, Datagram { from, bytes });
             return;
         }
+        if self.drops(bytes) {
+            self.ignore(rt, Datagram { from, bytes });
+            return;
+        }
         let Ok(admission) = self.server.admit(from, bytes) else {
             self.lose_for_memory(rt, Datagram { from, bytes });
             return;
@@ -176,15 +187,26 @@ impl<S: ServedStore<Reason> + Drop> ServerLoop<S> {
         self.pending = Some((from, count));
     }
 
-    /// Logs a datagram that nothing can answer, if there is a log.
+    /// Whether a datagram of the request port is dropped, as if the network had lost it: only requests
+    /// are handled, and it does not begin as one. So no ERROR is taken for the answer to the next
+    /// request of a client that acknowledged an ERROR here.
+    fn drops(&self, bytes: &[u8]) -> bool
+        ensures value { result ≡ (self.now.requests_only && not (begins_as_request bytes.now)) }
+        ensures handled { result ≡ false → IsHandledBy self.now.requests_only bytes.now }
+    {
+        self.requests_only && !begins_as_request(bytes)
+    }
+
+    /// Logs a datagram that gets no answer, if there is a log.
     fn ignore<E: Eprint>(&self, rt: &E, datagram: Datagram<'_>) {
         if self.log.is_written {
             log_unopened(rt, self.alloc, self.log, datagram, &[], None);
         }
     }
 
-    /// Carries out the admission of a datagram that may open a transfer, at a port of its own: the
-    /// spare one, or a new one. The datagram is lost if no port can be bound, or when out of memory.
+    /// Carries out the admission of a datagram that may open a transfer, at a port of its own. The
+    /// datagram is lost if none can be bound, if the system binds one that is taken, or when out of
+    /// memory.
     fn open_request<N: ServerUdp + Eprint>(
         &mut self,
         rt: &N,
@@ -193,29 +215,7 @@ impl<S: ServedStore<Reason> + Drop> ServerLoop<S> {
     )
         requires admitted { IsAdmission self.old.server datagram.from datagram.bytes.now admission }
         requires may_open { asks_store admission.ask ≡ true }
-        requires room { HasRoom self.old }
-        requires reserved { vec_len self.old.ports < vec_capacity self.old.ports }
-        ensures answers { AnswersPending S.meaning S.Source.meaning datagram.entry.from
-            datagram.entry.bytes.now self.old self.new }
-        ensures rounds { self.new.rounds ≡ self.old.rounds }
-        ensures room { HasRoom self.new }
-    {
-        match free_spare(&mut self.sockets, &self.server) {
-            Some(spare) => self.open_at(rt, datagram, admission, spare),
-            None => self.open_at_new_port(rt, datagram, admission),
-        }
-    }
-
-    /// Carries out the admission of a datagram that may open a transfer, at a new port. The datagram
-    /// is lost if none can be bound, or if the system binds it to a port that is taken.
-    fn open_at_new_port<N: ServerUdp + Eprint>(
-        &mut self,
-        rt: &N,
-        datagram: Datagram<'_>,
-        admission: Admission<'_>,
-    )
-        requires admitted { IsAdmission self.old.server datagram.from datagram.bytes.now admission }
-        requires may_open { asks_store admission.ask ≡ true }
+        requires handled { IsHandledBy self.old.requests_only datagram.bytes.now }
         requires room { HasRoom self.old }
         requires reserved { vec_len self.old.ports < vec_capacity self.old.ports }
         ensures answers { AnswersPending S.meaning S.Source.meaning datagram.entry.from
@@ -234,19 +234,22 @@ impl<S: ServedStore<Reason> + Drop> ServerLoop<S> {
         self.open_at(rt, datagram, admission, bound);
     }
 
-    /// Carries out the admission of a datagram that may open a transfer at this port.
+    /// Carries out the admission of a datagram that may open a transfer at this port. If none opens
+    /// there the port is free again, for whoever binds it next: a server binds its other ports first,
+    /// since what refused a transfer here may be the port's own draft.
     fn open_at<E: Eprint>(
         &mut self,
         rt: &E,
         datagram: Datagram<'_>,
         admission: Admission<'_>,
-        spare: ServerSocket,
+        bound: ServerSocket,
     )
         requires admitted { IsAdmission self.old.server datagram.from datagram.bytes.now admission }
         requires may_open { asks_store admission.ask ≡ true }
-        requires port { IsOfPool self.old.sockets.pool spare }
-        requires own { spare.port ≢ self.old.sockets.requests.port }
-        requires free { at spare.port self.old.server.held ≡ None }
+        requires handled { IsHandledBy self.old.requests_only datagram.bytes.now }
+        requires port { IsOfPool self.old.sockets.pool bound }
+        requires own { bound.port ≢ self.old.sockets.requests.port }
+        requires free { at bound.port self.old.server.held ≡ None }
         requires room { HasRoom self.old }
         requires reserved { vec_len self.old.ports < vec_capacity self.old.ports }
         ensures answers { AnswersPending S.meaning S.Source.meaning datagram.entry.from
@@ -254,17 +257,14 @@ impl<S: ServedStore<Reason> + Drop> ServerLoop<S> {
         ensures rounds { self.new.rounds ≡ self.old.rounds }
         ensures room { HasRoom self.new }
     {
-        let tid = spare.port();
+        let tid = bound.port();
         set_store(&mut self.server, &admission, tid);
         self.out.clear();
         let opened = self.server.open(admission, tid, &mut self.out);
         let reason = self.server.store().take_reason();
         match opened {
-            Ok(opened) => self.answer_opened(rt, datagram, spare, opened, reason),
-            Err(_) => {
-                self.sockets.give_back(spare);
-                self.lose_for_memory(rt, datagram);
-            }
+            Ok(opened) => self.answer_opened(rt, datagram, bound, opened, reason),
+            Err(_) => self.lose_for_memory(rt, datagram),
         }
     }
 
@@ -274,22 +274,19 @@ impl<S: ServedStore<Reason> + Drop> ServerLoop<S> {
         &mut self,
         rt: &E,
         datagram: Datagram<'_>,
-        spare: ServerSocket,
+        bound: ServerSocket,
         opened: Opened,
         reason: Option<Reason>,
     )
         requires reserved { vec_len self.old.ports < vec_capacity self.old.ports }
-        requires port { IsOfPool self.old.sockets.pool spare }
-        requires own { spare.port ≢ self.old.sockets.requests.port }
-        requires tid { IfSome opened.tid (λ tid. tid ≡ spare.port) }
+        requires port { IsOfPool self.old.sockets.pool bound }
+        requires own { bound.port ≢ self.old.sockets.requests.port }
+        requires tid { IfSome opened.tid (λ tid. tid ≡ bound.port) }
         ensures { HasAnswered datagram.entry.from opened self.old.out.items self.old self.new }
     {
         match opened.tid {
-            Some(_) => self.begin(rt, datagram, spare, opened.to),
-            None => {
-                self.refuse(rt, datagram, opened.to, reason);
-                self.sockets.give_back(spare);
-            }
+            Some(_) => self.begin(rt, datagram, bound, opened.to),
+            None => self.refuse(rt, datagram, opened.to, reason),
         }
     }
 
@@ -302,6 +299,7 @@ impl<S: ServedStore<Reason> + Drop> ServerLoop<S> {
     )
         requires admitted { IsAdmission self.old.server datagram.from datagram.bytes.now admission }
         requires opens_none { asks_store admission.ask ≡ false }
+        requires handled { IsHandledBy self.old.requests_only datagram.bytes.now }
         ensures answers { AnswersPending S.meaning S.Source.meaning datagram.entry.from
             datagram.entry.bytes.now self.old self.new }
         ensures rounds { self.new.rounds ≡ self.old.rounds }
@@ -365,9 +363,8 @@ impl<S: ServedStore<Reason> + Drop> ServerLoop<S> {
         to: Option<Endpoint>,
         reason: Option<Reason>,
     )
-        ensures answered { HasAnswered datagram.entry.from (record { tid = None; to = to })
+        ensures { HasAnswered datagram.entry.from (record { tid = None; to = to })
             self.old.out.items self.old self.new }
-        ensures pool { self.new.sockets.pool ≡ self.old.sockets.pool }
     {
         let answer = self.out.as_slice();
         let sent = reply(&self.sockets.requests, &mut self.journal, to, answer);
@@ -387,34 +384,34 @@ impl<S: ServedStore<Reason> + Drop> ServerLoop<S> {
         &mut self,
         rt: &E,
         datagram: Datagram<'_>,
-        spare: ServerSocket,
+        bound: ServerSocket,
         to: Option<Endpoint>,
     )
-        requires port { IsOneOf self.old.sockets.pool.range spare.port }
-        requires own { spare.port ≢ self.old.sockets.requests.port }
+        requires port { IsOneOf self.old.sockets.pool.range bound.port }
+        requires own { bound.port ≢ self.old.sockets.requests.port }
         requires reserved { vec_len self.old.ports < vec_capacity self.old.ports }
-        ensures { HasAnswered datagram.entry.from (record { tid = Some spare.port; to = to })
+        ensures { HasAnswered datagram.entry.from (record { tid = Some bound.port; to = to })
             self.old.out.items self.old self.new }
     {
-        let sent = reply(&spare, &mut self.journal, to, self.out.as_slice());
-        let log_entry = self.log_opened(rt, spare.port(), datagram, sent);
-        let port = self.port_of(spare, datagram.from, log_entry);
+        let sent = reply(&bound, &mut self.journal, to, self.out.as_slice());
+        let log_entry = self.log_opened(rt, bound.port(), datagram, sent);
+        let port = self.port_of(bound, datagram.from, log_entry);
         self.ports.push_reserved(port);
     }
 
     /// The port of an opened transfer.
     fn port_of(
         &self,
-        spare: ServerSocket,
+        bound: ServerSocket,
         peer: Endpoint,
         log_entry: Option<LogEntry>,
     ) -> TransferPort
-        ensures tid { result.tid ≡ spare.port }
+        ensures tid { result.tid ≡ bound.port }
         ensures timer { timer_of result
-            ≡ started self.now.sockets.watch.now self.now.longest spare.port peer
-            (interval_at (at spare.port self.now.server.held)) }
+            ≡ started self.now.sockets.watch.now self.now.longest bound.port peer
+            (interval_at (at bound.port self.now.server.held)) }
     {
-        let mut udp = spare;
+        let mut udp = bound;
         self.sockets.register(&mut udp);
         let tid = udp.port();
         let interval = interval_of(&self.server, tid);
@@ -461,18 +458,11 @@ impl<S: ServedStore<Reason> + Drop> ServerLoop<S> {
     }
 }
 
-/// Takes the spare port, if there is one. `None` if it is taken.
-fn free_spare<S: Store>(sockets: &mut Sockets, server: &Server<S>) -> Option<ServerSocket>
-    ensures same { sockets.new ≡ sockets.old }
-    ensures port { IfSome result (IsOfPool sockets.old.pool) }
-    ensures own { IfSome result (λ spare. spare.port ≢ sockets.old.requests.port) }
-    ensures free { IfSome result (λ spare. at spare.port server.now.held ≡ None) }
+/// Whether a datagram begins with the opcode of RRQ or of WRQ. It may still be malformed.
+fn begins_as_request(bytes: &[u8]) -> bool
+    ensures { result ≡ begins_as_request bytes.now }
 {
-    let spare = sockets.take_spare()?;
-    if is_taken(sockets, server, spare.port()) {
-        return None;
-    }
-    Some(spare)
+    matches!(bytes, [0, 1, ..] | [0, 2, ..])
 }
 
 /// Whether the port is that of a transfer, or the request port.

@@ -57,6 +57,8 @@ pub(crate) struct ServerLoop<S: Store + Drop> {
     pub(crate) rounds: u64,
     /// The age of a transfer, in seconds, behind which its datagrams are dropped.
     pub(crate) longest: Option<u32>,
+    /// Whether what does not begin as a request is dropped at the request port.
+    pub(crate) requests_only: bool,
     /// Whether it takes no new request.
     pub(crate) drain: Drain,
     /// The time of the watch at which the signal to drain is looked at again, in milliseconds.
@@ -117,6 +119,7 @@ impl<S: ServedStore<Reason> + Drop> ServerLoop<S> {
         ensures left { result.left ≡ config.now.ending.transfers }
         ensures rounds { result.rounds ≡ config.now.ending.rounds }
         ensures longest { result.longest ≡ config.now.longest }
+        ensures requests_only { result.requests_only ≡ config.now.requests_only }
         ensures drain { result.drain ≡ drain_of config.now.drains }
         ensures room { HasRoom result }
     {
@@ -132,6 +135,7 @@ impl<S: ServedStore<Reason> + Drop> ServerLoop<S> {
             left: config.ending.transfers,
             rounds: config.ending.rounds,
             longest: config.longest,
+            requests_only: config.requests_only,
             drain: Drain::of(config.drains),
             signal_look: 0,
             log: Log {

@@ -24,7 +24,7 @@ const POLLS: u32 = 64;
 pub struct Load {
     /// The number of its open transfers.
     pub open: usize,
-    /// The most that may be open.
+    /// The most that may be open: no more than there are ports for them.
     pub cap: usize,
 }
 

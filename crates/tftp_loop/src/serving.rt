@@ -30,6 +30,9 @@ pub struct LoopConfig {
     /// The age of a transfer, in seconds, behind which its datagrams are dropped, so that it times
     /// out once its retries are over; `None` for no limit.
     pub longest: Option<u32>,
+    /// Whether what arrives at the request port and begins neither as RRQ nor as WRQ is dropped, as if
+    /// the network had lost it.
+    pub requests_only: bool,
     /// Whether a signal to drain is awaited.
     pub drains: bool,
     /// Whether the start, each request and each close is logged as a line on standard error.

@@ -4,7 +4,7 @@ ghost use Rattle.std.specs.Prelude.{◌≡◌, ◌||◌, true, false, IfOk, IfSo
 ghost use Rattle.tftp_server.specs.Port.{asks_store};
 ghost use Rattle.tftp_sockets.specs.Bound.{IsBoundTo};
 ghost use Rattle.tftp_sockets.specs.Quiet.{is_among};
-ghost use Rattle.tftp_loop.specs.PortPool.{IsOfPool, Tries};
+ghost use Rattle.tftp_loop.specs.PortPool.{IsOfPool, Tries, most_of};
 ghost use Rattle.tftp_loop.specs.Steps.{round_end};
 
 use crate::port_pool::PortPool;
@@ -98,12 +98,11 @@ impl Sockets {
         }
     }
 
-    /// Takes the spare port, if there is one.
-    pub(crate) fn take_spare(&mut self) -> Option<ServerSocket>
-        ensures same { self.new ≡ self.old }
-        ensures port { IfSome result (IsOfPool self.old.pool) }
+    /// The most transfers that have a port each at once, of so many.
+    pub(crate) fn most_open(&self, cap: u8) -> usize
+        ensures { result ≡ most_of cap self.now.pool.range }
     {
-        self.pool.take_spare()
+        self.pool.most(cap)
     }
 
     /// Binds a port for a transfer that may open: the next of the order that is not in use, if there
@@ -127,20 +126,12 @@ impl Sockets {
         self.pool.bind_error()
     }
 
-    /// Stores a spare port for the next transfer.
-    pub(crate) fn give_back(&mut self, spare: ServerSocket)
-        requires { IsOfPool self.old.pool spare }
-        ensures { self.new ≡ self.old }
-    {
-        self.pool.give_back(spare);
-    }
-
     /// Adds the port of a transfer to the poll.
-    pub(crate) fn register(&self, spare: &mut ServerSocket)
-        ensures { spare.new.port ≡ spare.old.port }
+    pub(crate) fn register(&self, bound: &mut ServerSocket)
+        ensures { bound.new.port ≡ bound.old.port }
     {
         // If this fails, the transfer's datagrams are received when its port is due.
-        let _ = spare.register(self.poll.registry());
+        let _ = bound.register(self.poll.registry());
     }
 }
 

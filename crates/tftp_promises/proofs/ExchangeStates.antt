@@ -43,6 +43,7 @@ service = record {
   ports = None;
   ending = record { transfers = 2; rounds = 2 };
   longest = None;
+  requests_only = false;
   drains = false;
   logs = false;
   has_priority = false;

@@ -12,6 +12,6 @@ returns-clause-handles g c = λ old received last new receives run waits some. h
 
 pub returns-clause-soon : goal.returns-clause-soon
 returns-clause-soon g c =
-    λ old received waiting woken last new receives run waits goes own next.
-    handles_by_the_next_wait g.T.Store.meaning g.T.Source.Source.meaning old received waiting woken last new receives
-    run waits goes own next
+    λ config port server before old received waiting woken last new begins receives run waits goes next.
+    handles_by_the_next_wait g.T.Store.meaning g.T.Source.Source.meaning config port server before old received waiting
+    woken last new begins receives run waits goes next

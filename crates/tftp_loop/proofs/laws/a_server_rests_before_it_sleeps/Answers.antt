@@ -4,5 +4,5 @@ use Rattle.tftp_loop.proofs.laws.a_server_rests_before_it_sleeps.Goals as goal
 
 pub returns : goal.returns
 returns g c =
-    λ port ending server before old new run own waits some. rests_before_it_sleeps g.T.Store.meaning
-    g.T.Source.Source.meaning port ending server before old new run own waits some
+    λ port ending server before old new run waits some. rests_before_it_sleeps g.T.Store.meaning
+    g.T.Source.Source.meaning port ending server before old new run waits some

@@ -48,7 +48,7 @@ returns g c =
           (idle (same_state begins
           (at_start c.args.config.now c.args.sockets.requests.port c.args.server c.args.journal.events)
           (ap (λ (s : Sockets). s.requests.port) made.sockets)
-          (ap (λ (s : Sockets). s.pool.range) made.sockets ∙ c.requires.range) made.longest made.server
+          (ap (λ (s : Sockets). s.pool.range) made.sockets ∙ c.requires.range) made.longest made.requests_only made.server
           (ap (λ (p : Option (Endpoint × ℕ)). pending_in p request) made.pending) (ap (map timer_of) made.ports)
           (ap (λ (s : Sockets). s.watch.now) made.sockets ∙ c.requires.time)
           (ap (λ (s : Sockets). s.limit) made.sockets ∙ c.requires.limit) refl

@@ -1,7 +1,6 @@
 use Rattle.std.proofs.Common.{arith, map, refl, ap, ◌∙◌, ℕ}
 use Rattle.tftp_server.specs.State.{ServerState, at}
 use Rattle.tftp_loop.specs.declared.server_loop.ServerLoop.{ServerLoop}
-use Rattle.tftp_loop.specs.declared.sockets.Sockets.{Sockets}
 use Rattle.std.specs.Prelude.{Some, None}
 use Rattle.tftp_loop.specs.LoopStates.{loop_state, timer_of}
 use Rattle.tftp_loop.proofs.LoopRuns.{same_state}
@@ -20,10 +19,10 @@ returns-in-Ok-clause-answers g c =
     (loop_state (Some (d.from, d.bytes.now)) c.args.self.now) (loop_state None c.answer_opened.new.self)
     d.from d.bytes.now c.port-tid.result c.set_store.new.server c.open-opened.new.self c.args.admission
     c.clear.new.self.items c.open-opened.new.out.items c.in-Ok.opened
-    refl c.requires.admitted c.set_store.ensures.rest c.set_store.ensures.same c.set_store.ensures.behind
+    refl c.requires.admitted c.requires.handled c.set_store.ensures.rest c.set_store.ensures.same c.set_store.ensures.behind
     c.in-Ok.ensures.carries_out free a.port a.own
     c.clear.ensures.items
-    (same_state _ _ a.requests a.range a.longest a.server refl a.timers a.now a.limit refl a.marked a.asked a.drain a.left_to_close a.rounds a.events)
+    (same_state _ _ a.requests a.range a.longest a.requests_only a.server refl a.timers a.now a.limit refl a.marked a.asked a.drain a.left_to_close a.rounds a.events)
 
 pub returns-in-Ok-clause-rounds : goal.returns-in-Ok-clause-rounds
 returns-in-Ok-clause-rounds g c = c.answer_opened.ensures.rounds
@@ -31,7 +30,6 @@ returns-in-Ok-clause-rounds g c = c.answer_opened.ensures.rounds
 pub returns-in-Err-clause-answers : goal.returns-in-Err-clause-answers
 returns-in-Err-clause-answers g c =
     let d = c.args.datagram in
-    let back = c.give_back.ensures in
     let why = c.in-Err.ensures in
     let lost = c.lose_for_memory.ensures in
     let free =
@@ -47,15 +45,16 @@ returns-in-Err-clause-answers g c =
     (let capacity = c.clear.ensures.capacity in let longest = c.requires.room.longest in omega (arith, capacity, longest))
     (why.why is_memory))
     (same_state _ _
-    (ap (λ (d : ServerLoop _ _ _). d.sockets.requests.port) lost.rest ∙ ap (λ (s : Sockets). s.requests.port) back)
-    (ap (λ (d : ServerLoop _ _ _). d.sockets.pool.range) lost.rest ∙ ap (λ (s : Sockets). s.pool.range) back)
+    (ap (λ (d : ServerLoop _ _ _). d.sockets.requests.port) lost.rest)
+    (ap (λ (d : ServerLoop _ _ _). d.sockets.pool.range) lost.rest)
     (ap (λ (d : ServerLoop _ _ _). d.longest) lost.rest)
+    (ap (λ (d : ServerLoop _ _ _). d.requests_only) lost.rest)
     (ap (λ (d : ServerLoop _ _ _). d.server) lost.rest ∙ why.err.0) refl
     (ap (λ (d : ServerLoop _ _ _). map timer_of d.ports.items) lost.rest)
-    (ap (λ (d : ServerLoop _ _ _). d.sockets.watch.now) lost.rest ∙ ap (λ (s : Sockets). s.watch.now) back)
-    (ap (λ (d : ServerLoop _ _ _). d.sockets.limit) lost.rest ∙ ap (λ (s : Sockets). s.limit) back) refl
-    (ap (λ (d : ServerLoop _ _ _). d.sockets.is_ready) lost.rest ∙ ap (λ (s : Sockets). s.is_ready) back)
-    (ap (λ (d : ServerLoop _ _ _). d.sockets.has_received) lost.rest ∙ ap (λ (s : Sockets). s.has_received) back)
+    (ap (λ (d : ServerLoop _ _ _). d.sockets.watch.now) lost.rest)
+    (ap (λ (d : ServerLoop _ _ _). d.sockets.limit) lost.rest) refl
+    (ap (λ (d : ServerLoop _ _ _). d.sockets.is_ready) lost.rest)
+    (ap (λ (d : ServerLoop _ _ _). d.sockets.has_received) lost.rest)
     (ap (λ (d : ServerLoop _ _ _). d.drain) lost.rest)
     (ap (λ (d : ServerLoop _ _ _). d.left) lost.rest) (ap (λ (d : ServerLoop _ _ _). d.rounds) lost.rest) lost.noted)
 

@@ -1,36 +1,62 @@
-use Rattle.std.proofs.Common.{map, refl, ap, subst, inr, ◌∙◌}
-use Rattle.std.specs.Prelude.{None, Some}
-use Rattle.tftp_loop.specs.declared.server_loop.ServerLoop.{ServerLoop}
+use Rattle.std.proofs.Common.{◌≡◌, ◌==◌, true, refl, sym, ap, subst, ◌∙◌, ℕ}
+use Rattle.std.specs.Prelude.{None, Some, ◌||◌, is_some}
+use Rattle.tftp_server.specs.State.{at}
 use Rattle.tftp_loop.specs.declared.sockets.Sockets.{Sockets}
-use Rattle.tftp_loop.specs.Steps.{LoopState}
-use Rattle.tftp_loop.specs.LoopStates.{loop_state, timer_of}
+use Rattle.tftp_loop.specs.Steps.{LoopState, is_taken}
+use Rattle.tftp_loop.specs.LoopStates.{loop_state}
 use Rattle.tftp_loop.specs.MayWait.{Concludes}
 use Rattle.tftp_loop.proofs.LoopRuns.{same_state}
-use Rattle.tftp_loop.proofs.RequestRuns.{loses_for_memory, may_open}
+use Rattle.tftp_loop.proofs.RequestRuns.{binds_in_vain, bound_as, may_open, prepares_first, tries_in_vain}
 use Rattle.tftp_loop.proofs.server_loop.ServerLoop.open_request.Goals as goal
 
-pub returns-in-Some-clause-answers : goal.returns-in-Some-clause-answers
-returns-in-Some-clause-answers g c =
+pub returns-in_default-clause-answers : goal.returns-in_default-clause-answers
+returns-in_default-clause-answers g c =
     let d = c.args.datagram in
-    let same = c.free_spare.ensures.same in
+    let same = c.port_for.ensures.same in
     let s = loop_state (Some (d.from, d.bytes.now)) c.args.self.now in
-    subst (λ (u : LoopState _ _ _). Concludes g.S.Store.meaning g.S.Source.Source.meaning u
-    (loop_state None c.open_at.new.self))
-    (same_state _ s (ap (λ (s : Sockets). s.requests.port) same) (ap (λ (s : Sockets). s.pool.range) same) refl refl refl
-    refl
-    (ap (λ (s : Sockets). s.watch.now) same) (ap (λ (s : Sockets). s.limit) same) refl
+    let opens =
+    may_open g.S.Store.meaning g.S.Source.Source.meaning c.args.self.now.server c.args.self.now.server d.from
+    d.bytes.now c.args.admission refl c.requires.admitted c.requires.may_open in
+    tries_in_vain g.S.Store.meaning g.S.Source.Source.meaning s _ d.from d.bytes.now
+    c.port_for.new.journal.events refl opens c.in_default.ensures.tries
+    (same_state _ _ (ap (λ (s : Sockets). s.requests.port) same) (ap (λ (s : Sockets). s.pool.range) same) refl refl refl refl
+    refl (ap (λ (s : Sockets). s.watch.now) same) (ap (λ (s : Sockets). s.limit) same) refl
     (ap (λ (s : Sockets). s.is_ready) same) (ap (λ (s : Sockets). s.has_received) same) refl refl refl refl)
-    c.open_at.ensures.answers
 
-pub returns-in-None-clause-answers : goal.returns-in-None-clause-answers
-returns-in-None-clause-answers g c =
+pub returns-then-is_taken-clause-answers : goal.returns-then-is_taken-clause-answers
+returns-then-is_taken-clause-answers g c =
     let d = c.args.datagram in
-    let same = c.free_spare.ensures.same in
+    let same = c.port_for.ensures.same in
     let s = loop_state (Some (d.from, d.bytes.now)) c.args.self.now in
-    subst (λ (u : LoopState _ _ _). Concludes g.S.Store.meaning g.S.Source.Source.meaning u
-    (loop_state None c.open_at_new_port.new.self))
-    (same_state _ s (ap (λ (s : Sockets). s.requests.port) same) (ap (λ (s : Sockets). s.pool.range) same) refl refl refl
-    refl
-    (ap (λ (s : Sockets). s.watch.now) same) (ap (λ (s : Sockets). s.limit) same) refl
+    let opens =
+    may_open g.S.Store.meaning g.S.Source.Source.meaning c.args.self.now.server c.args.self.now.server d.from
+    d.bytes.now c.args.admission refl c.requires.admitted c.requires.may_open in
+    let taken : is_taken s c.in-Some.bound.port ≡ true =
+    ap (λ (p : ℕ). is_taken s p) (sym c.port.ensures)
+    ∙ (ap (λ (k : Sockets). (c.port.result == k.requests.port) || is_some (at c.port.result s.server.held)) (sym same)
+    ∙ (sym c.is_taken.ensures ∙ c.if-is_taken.true)) in
+    binds_in_vain g.S.Store.meaning g.S.Source.Source.meaning s _ d.from d.bytes.now
+    c.port_for.new.journal.events c.in-Some.bound.port refl opens c.in-Some.ensures.port.port
+    c.in-Some.ensures.tries taken
+    (same_state _ _ (ap (λ (s : Sockets). s.requests.port) same) (ap (λ (s : Sockets). s.pool.range) same) refl refl refl refl
+    refl (ap (λ (s : Sockets). s.watch.now) same) (ap (λ (s : Sockets). s.limit) same) refl
     (ap (λ (s : Sockets). s.is_ready) same) (ap (λ (s : Sockets). s.has_received) same) refl refl refl refl)
-    c.open_at_new_port.ensures.answers
+
+pub returns-clause-answers : goal.returns-clause-answers
+returns-clause-answers g c =
+    let d = c.args.datagram in
+    let same = c.port_for.ensures.same in
+    let s = loop_state (Some (d.from, d.bytes.now)) c.args.self.now in
+    let opens =
+    may_open g.S.Store.meaning g.S.Source.Source.meaning c.args.self.now.server c.args.self.now.server d.from
+    d.bytes.now c.args.admission refl c.requires.admitted c.requires.may_open in
+    let tried : LoopState _ _ _ = record s { events = c.port_for.new.journal.events } in
+    prepares_first g.S.Store.meaning g.S.Source.Source.meaning s tried _
+    (bound_as g.S.Store.meaning g.S.Source.Source.meaning s d.from d.bytes.now refl opens c.args.self.now.journal.events
+    c.port_for.new.journal.events c.in-Some.bound.port c.in-Some.ensures.port.port c.in-Some.ensures.tries)
+    (subst (λ (u : LoopState _ _ _). Concludes g.S.Store.meaning g.S.Source.Source.meaning u
+    (loop_state None c.open_at.new.self))
+    (same_state _ tried (ap (λ (s : Sockets). s.requests.port) same) (ap (λ (s : Sockets). s.pool.range) same) refl refl refl
+    refl refl (ap (λ (s : Sockets). s.watch.now) same) (ap (λ (s : Sockets). s.limit) same) refl
+    (ap (λ (s : Sockets). s.is_ready) same) (ap (λ (s : Sockets). s.has_received) same) refl refl refl refl)
+    c.open_at.ensures.answers)

@@ -14,6 +14,7 @@ returns g c =
       requests = refl;
       range = refl;
       longest = refl;
+      requests_only = refl;
       server = refl;
       pending = refl;
       ports = refl;

@@ -1,8 +1,6 @@
-use Rattle.std.proofs.Common.{refl, sym, ap, subst, ◌∙◌, ℕ, Option, List}
+use Rattle.std.proofs.Common.{refl, sym, ap, ◌∙◌, ℕ, Option, List}
 use Rattle.std.specs.Prelude.{Some, None}
-use Rattle.tftp_ends.specs.declared.endpoint.Endpoint.{Endpoint}
 use Rattle.tftp_ends.specs.declared.error_reply.ErrorReply.{ErrorReply}
-use Rattle.tftp_server.specs.Request.{Admits}
 use Rattle.tftp_sockets.specs.Journal.{replied}
 use Rattle.tftp_loop.specs.LoopStates.{loop_state}
 use Rattle.tftp_loop.proofs.LoopRuns.{same_state}
@@ -16,8 +14,8 @@ returns-in-Some-clause-answers g c =
     let s = loop_state (Some (d.from, d.bytes.now)) c.args.self.now in
     let M = g.S.Store.meaning in
     refuses_as M g.S.Source.Source.meaning s (loop_state None c.answer.new.self) d.from d.bytes.now
-    c.args.admission.ask refl c.requires.admitted.admits c.requires.opens_none
-    (same_state _ _ a.requests a.range a.longest a.server refl a.timers a.now a.limit refl a.marked a.asked a.drain a.left_to_close a.rounds
+    c.args.admission.ask refl c.requires.handled c.requires.admitted.admits c.requires.opens_none
+    (same_state _ _ a.requests a.range a.longest a.requests_only a.server refl a.timers a.now a.limit refl a.marked a.asked a.drain a.left_to_close a.rounds
     (a.events ∙ (ap (λ (bytes : List ℕ). replied s.requests (Some d.from) bytes s.events) c.datagram.ensures.bytes
     ∙ ap (λ (o : Option ErrorReply). replied s.requests (refused_to d.from o)
     (refused_bytes o) s.events) (sym c.in-Some.is ∙ c.refusal.ensures))))
@@ -29,8 +27,8 @@ returns-clause-answers g c =
     let s = loop_state (Some (d.from, d.bytes.now)) c.args.self.now in
     let M = g.S.Store.meaning in
     refuses_as M g.S.Source.Source.meaning s (loop_state None c.answer-in-None.new.self) d.from d.bytes.now
-    c.args.admission.ask refl c.requires.admitted.admits c.requires.opens_none
-    (same_state _ _ a.requests a.range a.longest a.server refl a.timers a.now a.limit refl a.marked a.asked a.drain a.left_to_close a.rounds
+    c.args.admission.ask refl c.requires.handled c.requires.admitted.admits c.requires.opens_none
+    (same_state _ _ a.requests a.range a.longest a.requests_only a.server refl a.timers a.now a.limit refl a.marked a.asked a.drain a.left_to_close a.rounds
     (a.events
     ∙ ap (λ (o : Option ErrorReply). replied s.requests (refused_to d.from o)
     (refused_bytes o) s.events) (sym c.in-None.is ∙ c.refusal.ensures)))

@@ -6,7 +6,7 @@ use Rattle.tftp_loop.specs.Steps.{No_answer}
 use Rattle.tftp_loop.specs.LoopStates.{loop_state, timer_of}
 use Rattle.tftp_loop.specs.MayWait.{Concluded}
 use Rattle.tftp_loop.proofs.LoopRuns.{noted_state}
-use Rattle.tftp_loop.proofs.RequestRuns.{loses_as, loses_for_memory}
+use Rattle.tftp_loop.proofs.RequestRuns.{drops_as, loses_as, loses_for_memory}
 use Rattle.tftp_loop.proofs.Reserving.{has_reserved}
 use Rattle.tftp_loop.proofs.server_loop.ServerLoop.take_received.Goals as goal
 
@@ -27,6 +27,14 @@ returns-then-from-eq-NO_PORT-clause-handles g c =
     Concluded
     (loses_as g.S.Store.meaning g.S.Source.Source.meaning (loop_state (Some (c.args.from, bytes)) c.args.self.now) _
     c.args.from bytes refl (No_answer (omega (arith, none))) refl)
+    c.requires.pending
+
+pub returns-then-drops-clause-handles : goal.returns-then-drops-clause-handles
+returns-then-drops-clause-handles g c =
+    let bytes = take c.args.count c.args.request.now in
+    Concluded
+    (drops_as g.S.Store.meaning g.S.Source.Source.meaning (loop_state (Some (c.args.from, bytes)) c.args.self.now) _
+    c.args.from bytes refl (sym c.drops.ensures.value ∙ c.if-drops.true) refl)
     c.requires.pending
 
 pub open_request-requires-clause-reserved : goal.open_request-requires-clause-reserved

@@ -1,0 +1,80 @@
+-- What a server drops at its request port begins as no request, and only if it is told to.
+use Rattle.std.proofs.Common.{◌≡◌, ◌∙◌, ◌⊎◌, ℕ, true, false, List, inl, inr, refl, sym, ap}
+use Rattle.std.proofs.lemmas.Bool.{true≢false}
+use Rattle.tftp_wire.specs.Spelling.{Spells}
+use Rattle.tftp_wire.specs.declared.packet.Packet.TheVariants.{Read, Write}
+use Rattle.tftp_wire.specs.declared.packet.Request.{Request}
+use Rattle.tftp_file.specs.Source.{SourceMeaning}
+use Rattle.tftp_ends.specs.declared.endpoint.Endpoint.{Endpoint}
+use Rattle.tftp_store.specs.Store.{StoreMeaning}
+use Rattle.tftp_server.specs.State.{ServerState}
+use Rattle.tftp_sockets.specs.Journal.{SocketEvent}
+use Rattle.tftp_loop.specs.Dropped.{IsDropped}
+use Rattle.tftp_loop.specs.OnlyRequests.{begins_as_request}
+use Rattle.tftp_loop.specs.Run.{Run}
+use Rattle.tftp_loop.specs.Run.Run.{Start, Then}
+use Rattle.tftp_loop.specs.Steps.{LoopState, LoopStep, AnswersRequest, LosesRequest, RequestLoss, at_start}
+use Rattle.tftp_loop.specs.Steps.{No_answer, No_request, No_memory_to_open, No_port, Same_port}
+use Rattle.tftp_loop.specs.Steps.LoopStep.{Waited, At_port, Request_received, No_request_found, Request_not_received}
+use Rattle.tftp_loop.specs.Steps.LoopStep.{Request_noted, Request_answered, Request_lost, Clock_read, Store_set}
+use Rattle.tftp_loop.specs.Steps.LoopStep.{Transfer_closed, Drain_begun}
+use Rattle.tftp_loop.specs.declared.serving.LoopConfig.{LoopConfig}
+
+-- an RRQ and a WRQ begin as requests
+spelled_begins : (request : Request) (bytes : List ℕ)
+    → Spells (Read request) bytes ⊎ Spells (Write request) bytes → begins_as_request bytes ≡ true
+spelled_begins request bytes (inl spells) = ap begins_as_request spells.whole
+spelled_begins request bytes (inr spells) = ap begins_as_request spells.whole
+
+module _ {S F D : Type 0} (meaning : StoreMeaning S D) (sources : SourceMeaning F) where
+  -- what is dropped is none, and the server is told to
+  why_dropped : (old : LoopState S F D) (from : Endpoint) (bytes : List ℕ)
+      (why : RequestLoss meaning sources old from bytes) → IsDropped meaning sources why
+      → (old.requests_only ≡ true) × (begins_as_request bytes ≡ false)
+  why_dropped old from bytes (No_request only begins) dropped = (only, begins)
+  why_dropped old from bytes (No_answer none) dropped = absurd dropped
+  why_dropped old from bytes (No_memory_to_open lacks last) dropped = absurd dropped
+  why_dropped old from bytes (No_port opens port last) dropped = absurd dropped
+  why_dropped old from bytes (Same_port opens port last taken) dropped = absurd dropped
+
+  pub drops_no_request : (old new : LoopState S F D) (loses : LosesRequest meaning sources old new)
+      (request : Request) → Spells (Read request) loses.bytes ⊎ Spells (Write request) loses.bytes
+      → IsDropped meaning sources loses.why → ⊥
+  drops_no_request old new loses request spells dropped =
+      true≢false
+      (sym (spelled_begins request loses.bytes spells) ∙ (why_dropped old loses.from loses.bytes loses.why dropped).1)
+
+  -- no step changes whether it is told to
+  step_only : (s t : LoopState S F D) → LoopStep meaning sources s t → t.requests_only ≡ s.requests_only
+  step_only s t (Waited d) = ap (λ (u : LoopState S F D). u.requests_only) d.is
+  step_only s t (At_port d) = ap (λ (u : LoopState S F D). u.requests_only) d.is
+  step_only s t (Request_received d) = ap (λ (u : LoopState S F D). u.requests_only) d.is
+  step_only s t (No_request_found d) = ap (λ (u : LoopState S F D). u.requests_only) d.is
+  step_only s t (Request_not_received d) = ap (λ (u : LoopState S F D). u.requests_only) d.is
+  step_only s t (Request_noted d) = ap (λ (u : LoopState S F D). u.requests_only) d.is
+  step_only s t (Request_answered d) = ap (λ (u : LoopState S F D). u.requests_only) d.is
+  step_only s t (Request_lost d) = ap (λ (u : LoopState S F D). u.requests_only) d.is
+  step_only s t (Clock_read d) = ap (λ (u : LoopState S F D). u.requests_only) d.is
+  step_only s t (Store_set d) = ap (λ (u : LoopState S F D). u.requests_only) d.is
+  step_only s t (Transfer_closed d) = ap (λ (u : LoopState S F D). u.requests_only) d.is
+  step_only s t (Drain_begun d) = ap (λ (u : LoopState S F D). u.requests_only) d.is
+
+  stays_only : (s t : LoopState S F D) → Run (LoopStep meaning sources) s t → t.requests_only ≡ s.requests_only
+  stays_only s t Start = refl
+  stays_only s t (Then {middle} run does) = step_only middle t does ∙ stays_only s middle run
+
+  pub drops_only_if_told : (config : LoopConfig) (port : ℕ) (server : ServerState S F D) (before : List SocketEvent)
+      (old new : LoopState S F D) → config.requests_only ≡ false
+      → Run (LoopStep meaning sources) (at_start config port server before) old
+      → (loses : LosesRequest meaning sources old new) → IsDropped meaning sources loses.why → ⊥
+  drops_only_if_told config port server before old new off run loses dropped =
+      true≢false
+      (sym (why_dropped old loses.from loses.bytes loses.why dropped).0
+      ∙ (stays_only (at_start config port server before) old run ∙ off))
+
+  pub answers_only_requests : (config : LoopConfig) (port : ℕ) (server : ServerState S F D)
+      (before : List SocketEvent) (old new : LoopState S F D) → config.requests_only ≡ true
+      → Run (LoopStep meaning sources) (at_start config port server before) old
+      → (answers : AnswersRequest meaning sources old new) → begins_as_request answers.bytes ≡ true
+  answers_only_requests config port server before old new on run answers =
+      answers.handled (stays_only (at_start config port server before) old run ∙ on)
