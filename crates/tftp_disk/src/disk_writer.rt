@@ -4,7 +4,7 @@ ghost use Rattle.std.specs.Prelude.{◌≡◌, ◌≢◌, ◌<◌, ◌≤◌, �
 ghost use Rattle.std.specs.Prelude.{length, take, drop, vec_len};
 ghost use Rattle.tftp_disk.specs.DiskJournal.{written};
 ghost use Rattle.tftp_disk.specs.DiskJournal.DiskEvent.{Examined, Synced, Mode_set};
-ghost use Rattle.tftp_disk.specs.DiskWriter.{calls_of, handed, NoSyncs};
+ghost use Rattle.tftp_disk.specs.DiskWriter.{calls_of, handed, IsRefused, NoSyncs};
 
 use crate::calls::DiskFile;
 use crate::found::Found;
@@ -65,6 +65,7 @@ impl<F: Write> DiskWriter<F> {
     pub fn flush(&mut self) -> io::Result<()>
         ensures handed { handed self.new ≡ handed self.old }
         ensures empty { OnOk result (self.new.buffer.items ≡ []) }
+        ensures refused { OnErr result (IsRefused (calls_of self.new)) }
         ensures same { NoSyncs (calls_of self.old) (calls_of self.new) }
     {
         while !self.buffer.is_empty() {
@@ -78,6 +79,7 @@ impl<F: Write> DiskWriter<F> {
         requires { 0 < vec_len self.old.buffer }
         ensures handed { handed self.new ≡ handed self.old }
         ensures fewer { OnOk result (vec_len self.new.buffer < vec_len self.old.buffer) }
+        ensures refused { OnErr result (IsRefused (calls_of self.new)) }
         ensures same { NoSyncs (calls_of self.old) (calls_of self.new) }
     {
         match write_again(&mut self.file, self.buffer.as_slice()) {
@@ -144,9 +146,11 @@ fn write_again<F: Write>(file: &mut DiskFile<F>, bytes: &[u8]) -> io::Result<usi
         ≡ written file.old.journal.events ++ take count bytes.now) }
     ensures err { OnErr result (written file.new.journal.events
         ≡ written file.old.journal.events) }
+    ensures none { IfOk result (λ count. count ≡ 0 → IsRefused file.new.journal.events) }
+    ensures refused { OnErr result (IsRefused file.new.journal.events) }
     ensures same { NoSyncs file.old.journal.events file.new.journal.events }
 {
-    for _try in 0..MOST_TRIES {
+    for _try in 1..MOST_TRIES {
         match file.write(bytes) {
             Ok(count) => return Ok(count),
             Err(error) => {
@@ -156,7 +160,7 @@ fn write_again<F: Write>(file: &mut DiskFile<F>, bytes: &[u8]) -> io::Result<usi
             }
         }
     }
-    Err(io::Error::from(ErrorKind::Interrupted))
+    file.write(bytes)
 }
 
 /// Removes the first bytes.
