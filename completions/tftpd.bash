@@ -3,8 +3,8 @@
 _tftpd() {
     local options
     COMPREPLY=()
-    options='--listen --ports --max-block --max-file --retries --cap --longest --overwrite --read-only
-         --uploads --transfers --rounds --forever --drain --servers --server --log --help -h --version -V'
+    options='--listen --requests-only --ports --max-block --max-file --retries --cap --longest --overwrite
+         --read-only --uploads --transfers --rounds --forever --drain --servers --server --log --help -h --version -V'
     case $3 in
     --listen)
         mapfile -t COMPREPLY < <(compgen -W stdin -- "$2")

@@ -2,6 +2,7 @@
 
 complete -c tftpd -f -a '(__fish_complete_directories)'
 complete -c tftpd -l listen -x -d 'ADDR:PORT of the requests, or stdin' -a stdin
+complete -c tftpd -l requests-only -d 'Drop what is no request at that port'
 complete -c tftpd -l ports -x -d 'A:B, the ports of transfers'
 complete -c tftpd -l max-block -x -d 'Largest block size, 8 to 65464 bytes'
 complete -c tftpd -l max-file -x -d 'Longest file that is taken, in bytes'

@@ -69,6 +69,12 @@ def flags_of(line) -> set[str]:
     return found
 
 
+def synopsis_of(text) -> list[str]:
+    """The lines of a manual's synopsis, without the dots of their macros."""
+    section = re.search(r"(?ms)^\.Sh SYNOPSIS\n(.*?)^\.Sh ", text)
+    return [line.lstrip(".") for line in section[1].splitlines()] if section else []
+
+
 def bash_options(text, verb, has_verbs) -> set[str]:
     """The words of the line that sets `options`, for a subcommand."""
     label = re.escape(f"{verb or '*'})") if has_verbs else ""
@@ -158,9 +164,14 @@ class Comparison:
             self.differences.append(f"{name} --version: is not `{wanted}`, as by the Makefile and `rt version`")
 
     def check_manual(self, name) -> None:
-        """The manual has an item for each option, and names no other anywhere."""
+        """The manual has an item for each option and names no other anywhere. Its synopsis has each long one, unless it has
+        `options` in place of them."""
         place, known = MANUALS[name], self.known[name]
         text = (TOP / place).read_text()
+        synopsis = synopsis_of(text)
+        if "Op Ar options" not in synopsis:
+            shown = {it for line in synopsis for it in flags_of(line)}
+            self.differ(f"{place}: SYNOPSIS", long_ones(known), long_ones(shown))
         lines = [line[1:] for line in text.splitlines() if re.match(r"\.[A-Z]", line)]
         self.differ(place, known, {it for line in lines if line.startswith("It Fl") for it in flags_of(line)})
         self.name_no_other(place, known, {it for line in lines if line[:5] != "It Fl" for it in flags_of(line)})

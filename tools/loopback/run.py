@@ -28,6 +28,7 @@ import draining
 import handed_over
 import options
 import repeated_requests
+import requests_only
 import served_disk
 import served_folder
 import server_alone
@@ -41,7 +42,8 @@ from lib.stalls import LIMIT as STALL, Stalls
 
 HERE = Path(__file__).resolve()
 # of one server each
-OF_SERVERS = [both_programs, server_alone, server_loop, served_folder, served_disk, options, handed_over, draining]
+OF_SERVERS = [both_programs, server_alone, server_loop, served_folder, served_disk, options, handed_over, draining,
+              requests_only]
 MODULES = [*OF_SERVERS, client_alone, command_lines, several_servers, repeated_requests, at_length]
 TESTS_AT_LEAST = 205
 AT_ONCE = 8

@@ -7,7 +7,7 @@ import time
 from both_programs import bytes_of
 from datagrams import PATIENCE, PATIENT, End, ack, data, error, expect, free_ports, oack, rrq, wrq
 from scene import LIFE, next_line
-from server_alone import FILE_NOT_FOUND, first_block_of, is_refused, opened
+from server_alone import ACCESS_VIOLATION, FILE_NOT_FOUND, first_block_of, is_refused, opened
 
 # Datagrams come with the time of the kernel, of `asm/socket.h`
 SO_TIMESTAMPNS = 35
@@ -223,6 +223,25 @@ def test_ports_are_used_each_once_before_any_again(scene) -> None:
         expect(ports[12:], ports[:12] * 2, "the ports of two more")
         orders.append(ports[:12])
     expect(orders[0] == orders[1], False, f"whether two servers have the same order {orders[0]}")
+
+
+def test_a_port_that_refuses_a_write_comes_after_all_others(scene) -> None:
+    """A draft that cannot be replaced is in the way at one port of four: every fourth write is refused, and no other.
+    What stands there is a folder here; it may be a file of another user in a folder whose sticky bit is set."""
+    first = free_ports(4)
+    scene.make_folder(f".tftp-{first + 2}")
+    server = scene.serve("--ports", f"{first}:{first + 3}", "--rounds", "100000")
+    answers = []
+    for number in range(16):
+        port = scene.port()
+        port.send(wrq(f"n{number}", **PATIENT), server.address)
+        answer, transfer = port.receive()
+        answers.append(answer)
+        if transfer != server.address:
+            port.send(error(0, "stop"), transfer)
+    refused = [number for number, answer in enumerate(answers) if answer == ACCESS_VIOLATION]
+    expect(refused, list(range(refused[0] if refused else 0, 16, 4)), "which writes are refused")
+    expect([answer for answer in answers if answer != ACCESS_VIOLATION], [oack(**PATIENT)] * 12, "the answers to the others")
 
 
 def test_ports_in_use_are_passed_over(scene) -> None:

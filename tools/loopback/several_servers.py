@@ -215,13 +215,13 @@ def test_words_of_several_servers(scene) -> None:
     scene.make_folder("-odd root/in")
     words = ["--listen", f"{scene.address}:0", "--servers", "2", "--forever", "--max-block", "8192", "--max-file", "99999",
              "--retries", "7", "--cap", "9", "--overwrite", "--uploads", "in", "--longest", "77", "--log",
-             "--ports", "40001:40003", "--", "-odd root"]
+             "--requests-only", "--ports", "40001:40003", "--", "-odd root"]
     server = Server(scene.start("tftpd", words))
     wait_until(lambda: len(children_of(server.process)) == 2, "both servers")
     shared = ["--max-block=8192", "--max-file=99999", "--retries=7", "--cap=9", "--overwrite", "--uploads=in",
               "--longest=77", "--forever", "--log", "--", "-odd root"]
     for number, pid, ports in zip((1, 2), children_of(server.process), ("40001:40001", "40002:40003")):
-        expected = ["--listen=stdin", f"--server={number}", f"--ports={ports}", *shared]
+        expected = ["--listen=stdin", f"--server={number}", f"--ports={ports}", "--requests-only", *shared]
         expect(words_of(pid)[1:], expected, "the words of a server")
 
 
@@ -307,6 +307,35 @@ def test_a_full_server_leaves_requests_to_others(scene) -> None:
     expect(port.receive()[0], error(0, "server busy"), "the answer to one more")
     lasted = (time.monotonic() - begun) / SLOWER
     expect(LEFT <= lasted < LEFT_AT_MOST, True, f"whether it comes soon, after {lasted:.4f} s of the servers' clock")
+
+
+def test_a_server_without_ports_leaves_requests_to_others(scene) -> None:
+    """Each client is served as long as a server has a port, though its cap is higher, unless many programs wait for a
+    processor: then a request may be lost, and comes again."""
+    scene.make("a", b"ABC")
+    first = free_ports(16)
+    server = serve(scene, 4, "--cap", "16", "--ports", f"{first}:{first + 15}")
+    clients = [scene.port() for _ in range(16)]
+    for port in clients:
+        port.send(rrq("a", **PATIENT), server.address)
+    lost = [asks_until_answered(port, server) for port in clients]
+    if sum(lost):
+        print(f"several servers: while a server had a port, requests were lost so often: {lost}")
+        expect(is_beside_others(4), True, f"whether requests are lost while a server has a port: {lost}")
+
+
+def asks_until_answered(port, server) -> int:
+    """Asks again as long as there is no answer, and returns how often that was."""
+    for lost in range(PATIENCE):
+        port.socket.settimeout(1)
+        try:
+            answer, (_, number) = port.socket.recvfrom(65_536)
+        except socket.timeout:
+            port.send(rrq("a", **PATIENT), server.address)
+            continue
+        expect((answer, number == server.address[1]), (oack(**PATIENT), False), "the answer")
+        return lost
+    raise AssertionError(f"a request is not answered in {PATIENCE} seconds")
 
 
 def test_servers_have_no_descriptor_of_each_other(scene) -> None:

@@ -64,6 +64,7 @@ pub record NamesServer (read : Reads) (config : DaemonConfig) : Type 0 where
   pub listen : (word : List ℕ) × (read.word (codes "listen") ≡ Some word)
       × NamesListen word config.listen
   pub ports : PortsAs (read.word (codes "ports")) config.ports
+  pub requests_only : IsFlag (read.text (codes "requests-only")) config.requests_only
   pub limits : ConfiguresAs read config.config
   pub read_only : IsFlag (read.text (codes "read-only")) config.read_only
   pub uploads : read.word (codes "uploads") ≡ option_map (λ folder. folder.now) config.uploads

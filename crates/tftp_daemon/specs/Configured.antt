@@ -41,6 +41,7 @@ service_at config at = record {
   ports = config.ports;
   ending = config.ending;
   longest = config.longest;
+  requests_only = config.requests_only;
   drains = is_some config.drain;
   logs = config.logs;
   has_priority = config.has_priority;

@@ -30,6 +30,7 @@ pub record IsServer (config : DaemonConfig) (server : ℕ) (own : DaemonConfig) 
   pub servers : own.instance.servers ≡ 1
   pub number : own.instance.server ≡ Some server
   pub limits : own.config ≡ config.config
+  pub requests_only : own.requests_only ≡ config.requests_only
   pub read_only : own.read_only ≡ config.read_only
   pub uploads : option_map (λ folder. folder.now) own.uploads
       ≡ option_map (λ folder. folder.now) config.uploads

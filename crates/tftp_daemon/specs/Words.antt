@@ -19,12 +19,15 @@ option_rule id = record (new_rule id) { long = Some id; value_names = 1 }
 abbrev pub any_number : List ℕ → Rule
 any_number id = number_rule id (parsers.Unsigned 0 18446744073709551615)
 
--- with the folder, the address of the request port and the ports of transfers
+-- with the folder, the address of the request port, what is handled there, and the ports of
+-- transfers
 abbrev pub with_folder_and_ports : App → App
 with_folder_and_ports app =
     with_rule
+    (with_rule
     (with_rule (with_rule app (word_rule (codes "ROOT")))
     (by_default (codes "127.0.0.1:6969") (option_rule (codes "listen"))))
+    (flag_rule (codes "requests-only")))
     (option_rule (codes "ports"))
 
 -- with the limits of transfers

@@ -68,6 +68,8 @@ const FEW_PORTS: &str = "for '--ports <A:B>': fewer ports than servers";
 
 const LISTEN: &str = "listen";
 
+const REQUESTS_ONLY: &str = "requests-only";
+
 const READ_ONLY: &str = "read-only";
 
 const UPLOADS: &str = "uploads";
@@ -322,6 +324,7 @@ fn service<'a>(
         uploads: matches.get_str(UPLOADS),
         listen,
         ports,
+        requests_only: is_set(matches, REQUESTS_ONLY),
         ending,
         longest: matches.get_one::<u32>(LONGEST),
         drain: matches.get_str(DRAIN),
@@ -379,7 +382,6 @@ fn config(matches: &ArgMatches<'_>) -> Option<Config>
 #[derive(Drop)]
 pub(crate) struct Texts {
     block_range: String,
-    block_help: String,
     max_block: String,
     max_file: String,
     retries: String,
@@ -396,9 +398,6 @@ impl Texts {
         let config = Config::default();
         Ok(Texts {
             block_range: format!(in alloc; "{MIN_BLOCK}..{MAX_BLOCK}")?,
-            block_help: format!(in alloc;
-                "Largest block size that is agreed, in bytes, {MIN_BLOCK} to {MAX_BLOCK}"
-            )?,
             max_block: config.limits.max_block.to_string(alloc)?,
             max_file: config.limits.max_file.to_string(alloc)?,
             retries: config.retries.to_string(alloc)?,
@@ -448,7 +447,8 @@ fn option<'a>(alloc: Global, name: &'a str, value: &'a str, help: &'a str) -> Ar
         .help(help)
 }
 
-/// Adds the folder, the address of the request port and the ports of transfers.
+/// Adds the folder, the address of the request port, what is handled there, and the ports of
+/// transfers.
 fn with_folder_and_ports<'a>(alloc: Global, command: Command<'a>) -> Result<Command<'a>>
     ensures { (app : App) → IsApp app command.entry
         → IfOk result (IsApp (with_folder_and_ports app)) }
@@ -456,6 +456,12 @@ fn with_folder_and_ports<'a>(alloc: Global, command: Command<'a>) -> Result<Comm
     let root = word(alloc, "ROOT", "The folder whose files are served");
     let command = command.arg(root)?;
     let command = command.arg(listen(alloc))?;
+    let requests_only = flag(
+        alloc,
+        REQUESTS_ONLY,
+        "Drops what arrives at the request port and begins neither as RRQ nor as WRQ, without an ERROR",
+    );
+    let command = command.arg(requests_only)?;
     let ports = option(
         alloc,
         PORTS,
@@ -500,7 +506,7 @@ fn max_block<'a>(alloc: Global, texts: &'a Texts) -> Arg<'a>
         "max-block",
         texts.block_range.as_str(),
         value_parser!(u16).range(i64::from(MIN_BLOCK)..=i64::from(MAX_BLOCK)),
-        texts.block_help.as_str(),
+        "Largest block size that is agreed, in bytes",
     );
     max_block.default_value(texts.max_block.as_str())
 }
@@ -515,7 +521,7 @@ fn max_file<'a>(alloc: Global, texts: &'a Texts) -> Arg<'a>
         "max-file",
         "0..2^64-1",
         value_parser!(u64),
-        "Longest file that is taken, in bytes, any number below 2^64",
+        "Longest file that is taken, in bytes",
     );
     max_file.default_value(texts.max_file.as_str())
 }
@@ -530,7 +536,7 @@ fn retries<'a>(alloc: Global, texts: &'a Texts) -> Arg<'a>
         "retries",
         "0..10",
         value_parser!(u8).range(0..=10),
-        "How often a datagram is sent again without progress, 0 to 10",
+        "How often a datagram is sent again without progress",
     );
     retries.default_value(texts.retries.as_str())
 }
@@ -545,7 +551,7 @@ fn cap<'a>(alloc: Global, texts: &'a Texts) -> Arg<'a>
         "cap",
         "1..64",
         value_parser!(u8).range(1..=64),
-        "Transfers that are open at once, 1 to 64",
+        "Transfers that are open at once",
     );
     cap.default_value(texts.cap.as_str())
 }
@@ -559,7 +565,7 @@ fn longest<'a>(alloc: Global) -> Arg<'a>
         LONGEST,
         "1..4294967295",
         value_parser!(u32).range(1..=4_294_967_295),
-        "Has a transfer that is so many seconds old time out, whatever comes, 1 to 4294967295",
+        "Has a transfer that is so many seconds old time out, whatever comes",
     )
 }
 
@@ -615,7 +621,7 @@ fn transfers<'a>(alloc: Global) -> Arg<'a>
         TRANSFERS,
         "1..4294967295",
         value_parser!(u32).range(1..=4_294_967_295),
-        "Ends after so many closed transfers, 1 to 4294967295",
+        "Ends after so many closed transfers",
     );
     transfers.default_value("1")
 }
@@ -630,7 +636,7 @@ fn rounds<'a>(alloc: Global) -> Arg<'a>
         ROUNDS,
         "1..4294967295",
         value_parser!(u32).range(1..=4_294_967_295),
-        "Ends after so many waits, each of a second at most, 1 to 4294967295",
+        "Ends after so many waits, each of a second at most",
     );
     rounds.default_value("1000000")
 }
@@ -652,7 +658,7 @@ fn servers<'a>(alloc: Global) -> Arg<'a>
         SERVERS,
         "1..64",
         value_parser!(u8).range(1..=64),
-        "Starts so many servers at one request port, for as many processors, 1 to 64; with --forever",
+        "Starts so many servers at one request port, for as many processors; with --forever",
     );
     servers.default_value("1")
 }

@@ -43,6 +43,8 @@ pub(crate) struct DaemonConfig<'a> {
     pub(crate) listen: Listen,
     /// The ports that transfers use; `None` if the system chooses.
     pub(crate) ports: Option<PortRange>,
+    /// Whether what does not begin as a request is dropped at the request port.
+    pub(crate) requests_only: bool,
     /// When the server ends.
     pub(crate) ending: Ending,
     /// The age of a transfer, in seconds, behind which its datagrams are dropped; `None` for no
@@ -77,6 +79,7 @@ impl DaemonConfig<'_> {
             ports: self.ports,
             ending: self.ending,
             longest: self.longest,
+            requests_only: self.requests_only,
             drains: self.drain.is_some(),
             logs: self.logs,
             has_priority: self.has_priority,

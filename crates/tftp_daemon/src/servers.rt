@@ -127,6 +127,9 @@ fn words_of(
     add(&mut words, format!(in alloc; "--listen=stdin")?)?;
     add(&mut words, format!(in alloc; "--server={server}")?)?;
     add_ports(alloc, &mut words, config, server)?;
+    if config.requests_only {
+        add(&mut words, format!(in alloc; "--requests-only")?)?;
+    }
     add_limits(alloc, &mut words, config)?;
     add_writes(alloc, &mut words, config)?;
     if let Some(seconds) = config.longest {
@@ -258,10 +261,14 @@ fn is_same_path(own: Option<&str>, other: Option<&str>) -> bool
 /// Whether the limits and the flags of two configurations are the same.
 fn has_same_settings(own: &DaemonConfig<'_>, config: &DaemonConfig<'_>) -> bool
     ensures limits { IsTrue result → own.now.config ≡ config.now.config }
+    ensures requests_only { IsTrue result → own.now.requests_only ≡ config.now.requests_only }
     ensures read_only { IsTrue result → own.now.read_only ≡ config.now.read_only }
     ensures logs { IsTrue result → own.now.logs ≡ config.now.logs }
 {
-    own.config == config.config && own.read_only == config.read_only && own.logs == config.logs
+    own.config == config.config
+        && own.requests_only == config.requests_only
+        && own.read_only == config.read_only
+        && own.logs == config.logs
 }
 
 /// Whether two servers end alike, and their transfers.
