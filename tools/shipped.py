@@ -65,8 +65,12 @@ def archive() -> str:
     Returns how."""
     crate = crate_of(LIBRARY)
     if has_libraries(crate):
-        proved(crate, Path(crate.folder, "out", f"lib{LIBRARY}.a"))
-        return f"{FLAG}, over the libraries of rt ci"
+        try:
+            proved(crate, Path(crate.folder, "out", f"lib{LIBRARY}.a"))
+            return f"{FLAG}, over the libraries of rt ci"
+        except SystemExit as fault:
+            # (it takes longer, and says what is wrong if something is)
+            print(f"{fault}; once more by rt lib", flush=True)
     subprocess.run(["rt", "lib", FLAG], cwd=crate.folder, stdin=subprocess.DEVNULL, stdout=subprocess.DEVNULL, check=True)
     return f"by rt lib {FLAG}"
 
