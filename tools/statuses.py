@@ -267,13 +267,17 @@ def test_play(check) -> None:
 
 
 # Datagrams of a server, and how a client ends that is answered by them, with its cause: what is no packet, an ACK to a
-# read, ERRORs, OACKs of what was not asked, of a larger block and of one option twice, a CR at the end of a netascii
-# text
+# read, ERRORs, some without their last zero byte, behind it or without a code, OACKs of what was not asked, of a larger
+# block and of one option twice, a CR at the end of a netascii text
 READ_ANSWERS = [
     (b"\0\7", [], "Illegal", "ADDRESS: sent what no server may send"),
     (b"\0\4\0\0", [], "Illegal", "ADDRESS: sent what no server may send"),
     (b"\0\5\0\2no\0", [], "PeerError(2)", "the server says: no"),
     (b"\0\5\0\2\0", [], "PeerError(2)", "the server says: access violation"),
+    (b"\0\5\0\1no file", [], "Illegal", "ADDRESS: sent what no server may send: ERROR 1 (no file)"),
+    (b"\0\5\1\2a\x1b%\0b", [], "Illegal", "ADDRESS: sent what no server may send: ERROR 258 (a%1b%25)"),
+    (b"\0\5\0\0" + b"A" * 600, [], "Illegal", f"ADDRESS: sent what no server may send: ERROR 0 ({'A' * 512})"),
+    (b"\0\5\0", [], "Illegal", "ADDRESS: sent what no server may send"),
     (b"\0\5\0\0file too large\0", [], "PeerError(0)", "the server says: file too large; try --blksize 1428"),
     (b"\0\5\0\0file too large\0", ["--blksize", "8"], "PeerError(0)", "the server says: file too large"),
     (b"\0\6timeout\x003\0", [], "Refused(NotAsked)", "ADDRESS: agreed to an option that was not requested"),
@@ -308,7 +312,7 @@ def test_transfers(check) -> None:
             words = ["get", address, "a", "told", "--no-dally", *RETRIES]
             check.ends("tftp", words, 2, "tftp: output fault\ntftp: standard output: no space\n", stdout=full)
         with answering(None) as silent:
-            errors = f"tftp: TimedOut\ntftp: {silent}: no answer\n"
+            errors = f"tftp: TimedOut\ntftp: {silent}: no answer; check address, port and firewalls\n"
             check.ends("tftp", ["get", silent, "a", "silence", "--retries", "0"], 1, errors, "")
         check.ends("tftp", ["get", address, "a", "again", "--blksize", "8", *RETRIES], 0, "", "complete 3\n")
         has_ended(check, server, 0, ["Complete"] * 6)

@@ -166,13 +166,54 @@ def test_an_empty_file_replaces_a_left_over(scene) -> None:
     scene.has(local=b"")
 
 
-def test_a_folder_has_the_name_of_the_part(scene) -> None:
-    """Then nothing is sent."""
-    scene.make_folder("local.part")
+def has_taken(scene, content, *words, **how) -> tuple[Client, End]:
+    """A get that has acknowledged this content, in blocks of 512 bytes. Returns the client and the server's end."""
     requests = scene.port()
-    client = scene.tftp("get", requests.word, "a", "local")
-    client.ends(2, "", "tftp: file fault\ntftp: local: a folder has this name with .part\n")
+    client = scene.tftp("get", requests.word, "a", "local", *words, **how)
+    end = asked(scene, requests, rrq("a"))
+    blocks = [content[at:at + 512] for at in range(0, len(content), 512)]
+    for number, block in enumerate(blocks, 1):
+        end.is_answered(data(number, block), ack(number))
+    return client, end
+
+
+def test_a_failed_get_leaves_what_it_acknowledged(scene) -> None:
+    """However a get fails, `local.part` has each block that was acknowledged: one, as many as are written at once, and a
+    few more."""
+    for blocks in [1, 16, 17, 40]:
+        content = bytes_of(512 * blocks)
+        for closing, outcome in [(error(0, "stop"), "PeerError(0)"), (ack(1), "Illegal")]:
+            client, end = has_taken(scene, content)
+            end.send(closing)
+            client.fails(outcome)
+            scene.has_files({"local.part": content})
+    client, end = has_taken(scene, content, "--retries", "0")
+    client.fails("TimedOut")
+    scene.has_files({"local.part": content})
+
+
+def test_a_full_disk_has_the_first_bytes_of_a_failed_get(scene) -> None:
+    """A file that may have two blocks of 512 bytes has the first two that were acknowledged, and the cause is that of the
+    transfer."""
+    content = bytes_of(512 * 3)
+    client, end = has_taken(scene, content, limit="-f 2")
+    end.send(error(0, "stop"))
+    client.fails("PeerError(0)", "the server says: stop")
+    scene.has_files({"local.part": content[:1_024]})
+
+
+def test_an_unusable_path_is_found_first(scene) -> None:
+    """A folder that has the name of the part, an empty path, and one through a missing folder or a file: nothing is sent
+    then, and nothing is made."""
+    scene.make_folder("local.part")
+    scene.make("file", b"a file of the user")
+    requests = scene.port()
+    for local, words in [("local", "a folder has this name with .part"), ("", "the path is empty"),
+                         ("none/local", "not found"), ("file/local", "not a folder")]:
+        client = scene.tftp("get", requests.word, "a", local)
+        client.ends(2, "", f"tftp: file fault\ntftp: {local}: {words}\n")
     expect(requests.waiting(), [], "the datagrams that were sent")
+    scene.has(file=b"a file of the user")
 
 
 def mode_of(scene, name) -> int:
@@ -293,7 +334,7 @@ def test_a_request_that_is_not_sent_has_its_reason(scene) -> None:
     requests = scene.port()
     client = scene.tftp("get", requests.word, "a", "new", "--retries", "0")
     expect(requests.receive()[0], rrq("a"), "the request")
-    client.fails("TimedOut", f"{requests.word}: no answer")
+    client.fails("TimedOut", f"{requests.word}: no answer; check address, port and firewalls")
 
 
 def written_to(terminal) -> bytes:

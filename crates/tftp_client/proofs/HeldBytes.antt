@@ -77,18 +77,18 @@ committed false before after (Ok done) h = (as_committed before, h, refl)
 committed false before after (Err fault) h = (before, h, refl)
 
 module _ {S K : Type 0} (sources : SourceMeaning S) (sinks : SinkMeaning K) where
-  abbrev Holds : K → List ℕ → Type 0
+  abbrev pub Holds : K → List ℕ → Type 0
   Holds sink bytes = (holding : Holding) × (sinks.held sink ≡ Some holding) × (holding.bytes ≡ bytes)
 
   -- a received file
-  abbrev AllHeld : Files S K → List ℕ → Type 0
+  abbrev pub AllHeld : Files S K → List ℕ → Type 0
   AllHeld (Source source) bytes = Unit {0}
   AllHeld (Sink sink) bytes = Holds sink bytes
 
   abbrev Unless_failed : EndState → Files S K → Moved → Type 0
   Unless_failed e files moved = failed e.position.phase ≡ false → AllHeld files moved.bytes
 
-  appends : (bytes : List ℕ) (sink mid : K) (done : Done) (old : List ℕ) → Appended sinks bytes sink mid (Ok done)
+  pub appends : (bytes : List ℕ) (sink mid : K) (done : Done) (old : List ℕ) → Appended sinks bytes sink mid (Ok done)
       → Holds sink old → Holds mid (old ++ bytes)
   appends [] sink mid done old a h =
       subst (λ (k : K). Holds k (old ++ [])) (sym a.1)
@@ -99,7 +99,7 @@ module _ {S K : Type 0} (sources : SourceMeaning S) (sinks : SinkMeaning K) wher
       (with_piece h.0 (b ∷ bytes), after, ap (λ (t : List ℕ). t ++ (b ∷ bytes)) h.2)
 
   -- the end went on after it
-  goes : (terms : Terms) (number : ℕ) (from : Endpoint) (e : EndState) (last : Bool) (after : List ℕ) (mid : K)
+  pub goes : (terms : Terms) (number : ℕ) (from : Endpoint) (e : EndState) (last : Bool) (after : List ℕ) (mid : K)
       (done : Done) (turn : Turn) (sink' : K) (bytes : List ℕ)
       → GoesOn sinks terms number from e last after mid (Ok done) turn sink' → Holds mid bytes → Holds sink' bytes
   goes terms number from e true after mid done turn sink' bytes g h =
@@ -149,12 +149,12 @@ module _ {S K : Type 0} (sources : SourceMeaning S) (sinks : SinkMeaning K) wher
       (datagram_stores_none e from bytes step.decoded) h step.acts
 
   -- what is known of a sink stays
-  stays : (before after : K) (bytes : List ℕ)
+  pub stays : (before after : K) (bytes : List ℕ)
       → ((held : Holding) → sinks.held before ≡ Some held → sinks.held after ≡ Some held)
       → Holds before bytes → Holds after bytes
   stays before after bytes same h = (h.0, same h.0 h.1, h.2)
 
-  loses : (files files' : Files S K) (bytes : List ℕ) → KeepsFiles sources sinks files files' → AllHeld files bytes
+  pub loses : (files files' : Files S K) (bytes : List ℕ) → KeepsFiles sources sinks files files' → AllHeld files bytes
       → AllHeld files' bytes
   loses files (Source source') bytes keeps h = tt
   loses (Source source) (Sink sink') bytes keeps h = absurd keeps
@@ -162,7 +162,7 @@ module _ {S K : Type 0} (sources : SourceMeaning S) (sinks : SinkMeaning K) wher
       let Of : Option Holding → Type 0 = λ held. KeepsHolding held (sinks.held sink') in
       stays sink sink' bytes (λ held is. subst Of is keeps.holding) h
 
-  works : (files files' : Files S K) (bytes : List ℕ) → WorksOnFile sources sinks files files' → AllHeld files bytes
+  pub works : (files files' : Files S K) (bytes : List ℕ) → WorksOnFile sources sinks files files' → AllHeld files bytes
       → AllHeld files' bytes
   works files (Source source') bytes work h = tt
   works (Source source) (Sink sink') bytes work h = absurd work
@@ -197,7 +197,7 @@ module _ {S K : Type 0} (sources : SourceMeaning S) (sinks : SinkMeaning K) wher
   converses moved (Rests {s} {files} {files'} run work) h =
       λ still. works files files' (run_moves run moved).bytes work (converses moved run h still)
 
-  begins : (file : Files S K) → IsNew sources sinks file → AllHeld file []
+  pub begins : (file : Files S K) → IsNew sources sinks file → AllHeld file []
   begins (Source source) new = tt
   begins (Sink sink) new = (nothing, new, refl)
 

@@ -5,6 +5,7 @@ pub mod Conversing
 pub mod Counting
 pub mod GivenBytes
 pub mod HeldBytes
+pub mod LeftBytes
 pub mod SentFile
 pub mod NamedFile
 pub mod NamedOnDisk

@@ -1,5 +1,5 @@
 -- The laws of a complete put.
-use Rattle.std.proofs.Common.{◌≡◌, ℕ, true, List, length, inl, inr, refl, sym, ◌∙◌, subst}
+use Rattle.std.proofs.Common.{◌≡◌, ℕ, true, List, length, inl, inr, refl, sym, ◌∙◌}
 use Rattle.tftp_wire.specs.declared.mode.Mode.{Mode}
 use Rattle.tftp_wire.specs.declared.mode.Mode.TheVariants.{Octet, Netascii}
 use Rattle.tftp_negotiate.specs.declared.known.Kind.{Kind}
@@ -13,8 +13,8 @@ use Rattle.tftp_sockets.specs.Journal.{SocketEvent}
 use Rattle.tftp_client.specs.declared.transfer.Job.{Job}
 use Rattle.tftp_client.specs.Converses.{Converses, State}
 use Rattle.tftp_client.specs.Moved.{nothing_moved, run_moves}
-use Rattle.tftp_client.specs.Given.{CountsWhatItSent, GaveWhatMoved, IsGiven, SendsWhatItsFileGave}
-use Rattle.tftp_client.specs.Runs.{IsCountOf, IsFileOf, RunsAs, Transfers, begun, opens, plain}
+use Rattle.tftp_client.specs.Given.{CountsWhatItSent, IsGiven, SendsWhatItsFileGave}
+use Rattle.tftp_client.specs.Runs.{IsCountOf, IsFileOf, begun, opens, plain}
 use Rattle.tftp_client.proofs.GivenBytes.{gave_all}
 use Rattle.tftp_client.proofs.SameKind.{converses}
 use Rattle.tftp_client.proofs.SentLength.{sent_all}

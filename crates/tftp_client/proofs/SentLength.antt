@@ -1,8 +1,8 @@
 -- How many bytes have moved in the run of a sender: those of its blocks so far, and of a complete
 -- one as many as the file had with which it opened.
-use Rattle.std.proofs.Common.{◌≡◌, ℕ, suc, ◌<◌, ◌≤◌, Bool, true, false, List, [], ◌++◌, length, length-append, length-take, take}
+use Rattle.std.proofs.Common.{◌≡◌, ℕ, ◌<◌, ◌≤◌, Bool, true, false, List, [], ◌++◌, length, length-append, length-take}
 use Rattle.std.proofs.Common.{Option, Some, None, Result, Ok, Err, refl, sym, ap, ◌∙◌, subst, arith, add-one}
-use Rattle.std.specs.Prelude.{◌==◌, ◌&&◌, ◌+◌, ◌-◌, ◌*◌, ◌/◌, min, nat_lt, nat_le, if◌then◌else◌}
+use Rattle.std.specs.Prelude.{◌==◌, ◌&&◌, ◌+◌, ◌-◌, ◌*◌, ◌/◌, min, nat_lt, if◌then◌else◌}
 use Rattle.std.proofs.Math.Nat.{lt-div-mul-add, mul-le-mul_right, suc-mul}
 use Rattle.std.proofs.lemmas.Bool.{true≢false, ltb-true, ltb-false, eqb-true}
 use Rattle.tftp_wire.specs.declared.mode.Mode.{Mode}
@@ -35,7 +35,7 @@ use Rattle.tftp_ends.specs.Action.{datagram_action, garbled_response, packet_act
 use Rattle.tftp_ends.specs.End.{EndState, is_client, is_complete, is_sender}
 use Rattle.tftp_ends.specs.Phase.{waited}
 use Rattle.tftp_ends.specs.Sender.{acked_action, illegal_action, sender_action}
-use Rattle.tftp_ends.specs.Step.{Acts, Turn, after, after_turn, block_length, data_bytes, filled_turn, refused_turn}
+use Rattle.tftp_ends.specs.Step.{Acts, Turn, after, after_turn, block_length, data_bytes, refused_turn}
 use Rattle.tftp_ends.specs.Step.{response_turn, result_count_is, sent_turn}
 use Rattle.tftp_ends.specs.Waiting.{agreed_terms, begin_action, begin_with_action, default_terms, no_answer}
 use Rattle.tftp_ends.specs.Waiting.{reader_action, refusal_action, writer_action}

@@ -26,6 +26,8 @@ cause_text job (causes.Socket reason) = codes "tftp: no socket: " ++ reason_text
 cause_text job (causes.Server words) =
     codes "tftp: the server says: "
     ++ (string_bytes words ++ hint_text (string_bytes words) job.asked.blksize)
+cause_text job (causes.NoPacket line) =
+    line_on (endpoint_text job.server) (codes "sent what no server may send: " ++ string_bytes line)
 cause_text job (causes.Peer words) = line_on (endpoint_text job.server) words.now
 cause_text job (causes.Unsent reason) =
     line_on (endpoint_text job.server) (reason_text reason)

@@ -7,6 +7,7 @@ use Rattle.tftp_client.specs.declared.local_error.LocalError.TheVariants as erro
 
 -- the words
 abbrev pub local_error_text : LocalError → List ℕ
+local_error_text errors.EmptyPath = codes "the path is empty"
 local_error_text errors.Exists = codes "exists (--replace replaces it)"
 local_error_text errors.NotAFile = codes "not a file"
 local_error_text errors.PartIsAFolder = codes "a folder has this name with .part"

@@ -1,21 +1,31 @@
--- The file of a complete job, by the calls of the system on it.
-use Rattle.std.specs.Prelude.{ℕ, ◌≡◌, List}
+-- The file of a job, by the calls of the system on it: of a complete one, and what one that failed
+-- leaves.
+use Rattle.std.specs.Prelude.{ℕ, ◌≡◌, ◌⊎◌, List, [], ◌++◌, Some}
 use Rattle.std.proofs.Common.{inl, inr}
 use Rattle.std.specs.declared.io.traits.Read as read
 use Rattle.std.specs.declared.io.traits.Write as write
 use Rattle.std.specs.declared.io.traits.Seek as seek
+use Rattle.tftp_negotiate.specs.declared.known.Kind.{Kind}
 use Rattle.tftp_file.specs.Sink.{SinkMeaning}
 use Rattle.tftp_file.specs.Source.{SourceMeaning}
 use Rattle.tftp_file.specs.declared.files.Files.{Files}
 use Rattle.tftp_file.specs.declared.files.Files.TheVariants.{Source, Sink}
+use Rattle.tftp_ends.specs.End.{outcome_of}
+use Rattle.tftp_ends.specs.declared.outcome.Outcome.{Outcome}
+use Rattle.tftp_ends.specs.declared.outcome.Outcome.TheVariants.{StoreFault}
+use Rattle.tftp_ends.specs.declared.phase.Phase.{Phase}
 use Rattle.tftp_disk.specs.Changes.{changes}
+use Rattle.tftp_lines.specs.declared.client_outcome.ClientOutcome.{ClientOutcome}
+use Rattle.tftp_lines.specs.declared.client_outcome.ClientOutcome.TheVariants as ends
 use Rattle.tftp_sockets.specs.Journal.{SocketEvent}
 use Rattle.tftp_client.specs.declared.local.LocalFile.{LocalFile}
 use Rattle.tftp_client.specs.declared.transfer.Job.{Job}
+use Rattle.tftp_client.specs.Converses.{State, WorksOnFile, most_waits}
 use Rattle.tftp_client.specs.Fetched.{AreOwn, IsNamed, Paths}
+use Rattle.tftp_client.specs.Moved.{nothing_moved, run_moves}
 use Rattle.tftp_client.specs.Ordered.{RunsOrder, RunsWords}
-use Rattle.tftp_client.specs.Runs.{moved_by}
-use Rattle.tftp_client.specs.Written.{paths_for, paths_of}
+use Rattle.tftp_client.specs.Runs.{FailsBy, FailsEnd, FailsTransfer, StopsBy, moved_by, plain}
+use Rattle.tftp_client.specs.Written.{HasNoRest, IsWrittenAt, paths_for, paths_of}
 
 -- the names of the file of a job
 abbrev pub job_paths : Job → Paths
@@ -30,6 +40,18 @@ module _ {R F D : Type 0} {reads : read.Ghosts F} {writes : write.Ghosts F}
     pub named : ∥ IsNamed (job_paths job) bytes (changes local.part.journal.events) ∥₁
     pub own : ∥ AreOwn (job_paths job) (changes local.part.journal.events) ∥₁
 
+  -- a received file was handed these bytes, and its end came to that phase. Those that its appends
+  -- took are in the file that was made under the other name of the job, in order and each once,
+  -- except those behind a write that was refused. An append took each of them, unless the end
+  -- closed since the file refused its newest block. No other name was changed
+  pub record IsLeftOf (job : Job) (phase : Phase) (local : LocalFile R F D reads writes seeks lists)
+      (bytes : List ℕ) : Type 0 where
+    pub rest : List ℕ
+    pub taken : bytes ≡ local.taken.holding.bytes ++ rest
+    pub all : (rest ≡ []) ⊎ (outcome_of phase ≡ Some StoreFault)
+    pub written : IsWrittenAt (job_paths job).part local.taken.holding.bytes local.part.written
+    pub own : ∥ AreOwn (job_paths job) (changes local.part.journal.events) ∥₁
+
 module _ {S R F D : Type 0} {reads : read.Ghosts F} {writes : write.Ghosts F}
     {seeks : seek.Ghosts F} {lists : read.Ghosts D} where
   -- a received file is to get the name of the job, and is written under its other one
@@ -42,16 +64,81 @@ module _ {S R F D : Type 0} {reads : read.Ghosts F} {writes : write.Ghosts F}
   IsOnDisk job (Source source) bytes = Unit {0}
   IsOnDisk job (Sink local) bytes = IsStored job local bytes
 
+  -- these bytes moved in a run of a job that is not complete: those of a received file are left
+  abbrev pub IsLeft : Job → Phase → Files S (LocalFile R F D reads writes seeks lists) → List ℕ
+      → Type 0
+  IsLeft job phase (Source source) bytes = Unit {0}
+  IsLeft job phase (Sink local) bytes = IsLeftOf job phase local bytes
+
+  -- nothing of a received file is still in its buffer, unless a write was refused
+  abbrev pub IsOut : Files S (LocalFile R F D reads writes seeks lists) → Type 0
+  IsOut (Source source) = Unit {0}
+  IsOut (Sink local) = HasNoRest local.part.written
+
 module _ {S R F D : Type 0} {reads : read.Ghosts F} {writes : write.Ghosts F}
     {seeks : seek.Ghosts F} {lists : read.Ghosts D}
     (sources : SourceMeaning S)
     (sinks : SinkMeaning (LocalFile R F D reads writes seeks lists)) where
-  -- what moved in the run of a complete job is on the disk
+  -- a received file was written once more, and a source was not used
+  abbrev pub WritesOut : Files S (LocalFile R F D reads writes seeks lists)
+      → Files S (LocalFile R F D reads writes seeks lists) → Type 0
+  WritesOut (Source old) new = new ≡ Source old
+  WritesOut (Sink old) new = WorksOnFile sources sinks (Sink old) new
+
+  -- the run of an end from that state stopped, and is not complete; nothing of a received file is
+  -- still in its buffer
+  abbrev pub StopsOut : ℕ → ℕ → State → Files S (LocalFile R F D reads writes seeks lists)
+      → List SocketEvent → ClientOutcome → Type 0
+  StopsOut most port first file after end =
+      (outcome : Outcome) × (end ≡ ends.Failed outcome)
+      × (stops : StopsBy sources sinks most port first file after outcome) × IsOut stops.files
+
+  -- what moved in the run of a failed end is left
+  abbrev pub EndLeaves : (most : ℕ) (kind : Kind) (job : Job) (length : ℕ)
+      (before after : List SocketEvent) (end : ClientOutcome)
+      → FailsEnd sources sinks most kind job length before after end → Type 0
+  EndLeaves most kind job length before after (ends.Failed outcome) failed =
+      let stops = failed.fails.stops in
+      IsLeft job stops.last.end.position.phase stops.files
+      (run_moves stops.converses nothing_moved).bytes
+  EndLeaves most kind job length before after _ failed = Unit {0}
+
+  -- the run of an end of this kind stopped, or was not opened, and what moved is left
+  abbrev pub LeavesEnd : ℕ → Kind → Job → ℕ → List SocketEvent → List SocketEvent → ClientOutcome
+      → Type 0
+  LeavesEnd most kind job length before after end =
+      (failed : FailsEnd sources sinks most kind job length before after end)
+      × EndLeaves most kind job length before after end failed
+
+  -- the same of a job
+  abbrev pub LeavesBy : ℕ → Job → List SocketEvent → List SocketEvent → ClientOutcome → Type 0
+  LeavesBy most job before after end =
+      (failed : FailsBy sources sinks most job before after end)
+      × EndLeaves most job.kind job failed.0 before after end failed.1
+
+  -- what moved in the last run of a failed job is left
+  abbrev pub TransferLeaves : (most : ℕ) (job : Job) (before after : List SocketEvent)
+      (end : ClientOutcome) → FailsTransfer sources sinks most job before after end → Type 0
+  TransferLeaves most job before after end (inl failed) =
+      EndLeaves most job.kind job failed.0 before after end failed.1
+  TransferLeaves most job before after end (inr again) =
+      EndLeaves most job.kind (plain job) again.2.0 again.0 after end again.2.1
+
+  -- a job failed, and what moved in its last run is left
+  abbrev pub LeavesTransfer : ℕ → Job → List SocketEvent → List SocketEvent → ClientOutcome
+      → Type 0
+  LeavesTransfer most job before after end =
+      (failed : FailsTransfer sources sinks most job before after end)
+      × TransferLeaves most job before after end failed
+
+  -- what moved in the run of a complete job is on the disk, and what moved in one that failed is
+  -- left
   abbrev pub OrderOnDisk : (job : Job) (status : ℕ) (before after : List SocketEvent)
       → RunsOrder sources sinks job status before after → Type 0
   OrderOnDisk job status before after (inl done) =
       IsOnDisk job done.1.files (moved_by sources sinks done.1.transfers).bytes
-  OrderOnDisk job status before after (inr failed) = Unit {0}
+  OrderOnDisk job status before after (inr failed) =
+      TransferLeaves (most_waits before) job before after failed.1 failed.3
 
   -- the same of the job that words name
   abbrev pub WordsOnDisk : (words : List (List ℕ)) (status : ℕ) (before after : List SocketEvent)
@@ -59,7 +146,7 @@ module _ {S R F D : Type 0} {reads : read.Ghosts F} {writes : write.Ghosts F}
   WordsOnDisk words status before after (inl none) = Unit {0}
   WordsOnDisk words status before after (inr did) = OrderOnDisk did.0 status before after did.2
 
-  -- a job was run, and what moved is on the disk if it is complete
+  -- a job was run, and what moved is on the disk if it is complete, and left if it failed
   abbrev pub StoresOrder : Job → ℕ → List SocketEvent → List SocketEvent → Type 0
   StoresOrder job status before after =
       (runs : RunsOrder sources sinks job status before after)

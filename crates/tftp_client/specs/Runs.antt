@@ -106,12 +106,6 @@ module _ {S K : Type 0} (sources : SourceMeaning S) (sinks : SinkMeaning K) wher
     pub events : last.events ≡ after
     pub ends : EndsBy most last outcome
 
-  -- the same, of how the program ends
-  abbrev pub Stops : ℕ → ℕ → State → Files S K → List SocketEvent → ClientOutcome → Type 0
-  Stops most port first file after (ends.Failed outcome) =
-      StopsBy most port first file after outcome
-  Stops most port first file after _ = ⊥
-
   -- the run of an end from its request on stopped, and is not complete
   pub record Fails (most : ℕ) (end : EndState) (before after : List SocketEvent)
       (outcome : Outcome) : Type 0 where

@@ -1,5 +1,5 @@
 -- What was sent of a file on the disk, by the calls of the system on it.
-use Rattle.std.specs.Prelude.{ℕ, ◌≡◌, ◌⊎◌, true, List, length, Some}
+use Rattle.std.specs.Prelude.{ℕ, ◌≡◌, true, List, length, Some}
 use Rattle.std.proofs.Common.{inl, inr}
 use Rattle.std.specs.declared.io.traits.Read as read
 use Rattle.std.specs.declared.io.traits.Write as write

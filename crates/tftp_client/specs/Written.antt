@@ -1,10 +1,10 @@
 -- The file of a fetch that is being written, by the calls on it (own).
-use Rattle.std.specs.Prelude.{ℕ, ◌≡◌, List, [], ◌++◌, codes, Option, Some, None}
+use Rattle.std.specs.Prelude.{ℕ, ◌≡◌, ◌⊎◌, List, [], ◌++◌, codes, Option, Some, None}
 use Rattle.std.specs.String.{string_bytes}
 use Rattle.tftp_disk.specs.declared.existing.Existing.{Existing}
 use Rattle.tftp_disk.specs.DiskFault.{is_replaced}
 use Rattle.tftp_disk.specs.DiskJournal.{made_at, state_of}
-use Rattle.tftp_disk.specs.DiskWriter.{calls_of, handed}
+use Rattle.tftp_disk.specs.DiskWriter.{calls_of, handed, IsRefused}
 use Rattle.tftp_client.specs.Fetched.{IsWholeAt, Paths}
 use Rattle.tftp_client.specs.declared.local_names.LocalNames.{LocalNames}
 use Rattle.tftp_client.specs.declared.written.Written.{Written}
@@ -38,6 +38,24 @@ module _ {F : Type 0} where
   pub record SameFile (before after : Written F) : Type 0 where
     pub content : handed after.writer ≡ handed before.writer
     pub place : made_at (calls_of after.writer) ≡ made_at (calls_of before.writer)
+
+  -- nothing that it was handed is still in its buffer, unless the newest call on it is a write that
+  -- was refused
+  abbrev pub IsWrittenOut : Written F → Type 0
+  IsWrittenOut file = (file.writer.buffer.items ≡ []) ⊎ IsRefused (calls_of file.writer)
+
+  -- the same, if it is made
+  abbrev pub HasNoRest : Option (Written F) → Type 0
+  HasNoRest None = Unit {0}
+  HasNoRest (Some file) = IsWrittenOut file
+
+  -- these bytes were written to the file that was made at this path, in order and each once, up to a
+  -- write that was refused; without bytes there may be no file
+  abbrev pub IsWrittenAt : List ℕ → List ℕ → Option (Written F) → Type 0
+  IsWrittenAt part bytes None = bytes ≡ []
+  IsWrittenAt part bytes (Some file) =
+      (made_at (calls_of file.writer) ≡ Some part) × (handed file.writer ≡ bytes)
+      × IsWrittenOut file
 
   -- all that it was handed is in it and synced
   abbrev pub IsDone : List ℕ → List ℕ → Written F → Type 0

@@ -19,6 +19,8 @@ pub(crate) enum Cause {
     Socket(Reason),
     /// The server ended the transfer by an ERROR with these words.
     Server(String),
+    /// The server sent this ERROR, which is no packet: as a line, as far as it can be read.
+    NoPacket(String),
     /// The server did this.
     Peer(&'static str),
     /// The system refused to send the newest datagram to the server.
@@ -35,7 +37,7 @@ impl Cause {
     /// The cause of an outcome, as far as that says it.
     pub(crate) fn of(outcome: Outcome, kind: Kind) -> Cause {
         match outcome {
-            Outcome::TimedOut => Cause::Peer("no answer"),
+            Outcome::TimedOut => Cause::Peer("no answer; check address, port and firewalls"),
             Outcome::PeerError(_) => Cause::Peer("an ERROR"),
             Outcome::Illegal => Cause::Peer("sent what no server may send"),
             Outcome::Refused(refusal) => Cause::Peer(refusal_words(refusal)),
@@ -89,6 +91,9 @@ impl fmt::Display for CauseLine<'_> {
             Cause::Server(words) => {
                 let hint = hint_for(words.as_str(), job.asked.blksize);
                 write!(f, "tftp: the server says: {words}{hint}")
+            }
+            Cause::NoPacket(line) => {
+                write!(f, "tftp: {server}: sent what no server may send: {line}")
             }
             Cause::Peer(words) => write!(f, "tftp: {server}: {words}"),
             Cause::Unsent(reason) => write!(f, "tftp: {server}: {reason}"),

@@ -8,7 +8,7 @@ ghost use Rattle.tftp_disk.specs.Changes.{changes};
 ghost use Rattle.tftp_file.specs.declared.fault.StoreFault.TheVariants.{Memory};
 ghost use Rattle.tftp_client.specs.Fetched.{AreOwn, IsNamed};
 ghost use Rattle.tftp_client.specs.Taken.{nothing};
-ghost use Rattle.tftp_client.specs.Written.{bytes_in, paths_for, paths_of};
+ghost use Rattle.tftp_client.specs.Written.{bytes_in, paths_for, paths_of, HasNoRest};
 
 use crate::local_error::LocalError;
 use crate::part_file::PartFile;
@@ -49,6 +49,9 @@ pub struct LocalFile<R: Files + Drop> {
 }
 
 impl<R: Files + Drop> LocalFile<R> {
+    ghost use Rattle.tftp_file.specs.Sink.{WritesBehind};
+    ghost use Rattle.tftp_client.specs.PartFile.{SameNames};
+
     /// A new file of this name. Nothing is changed on the disk before bytes are appended or an
     /// empty file is committed.
     pub(crate) fn new(
@@ -77,6 +80,16 @@ impl<R: Files + Drop> LocalFile<R> {
         ensures { result ≡ self.now.count }
     {
         self.count
+    }
+
+    /// Writes what is buffered, and syncs nothing: what `LOCAL.part` is to have after a transfer
+    /// that failed. A write that fails is not tried again.
+    pub(crate) fn write_out(&mut self)
+        ensures behind { WritesBehind ⟦<LocalFile<R> as Sink>⟧.meaning self.old self.new }
+        ensures leaves { SameNames self.old.part self.new.part }
+        ensures written { HasNoRest self.new.part.written }
+    {
+        self.part.write_out();
     }
 
     /// The error of the last failed append or commit, if one failed.

@@ -13,6 +13,8 @@ use tftp_lines::reason_of;
 /// Why a local file cannot be read, written or named. `{}` writes it in words.
 #[derive(Clone, Copy)]
 pub(crate) enum LocalError {
+    /// `LOCAL` is empty.
+    EmptyPath,
     /// A file has the name `LOCAL`, and is not to be replaced.
     Exists,
     /// `LOCAL` is a folder, a link, a FIFO or a device.
@@ -40,7 +42,8 @@ impl LocalError {
             LocalError::Exists | LocalError::NotAFile => StoreFault::Exists,
             LocalError::TooLong => StoreFault::Full,
             LocalError::System(error) => name_fault(error, Existing::Refused),
-            LocalError::PartIsAFolder
+            LocalError::EmptyPath
+            | LocalError::PartIsAFolder
             | LocalError::PartReplaced
             | LocalError::LengthUnknown
             | LocalError::Unreadable => StoreFault::Io,
@@ -76,6 +79,7 @@ impl fmt::Display for LocalError {
 
     fn fmt<W: fmt::Write>(&self, f: &mut fmt::Formatter<W>) -> fmt::Result {
         match self {
+            LocalError::EmptyPath => f.write_str("the path is empty"),
             LocalError::Exists => f.write_str("exists (--replace replaces it)"),
             LocalError::NotAFile => f.write_str("not a file"),
             LocalError::PartIsAFolder => f.write_str("a folder has this name with .part"),

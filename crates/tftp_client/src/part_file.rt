@@ -1,13 +1,13 @@
 //! `LOCAL.part`, the file that a fetch writes until it gets the name `LOCAL`.
 
-ghost use Rattle.std.specs.Prelude.{◌≡◌, ◌++◌, [], Some, IsSome, IfOk, OnOk, OnErr, codes};
+ghost use Rattle.std.specs.Prelude.{◌≡◌, ◌≢◌, ◌++◌, [], Some, IsSome, IfOk, OnOk, OnErr, codes};
 ghost use Rattle.std.specs.String.{string_bytes};
 ghost use Rattle.tftp_disk.specs.Changes.{changes};
 ghost use Rattle.tftp_disk.specs.DiskJournal.{made_at};
 ghost use Rattle.tftp_disk.specs.DiskWriter.{calls_of, handed};
 ghost use Rattle.tftp_disk.specs.NamedFolder.{IsFolderFor};
 ghost use Rattle.tftp_client.specs.Fetched.{AreOwn, Keeps, WasNamed};
-ghost use Rattle.tftp_client.specs.Written.{bytes_in, place_in, paths_of};
+ghost use Rattle.tftp_client.specs.Written.{bytes_in, place_in, paths_of, HasNoRest};
 
 use crate::local_error::LocalError;
 use crate::local_names::LocalNames;
@@ -20,7 +20,8 @@ use tftp_disk::{DiskJournal, Existing, Kind, NamedFolder, write_buffer};
 
 /// A file that is fetched, on the disk. `LOCAL.part` is created by the first append, or by the
 /// commit of an empty file, and replaces an old one only then. It gets the name `LOCAL` at the
-/// commit. Without a commit `LOCAL.part` remains, with the bytes that were written.
+/// commit. Without a commit `LOCAL.part` remains, with the bytes that were appended once
+/// [`PartFile::write_out`] has written them.
 #[derive(Drop)]
 pub(crate) struct PartFile<R: Files + Drop> {
     files: R,
@@ -42,14 +43,15 @@ impl<R: Files + Drop> PartFile<R> {
 
     /// A file that is to get the name `LOCAL`. Nothing is changed on the disk.
     ///
-    /// It fails if `LOCAL` exists, unless it is a regular file that is to be replaced, if
-    /// `LOCAL.part` is a folder, and if their folder cannot be opened.
+    /// It fails if `LOCAL` is empty or exists, unless it is a regular file that is to be replaced,
+    /// if `LOCAL.part` is a folder, and if their folder cannot be opened.
     pub(crate) fn new(
         files: R,
         alloc: Global,
         local: &str,
         existing: Existing,
     ) -> Result<PartFile<R>, LocalError>
+        ensures named { OnOk result (local.now ≢ []) }
         ensures local { IfOk result (λ file. string_bytes file.names.local ≡ local.now) }
         ensures part { IfOk result (λ file. string_bytes file.names.part
             ≡ local.now ++ codes ".part") }
@@ -58,6 +60,9 @@ impl<R: Files + Drop> PartFile<R> {
         ensures own { IfOk result (λ file. AreOwn (paths_of file.names file.existing)
             (changes file.journal.events)) }
     {
+        if local.is_empty() {
+            return Err(LocalError::EmptyPath);
+        }
         let names = LocalNames {
             local: String::from_str(alloc, local)?,
             part: format!(in alloc; "{local}.part")?,
@@ -127,6 +132,18 @@ impl<R: Files + Drop> PartFile<R> {
     {
         if let Some(written) = &mut self.written {
             written.write_behind();
+        }
+    }
+
+    /// Writes what is buffered, and syncs nothing. A write that fails is not tried again.
+    pub(crate) fn write_out(&mut self)
+        ensures names { SameNames self.old self.new }
+        ensures bytes { bytes_in self.new.written ≡ bytes_in self.old.written }
+        ensures journal { self.new.journal ≡ self.old.journal }
+        ensures written { HasNoRest self.new.written }
+    {
+        if let Some(written) = &mut self.written {
+            written.write_out();
         }
     }
 

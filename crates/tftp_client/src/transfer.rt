@@ -15,15 +15,14 @@ ghost use Rattle.tftp_lines.specs.declared.client_outcome.ClientOutcome.TheVaria
 ghost use Rattle.tftp_sockets.specs.Quiet.{waits as waits_in};
 ghost use Rattle.tftp_client.specs.Conversation.{IsReady, state_of};
 ghost use Rattle.tftp_client.specs.Converses.{Converses, IsOpen};
-ghost use Rattle.tftp_client.specs.OnDisk.{IsFor, job_paths};
+ghost use Rattle.tftp_client.specs.OnDisk.{IsFor, IsOut, job_paths, LeavesBy, LeavesEnd};
+ghost use Rattle.tftp_client.specs.OnDisk.{LeavesTransfer, StopsOut, WritesOut};
 ghost use Rattle.tftp_client.specs.Outbound.{HasLength};
 ghost use Rattle.tftp_client.specs.Sent.{BeginsAt, IsOpenedAt, RunsFor, TransfersFor};
 ghost use Rattle.tftp_client.specs.Stored.{count_of, stored};
 ghost use Rattle.tftp_client.specs.Taken.{nothing};
 ghost use Rattle.tftp_client.specs.Written.{paths_for, paths_of};
-ghost use Rattle.tftp_client.specs.Runs.{FailsBy, FailsEnd, FailsTransfer, MayFallBack, Runs};
-ghost use Rattle.tftp_client.specs.Runs.{Stops};
-ghost use Rattle.tftp_client.specs.Runs.{IsFileOf, MayOpen, opens, plain};
+ghost use Rattle.tftp_client.specs.Runs.{IsFileOf, MayFallBack, MayOpen, Runs, opens, plain};
 
 use crate::cause::Cause;
 use crate::client_udp::ClientUdp;
@@ -102,7 +101,7 @@ pub(crate) fn transfer<R: FileSystem + Clone + Drop + ClientUdp + Clock + Eprint
         journal.old.events (state_of completed.conversation journal.new.events) completed.files
         completed.count) }
     ensures local { IfOk result (λ completed. IsFor job.now completed.files) }
-    ensures err { IfErr result (λ failure. FailsTransfer
+    ensures err { IfErr result (λ failure. LeavesTransfer
         ⟦<LocalSource<R::File> as Source>⟧.meaning ⟦<LocalFile<R> as Sink>⟧.meaning
         (waits.old + waits_in journal.old.events) job.now
         journal.old.events journal.new.events failure.end) }
@@ -157,7 +156,7 @@ fn transfer_once<R: FileSystem + Clone + Drop + ClientUdp + Clock + Eprint>(
         journal.old.events (state_of completed.conversation journal.new.events) completed.files
         completed.count) }
     ensures local { IfOk result (λ completed. IsFor job.now completed.files) }
-    ensures err { IfErr result (λ failure. FailsBy
+    ensures err { IfErr result (λ failure. LeavesBy
         ⟦<LocalSource<R::File> as Source>⟧.meaning ⟦<LocalFile<R> as Sink>⟧.meaning
         (waits.old + waits_in journal.old.events) job.now
         journal.old.events journal.new.events failure.end) }
@@ -183,7 +182,7 @@ fn get<R: FileSystem + Clone + Drop + ClientUdp + Clock + Eprint>(
         completed.conversation.socket.port Read job.now journal.old.events
         (state_of completed.conversation journal.new.events) completed.files completed.count) }
     ensures local { IfOk result (λ completed. IsFor job.now completed.files) }
-    ensures err { IfErr result (λ failure. FailsEnd
+    ensures err { IfErr result (λ failure. LeavesEnd
         ⟦<LocalSource<R::File> as Source>⟧.meaning ⟦<LocalFile<R> as Sink>⟧.meaning
         (waits.old + waits_in journal.old.events) Read job.now 0
         journal.old.events journal.new.events failure.end) }
@@ -233,7 +232,7 @@ fn get_into<N: ClientUdp + Clock + Eprint, R: FileSystem + Drop>(
         completed.conversation.socket.port Read job.now journal.old.events
         (state_of completed.conversation journal.new.events) completed.files completed.count) }
     ensures local { IfOk result (λ completed. IsFor job.now completed.files) }
-    ensures err { IfErr result (λ failure. FailsEnd
+    ensures err { IfErr result (λ failure. LeavesEnd
         ⟦<LocalSource<R::File> as Source>⟧.meaning ⟦<LocalFile<R> as Sink>⟧.meaning
         (waits.old + waits_in journal.old.events) Read job.now 0
         journal.old.events journal.new.events failure.end) }
@@ -259,7 +258,7 @@ fn put<R: FileSystem + Clone + Drop + ClientUdp + Clock + Eprint>(
         completed.conversation.socket.port Write job.now journal.old.events
         (state_of completed.conversation journal.new.events) completed.files completed.count) }
     ensures local { IfOk result (λ completed. IsFor job.now completed.files) }
-    ensures err { IfErr result (λ failure. (length : ℕ) × FailsEnd
+    ensures err { IfErr result (λ failure. (length : ℕ) × LeavesEnd
         ⟦<LocalSource<R::File> as Source>⟧.meaning ⟦<LocalFile<R> as Sink>⟧.meaning
         (waits.old + waits_in journal.old.events) Write job.now length
         journal.old.events journal.new.events failure.end) }
@@ -296,7 +295,7 @@ fn put_from<R: FileSystem + Drop + ClientUdp + Clock + Eprint>(
         (source_calls outbound.source)
         × BeginsAt job.now outbound.length.bytes outbound.length.wire_bytes runs.file) }
     ensures local { IfOk result (λ completed. IsFor job.now completed.files) }
-    ensures err { IfErr result (λ failure. FailsEnd
+    ensures err { IfErr result (λ failure. LeavesEnd
         ⟦<LocalSource<R::File> as Source>⟧.meaning ⟦<LocalFile<R> as Sink>⟧.meaning
         (waits.old + waits_in journal.old.events) Write job.now outbound.length.wire_bytes
         journal.old.events journal.new.events failure.end) }
@@ -338,7 +337,7 @@ fn converse<C: Clock + Eprint, R: FileSystem + Drop>(
         conversation.socket.port (state_of conversation journal.old.events) files
         (state_of completed.conversation journal.new.events) completed.files
         × (completed.count ≡ count_of sent completed.files)) }
-    ensures err { IfErr result (λ failure. Stops
+    ensures err { IfErr result (λ failure. StopsOut
         ⟦<LocalSource<R::File> as Source>⟧.meaning ⟦<LocalFile<R> as Sink>⟧.meaning
         (waits.old + waits_in journal.old.events) conversation.socket.port
         (state_of conversation journal.old.events) files journal.new.events failure.end) }
@@ -356,7 +355,22 @@ fn converse<C: Clock + Eprint, R: FileSystem + Drop>(
                 count,
             })
         }
-        Err(outcome) => Err(failed(outcome, files, conversation.into_cause(outcome))),
+        Err(outcome) => {
+            write_out(&mut files);
+            Err(failed(outcome, files, conversation.into_cause(outcome)))
+        }
+    }
+}
+
+/// Writes what is buffered of a received file, which stays under its other name.
+fn write_out<R: FileSystem + Drop>(files: &mut Files<LocalSource<R::File>, LocalFile<R>>)
+    ensures works { WritesOut ⟦<LocalSource<R::File> as Source>⟧.meaning
+        ⟦<LocalFile<R> as Sink>⟧.meaning files.old files.new }
+    ensures out { IsOut files.new }
+{
+    match files {
+        Files::Sink(local) => local.write_out(),
+        Files::Source(_) => {}
     }
 }
 

@@ -2,7 +2,7 @@
 
 ghost use Rattle.std.specs.Prelude.{◌≡◌, ◌++◌, [], None, true, false, OnOk, OnErr};
 ghost use Rattle.tftp_disk.specs.DiskJournal.{made_at, written, is_synced, sync_failed, state_of};
-ghost use Rattle.tftp_disk.specs.DiskWriter.{calls_of, handed};
+ghost use Rattle.tftp_disk.specs.DiskWriter.{calls_of, handed, IsRefused};
 
 use std::fs::OpenFile;
 use std::io::{self, Write};
@@ -30,7 +30,7 @@ pub(crate) struct Written<F> {
 }
 
 impl<F: Write> Written<F> {
-    ghost use Rattle.tftp_client.specs.Written.{SameFile};
+    ghost use Rattle.tftp_client.specs.Written.{IsWrittenOut, SameFile};
 
     /// A file with nothing written. The buffer's bytes are lost.
     pub(crate) fn new(file: DiskFile<F>, buffer: Vec<u8>) -> Written<F>
@@ -64,9 +64,18 @@ impl<F: Write> Written<F> {
     fn flush(&mut self) -> io::Result<()>
         ensures same { SameFile self.old self.new }
         ensures empty { OnOk result (self.new.writer.buffer.items ≡ []) }
+        ensures refused { OnErr result (IsRefused (calls_of self.new.writer)) }
         ensures error { self.new.sync_error ≡ self.old.sync_error }
     {
         self.writer.flush()
+    }
+
+    /// Writes the buffer, and syncs nothing. A write that fails is not tried again.
+    pub(crate) fn write_out(&mut self)
+        ensures same { SameFile self.old self.new }
+        ensures written { IsWrittenOut self.new }
+    {
+        let _ = self.flush();
     }
 }
 

@@ -17,7 +17,7 @@ ghost use Rattle.tftp_client.specs.Converses.{AnswersReceived, HandlesAs};
 ghost use Rattle.tftp_client.specs.Converses.{EndsBy, IsOpen, deadline_at, deadline_after};
 
 use crate::cause::Cause;
-use crate::transfer::notes::{note_peer_words, note_sent, note_total};
+use crate::transfer::notes::{note_error, note_sent, note_total};
 use std::alloc::{AllocError, Global};
 use std::time::Clock;
 use tftp_ends::{End, Endpoint, Outcome, Step};
@@ -68,8 +68,8 @@ pub(crate) struct Conversation {
     total: Option<u64>,
     /// The direction of the transfer.
     kind: Kind,
-    /// The words of the ERROR by which the peer ended the transfer, if it did.
-    peer_words: Option<String>,
+    /// What the ERROR says by which the peer ended the transfer, if it did.
+    said: Option<Cause>,
     /// Why the system refused to send the newest datagram, if it did.
     pub(crate) unsent: Option<Reason>,
     ghost room: { DATAGRAM_BUFFER ≤ length buffer.items },
@@ -108,7 +108,7 @@ impl Conversation {
             },
             total,
             kind,
-            peer_words: None,
+            said: None,
             unsent: None,
         })
     }
@@ -308,7 +308,7 @@ impl Conversation {
         };
         let sent = reply(&self.socket, journal, step.to, self.end.bytes_of(outgoing));
         note_sent(&mut self.unsent, &step, sent);
-        note_peer_words(&mut self.peer_words, self.alloc, &step, bytes);
+        note_error(&mut self.said, self.alloc, &step, bytes);
         note_total(&mut self.total, &self.lines, &step, bytes);
         step
     }
@@ -407,7 +407,7 @@ impl Conversation {
         let Conversation {
             end,
             kind,
-            peer_words,
+            said,
             unsent,
             ..
         } = self;
@@ -419,8 +419,8 @@ impl Conversation {
                 return Cause::Peer("no answer any more");
             }
         }
-        match peer_words {
-            Some(words) => Cause::Server(words),
+        match said {
+            Some(cause) => cause,
             None => Cause::of(outcome, kind),
         }
     }

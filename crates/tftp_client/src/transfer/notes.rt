@@ -1,10 +1,11 @@
 //! What a client notes of a step for the lines that it prints.
 
+use crate::cause::Cause;
 use std::alloc::Global;
 use tftp_ends::{Outcome, Step, decode_packet};
 use tftp_lines::{LineClock, Reason};
 use tftp_negotiate::stated_tsize;
-use tftp_wire::{PacketRef, show_ref};
+use tftp_wire::{MAX_REQUEST, PacketRef, has_error_opcode, show_ref};
 
 /// Stores why the system refused to send the datagram of a step, if it did; nothing if the step has
 /// none.
@@ -14,15 +15,20 @@ pub(super) fn note_sent(unsent: &mut Option<Reason>, step: &Step, sent: Result<(
     }
 }
 
-/// Stores the words of the ERROR by which the peer ended the transfer, if it did in this step.
-pub(super) fn note_peer_words(
-    words: &mut Option<String>,
-    alloc: Global,
-    step: &Step,
-    bytes: &[u8],
-) {
-    if let Some(Outcome::PeerError(code)) = step.closed {
-        *words = error_words(alloc, code, bytes);
+/// Stores what the ERROR says by which the peer ended the transfer, if it did in this step.
+pub(super) fn note_error(said: &mut Option<Cause>, alloc: Global, step: &Step, bytes: &[u8]) {
+    match step.closed {
+        Some(Outcome::PeerError(code)) => {
+            if let Some(words) = error_words(alloc, code, bytes) {
+                *said = Some(Cause::Server(words));
+            }
+        }
+        Some(Outcome::Illegal) => {
+            if let Some(line) = broken_error(alloc, bytes) {
+                *said = Some(Cause::NoPacket(line));
+            }
+        }
+        _ => {}
     }
 }
 
@@ -50,6 +56,34 @@ fn error_words(alloc: Global, code: u16, bytes: &[u8]) -> Option<String> {
         words => words,
     };
     String::from_str(alloc, words).ok()
+}
+
+/// The line of an ERROR that is no packet, as one without the zero byte at its end: its code, and
+/// its text to a zero byte or to the end of the longest ERROR. `None` for another datagram, without
+/// a code and when out of memory.
+fn broken_error(alloc: Global, bytes: &[u8]) -> Option<String> {
+    if !has_error_opcode(bytes) || decode_packet(bytes).is_some() {
+        return None;
+    }
+    let [_, _, high, low, rest @ ..] = bytes else {
+        return None;
+    };
+    let packet = PacketRef::Error {
+        code: u16::from_be_bytes([*high, *low]),
+        text: text_in(rest),
+    };
+    let mut line = String::new(alloc);
+    show_ref(&packet, &mut line).ok()?;
+    Some(line)
+}
+
+/// The first bytes, up to a zero byte and at most as many as the longest ERROR has.
+fn text_in(bytes: &[u8]) -> &[u8] {
+    let longest = &bytes[..bytes.len().min(MAX_REQUEST)];
+    match longest.iter().position(|byte| *byte == 0) {
+        Some(end) => &longest[..end],
+        None => longest,
+    }
 }
 
 /// The words for the code of an ERROR (RFC 1350, appendix I; RFC 2347).

@@ -38,8 +38,8 @@ returns-in-Err-clause-runs g c = (
     c.report.ensures.fails.0,
     c.in-Err.failure.end,
     c.report.ensures.status,
-    c.in-Err.ensures.err,
+    c.in-Err.ensures.err.0,
   ),
-  tt,
+  c.in-Err.ensures.err.1,
   tt,
 )

@@ -6,8 +6,9 @@ use Rattle.tftp_client.specs.Conversation.{state_of}
 use Rattle.tftp_client.specs.Runs.{opens}
 use Rattle.tftp_client.proofs.Conversing.{begun_open, begun_ready, opens_open}
 use Rattle.tftp_client.proofs.Counting.{runs_as}
+use Rattle.tftp_client.proofs.LeftBytes.{leaves, leaves_none}
 use Rattle.tftp_client.proofs.NamedOnDisk.{is_for}
-use Rattle.tftp_client.proofs.Running.{fails, if_err, runs}
+use Rattle.tftp_client.proofs.Running.{if_err, runs}
 use Rattle.tftp_client.proofs.transfer.get_into.Goals as goal
 
 pub returns-in-Ok-clause-ok : goal.returns-in-Ok-clause-ok
@@ -28,9 +29,14 @@ returns-in-Ok-clause-local g c =
 
 pub returns-in-Ok-clause-err : goal.returns-in-Ok-clause-err
 returns-in-Ok-clause-err g c =
-    if_err c.converse.result _ _ (λ failure stopped. fails _ _ c.args.waits.now failure.end Read c.args.job.now 0 _ _ _
-    c.in-Ok.ensures.may c.in-Ok.ensures.begins stopped tt)
+    if_err c.converse.result _ _ (λ failure stopped. leaves _ _ (λ local. refl) (λ before after committed same. same)
+    c.args.waits.now failure.end Read c.args.job.now 0 _ _ _ c.in-Ok.ensures.may c.in-Ok.ensures.begins stopped tt
+    (ap Some c.requires.empty) c.requires.paths)
     c.converse.ensures.err
+
+pub returns-in-Err-clause-err : goal.returns-in-Err-clause-err
+returns-in-Err-clause-err g c =
+    leaves_none _ _ _ c.in-Err.failure.end Read c.args.job.now 0 _ _ c.in-Err.ensures.err.0 c.in-Err.ensures.err.1
 
 pub converse-requires-clause-not_closed : goal.converse-requires-clause-not_closed
 converse-requires-clause-not_closed g c =

@@ -1,5 +1,5 @@
 -- What was named has what was appended, and stays named.
-use Rattle.std.proofs.Common.{rules, ◌≡◌, ℕ, List, ap, sym, subst, ◌∙◌}
+use Rattle.std.proofs.Common.{◌≡◌, ℕ, List, ap, sym, subst, ◌∙◌}
 use Rattle.std.proofs.Math.Logic.{∥∥₁_map}
 use Rattle.tftp_disk.specs.Changes.{changes}
 use Rattle.tftp_file.specs.Sink.{Holding}
