@@ -13,6 +13,7 @@
 #define SYS_READ 0
 #define SYS_WRITE 1
 #define SYS_OPEN 2
+#define SYS_POLL 7
 #define SYS_LSEEK 8
 #define SYS_MMAP 9
 #define SYS_FSYNC 74
@@ -37,7 +38,9 @@ struct control {
     int error;       /* each call fails with this number, if it is none of 0 */
     int lacks_links; /* hard links fail with EPERM */
     int is_busy;     /* a poll that found nothing repeats what the last one found */
-    int exchanges;   /* before the next call on a path that ends with `name`, `path` is moved to `away` and is a link */
+    int exchanges;   /* before the next call on a path that ends with `name`, `path` is moved to `away` and is a link; if it
+                        is 2, a link is no such call */
+    int nap;         /* so many milliseconds pass before each rename */
     int only;        /* the letter of the calls that fail, if it is none of 0; */
     int after;       /* so many of those that would fail do not, first */
     char name[256], path[512], away[512], target[256];
@@ -116,13 +119,16 @@ int fdatasync(int file) {
 }
 
 int rename(const char *from, const char *to) {
+    if (control->nap)
+        syscall(SYS_POLL, 0, 0, control->nap);
     return is_refused('m', control->error) ? -1 : syscall(SYS_RENAME, from, to);
 }
 
 int link(const char *from, const char *to) {
     if (is_refused('l', control->error ? control->error : control->lacks_links ? EPERM : 0))
         return -1;
-    exchange_at(to);
+    if (control->exchanges == 1)
+        exchange_at(to);
     return syscall(SYS_LINK, from, to);
 }
 

@@ -11,8 +11,9 @@ from served_folder import LAST, TOO_LARGE, drafts, writing
 from server_alone import ACCESS_VIOLATION, DISK_FULL, FILE_EXISTS, is_refused, opened
 
 # the parts of `struct control` in disk_calls.c: what a call fails by, whether links do, whether polls repeat what they
-# found, whether a path is exchanged, which calls fail and behind how many; then the texts, and how many letters there are
-FLAGS, TEXTS = struct.Struct("iiiiii"), struct.Struct("256s512s512s256s256s")
+# found, whether a path is exchanged, how long a rename waits, which calls fail and behind how many; then the texts, and how
+# many letters there are
+FLAGS, TEXTS = struct.Struct("iiiiiii"), struct.Struct("256s512s512s256s256s")
 COUNT, LETTERS = struct.Struct("i"), 4_000
 
 
@@ -26,18 +27,22 @@ class Disk:
             self.memory = mmap.mmap(file.fileno(), 0)
         scene.ending.callback(self.memory.close)
 
-    def orders(self, error=0, lacks_links=False, is_busy=False, exchange=None, elsewhere="", only="", after=0) -> None:
+    def orders(self, error=0, lacks_links=False, is_busy=False, exchange=None, is_linked=False, nap=0, elsewhere="", only="",
+               after=0) -> None:
         """From now on calls fail by this number of an error, and so on; none without words. `exchange` is the end of the
-        path of a call, the path that is exchanged before it, and the target of the link that is there then. `only` is the
-        letter of the calls that fail, once there were so many `after` which they do."""
+        path of a call, the path that is exchanged before it, and the target of the link that is there then; if the path
+        is to be linked first, that call is another. `nap` is in milliseconds. `only` is the letter of the calls that fail,
+        once there were so many `after` which they do."""
         name, path, target = exchange or ("", "", "")
+        exchanges = 0 if exchange is None else 2 if is_linked else 1
         texts = [name, path, f"{path}-away", target, elsewhere]
         # the order to exchange is the last that is given: the server may look at any time
-        FLAGS.pack_into(self.memory, 0, 0, 0, 0, 0, 0, 0)
+        FLAGS.pack_into(self.memory, 0, *[0] * 7)
         TEXTS.pack_into(self.memory, FLAGS.size, *[str(text).encode() for text in texts])
         # (and what decides about an error comes before it)
-        FLAGS.pack_into(self.memory, 0, 0, lacks_links, is_busy, exchange is not None, ord(only or "\0"), after)
-        FLAGS.pack_into(self.memory, 0, error, lacks_links, is_busy, exchange is not None, ord(only or "\0"), after)
+        flags = [lacks_links, is_busy, exchanges, nap, ord(only or "\0"), after]
+        FLAGS.pack_into(self.memory, 0, 0, *flags)
+        FLAGS.pack_into(self.memory, 0, error, *flags)
 
     def calls(self) -> str:
         """The letters of the calls since the last `forget`."""
@@ -56,11 +61,16 @@ class Disk:
             time.sleep(0.005)
 
 
+def serve_on(scene, disk, *words, root=".") -> Server:
+    """Starts a server of a folder on this disk."""
+    env = preloaded(scene, "disk_calls.c", CONTROL=disk.path)
+    return scene.server_of(scene.start("tftpd", scene.server_words(root, scene.address, words), env=env))
+
+
 def serve(scene, *words, root=".") -> tuple[Server, Disk]:
     """Starts a server of a folder, and returns it with its disk."""
     disk = Disk(scene)
-    env = preloaded(scene, "disk_calls.c", CONTROL=disk.path)
-    return scene.server_of(scene.start("tftpd", scene.server_words(root, scene.address, words), env=env)), disk
+    return serve_on(scene, disk, *words, root=root), disk
 
 
 def test_a_text_is_measured_once(scene) -> None:
@@ -166,17 +176,62 @@ def test_each_kind_of_sync_that_fails(scene) -> None:
 
 
 def test_without_hard_links(scene) -> None:
-    """On a file system without hard links a draft is renamed, and never over a file."""
+    """On a file system without hard links a draft is renamed, under a lock of the name, and never over a file."""
     server, disk = serve(scene, "--log")
     disk.orders(lacks_links=True)
     first, second = writing(scene, server, "n"), writing(scene, server, "n")
     disk.forget()
     first.is_answered(data(1, b"first"), ack(1))
-    expect(disk.calls(), "wsoLms", "write, sync, no link, rename, sync")
+    expect(disk.calls(), "wsoLoms", "write, sync, no link, lock, rename, sync")
     second.is_answered(data(1, b"second"), FILE_EXISTS)
     log = server.has_logged(3)
     expect(log[-1].endswith(" sent again, StoreFault"), True, f"the log {log} has no reason of the system")
     expect((scene.folder / "n").read_bytes(), b"first", "the file")
+
+
+def test_servers_without_hard_links(scene) -> None:
+    """Of puts of one name at two servers, on a file system without hard links, one is acknowledged, and its file stays,
+    though time passes between a look at the name and the rename to it."""
+    disk = Disk(scene)
+    servers = [serve_on(scene, disk, "--log") for _ in range(2)]
+    disk.orders(lacks_links=True, nap=300)
+    texts = [b"one", b"other"]
+    ends = [writing(scene, server, "n") for server in servers]
+    for end, text in zip(ends, texts):
+        end.send(data(1, text))
+    answers = [end.port.receive(end.newest)[0] for end in ends]
+    expect(sorted(answers), sorted([ack(1), FILE_EXISTS]), "the answers to the last blocks")
+    taken = answers.index(ack(1))
+    expect((scene.folder / "n").read_bytes(), texts[taken], "the file")
+    expect(list(scene.folder.rglob("*~tftp")), [], "the locks")
+    log = servers[1 - taken].has_logged(2)
+    expect(log[1].endswith("StoreFault, name locked"), True, f"the log {log}")
+
+
+def test_a_lock_is_left(scene) -> None:
+    """The lock of a server that was killed refuses each put of its name, until it is removed."""
+    server, disk = serve(scene, "--log", "--transfers", "3")
+    disk.orders(lacks_links=True)
+    scene.make("n~tftp", b"")
+    writing(scene, server, "n").is_answered(LAST, FILE_EXISTS)
+    scene.lacks("n")
+    (scene.folder / "n~tftp").unlink()
+    writing(scene, server, "n").is_answered(LAST, ack(1))
+    log = server.has_logged(3)
+    expect(log[1].endswith("StoreFault, name locked"), True, f"the log {log}")
+    scene.lacks("n~tftp")
+
+
+def test_another_file_is_not_removed(scene) -> None:
+    """What has the name of a draft, once that was given, stays if it is another file: another server may have
+    acknowledged it."""
+    server, disk = serve(scene, "--log")
+    end = writing(scene, server, "n")
+    disk.orders(exchange=("/n", scene.folder / "n", "other"), is_linked=True)
+    end.is_answered(LAST, DISK_FULL)
+    log = server.has_closed("StoreFault")
+    expect(log[-1].endswith("StoreFault, draft replaced"), True, f"the log {log}")
+    expect(os.readlink(scene.folder / "n"), "other", "what has the name")
 
 
 def test_another_device(scene) -> None:

@@ -122,6 +122,16 @@ def test_uploads(scene) -> None:
                      "served/incoming/n": b"new", "served/incoming/sub/n": b"new"})
 
 
+def test_uploads_as_a_shell_completes_them(scene) -> None:
+    """A folder is named with the slash that a shell puts behind it."""
+    scene.make_folder("in")
+    server = scene.serve("--uploads", "in/")
+    is_refused(scene, server, wrq("n"), ACCESS_VIOLATION)
+    writing(scene, server, "in/n").is_answered(LAST, ack(1))
+    server.kill()
+    scene.has_files({"in/n": b"new"})
+
+
 def test_a_group_is_that_of_the_drafts_folder(scene) -> None:
     """A file that is put into a folder below has the group of the folder where its draft was made, though both give
     theirs to new files."""
@@ -238,6 +248,7 @@ def test_a_server_that_does_not_start(scene) -> None:
         ([".", "--uploads", "a"], "file", "--uploads a: not a folder"),
         ([".", "--uploads", "link"], "file", "--uploads link: not a folder"),
         ([".", "--uploads", "../sub"], "file", "--uploads ../sub: not found"),
+        ([".", "--uploads", "sub//"], "file", "--uploads sub//: not found"),
         ([".", "--uploads", absolute], "file",
          f"--uploads {absolute}: not found (an absolute FOLDER is below ROOT, too)"),
         ([".", "--listen", taken], "socket", f"{taken}: address in use"),
@@ -392,15 +403,22 @@ def test_a_read_only_file_system(scene) -> None:
 
 
 def test_a_draft_of_a_failed_transfer(scene) -> None:
-    """It stays under its name, and the next server that has its port makes another in its place."""
+    """It stays under its name, and has what was acknowledged: of a client that ends the transfer, and of one that is
+    silent. The next server that has its port makes another in its place."""
     port = free_ports(1)
     words = ["--ports", f"{port}:{port}"]
-    server = scene.serve(*words)
-    end = writing(scene, server, "n")
-    end.is_answered(data(1, bytes(512)), ack(1))
-    end.send(error(0, "no more"))
-    server.has_closed("PeerError(0)")
-    expect(drafts(scene), [f".tftp-{port}"], "the drafts")
+    blocks = [bytes([number]) * 512 for number in range(1, 21)]
+    for asked, outcome in [(PATIENT, "PeerError(0)"), ({"timeout": 1}, "TimedOut")]:
+        server = scene.serve(*words, "--retries", "1")
+        end = opened(scene, server, wrq("n", **asked), oack(**asked))
+        for number, block in enumerate(blocks, 1):
+            end.is_answered(data(number, block), ack(number))
+        if asked == PATIENT:
+            end.send(error(0, "no more"))
+        server.has_closed(outcome)
+        expect(drafts(scene), [f".tftp-{port}"], "the drafts")
+        left = (scene.folder / f".tftp-{port}").read_bytes()
+        expect(left == b"".join(blocks), True, f"whether the {len(left)} bytes that are left are those acknowledged")
     (scene.folder / f".tftp-{port}").write_bytes(b"what was left" * 100)
     server = scene.serve(*words)
     end = writing(scene, server, "n")

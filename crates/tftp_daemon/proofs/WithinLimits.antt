@@ -1,11 +1,10 @@
 -- A run stays within the limits of its store.
 use Rattle.std.proofs.Common.{◌≡◌, ◌∙◌, ℕ, true, List, [], ◌∷◌, Option, Some, None, refl, sym, ap, subst, inl, inr}
-use Rattle.std.specs.Prelude.{◌⊎◌, Ok, IfSome, All}
+use Rattle.std.specs.Prelude.{◌⊎◌, ◌++◌, codes, Ok, IfSome, All}
 use Rattle.std.specs.Map.{values_of}
 use Rattle.std.specs.String.{string_bytes}
 use Rattle.std.proofs.lemmas.List.Elements.{All-cons, All-nil}
 use Rattle.std.proofs.lemmas.List.{append_assoc}
-use Rattle.tftp_file.specs.Path.{path_of_name}
 use Rattle.tftp_file.specs.Source.{SourceMeaning}
 use Rattle.tftp_disk.specs.DiskJournal.{DiskEvent}
 use Rattle.tftp_disk.specs.DiskJournal.DiskEvent.{Looked, Followed, Resolved, Opened, Tried, Made, Linked, Renamed}
@@ -13,11 +12,11 @@ use Rattle.tftp_disk.specs.DiskJournal.DiskEvent.{Removed, Folder_opened, Folder
 use Rattle.tftp_disk.specs.DiskJournal.DiskEvent.{Sought, Written, Not_written, Synced, Mode_set}
 use Rattle.tftp_store.specs.Store.{StoreMeaning}
 use Rattle.tftp_server.specs.State.{TransferState, draft_of}
-use Rattle.tftp_folder.specs.Changing.{AreChanges, IsChange, IsDraftIn, IsTarget, KeepsWithin, Limits, ReadOnlyChangesNothing}
+use Rattle.tftp_folder.specs.Changing.{AreChanges, IsChange, IsDraftIn, IsLock, IsTarget, KeepsWithin, Limits, ReadOnlyChangesNothing}
 use Rattle.tftp_folder.specs.Changing.{IsWithin, limits_of}
 use Rattle.tftp_folder.specs.Effects.{changes_of}
 use Rattle.tftp_folder.specs.Inside.{IsInside}
-use Rattle.tftp_folder.specs.Uploads.{IsBelow, path_below}
+use Rattle.tftp_folder.specs.Uploads.{IsBelow, path_below, path_of_folder}
 use Rattle.tftp_folder.specs.declared.folder_draft.FolderDraft.{FolderDraft}
 use Rattle.tftp_folder.specs.declared.folder_store.FolderStore.{FolderStore}
 use Rattle.tftp_daemon.specs.Changes.{IsChangeBelow, IsOwnDraft, ReadOnlyRunChangesNothing, RunStaysWithin}
@@ -48,14 +47,27 @@ module _ (limits : Limits) (folder : List ℕ) (uploads : limits.uploads ≡ Som
   target_in target is =
       subst (λ (f : List ℕ). IsBelow f target) (sym drafts) (target_below limits folder target uploads is)
 
-  either_in : (path : List ℕ) {WasGiven : Type 0} → (IsDraftIn limits.drafts path) ⊎ (IsTarget limits path × WasGiven)
+  lock_in : (path : List ℕ) → IsLock limits path → IsBelow limits.drafts path
+  lock_in path (target, is_target, is) =
+      let below = target_in target is_target in (
+        below.0 ++ codes "~tftp",
+        is ∙ ap (λ (t : List ℕ). t ++ codes "~tftp") below.1 ∙ append_assoc limits.drafts (47 ∷ below.0) (codes "~tftp"),
+      )
+
+  made_in : (path : List ℕ) → (IsDraftIn limits.drafts path) ⊎ IsLock limits path → IsBelow limits.drafts path
+  made_in path (inl is) = draft_below limits.drafts path is
+  made_in path (inr is) = lock_in path is
+
+  either_in : (path : List ℕ) {WasGiven WasMade : Type 0}
+      → (IsDraftIn limits.drafts path) ⊎ (IsTarget limits path × WasGiven) ⊎ (IsLock limits path × WasMade)
       → IsBelow limits.drafts path
   either_in path (inl is) = draft_below limits.drafts path is
-  either_in path (inr is) = target_in path is.0
+  either_in path (inr (inl is)) = target_in path is.0
+  either_in path (inr (inr is)) = lock_in path is.0
 
   change_below : (event : DiskEvent) (before : List DiskEvent) → IsChange limits event before
       → IsChangeBelow limits.drafts event
-  change_below (Made path answer) before is = draft_below limits.drafts path is.change
+  change_below (Made path answer) before is = made_in path is.change
   change_below (Removed path answer) before is = either_in path is.change
   change_below (Linked file from to answer) before is =
       (draft_below limits.drafts from is.change.0, target_in to is.change.1)
@@ -124,12 +136,12 @@ module _ {R G H F E : Type 0} (meaning : StoreMeaning (FolderStore R G H) (Folde
 
   -- the folder of uploads that the words name
   uploads_of : (uploads named : Option (List ℕ)) (folder path : List ℕ) → Some folder ≡ named
-      → IsUploads named uploads → path_of_name folder ≡ Ok path → uploads ≡ Some path
+      → IsUploads named uploads → path_of_folder folder ≡ Ok path → uploads ≡ Some path
   uploads_of uploads None folder path is takes names = absurd (let bad : Some folder ≡ None = is in cc)
   uploads_of uploads (Some other) folder path is takes names =
       let same : other ≡ folder = cc in
-      let path_is : Ok takes.0 ≡ path_of_name folder =
-      subst (λ (n : List ℕ). Ok takes.0 ≡ path_of_name n) same (sym takes.1) in
+      let path_is : Ok takes.0 ≡ path_of_folder folder =
+      subst (λ (n : List ℕ). Ok takes.0 ≡ path_of_folder n) same (sym takes.1) in
       cc
 
   pub uploads_change_below : RunStaysWithin meaning sources → UploadsRunChangesBelow meaning sources

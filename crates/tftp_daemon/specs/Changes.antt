@@ -1,7 +1,6 @@
 -- What the run of a server changes on the disk, by the words of its command line (own).
 use Rattle.std.specs.Prelude.{ℕ, ◌≡◌, ⊤, List, [], Some, Ok, All, codes}
 use Rattle.std.specs.String.{string_bytes}
-use Rattle.tftp_file.specs.Path.{path_of_name}
 use Rattle.tftp_file.specs.Source.{SourceMeaning}
 use Rattle.tftp_disk.specs.DiskJournal.{DiskEvent}
 use Rattle.tftp_disk.specs.DiskJournal.DiskEvent.{Made, Linked, Renamed, Removed}
@@ -12,7 +11,7 @@ use Rattle.tftp_loop.specs.Run.{Run}
 use Rattle.tftp_loop.specs.Steps.{LoopStep, LoopState}
 use Rattle.tftp_folder.specs.Changing.{IsOwn, IsWithin, Limits, limits_of}
 use Rattle.tftp_folder.specs.Effects.{changes_of}
-use Rattle.tftp_folder.specs.Uploads.{IsBelow, path_below}
+use Rattle.tftp_folder.specs.Uploads.{IsBelow, path_below, path_of_folder}
 use Rattle.tftp_folder.specs.declared.folder_draft.FolderDraft.{FolderDraft}
 use Rattle.tftp_folder.specs.declared.folder_store.FolderStore.{FolderStore}
 use Rattle.tftp_daemon.specs.Configured.{IsServerOf}
@@ -76,7 +75,7 @@ module _ {R G H F E : Type 0} (meaning : StoreMeaning (FolderStore R G H) (Folde
   UploadsRunChangesBelow =
       (words : List (List ℕ)) (config : DaemonConfig) (folder path : List ℕ)
       (first last : LoopState (FolderStore R G H) F (FolderDraft E))
-      → WordsConfigure words config → AskForUploads words folder → path_of_name folder ≡ Ok path
+      → WordsConfigure words config → AskForUploads words folder → path_of_folder folder ≡ Ok path
       → RunsConfig config first last
       → All (IsChangeBelow (path_below (string_bytes first.server.store.folder.root) path))
       (changes_of last.server.store)

@@ -3,7 +3,6 @@ use Rattle.std.specs.Prelude.{ℕ, ◌≡◌, ◌≢◌, ◌≤◌, ◌⊎◌, L
 use Rattle.std.specs.Prelude.{option_map, is_some}
 use Rattle.std.specs.String.{string_bytes}
 use Rattle.tftp_ends.specs.declared.endpoint.Endpoint.{Endpoint}
-use Rattle.tftp_file.specs.Path.{path_of_name}
 use Rattle.tftp_file.specs.Source.{SourceMeaning}
 use Rattle.tftp_store.specs.Store.{StoreMeaning}
 use Rattle.tftp_server.specs.Config.{IsConfig}
@@ -20,7 +19,7 @@ use Rattle.tftp_daemon.specs.declared.listen.Listen.TheVariants.{At, Handed}
 use Rattle.tftp_folder.specs.Effects.{changes_of}
 use Rattle.tftp_folder.specs.Inside.{AreInside}
 use Rattle.tftp_folder.specs.Opened.{IsRootOf}
-use Rattle.tftp_folder.specs.Uploads.{path_below}
+use Rattle.tftp_folder.specs.Uploads.{path_below, path_of_folder}
 use Rattle.tftp_folder.specs.declared.folder_store.FolderStore.{FolderStore}
 
 -- the status of the program: 0, or 2 for a fault
@@ -59,7 +58,7 @@ AskForSeveral words = (config : DaemonConfig) × WordsConfigure words config × 
 abbrev pub IsUploads : Option (List ℕ) → Option (List ℕ) → Type 0
 IsUploads None uploads = uploads ≡ None
 IsUploads (Some folder) uploads =
-    (path : List ℕ) × (path_of_name folder ≡ Ok path) × (uploads ≡ Some path)
+    (path : List ℕ) × (path_of_folder folder ≡ Ok path) × (uploads ≡ Some path)
 
 -- the folder of drafts: the one that takes all writes, if there is one, else the root
 abbrev pub drafts_in : List ℕ → Option (List ℕ) → List ℕ

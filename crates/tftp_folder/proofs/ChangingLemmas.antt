@@ -3,7 +3,7 @@ use Rattle.std.proofs.Common.{◌≡◌, ◌∙◌, ℕ, Bool, true, false, List
 use Rattle.std.specs.String.{string_bytes}
 use Rattle.std.specs.declared.io.Error.{Error}
 use Rattle.tftp_disk.specs.Changes.{changes}
-use Rattle.tftp_disk.specs.DiskJournal.{DiskEvent, FileState, state_of}
+use Rattle.tftp_disk.specs.DiskJournal.{DiskEvent, Done, FileState, state_of}
 use Rattle.tftp_disk.specs.DiskJournal.DiskEvent.{Looked, Followed, Resolved, Opened, Tried, Made, Linked, Renamed, Removed}
 use Rattle.tftp_disk.specs.DiskJournal.DiskEvent.{Folder_opened, Folder_synced, Examined, Given, Not_given, Sought}
 use Rattle.tftp_disk.specs.DiskJournal.DiskEvent.{Written, Not_written, Synced, Mode_set}
@@ -11,9 +11,9 @@ use Rattle.tftp_disk.specs.DiskWriter.{calls_of}
 use Rattle.tftp_disk.specs.NamedFolder.{OpensFolder, SyncsFolder, SyncsNoFolder}
 use Rattle.tftp_disk.specs.declared.calls.DiskFolder.{DiskFolder}
 use Rattle.tftp_folder.specs.Begin.{draft_name, BeginsNone}
-use Rattle.tftp_folder.specs.Changing.{limits_of, Admits, AreChanges, BeginStaysWithin, BeginsOwn, CommitStaysWithin, IsGiven}
+use Rattle.tftp_folder.specs.Changing.{limits_of, Admits, AreChanges, BeginStaysWithin, BeginsOwn, CommitStaysWithin, IsGiven, IsMade}
 use Rattle.tftp_folder.specs.Changing.{IsOwn, IsWithin, KeepsWithin, Limits, ReadOnlyChangesNothing}
-use Rattle.tftp_folder.specs.Commit.{Names, RefusesName, RemovesNew}
+use Rattle.tftp_folder.specs.Commit.{lock_of, MayRemoveNew, Names, RefusesLocked, RefusesName}
 use Rattle.tftp_folder.specs.Draft.{IsDraftBelow, LosesName, NamesNothingIn, SameNames}
 use Rattle.tftp_folder.specs.Effects.{changes_of, folder_meaning, HasBegun, HasCommitted}
 use Rattle.tftp_folder.specs.Inside.{AreInside, IsInside, StaysInside}
@@ -35,13 +35,40 @@ begins_by limits port before after true is untouched (inr made) changes =
     along limits before after (untouched is) changes
 begins_by limits port before after false is untouched (inr (answer, (removal, made))) changes =
     along limits _ after made (
-      record { admitted = is; change = (port, refl) },
+      record { admitted = is; change = inl (port, refl) },
       (record { admitted = is; change = inl (port, refl) }, changes),
     )
 
 pub begin_stays_within : BeginStaysWithin
 begin_stays_within limits port before after untouched begun changes =
     begins_by limits port before after limits.read_only refl untouched begun changes
+
+-- a draft is linked or renamed to its name
+links_within : (limits : Limits) (file : FileState) (draft target : List ℕ) (answer : Done) (before : List DiskEvent)
+    → IsOwn limits draft target → AreChanges limits before
+    → AreChanges limits (Linked file draft target answer ∷ before)
+links_within limits file draft target answer before own changes =
+    (record { admitted = own.admitted; change = (own.is_draft, own.is_target) }, changes)
+
+renames_within : (limits : Limits) (file : FileState) (draft target : List ℕ) (answer : Done)
+    (before : List DiskEvent) → IsOwn limits draft target → AreChanges limits before
+    → AreChanges limits (Renamed file draft target answer ∷ before)
+renames_within limits file draft target answer before own changes =
+    (record { admitted = own.admitted; change = (own.is_draft, own.is_target) }, changes)
+
+-- the lock of a name is made, and is removed once it was made
+locks_within : (limits : Limits) (draft target : List ℕ) (answer : Done) (before : List DiskEvent)
+    → IsOwn limits draft target → AreChanges limits before → AreChanges limits (Made (lock_of target) answer ∷ before)
+locks_within limits draft target answer before own changes =
+    (record { admitted = own.admitted; change = inr (target, own.is_target, refl) }, changes)
+
+unlocks_within : (limits : Limits) (draft target : List ℕ) (answer : Done) (before : List DiskEvent)
+    → IsOwn limits draft target → IsMade (lock_of target) before → AreChanges limits before
+    → AreChanges limits (Removed (lock_of target) answer ∷ before)
+unlocks_within limits draft target answer before own made changes = (
+  record { admitted = own.admitted; change = inr (inr ((target, own.is_target, refl), made)) },
+  changes,
+)
 
 names_within : (limits : Limits) (file : FileState) (draft target : List ℕ) (before : List DiskEvent)
     (replaces : Bool) (after : List DiskEvent) → IsOwn limits draft target
@@ -59,13 +86,36 @@ names_within limits file draft target before false after own (inl (removal, name
     (record { admitted = own.admitted; change = (own.is_draft, own.is_target) }, changes),
   ),
 )
-names_within limits file draft target before false after own (inr (refusal, names)) changes = (
-  subst (IsGiven target) (sym names) (inl refl),
-  along limits _ after names (
-    record { admitted = own.admitted; change = (own.is_draft, own.is_target) },
-    (record { admitted = own.admitted; change = (own.is_draft, own.is_target) }, changes),
-  ),
-)
+names_within limits file draft target before false after own (inr (refusal, (removal, names))) changes =
+    let linked = Linked file draft target (Err refusal) ∷ before in
+    let locked = Made (lock_of target) (Ok tt) ∷ linked in
+    let renamed = Renamed file draft target (Ok tt) ∷ locked in (
+      subst (IsGiven target) (sym names) (inl refl),
+      along limits _ after names
+          (unlocks_within limits draft target removal renamed own (inl refl)
+          (renames_within limits file draft target (Ok tt) locked own
+          (locks_within limits draft target (Ok tt) linked own
+          (links_within limits file draft target (Err refusal) before own changes)))),
+    )
+
+locked_within : (limits : Limits) (file : FileState) (draft target : List ℕ) (before after : List DiskEvent)
+    → IsOwn limits draft target → RefusesLocked file draft target before after → AreChanges limits before
+    → AreChanges limits after
+locked_within limits file draft target before after own (inl same) changes = along limits before after same changes
+locked_within limits file draft target before after own (inr (inl (failure, refused))) changes =
+    along limits _ after refused (locks_within limits draft target (Err failure) before own changes)
+locked_within limits file draft target before after own (inr (inr (inl (removal, refused)))) changes =
+    let locked = Made (lock_of target) (Ok tt) ∷ before in
+    along limits _ after refused
+    (unlocks_within limits draft target removal locked own (inl refl)
+    (locks_within limits draft target (Ok tt) before own changes))
+locked_within limits file draft target before after own (inr (inr (inr (failure, removal, refused)))) changes =
+    let locked = Made (lock_of target) (Ok tt) ∷ before in
+    let renamed = Renamed file draft target (Err failure) ∷ locked in
+    along limits _ after refused
+    (unlocks_within limits draft target removal renamed own (inl refl)
+    (renames_within limits file draft target (Err failure) locked own
+    (locks_within limits draft target (Ok tt) before own changes)))
 
 refuses_within : (limits : Limits) (file : FileState) (draft target : List ℕ) (before : List DiskEvent)
     (replaces : Bool) (after : List DiskEvent) → IsOwn limits draft target
@@ -75,23 +125,20 @@ refuses_within limits file draft target before true after own (inl same) changes
 refuses_within limits file draft target before true after own (inr (refusal, refused)) changes =
     along limits _ after refused
     (record { admitted = own.admitted; change = (own.is_draft, own.is_target) }, changes)
-refuses_within limits file draft target before false after own (inl (refusal, refused)) changes =
-    along limits _ after refused
-    (record { admitted = own.admitted; change = (own.is_draft, own.is_target) }, changes)
-refuses_within limits file draft target before false after own (inr (refusal, failure, refused)) changes =
-    along limits _ after refused (
-      record { admitted = own.admitted; change = (own.is_draft, own.is_target) },
-      (record { admitted = own.admitted; change = (own.is_draft, own.is_target) }, changes),
-    )
+refuses_within limits file draft target before false after own (refusal, refuses) changes =
+    locked_within limits file draft target (Linked file draft target (Err refusal) ∷ before) after own refuses
+    (links_within limits file draft target (Err refusal) before own changes)
 
 removes_within : (limits : Limits) (draft target : List ℕ) (before : List DiskEvent) (replaces : Bool)
-    (after : List DiskEvent) → IsOwn limits draft target → RemovesNew target before replaces after
+    (after : List DiskEvent) → IsOwn limits draft target → MayRemoveNew target before replaces after
     → IsGiven target before → AreChanges limits before → AreChanges limits after
 removes_within limits draft target before true after own same given changes =
     along limits before after same changes
-removes_within limits draft target before false after own (removal, removed) given changes =
+removes_within limits draft target before false after own (inl same) given changes =
+    along limits before after same changes
+removes_within limits draft target before false after own (inr (removal, removed)) given changes =
     along limits _ after removed
-    (record { admitted = own.admitted; change = inr (own.is_target, given) }, changes)
+    (record { admitted = own.admitted; change = inr (inl (own.is_target, given)) }, changes)
 
 module _ {F : Type 0} where
   pub begins_own : (draft : FolderDraft F) → BeginsOwn draft
@@ -134,7 +181,7 @@ module _ {F : Type 0} where
       along limits named after same changes
   loses_within limits draft folder named replaces after own (inl (inr (removal, removed))) given changes =
       along limits _ after removed
-      (record { admitted = own.admitted; change = inr (own.is_target, given) }, changes)
+      (record { admitted = own.admitted; change = inr (inl (own.is_target, given)) }, changes)
   loses_within limits draft folder named replaces after own (inr (failed, error, syncs, removes)) given changes =
       let both =
       fails_within limits (string_bytes draft.target) folder named failed error own.admitted syncs given changes in

@@ -1,7 +1,7 @@
 -- Which paths are inside the root, and the calls on them.
 use Rattle.std.proofs.Common.{◌≡◌, ◌≤◌, ◌<◌, ◌∙◌, ℕ, zero, suc, List, [], ◌∷◌, ◌++◌, Option, Some, None, Result, length}
 use Rattle.std.proofs.Common.{take, max, refl, sym, ap, subst, inl, inr, arith}
-use Rattle.std.specs.Prelude.{IfSome}
+use Rattle.std.specs.Prelude.{codes, IfSome}
 use Rattle.std.specs.String.{string_bytes}
 use Rattle.std.specs.declared.io.Error.{Error}
 use Rattle.std.proofs.lemmas.List.{append_assoc, get_or_at, length-append, take_all}
@@ -12,6 +12,7 @@ use Rattle.tftp_disk.specs.Folder.IsFolderOf.{Before, Here}
 use Rattle.tftp_disk.specs.NamedFolder.{IsFolderFor, OpensAlone, SyncsAlone, path_in}
 use Rattle.tftp_disk.specs.declared.calls.DiskFolder.{DiskFolder}
 use Rattle.tftp_disk.specs.declared.found.Found.{Found}
+use Rattle.tftp_folder.specs.Commit.{lock_of}
 use Rattle.tftp_folder.specs.Draft.{IsDraftBelow, SameNames}
 use Rattle.tftp_folder.specs.Inside.{AreInside, IsInside, StaysInside}
 use Rattle.tftp_folder.specs.Uploads.{IsBelow}
@@ -59,6 +60,14 @@ in_folder root folder path (inr (rest, is)) below = (
   rest ++ (47 ∷ below.0),
   below.1 ∙ ap (λ (f : List ℕ). f ++ (47 ∷ below.0)) is ∙ append_assoc root (47 ∷ rest) (47 ∷ below.0),
 )
+
+-- the lock of a name below the root
+pub lock_inside : (root target at : List ℕ) → at ≡ lock_of target → IsBelow root target → IsInside root at
+lock_inside root target at is below =
+    inr (
+      below.0 ++ codes "~tftp",
+      is ∙ ap (λ (t : List ℕ). t ++ codes "~tftp") below.1 ∙ append_assoc root (47 ∷ below.0) (codes "~tftp"),
+    )
 
 -- a path that is longer than the root is below it
 pub longer_below : (root path : List ℕ) → IsInside root path → max (length root) 1 < length path

@@ -4,3 +4,4 @@ mod NamingLemmas
 pub mod SourceLemmas
 pub mod StoredLemmas
 mod UploadLemmas
+mod WrittenLemmas

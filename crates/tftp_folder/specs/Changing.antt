@@ -1,5 +1,5 @@
 -- What a store over a folder changes on the disk (ours).
-use Rattle.std.specs.Prelude.{ℕ, ◌≡◌, ◌⊎◌, ⊤, Bool, true, false, List, [], ◌∷◌, Option, IfSome}
+use Rattle.std.specs.Prelude.{ℕ, ◌≡◌, ◌⊎◌, ⊤, Bool, true, false, List, [], ◌∷◌, Ok, Option, IfSome}
 use Rattle.std.specs.String.{string_bytes}
 use Rattle.tftp_file.specs.Path.{IsPath}
 use Rattle.tftp_disk.specs.Changes.{changes}
@@ -9,6 +9,7 @@ use Rattle.tftp_disk.specs.DiskJournal.DiskEvent.{Folder_opened, Folder_synced}
 use Rattle.tftp_store.specs.Drafts.{CallsKeep}
 use Rattle.tftp_store.specs.Store.{StoreMeaning}
 use Rattle.tftp_folder.specs.Begin.{draft_name, BeginsNone}
+use Rattle.tftp_folder.specs.Commit.{lock_of}
 use Rattle.tftp_folder.specs.Draft.{BeginsAt, GivesName, NamesNothing}
 use Rattle.tftp_folder.specs.Effects.{changes_of}
 use Rattle.tftp_folder.specs.Inside.{AreInside, IsInside}
@@ -53,18 +54,32 @@ IsGiven path (Linked file from to answer ∷ events) = (path ≡ to) ⊎ IsGiven
 IsGiven path (Renamed file from to answer ∷ events) = (path ≡ to) ⊎ IsGiven path events
 IsGiven path (event ∷ events) = IsGiven path events
 
+-- the path is that of the lock of such a place
+abbrev pub IsLock : Limits → List ℕ → Type 0
+IsLock limits path =
+    (target : List ℕ) × IsTarget limits target × (path ≡ lock_of target)
+
+-- a file was made at this path
+abbrev pub IsMade : List ℕ → List DiskEvent → Type 0
+IsMade path [] = ⊥
+IsMade path (Made at (Ok done) ∷ events) = (path ≡ at) ⊎ IsMade path events
+IsMade path (event ∷ events) = IsMade path events
+
 -- a change by a store that does not refuse writes
 pub record Admits (limits : Limits) (Change : Type 0) : Type 0 where
   pub admitted : limits.read_only ≡ false
   pub change : Change
 
 -- a call after these others, the newest first, that changes something: a draft is made or removed, or
--- is given a name that a client can spell, and a name that was asked for is removed; no other file is
--- made, removed or renamed. Folders are opened and synced for such a name alone
+-- is given a name that a client can spell, a name that was asked for is removed, and the lock of one
+-- is made, and removed if it was made; no other file is made, removed or renamed. Folders are opened
+-- and synced for such a name alone
 abbrev pub IsChange : Limits → DiskEvent → List DiskEvent → Type 0
-IsChange limits (Made path answer) before = Admits limits (IsDraftIn limits.drafts path)
+IsChange limits (Made path answer) before =
+    Admits limits (IsDraftIn limits.drafts path ⊎ IsLock limits path)
 IsChange limits (Removed path answer) before =
-    Admits limits (IsDraftIn limits.drafts path ⊎ (IsTarget limits path × IsGiven path before))
+    Admits limits (IsDraftIn limits.drafts path ⊎ (IsTarget limits path × IsGiven path before)
+    ⊎ (IsLock limits path × IsMade path before))
 IsChange limits (Linked file from to answer) before =
     Admits limits (IsDraftIn limits.drafts from × IsTarget limits to)
 IsChange limits (Renamed file from to answer) before =

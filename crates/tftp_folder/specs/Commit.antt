@@ -1,16 +1,44 @@
 -- The calls by which a store over a folder gives a draft its name (ours).
-use Rattle.std.specs.Prelude.{ℕ, ◌≡◌, ◌⊎◌, Bool, true, false, List, ◌∷◌, Ok, Err}
+use Rattle.std.specs.Prelude.{ℕ, ◌≡◌, ◌⊎◌, Bool, true, false, List, ◌∷◌, ◌++◌, Ok, Err, codes}
 use Rattle.std.specs.IoError.{error_kind}
 use Rattle.std.specs.declared.io.Error.{Error}
 use Rattle.std.specs.declared.io.ErrorKind.TheVariants as kinds
 use Rattle.tftp_disk.specs.Changes.{renames}
 use Rattle.tftp_disk.specs.DiskJournal.{DiskEvent, Done, FileState}
-use Rattle.tftp_disk.specs.DiskJournal.DiskEvent.{Linked, Renamed, Removed, Looked, Tried}
+use Rattle.tftp_disk.specs.DiskJournal.DiskEvent.{Made, Linked, Renamed, Removed, Looked, Tried}
 use Rattle.tftp_disk.specs.declared.found.Found.{Found}
 use Rattle.tftp_disk.specs.declared.found.Kind.TheVariants.{Regular}
 
+-- the lock of a name, which a file gets without a hard link: `~` is in no name that a client can
+-- spell
+abbrev pub lock_of : List ℕ → List ℕ
+lock_of target = target ++ codes "~tftp"
+
+-- the changes by which a draft, with this file, was renamed under the lock of its name: that was
+-- made, by a call that fails if it is there, and at the end removed
+abbrev pub RenamesLocked : FileState → (draft target : List ℕ) → List DiskEvent → List DiskEvent
+    → Type 0
+RenamesLocked file draft target before after =
+    (removal : Done)
+    × (after ≡ Removed (lock_of target) removal ∷ Renamed file draft target (Ok tt)
+    ∷ Made (lock_of target) (Ok tt) ∷ before)
+
+-- the draft was not renamed: nothing changed; or the lock was not made; or the system was not asked
+-- for the rename, or refused it, and the lock was removed
+abbrev pub RefusesLocked : FileState → (draft target : List ℕ) → List DiskEvent → List DiskEvent
+    → Type 0
+RefusesLocked file draft target before after =
+    (after ≡ before)
+    ⊎ ((failure : Error) × (after ≡ Made (lock_of target) (Err failure) ∷ before))
+    ⊎ ((removal : Done)
+    × (after ≡ Removed (lock_of target) removal ∷ Made (lock_of target) (Ok tt) ∷ before))
+    ⊎ ((failure : Error) × (removal : Done)
+    × (after ≡ Removed (lock_of target) removal ∷ Renamed file draft target (Err failure)
+    ∷ Made (lock_of target) (Ok tt) ∷ before))
+
 -- the changes by which a draft, with this file, got its name: where it may replace a file, by a
--- rename; else by a link, which never replaces one, or, if the system refused that, by a rename
+-- rename; else by a link, which never replaces one, or, if the system refused that, by a rename under
+-- the lock of the name
 abbrev pub Names : FileState → (draft target : List ℕ) → List DiskEvent → Bool → List DiskEvent
     → Type 0
 Names file draft target before true after = after ≡ Renamed file draft target (Ok tt) ∷ before
@@ -18,8 +46,7 @@ Names file draft target before false after =
     ((removal : Done)
     × (after ≡ Removed draft removal ∷ Linked file draft target (Ok tt) ∷ before))
     ⊎ ((refusal : Error)
-    × (after ≡ Renamed file draft target (Ok tt)
-    ∷ Linked file draft target (Err refusal) ∷ before))
+    × RenamesLocked file draft target (Linked file draft target (Err refusal) ∷ before) after)
 
 -- the system refused the draft its name, whose file was so: the link or the rename, or it was not
 -- asked for the rename
@@ -29,21 +56,18 @@ RefusesName file draft target before true after =
     (after ≡ before)
     ⊎ ((refusal : Error) × (after ≡ Renamed file draft target (Err refusal) ∷ before))
 RefusesName file draft target before false after =
-    ((refusal : Error) × (after ≡ Linked file draft target (Err refusal) ∷ before))
-    ⊎ ((refusal : Error) × (failure : Error)
-    × (after ≡ Renamed file draft target (Err failure)
-    ∷ Linked file draft target (Err refusal) ∷ before))
+    (refusal : Error)
+    × RefusesLocked file draft target (Linked file draft target (Err refusal) ∷ before) after
 
 -- the name is left, or was removed
 abbrev pub MayRemove : List ℕ → List DiskEvent → List DiskEvent → Type 0
 MayRemove target before after =
     (after ≡ before) ⊎ ((removal : Done) × (after ≡ Removed target removal ∷ before))
 
--- the name is left if it replaced a file, and else was removed
-abbrev pub RemovesNew : List ℕ → List DiskEvent → Bool → List DiskEvent → Type 0
-RemovesNew target before true after = after ≡ before
-RemovesNew target before false after =
-    (removal : Done) × (after ≡ Removed target removal ∷ before)
+-- the name is left if it replaced a file, and else may be removed
+abbrev pub MayRemoveNew : List ℕ → List DiskEvent → Bool → List DiskEvent → Type 0
+MayRemoveNew target before true after = after ≡ before
+MayRemoveNew target before false after = MayRemove target before after
 
 -- the newest call is a look at a path: no file was there
 abbrev pub IsFree : List ℕ → List DiskEvent → Type 0
@@ -58,11 +82,17 @@ MayBeReplaced path after =
     ⊎ ((before : List DiskEvent) × (found : Found) × (found.kind ≡ Regular)
     × (after ≡ Tried path (Ok tt) ∷ Looked path (Ok found) ∷ before))
 
+-- the newest call is a look at a path, just after its lock was made: no file was there
+abbrev pub IsFreeLocked : List ℕ → List DiskEvent → Type 0
+IsFreeLocked path after =
+    (before : List DiskEvent) × (error : Error) × (error_kind error ≡ kinds.NotFound)
+    × (after ≡ Looked path (Err error) ∷ Made (lock_of path) (Ok tt) ∷ before)
+
 -- a rename to the path may follow these calls: what has the name was looked at just before. No file
--- had it, or, if one may be replaced, a regular one, which may be written
+-- had it, which was then locked, or, if one may be replaced, a regular one had it, or none
 abbrev pub MayRename : Bool → List ℕ → List DiskEvent → Type 0
 MayRename true path after = MayBeReplaced path after
-MayRename false path after = IsFree path after
+MayRename false path after = IsFreeLocked path after
 
 -- the newest call is a rename to this path that may follow those before it
 pub record RenamesSeen (replaces : Bool) (path : List ℕ) (after : List DiskEvent) : Type 0 where

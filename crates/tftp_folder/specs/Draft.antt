@@ -1,5 +1,5 @@
 -- A draft of a store over a folder, by the calls on its file (ours).
-use Rattle.std.specs.Prelude.{ℕ, ◌≡◌, ◌⊎◌, Bool, true, false, List, [], ◌∷◌, Option, Some, Ok}
+use Rattle.std.specs.Prelude.{ℕ, ◌≡◌, ◌⊎◌, Bool, true, false, List, [], ◌∷◌, Option, Some, None, Ok}
 use Rattle.std.specs.Prelude.{Err}
 use Rattle.std.specs.declared.io.Error.{Error}
 use Rattle.std.specs.String.{string_bytes}
@@ -7,9 +7,12 @@ use Rattle.tftp_disk.specs.DiskJournal.{DiskEvent, Done, made_at, is_synced, syn
 use Rattle.tftp_disk.specs.DiskWriter.{calls_of, handed}
 use Rattle.tftp_disk.specs.NamedFolder.{OpensFolder, OpensNoFolder, SyncsFolder, SyncsNoFolder}
 use Rattle.tftp_disk.specs.declared.calls.DiskFolder.{DiskFolder}
+use Rattle.tftp_disk.specs.Changes.{changes}
 use Rattle.tftp_disk.specs.DiskJournal.DiskEvent.{Renamed}
 use Rattle.tftp_folder.specs.Begin.{MakesDraft}
-use Rattle.tftp_folder.specs.Commit.{Names, RefusesName, MayRemove, RemovesNew}
+use Rattle.tftp_folder.specs.Commit.{Names, RefusesName, RenamesLocked, RefusesLocked}
+use Rattle.tftp_folder.specs.Commit.{MayRemove, MayRemoveNew}
+use Rattle.tftp_folder.specs.Looked.{LooksFor, RemovesIf}
 use Rattle.tftp_folder.specs.Uploads.{IsBelow}
 use Rattle.tftp_folder.specs.declared.folder_draft.FolderDraft.{FolderDraft}
 
@@ -67,6 +70,18 @@ module _ {F : Type 0} where
   RenamesNoDraft draft before after =
       (after ≡ before) ⊎ ((refusal : Error) × RenamesDraft draft before (Err refusal) after)
 
+  -- it was renamed to its name under the lock of that
+  abbrev pub RenamesDraftLocked : FolderDraft F → List DiskEvent → List DiskEvent → Type 0
+  RenamesDraftLocked draft before after =
+      RenamesLocked (state_of (calls_of draft.writer)) (string_bytes draft.draft)
+      (string_bytes draft.target) before after
+
+  -- it was not renamed so
+  abbrev pub RefusesDraftLocked : FolderDraft F → List DiskEvent → List DiskEvent → Type 0
+  RefusesDraftLocked draft before after =
+      RefusesLocked (state_of (calls_of draft.writer)) (string_bytes draft.draft)
+      (string_bytes draft.target) before after
+
   -- the system refused the draft its name
   abbrev pub RefusesDraft : FolderDraft F → List DiskEvent → Bool → List DiskEvent → Type 0
   RefusesDraft draft before replaces after =
@@ -87,6 +102,24 @@ module _ {F : Type 0} where
       × OpensFolder (string_bytes draft.target) folder before opened
       × NamesIn draft folder opened replaces after
 
+  -- a look at the name of a draft: whether it found the draft's own file there
+  abbrev pub LooksForOwn : FolderDraft F → FolderDraft F → List DiskEvent → List DiskEvent → Bool
+      → Type 0
+  LooksForOwn draft draft' before after finds =
+      LooksFor (string_bytes draft'.target) (calls_of draft.writer) (calls_of draft'.writer) before
+      after finds
+
+  -- after calls that change nothing the name of a draft was looked at, and the next call removed it,
+  -- if that found the draft's own file there; else it is left
+  pub record TakesBack (draft draft' : FolderDraft F) (before after : List DiskEvent)
+      : Type 0 where
+    pub between : List DiskEvent
+    pub looked : List DiskEvent
+    pub finds : Bool
+    pub looks : changes between ≡ changes before
+    pub own : LooksForOwn draft draft' between looked finds
+    pub removes : RemovesIf finds (string_bytes draft'.target) looked after
+
   -- the draft lost the name that it got: by then that was another file's, or in another folder, or
   -- the folder could not be synced
   abbrev pub LosesName : FolderDraft F → Option (DiskFolder F) → (named : List DiskEvent) → Bool
@@ -94,7 +127,7 @@ module _ {F : Type 0} where
   LosesName draft folder named replaces after =
       MayRemove (string_bytes draft.target) named after
       ⊎ ((failed : List DiskEvent) × (error : Error) × SyncsNoFolder folder named error failed
-      × RemovesNew (string_bytes draft.target) failed replaces after)
+      × MayRemoveNew (string_bytes draft.target) failed replaces after)
 
   -- the draft got no name in this folder, or lost it
   abbrev pub NamesNothingIn : FolderDraft F → Option (DiskFolder F) → List DiskEvent → Bool
@@ -112,6 +145,10 @@ module _ {F : Type 0} where
       ⊎ ((folder : Option (DiskFolder F)) × (opened : List DiskEvent)
       × OpensFolder (string_bytes draft.target) folder before opened
       × NamesNothingIn draft folder opened replaces after)
+
+  -- all that it was handed is in its file, unless a write or a sync of that failed
+  abbrev pub IsWrittenOut : FolderDraft F → Type 0
+  IsWrittenOut draft = draft.failure ≡ None → file_bytes draft ≡ bytes_of draft
 
   -- its file was made at its path, it has these bytes, all that is in it is synced, and no sync of
   -- it failed

@@ -483,7 +483,7 @@ impl<R: Files + Drop> ServedFolder<R> {
     {
         match make_again(&self.files, journal, draft) {
             Ok(file) => Ok(file),
-            Err(error) => Err(self.write_refused(&error)),
+            Err(error) => Err(self.draft_refused(&error)),
         }
     }
 }

@@ -1,15 +1,18 @@
 //! A file that is being written to a folder.
 
-ghost use Rattle.std.specs.Prelude.{ℕ, ◌≡◌, List, ◌++◌, [], Some, None, true, false, OnOk};
-ghost use Rattle.std.specs.Prelude.{OnErr};
+ghost use Rattle.std.specs.Prelude.{ℕ, ◌≡◌, ◌≢◌, List, ◌++◌, [], Some, None, true, false, OnOk};
+ghost use Rattle.std.specs.Prelude.{IfOk, OnErr};
 ghost use Rattle.std.specs.String.{string_bytes};
 ghost use Rattle.tftp_disk.specs.Changes.{changes, renames};
 ghost use Rattle.tftp_disk.specs.DiskJournal.{made_at, is_synced, sync_failed, state_of};
 ghost use Rattle.tftp_disk.specs.DiskWriter.{calls_of, handed};
+ghost use Rattle.tftp_folder.specs.Commit.{lock_of};
+ghost use Rattle.tftp_folder.specs.Looked.{LooksFor, is_found};
 ghost use Rattle.tftp_folder.specs.Inside.{IsInside, StaysInside};
 
 use crate::finding::DraftPlace;
 use crate::replacing::permissions_of;
+use std::alloc::AllocError;
 use std::fs::OpenFile;
 use std::io::{self, Write};
 use std::rt::Files;
@@ -48,7 +51,7 @@ pub struct FolderDraft<F> {
 }
 
 impl<F: Write> FolderDraft<F> {
-    ghost use Rattle.tftp_folder.specs.Draft.{SameNames};
+    ghost use Rattle.tftp_folder.specs.Draft.{IsWrittenOut, SameNames};
 
     /// A draft with nothing written.
     pub(crate) fn new(
@@ -93,6 +96,7 @@ impl<F: Write> FolderDraft<F> {
     /// Keeps the failure.
     fn fail(&mut self, error: io::Error) -> io::Error
         ensures writer { self.new.writer ≡ self.old.writer }
+        ensures failure { self.new.failure ≡ Some error }
         ensures names { SameNames self.old self.new }
     {
         self.failure = Some(error);
@@ -104,6 +108,7 @@ impl<F: Write> FolderDraft<F> {
         ensures handed { handed self.new.writer ≡ handed self.old.writer }
         ensures empty { OnOk result (self.new.writer.buffer.items ≡ []) }
         ensures failure { OnOk result (self.new.failure ≡ None) }
+        ensures failed { OnErr result (self.new.failure ≢ None) }
         ensures names { SameNames self.old self.new }
     {
         if let Some(error) = self.failure {
@@ -115,6 +120,25 @@ impl<F: Write> FolderDraft<F> {
         }
     }
 
+    /// Writes the buffered bytes, unless an earlier call failed. It syncs nothing.
+    pub(crate) fn write_out(&mut self)
+        ensures handed { handed self.new.writer ≡ handed self.old.writer }
+        ensures out { IsWrittenOut self.new }
+        ensures names { SameNames self.old self.new }
+    {
+        let _ = self.flush();
+    }
+
+    /// The path of the lock of its name.
+    pub(crate) fn lock(&self) -> Result<String, AllocError>
+        ensures { IfOk result (λ lock. string_bytes lock
+            ≡ lock_of (string_bytes self.now.target)) }
+    {
+        let mut lock = self.target.clone()?;
+        lock.push_str("~tftp")?;
+        Ok(lock)
+    }
+
     /// The open file.
     pub(crate) fn file(&self) -> &DiskFile<F>
         ensures { result.now ≡ self.now.writer.file }
@@ -124,7 +148,7 @@ impl<F: Write> FolderDraft<F> {
 }
 
 impl<F: Write + OpenFile> FolderDraft<F> {
-    ghost use Rattle.tftp_folder.specs.Draft.{SameNames, IsDone, StaysDone, file_bytes};
+    ghost use Rattle.tftp_folder.specs.Draft.{SameNames, IsDone, StaysDone, LooksForOwn, file_bytes};
 
     /// Writes the buffered bytes once they are due. It syncs them only if too many are unsynced.
     pub(crate) fn write_behind(&mut self)
@@ -220,6 +244,7 @@ impl<F: Write + OpenFile> FolderDraft<F> {
     /// Whether the path of the file after the commit is that of the open file.
     pub(crate) fn is_at_target<R: Files>(&mut self, files: &R, journal: &mut DiskJournal) -> bool
         ensures stays { StaysDone self.old self.new }
+        ensures own { LooksForOwn self.old self.new journal.old.events journal.new.events result }
         ensures looks { changes journal.new.events ≡ changes journal.old.events }
         ensures renames { renames journal.new.events ≡ renames journal.old.events }
         ensures inside { (root : List ℕ) → IsInside root (string_bytes self.old.target)
@@ -238,6 +263,8 @@ fn is_at<R: Files, F: OpenFile>(
 ) -> bool
     ensures state { state_of (calls_of writer.new) ≡ state_of (calls_of writer.old) }
     ensures buffer { writer.new.buffer ≡ writer.old.buffer }
+    ensures own { LooksFor path.now (calls_of writer.old) (calls_of writer.new)
+        journal.old.events journal.new.events result }
     ensures looks { changes journal.new.events ≡ changes journal.old.events }
     ensures renames { renames journal.new.events ≡ renames journal.old.events }
     ensures inside { (root : List ℕ) → IsInside root path.now
@@ -245,8 +272,18 @@ fn is_at<R: Files, F: OpenFile>(
 {
     let opened = writer.examine();
     let found = tftp_disk::look(files, journal, path);
-    match (opened, found) {
-        (Ok(opened), Ok(found)) => opened.id.is(found.id),
-        _ => false,
+    is_found(opened, found)
+}
+
+/// Whether an open file and a path were looked at, and are one file.
+fn is_found(opened: io::Result<Found>, found: io::Result<Found>) -> bool
+    ensures { result ≡ is_found opened found }
+{
+    match opened {
+        Ok(opened) => match found {
+            Ok(found) => opened.id.is(found.id),
+            Err(_) => false,
+        },
+        Err(_) => false,
     }
 }

@@ -4,7 +4,6 @@ ghost use Rattle.std.specs.Prelude.{◌≡◌, ◌≢◌, ℕ, List, true, false
 ghost use Rattle.std.specs.Prelude.{IfErr};
 ghost use Rattle.std.specs.Prelude.{[], ◌++◌, ◌⊎◌, codes, IfSome, OnOk, OnErr};
 ghost use Rattle.std.specs.String.{string_bytes};
-ghost use Rattle.tftp_file.specs.Path.{path_of_name};
 ghost use Rattle.tftp_disk.specs.Changes.{changes};
 ghost use Rattle.tftp_disk.specs.DiskFault.{MayNotOpen, MayNotStore, MayNotName, is_replaced};
 ghost use Rattle.tftp_disk.specs.Given.{examined, given};
@@ -13,10 +12,10 @@ ghost use Rattle.tftp_folder.specs.Inside.{AreInside, StaysInside};
 ghost use Rattle.tftp_folder.specs.Opened.{IsRootOf};
 ghost use Rattle.tftp_folder.specs.Commit.{LooksThenRenames};
 ghost use Rattle.tftp_folder.specs.Draft.{bytes_of, GivesName, IsDraftBelow, IsWhole};
-ghost use Rattle.tftp_folder.specs.Draft.{NamesNothing, SameNames};
+ghost use Rattle.tftp_folder.specs.Draft.{IsWrittenOut, NamesNothing, SameNames};
 ghost use Rattle.tftp_folder.specs.Settings.{AsksNothing, SameSettings};
 ghost use Rattle.tftp_folder.specs.Source.{StatesLength, counted_by};
-ghost use Rattle.tftp_folder.specs.Uploads.{IsBelow, path_below};
+ghost use Rattle.tftp_folder.specs.Uploads.{IsBelow, path_below, path_of_folder, without_last_slash};
 
 use crate::beginning::{DraftMemory, begin_draft};
 use crate::below::is_below;
@@ -108,12 +107,12 @@ impl<R: Files + Drop> FolderStore<R> {
     }
 
     /// Refuses every later write but those below this folder of the root, which is named as a
-    /// client names a file. Drafts are made there.
+    /// client names a file, perhaps with a slash behind it. Drafts are made there.
     ///
     /// It fails with `NotFound` also if no client can name the folder, with `NotADirectory` if it
     /// is no folder or a link, with the system's error, or when out of memory.
     pub fn admit_uploads(&mut self, alloc: Global, folder: &str) -> io::Result<()>
-        ensures ok { IfOk result (λ _. (path : List ℕ) × (path_of_name folder.now ≡ Ok path)
+        ensures ok { IfOk result (λ _. (path : List ℕ) × (path_of_folder folder.now ≡ Ok path)
             × (self.new.uploads ≡ Some path)
             × (string_bytes self.new.folder.drafts
             ≡ path_below (string_bytes self.old.folder.root) path)) }
@@ -129,7 +128,7 @@ impl<R: Files + Drop> FolderStore<R> {
         ensures inside { StaysInside (string_bytes self.old.folder.root) self.old.journal.events
             self.new.journal.events }
     {
-        let path = match path_of(alloc, folder.as_bytes()) {
+        let path = match path_of(alloc, without_last_slash(folder.as_bytes())) {
             Ok(path) => path,
             Err(PathFault::Memory) => return Err(io::Error::from(ErrorKind::OutOfMemory)),
             Err(_) => return Err(io::Error::from_raw_os_error(ENOENT)),
@@ -232,7 +231,7 @@ impl<R: Files + Drop> FolderStore<R> {
         ) {
             Ok(()) => Ok(()),
             Err(NameFault::System(error)) => Err(self.folder.name_refused(&error, existing)),
-            Err(NameFault::Rule(reason)) => Err(self.folder.refused(reason)),
+            Err(NameFault::Rule(reason)) => Err(self.folder.rule_refused(reason, existing)),
         }
     }
 }
@@ -252,16 +251,32 @@ fn resolve_root<R: Files>(
     if tftp_disk::follow(files, journal, text)?.kind != Kind::Folder {
         return Err(io::Error::from_raw_os_error(ENOTDIR));
     }
-    Ok(String::from_str(alloc, without_last_slash(text))?)
+    Ok(String::from_str(alloc, as_folder(text))?)
 }
 
 /// A path without its last slash, if it has one.
-fn without_last_slash(path: &str) -> &str
+fn as_folder(path: &str) -> &str
     ensures { (path.now ≡ result.now) ⊎ (path.now ≡ result.now ++ codes "/") }
 {
     match path.strip_suffix("/") {
         Some(front) => front,
         None => path,
+    }
+}
+
+/// The name of a folder without its last slash, as a shell completes it.
+fn without_last_slash(name: &[u8]) -> &[u8]
+    ensures { result.now ≡ without_last_slash name.now }
+{
+    match name.last() {
+        Some(last) => {
+            if *last == b'/' {
+                &name[..name.len() - 1]
+            } else {
+                name
+            }
+        }
+        None => name,
     }
 }
 
@@ -292,6 +307,8 @@ fn folder_below<R: Files + Drop>(
 }
 
 impl<R: Files + Drop> ServedStore<Reason> for FolderStore<R> {
+    ghost written_out = { IsWrittenOut };
+
     fn set_port(&mut self, port: u16)
         ensures { AsksNothing self.old self.new }
     {
@@ -304,7 +321,8 @@ impl<R: Files + Drop> ServedStore<Reason> for FolderStore<R> {
         self.lengths.set_longest(bytes);
     }
 
-    /// `None` if no call was refused, or if the fault was `Missing` or `Exists`.
+    /// `None` if no call was refused, or if the fault was `Missing`, or `Exists` of a file that is
+    /// there.
     fn take_reason(&self) -> Option<Reason> {
         self.folder.reason.take()
     }
@@ -315,6 +333,10 @@ impl<R: Files + Drop> ServedStore<Reason> for FolderStore<R> {
 
     fn let_sync(&self) {
         self.may_sync.set(true);
+    }
+
+    fn write_out(&self, draft: &mut FolderDraft<R::File>) {
+        draft.write_out();
     }
 }
 
@@ -414,11 +436,11 @@ impl<R: Files + Drop> Store for FolderStore<R> {
 
     /// The draft is synced before it gets its name, and the folder before this returns. A new name
     /// is a hard link, which never replaces a file. If the system refuses the link, the draft is
-    /// renamed once no file was found. To replace a file the draft is renamed, which leaves the old
-    /// file or the new one; what has the name by then is looked at once more, as at the request,
-    /// and the new file has its permissions. `Io` if the path of the draft names another file, or
-    /// the path of its folder another folder: before the name is given, or when it is looked at
-    /// again.
+    /// renamed once no file was found, under a lock of the name; `Exists` also if that is there. To
+    /// replace a file the draft is renamed, which leaves the old file or the new one; what has the
+    /// name by then is looked at once more, as at the request, and the new file has its
+    /// permissions. `Io` if the path of the draft names another file, or the path of its folder
+    /// another folder: before the name is given, or when it is looked at again.
     fn commit(
         &mut self,
         _path: &Path,

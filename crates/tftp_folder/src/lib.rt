@@ -13,6 +13,7 @@ mod folder_draft;
 mod folder_source;
 mod folder_store;
 pub mod laws;
+mod locked;
 mod measured;
 mod naming;
 mod replacing;

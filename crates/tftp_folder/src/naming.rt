@@ -7,14 +7,15 @@ ghost use Rattle.tftp_disk.specs.declared.found.Found.{Found};
 ghost use Rattle.tftp_folder.specs.Opened.{AreFolders};
 ghost use Rattle.tftp_disk.specs.DiskFault.{is_replaced};
 ghost use Rattle.tftp_disk.specs.NamedFolder.{path_in};
-ghost use Rattle.tftp_folder.specs.Draft.{IsDone, StaysDone, KeepsDone, NamesDraft, RenamesDraft};
+ghost use Rattle.tftp_folder.specs.Draft.{IsDone, StaysDone, KeepsDone, NamesDraft, TakesBack};
 ghost use Rattle.std.specs.String.{string_bytes};
-ghost use Rattle.tftp_folder.specs.Commit.{IsFree, MayRemove, RemovesNew, LooksThenRenames};
+ghost use Rattle.tftp_folder.specs.Commit.{MayRemove, MayRemoveNew, LooksThenRenames};
 ghost use Rattle.tftp_folder.specs.Draft.{NamesIn, GivesName, NamesNothing, NamesNothingIn, SameNames};
-ghost use Rattle.tftp_folder.specs.Draft.{IsDraftBelow, RefusesDraft, RenamesNoDraft};
+ghost use Rattle.tftp_folder.specs.Draft.{IsDraftBelow, RefusesDraft};
 ghost use Rattle.tftp_folder.specs.Inside.{IsInside, StaysInside};
 
 use crate::folder_draft::FolderDraft;
+use crate::locked::rename_locked;
 use crate::replacing::rename_over;
 use std::io::{self, ErrorKind};
 use std::rt::Files;
@@ -43,8 +44,8 @@ impl From<io::Error> for NameFault {
 ///
 /// `Rule` if another file has the path of the draft, or another folder that of its folder, or if the
 /// file that has the name by now may not be replaced. A name that was given is removed again if it
-/// leads out of the root, or is new and is not that of the draft's file, or if the sync fails and it
-/// is new.
+/// leads out of the root, or if the sync fails and it is new; and only if it is still that of the
+/// draft's file, since it may be another server's by then.
 pub(crate) fn give_name<R: Files>(
     files: &R,
     journal: &mut DiskJournal,
@@ -108,33 +109,55 @@ fn name_in<R: Files>(
         Ok(()) => {}
         Err(fault) => return Err(fault),
     }
-    match look_again(files, journal, root, draft, existing) {
+    match look_again(files, journal, root, draft) {
         Ok(()) => {}
         Err(reason) => return Err(NameFault::Rule(reason)),
     }
     match folder.sync(journal) {
         Ok(()) => Ok(()),
         Err(error) => {
-            remove_new(files, journal, draft.target.as_str(), existing);
+            take_back_new(files, journal, draft, existing);
             Err(NameFault::System(error))
         }
     }
 }
 
-/// Removes a name again, unless it replaced a file.
-fn remove_new<R: Files>(files: &R, journal: &mut DiskJournal, name: &str, existing: Existing)
-    ensures removed { RemovesNew name.now (changes journal.old.events) (is_replaced existing)
-        (changes journal.new.events) }
+/// Removes the name of a draft again, unless it replaced a file or is another file's by now.
+fn take_back_new<R: Files>(
+    files: &R,
+    journal: &mut DiskJournal,
+    draft: &mut FolderDraft<R::File>,
+    existing: Existing,
+)
+    ensures stays { StaysDone draft.old draft.new }
+    ensures removed { MayRemoveNew (string_bytes draft.new.target) (changes journal.old.events)
+        (is_replaced existing) (changes journal.new.events) }
+    ensures own { is_replaced existing ≡ false
+        → TakesBack draft.old draft.new journal.old.events journal.new.events }
     ensures renames { renames journal.new.events ≡ renames journal.old.events }
-    ensures inside { (root : List ℕ) → IsInside root name.now
+    ensures inside { (root : List ℕ) → IsDraftBelow root draft.old
         → StaysInside root journal.old.events journal.new.events }
 {
     match existing {
-        Existing::Refused => {
-            let _ = tftp_disk::remove(files, journal, name);
-        }
+        Existing::Refused => take_back(files, journal, draft),
         Existing::Replaced => {}
     }
+}
+
+/// Removes the name of a draft again, unless it is another file's by now.
+fn take_back<R: Files>(files: &R, journal: &mut DiskJournal, draft: &mut FolderDraft<R::File>)
+    ensures stays { StaysDone draft.old draft.new }
+    ensures removed { MayRemove (string_bytes draft.new.target) (changes journal.old.events)
+        (changes journal.new.events) }
+    ensures own { TakesBack draft.old draft.new journal.old.events journal.new.events }
+    ensures renames { renames journal.new.events ≡ renames journal.old.events }
+    ensures inside { (root : List ℕ) → IsDraftBelow root draft.old
+        → StaysInside root journal.old.events journal.new.events }
+{
+    if !draft.is_at_target(files, journal) {
+        return;
+    }
+    let _ = tftp_disk::remove(files, journal, draft.target.as_str());
 }
 
 /// Names the file of a draft, by a rename if it may replace one.
@@ -159,42 +182,39 @@ fn put_name<R: Files>(
     match existing {
         Existing::Refused => match name_new(files, journal, draft) {
             Ok(()) => Ok(()),
-            Err(error) => Err(NameFault::System(error)),
+            Err(fault) => Err(fault),
         },
         Existing::Replaced => rename_over(files, journal, draft),
     }
 }
 
-/// Looks at the name that a draft was given, and removes a wrong one. One that replaced a file
-/// stays, unless it leads out of the root.
+/// Looks at the name that a draft was given. One that leads out of its folder is removed. What has
+/// the name in the folder by now stays: if it is not the draft's file, it may be another server's.
 fn look_again<R: Files>(
     files: &R,
     journal: &mut DiskJournal,
     root: &str,
     draft: &mut FolderDraft<R::File>,
-    existing: Existing,
 ) -> Result<(), Reason>
     ensures stays { StaysDone draft.old draft.new }
     ensures renames { renames journal.new.events ≡ renames journal.old.events }
     ensures ok { OnOk result (changes journal.new.events ≡ changes journal.old.events) }
     ensures err { OnErr result (MayRemove (string_bytes draft.new.target)
         (changes journal.old.events) (changes journal.new.events)) }
+    ensures own { OnErr result (TakesBack draft.old draft.new journal.old.events
+        journal.new.events) }
     ensures inside { IsDraftBelow root.now draft.old
         → StaysInside root.now journal.old.events journal.new.events }
 {
     let folder = folder_of(draft.target.as_str());
-    let is_in_place = leads_to(files, journal, root, folder, draft.folder);
-    let is_of_draft = draft.is_at_target(files, journal);
-    if is_in_place && is_of_draft {
-        return Ok(());
+    if !leads_to(files, journal, root, folder, draft.folder) {
+        take_back(files, journal, draft);
+        return Err(Reason::FolderReplaced);
     }
-    if is_of_draft || (is_in_place && existing == Existing::Refused) {
-        let _ = tftp_disk::remove(files, journal, draft.target.as_str());
-    }
-    if is_in_place {
-        Err(Reason::DraftReplaced)
+    if draft.is_at_target(files, journal) {
+        Ok(())
     } else {
-        Err(Reason::FolderReplaced)
+        Err(Reason::DraftReplaced)
     }
 }
 
@@ -265,12 +285,12 @@ fn is_folder<R: Files>(files: &R, journal: &mut DiskJournal, path: &str) -> bool
 }
 
 /// Gives a draft a new name. A hard link never replaces a file. If the system refuses the link, the
-/// draft is renamed once no file was found.
+/// draft is renamed under a lock of the name.
 fn name_new<R: Files>(
     files: &R,
     journal: &mut DiskJournal,
     draft: &FolderDraft<R::File>,
-) -> io::Result<()>
+) -> Result<(), NameFault>
     ensures ok { OnOk result (NamesDraft draft.now (changes journal.old.events) false
         (changes journal.new.events)) }
     ensures err { OnErr result (RefusesDraft draft.now (changes journal.old.events) false
@@ -288,57 +308,11 @@ fn name_new<R: Files>(
         }
         Err(error) => {
             if error.kind() == ErrorKind::AlreadyExists {
-                return Err(error);
+                return Err(NameFault::System(error));
             }
-            match rename_new(files, journal, draft) {
+            match rename_locked(files, journal, draft) {
                 Ok(()) => Ok(()),
-                Err(error) => Err(error),
-            }
-        }
-    }
-}
-
-/// Renames a draft if no file has the name.
-fn rename_new<R: Files>(
-    files: &R,
-    journal: &mut DiskJournal,
-    draft: &FolderDraft<R::File>,
-) -> io::Result<()>
-    ensures ok { OnOk result (RenamesDraft draft.now (changes journal.old.events) (Ok tt)
-        (changes journal.new.events)) }
-    ensures err { OnErr result (RenamesNoDraft draft.now (changes journal.old.events)
-        (changes journal.new.events)) }
-    ensures over { LooksThenRenames false (string_bytes draft.now.target) journal.old.events
-        journal.new.events }
-    ensures inside { (root : List ℕ) → IsDraftBelow root draft.now
-        → StaysInside root journal.old.events journal.new.events }
-{
-    let (path, target) = (draft.draft.as_str(), draft.target.as_str());
-    match check_free(files, journal, target) {
-        Ok(()) => {}
-        Err(error) => return Err(error),
-    }
-    match tftp_disk::rename(files, journal, draft.file(), path, target) {
-        Ok(()) => Ok(()),
-        Err(error) => Err(error),
-    }
-}
-
-/// Looks whether no file has the name.
-fn check_free<R: Files>(files: &R, journal: &mut DiskJournal, name: &str) -> io::Result<()>
-    ensures looks { changes journal.new.events ≡ changes journal.old.events }
-    ensures renames { renames journal.new.events ≡ renames journal.old.events }
-    ensures free { OnOk result (IsFree name.now journal.new.events) }
-    ensures inside { (root : List ℕ) → IsInside root name.now
-        → StaysInside root journal.old.events journal.new.events }
-{
-    match tftp_disk::look(files, journal, name) {
-        Ok(_) => Err(io::Error::from(ErrorKind::AlreadyExists)),
-        Err(error) => {
-            if error.kind() == ErrorKind::NotFound {
-                Ok(())
-            } else {
-                Err(error)
+                Err(fault) => Err(fault),
             }
         }
     }

@@ -4,7 +4,7 @@ ghost use Rattle.std.specs.Prelude.{◌≡◌, ◌≢◌};
 ghost use Rattle.tftp_disk.specs.DiskFault.{MayNotOpen, MayNotStore, MayNotName, is_replaced};
 
 use crate::folder_source::SharedReason;
-use std::io;
+use std::io::{self, ErrorKind};
 use std::rt::Files;
 use tftp_disk::{Existing, name_fault, open_fault, write_fault};
 use tftp_file::StoreFault;
@@ -31,6 +31,20 @@ impl<R: Files + Drop> ServedFolder<R> {
         StoreFault::Io
     }
 
+    /// Keeps the reason for a refusal of a name by a rule of the folder. If the name is locked, the
+    /// fault is that of a file that is there: another server is about to make one.
+    pub(crate) fn rule_refused(&self, reason: Reason, existing: Existing) -> StoreFault
+        ensures named { MayNotName (is_replaced existing) result }
+        ensures not_memory { result ≢ StoreFault.Memory }
+    {
+        self.reason.set(reason);
+        if reason == Reason::NameLocked && existing == Existing::Refused {
+            StoreFault::Exists
+        } else {
+            StoreFault::Io
+        }
+    }
+
     /// Keeps the system's reason, unless the fault is `Missing` or `Exists`.
     fn keep_reason(&self, fault: StoreFault, reason: Reason) {
         if fault != StoreFault::Missing && fault != StoreFault::Exists {
@@ -55,6 +69,18 @@ impl<R: Files + Drop> ServedFolder<R> {
         let fault = write_fault(error);
         self.keep_reason(fault, reason_of(error));
         fault
+    }
+
+    /// The fault of a draft that was not made; keeps the reason. `DraftReplaced` if another file
+    /// stays at its path: a draft of another port may then be made.
+    pub(crate) fn draft_refused(&self, error: &io::Error) -> StoreFault
+        ensures { MayNotStore result }
+    {
+        if error.kind() == ErrorKind::AlreadyExists {
+            self.refused(Reason::DraftReplaced)
+        } else {
+            self.write_refused(error)
+        }
     }
 
     /// The fault of a failed rename or link; keeps the reason.

@@ -89,6 +89,8 @@ pub enum Reason {
     DraftReplaced,
     /// A file was replaced between the look at it and its opening.
     FileReplaced,
+    /// Another server gives the name to a file, or a server that was killed left its lock.
+    NameLocked,
     /// A folder on the path was replaced since the request.
     FolderReplaced,
     /// A link leads out of the served folder.
@@ -226,6 +228,7 @@ impl fmt::Display for Reason {
             Reason::DamagedFileSystem => f.write_str("damaged file system"),
             Reason::DraftReplaced => f.write_str("draft replaced"),
             Reason::FileReplaced => f.write_str("file replaced"),
+            Reason::NameLocked => f.write_str("name locked"),
             Reason::FolderReplaced => f.write_str("folder replaced"),
             Reason::LeadsOut => f.write_str("leads out of the folder"),
             Reason::ThroughLink => f.write_str("through a link"),

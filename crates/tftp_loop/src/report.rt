@@ -1,6 +1,6 @@
 //! The printed and logged lines of transfers and requests.
 
-ghost use Rattle.std.specs.Prelude.{◌≡◌, IfErr, is_some, option_map, if◌then◌else◌};
+ghost use Rattle.std.specs.Prelude.{◌≡◌, ◌⊎◌, Some, IfErr, is_some, option_map, if◌then◌else◌};
 ghost use Rattle.tftp_server.specs.State.{at, taken_of, without};
 ghost use Rattle.tftp_loop.specs.LoopStates.{FailsToPrint, close_reported};
 
@@ -12,8 +12,9 @@ use crate::transfer_port::TransferPort;
 use std::alloc::Global;
 use tftp_ends::{Outcome, Record};
 use tftp_lines::{LogLine, Lost, Printed, Reason, RequestLine};
-use tftp_server::{Server, Store};
+use tftp_server::Server;
 use tftp_sockets::{Journal, print_line};
+use tftp_store::ServedStore;
 
 /// Logs the line of the request port, if there is a log: what standard output has may go nowhere.
 pub(crate) fn log_listening<E: Eprint>(rt: &E, config: &LoopConfig, line: Printed) {
@@ -131,16 +132,37 @@ pub(crate) fn log_unsent<E: Eprint>(rt: &E, port: &TransferPort) {
     }
 }
 
-/// Removes a closed transfer from the server, and returns its record.
-pub(crate) fn record_of_closed<S: Store + Drop>(server: &mut Server<S>, tid: u16) -> Option<Record>
+/// Removes a closed transfer from the server, and returns its record. Its draft is let go.
+pub(crate) fn record_of_closed<S: ServedStore<Reason> + Drop>(
+    server: &mut Server<S>,
+    tid: u16,
+) -> Option<Record>
     ensures found { result ≡ option_map (λ taken. taken.0) (taken_of (at tid server.old.held)) }
     ensures held { server.new.held ≡ (if is_some result then without tid server.old.held else
         server.old.held) }
     ensures rest { server.new ≡ record server.old { held = server.new.held } }
 {
     match server.take_closed(tid) {
-        Some((record, _)) => Some(record),
+        Some((record, Some(draft))) => {
+            let _ = let_go(server.store(), &record, draft);
+            Some(record)
+        }
+        Some((record, None)) => Some(record),
         None => None,
+    }
+}
+
+/// The draft of a closed transfer, as it is let go: one that got no name keeps what its client was
+/// acknowledged.
+fn let_go<S: ServedStore<Reason>>(store: &S, closed: &Record, mut draft: S::Draft) -> S::Draft
+    ensures out { (closed.now.outcome ≡ Some Outcome.Complete) ⊎ S.written_out result }
+{
+    match closed.outcome {
+        Some(Outcome::Complete) => draft,
+        _ => {
+            store.write_out(&mut draft);
+            draft
+        }
     }
 }
 

@@ -2,13 +2,16 @@
 
 ghost use Rattle.std.specs.Prelude.{◌≡◌};
 
-use crate::memory::MemStore;
+use crate::memory::{MemDraft, MemStore};
 use crate::store::Store;
 
 /// A store that is set before each request is carried out, that keeps the reasons for what it
 /// refuses, and that syncs drafts when its loop lets it. Why a call is refused is a `Reason`, which
 /// only a log has.
 pub trait ServedStore<Reason>: Store {
+    /// All that a draft took is where it is kept, unless a call on that failed.
+    ghost written_out: { Self.Draft → Type 0 };
+
     /// Sets the port of the next transfer, which names its draft. It leaves of the store what
     /// `write_behind` leaves.
     fn set_port(&mut self, port: u16)
@@ -31,10 +34,21 @@ pub trait ServedStore<Reason>: Store {
 
     /// Lets the next `write_behind` sync its draft.
     fn let_sync(&self);
+
+    /// Writes what is still buffered of a draft that gets no name, without a sync: what was
+    /// acknowledged of a failed transfer is in the file that it leaves. If a write fails, the rest
+    /// of it is lost.
+    fn write_out(&self, draft: &mut Self::Draft)
+        ensures behind { Self.meaning.writes_behind draft.old draft.new }
+        ensures out { written_out draft.new };
 }
 
 /// Files in memory need no port and no sync, and have no reasons.
 impl<Reason> ServedStore<Reason> for MemStore {
+    ghost use Rattle.std.specs.Prelude.{⊤};
+
+    ghost written_out = { λ _. ⊤ };
+
     fn set_port(&mut self, _port: u16) {}
 
     fn set_longest(&mut self, _bytes: u64) {}
@@ -48,4 +62,6 @@ impl<Reason> ServedStore<Reason> for MemStore {
     }
 
     fn let_sync(&self) {}
+
+    fn write_out(&self, _draft: &mut MemDraft) {}
 }

@@ -1,13 +1,11 @@
 -- The draft had got its name, as it is now.
-use Rattle.std.proofs.Common.{◌∙◌, List, ℕ, inl, inr, subst, sym}
+use Rattle.std.proofs.Common.{◌∙◌, List, inl, inr, subst}
 use Rattle.tftp_disk.specs.DiskJournal.{DiskEvent}
 use Rattle.tftp_disk.specs.NamedFolder.{SyncsNoFolder}
 use Rattle.tftp_disk.specs.Changes.{changes}
 use Rattle.tftp_disk.specs.DiskFault.{is_replaced}
-use Rattle.tftp_folder.specs.Commit.{RemovesNew}
-use Rattle.tftp_folder.specs.Inside.{IsInside}
 use Rattle.tftp_folder.proofs.InsideLemmas.{stays_below, syncs_inside}
-use Rattle.tftp_folder.proofs.NamingLemmas.{names_stay, renames_then}
+use Rattle.tftp_folder.proofs.NamingLemmas.{names_stay, renames_then, stays_done}
 use Rattle.tftp_folder.proofs.naming.name_in.Goals as goal
 
 pub returns-in-Err-look_again-clause-err : goal.returns-in-Err-look_again-clause-err
@@ -25,7 +23,9 @@ returns-in-Err-sync-clause-err g c =
     let failed = changes c.sync.new.journal.events in
     inr (
       changes c.put_name.new.journal.events,
-      names_stay c.put_name.new.draft c.look_again.new.draft c.look_again.ensures.stays
+      names_stay c.put_name.new.draft c.take_back_new.new.draft
+          (stays_done c.put_name.new.draft c.look_again.new.draft c.take_back_new.new.draft c.look_again.ensures.stays
+          c.take_back_new.ensures.stays)
           (changes c.args.journal.now.events) (changes c.put_name.new.journal.events)
           (is_replaced c.args.existing) c.in-Ok.ensures.ok,
       inr (
@@ -34,9 +34,7 @@ returns-in-Err-sync-clause-err g c =
         subst (λ (named : List DiskEvent).
             SyncsNoFolder c.args.folder.now.folder named c.in-Err-sync.error failed)
             c.in-Ok-look_again.ensures.ok c.in-Err-sync.ensures.err,
-        subst (λ (name : List ℕ). RemovesNew name failed (is_replaced c.args.existing)
-            (changes c.remove_new.new.journal.events))
-            c.as_str.ensures.value c.remove_new.ensures.removed,
+        c.take_back_new.ensures.removed,
       ),
     )
 
@@ -53,9 +51,9 @@ returns-in-Ok-sync-clause-over g c =
 
 pub returns-in-Err-sync-clause-over : goal.returns-in-Err-sync-clause-over
 returns-in-Err-sync-clause-over g c =
-    renames_then _ _ c.args.journal.now.events c.put_name.new.journal.events c.remove_new.new.journal.events
+    renames_then _ _ c.args.journal.now.events c.put_name.new.journal.events c.take_back_new.new.journal.events
     c.in-Ok.ensures.over
-    (c.remove_new.ensures.renames ∙ c.sync.ensures.renames ∙ c.look_again.ensures.renames)
+    (c.take_back_new.ensures.renames ∙ c.sync.ensures.renames ∙ c.look_again.ensures.renames)
 
 pub returns-in-Err-clause-inside : goal.returns-in-Err-clause-inside
 returns-in-Err-clause-inside g c = λ fits. c.put_name.ensures.inside c.args.root.now
@@ -79,8 +77,7 @@ returns-in-Err-sync-clause-inside g c = λ fits below all.
     let named = stays_below c.args.root.now c.args.draft.now c.put_name.new.draft c.put_name.ensures.names below in
     let looked =
     stays_below c.args.root.now c.put_name.new.draft c.look_again.new.draft c.look_again.ensures.stays.names named in
-    c.remove_new.ensures.inside c.args.root.now
-    (subst (IsInside c.args.root.now) (sym c.as_str.ensures.value) (inr looked.target))
+    c.take_back_new.ensures.inside c.args.root.now looked
     (syncs_inside c.args.root.now c.args.folder.now.folder c.look_again.new.journal.events c.sync.new.journal.events fits
     c.sync.ensures.calls
     (c.look_again.ensures.inside

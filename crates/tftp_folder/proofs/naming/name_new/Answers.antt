@@ -4,9 +4,9 @@ use Rattle.tftp_folder.specs.Inside.{AreInside}
 use Rattle.tftp_folder.specs.Uploads.{IsBelow}
 use Rattle.tftp_folder.proofs.naming.name_new.Goals as goal
 
-pub returns-in-Ok-rename_new-clause-inside : goal.returns-in-Ok-rename_new-clause-inside
-returns-in-Ok-rename_new-clause-inside g c = λ root below all.
-    c.rename_new.ensures.inside root below
+pub returns-in-Ok-rename_locked-clause-inside : goal.returns-in-Ok-rename_locked-clause-inside
+returns-in-Ok-rename_locked-clause-inside g c = λ root below all.
+    c.rename_locked.ensures.inside root below
     (subst (AreInside root) (sym c.link.ensures) (
       (
         inr (subst (IsBelow root) (sym c.as_str-path.ensures.value) below.path),
@@ -15,9 +15,9 @@ returns-in-Ok-rename_new-clause-inside g c = λ root below all.
       all,
     ))
 
-pub returns-in-Err-rename_new-clause-inside : goal.returns-in-Err-rename_new-clause-inside
-returns-in-Err-rename_new-clause-inside g c = λ root below all.
-    c.rename_new.ensures.inside root below
+pub returns-in-Err-rename_locked-clause-inside : goal.returns-in-Err-rename_locked-clause-inside
+returns-in-Err-rename_locked-clause-inside g c = λ root below all.
+    c.rename_locked.ensures.inside root below
     (subst (AreInside root) (sym c.link.ensures) (
       (
         inr (subst (IsBelow root) (sym c.as_str-path.ensures.value) below.path),

@@ -1,24 +1,25 @@
--- No file was found at the name just before.
-use Rattle.std.proofs.Common.{ℕ, List, false, Ok, Err, inr, subst, sym}
+-- No file was found at the name just before, whose lock was made just before that.
+use Rattle.std.proofs.Common.{false, Ok, Err, inr, subst, sym}
 use Rattle.tftp_disk.specs.DiskJournal.{state_of}
-use Rattle.tftp_folder.specs.Commit.{IsFree}
 use Rattle.tftp_folder.specs.Uploads.{IsBelow}
 use Rattle.tftp_folder.proofs.InsideLemmas.{rename_inside}
-use Rattle.tftp_folder.proofs.NamingLemmas.{renamed}
-use Rattle.tftp_folder.proofs.naming.rename_new.Goals as goal
+use Rattle.tftp_folder.proofs.NamingLemmas.{free_locked, renamed}
+use Rattle.tftp_folder.proofs.locked.rename_new.Goals as goal
 
 pub returns-in-Ok-rename-clause-over : goal.returns-in-Ok-rename-clause-over
 returns-in-Ok-rename-clause-over g c =
     renamed false _ c.args.journal.now.events c.check_free.new.journal.events _ (state_of c.file.result.now.journal.events)
     c.as_str-path.result.now c.as_str-target.result.now (Ok tt) c.in-Ok.ensures.renames
-    (subst (λ (t : List ℕ). IsFree t c.check_free.new.journal.events) c.as_str-target.ensures.value c.in-Ok.ensures.free)
+    (free_locked _ c.as_str-target.result.now c.args.journal.now.events c.check_free.new.journal.events
+    c.as_str-target.ensures.value c.requires.locked c.in-Ok.ensures.free)
     c.in-Ok-rename.ensures c.as_str-target.ensures.value
 
 pub returns-in-Err-rename-clause-over : goal.returns-in-Err-rename-clause-over
 returns-in-Err-rename-clause-over g c =
     renamed false _ c.args.journal.now.events c.check_free.new.journal.events _ (state_of c.file.result.now.journal.events)
     c.as_str-path.result.now c.as_str-target.result.now (Err c.in-Err-rename.error) c.in-Ok.ensures.renames
-    (subst (λ (t : List ℕ). IsFree t c.check_free.new.journal.events) c.as_str-target.ensures.value c.in-Ok.ensures.free)
+    (free_locked _ c.as_str-target.result.now c.args.journal.now.events c.check_free.new.journal.events
+    c.as_str-target.ensures.value c.requires.locked c.in-Ok.ensures.free)
     c.in-Err-rename.ensures c.as_str-target.ensures.value
 
 pub returns-in-Err-clause-inside : goal.returns-in-Err-clause-inside

@@ -1,0 +1,20 @@
+-- The lock of a name below the root is there, too.
+use Rattle.std.proofs.Common.{◌∙◌, subst, sym}
+use Rattle.std.specs.String.{string_bytes}
+use Rattle.tftp_folder.specs.Inside.{AreInside}
+use Rattle.tftp_folder.proofs.InsideLemmas.{lock_inside}
+use Rattle.tftp_folder.proofs.locked.rename_locked.Goals as goal
+
+pub returns-in-Ok-rename_new-clause-inside : goal.returns-in-Ok-rename_new-clause-inside
+returns-in-Ok-rename_new-clause-inside g c = λ root below all.
+    let lock = lock_inside root (string_bytes c.args.draft.now.target) c.as_str-path.result.now
+    (c.as_str-path.ensures.value ∙ c.in-Ok.ensures) below.target in
+    subst (AreInside root) (sym c.remove.ensures)
+    (lock, c.rename_new.ensures.inside root below (subst (AreInside root) (sym c.make.ensures.noted) (lock, all)))
+
+pub returns-clause-inside : goal.returns-clause-inside
+returns-clause-inside g c = λ root below all.
+    let lock = lock_inside root (string_bytes c.args.draft.now.target) c.as_str-path.result.now
+    (c.as_str-path.ensures.value ∙ c.in-Ok.ensures) below.target in
+    subst (AreInside root) (sym c.remove-in-Err-rename_new.ensures)
+    (lock, c.rename_new.ensures.inside root below (subst (AreInside root) (sym c.make.ensures.noted) (lock, all)))

@@ -1,0 +1,28 @@
+-- The name of a draft below the root is looked at, and may be removed.
+use Rattle.std.proofs.Common.{inr, refl, subst, sym}
+use Rattle.tftp_folder.specs.Inside.{AreInside}
+use Rattle.tftp_folder.specs.Uploads.{IsBelow}
+use Rattle.tftp_folder.proofs.InsideLemmas.{stays_below}
+use Rattle.tftp_folder.proofs.NamingLemmas.{leaves_other, removes_own}
+use Rattle.tftp_folder.proofs.naming.take_back.Goals as goal
+
+pub returns-then-not-is_at_target-clause-own : goal.returns-then-not-is_at_target-clause-own
+returns-then-not-is_at_target-clause-own g c =
+    leaves_other c.args.draft.now c.is_at_target.new.self c.args.journal.now.events c.args.journal.now.events
+    c.is_at_target.new.journal.events c.is_at_target.result refl c.if-not-is_at_target.true c.is_at_target.ensures.own
+
+pub returns-clause-own : goal.returns-clause-own
+returns-clause-own g c =
+    removes_own c.args.draft.now c.is_at_target.new.self c.as_str.result.now _ c.args.journal.now.events
+    c.is_at_target.new.journal.events c.remove.new.journal.events c.is_at_target.result c.as_str.ensures.value
+    c.if-not-is_at_target.false c.is_at_target.ensures.own c.remove.ensures
+
+pub returns-then-not-is_at_target-clause-inside : goal.returns-then-not-is_at_target-clause-inside
+returns-then-not-is_at_target-clause-inside g c = λ root below.
+    c.is_at_target.ensures.inside root (inr below.target)
+
+pub returns-clause-inside : goal.returns-clause-inside
+returns-clause-inside g c = λ root below all.
+    let own = stays_below root c.args.draft.now c.is_at_target.new.self c.is_at_target.ensures.stays.names below in
+    subst (AreInside root) (sym c.remove.ensures)
+    (inr (subst (IsBelow root) (sym c.as_str.ensures.value) own.target), c.is_at_target.ensures.inside root (inr below.target) all)
