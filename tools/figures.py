@@ -1,0 +1,180 @@
+#!/usr/bin/env python3
+"""Draws docs/crates.svg, which crate uses which, and docs/datagram.svg, the way of one datagram through `tftpd`.
+
+figures.py --write writes both; without a word they are compared, and the status is 1 where one differs. The crates are
+those of crates.txt, and an arrow that follows from two others is left out. Each function on the way of the datagram is
+looked for in the file that is named for it: one that is not there ends the program.
+"""
+import re
+import sys
+from typing import NamedTuple
+
+from lib.programs import TOP
+
+STYLE = """<style>
+text{font:12px ui-monospace,SFMono-Regular,Menlo,Consolas,'DejaVu Sans Mono',monospace;fill:#1f2328}
+.note{font:11px system-ui,-apple-system,'Segoe UI','DejaVu Sans',sans-serif;fill:#57606a}
+.page{fill:#fdfdfb;stroke:#d0d7de}
+.box{fill:#fff;stroke:#57606a}
+.sockets{fill:#ddf4ff;stroke:#0969da}
+.files{fill:#fff8c5;stroke:#9a6700}
+.laws{fill:#fbefff;stroke:#8250df}
+.program{fill:#dafbe1;stroke:#1a7f37}
+.edge{fill:none;stroke:#8c959f}
+.lane{stroke:#8c959f;stroke-dasharray:2 4}
+.arrow{stroke:#1f2328;stroke-width:1.5px}
+</style>
+<defs><marker id="head" viewBox="0 0 8 8" refX="8" refY="4" markerWidth="8" markerHeight="8" orient="auto">
+<path d="M0 0L8 4L0 8z" fill="#1f2328"/></marker></defs>"""
+
+# the crates of the picture, from the left, each column from the top; None is a gap
+COLUMNS: list[list[str | None]] = [
+    ["tftp_supervisor", None, "tftp_wire", None, None, "tftp_diagram", "tftp_capture"],
+    [None, "tftp_negotiate", None, "tftp_file", "tftp_arguments", None, "tftp_flow"],
+    [None, "tftp_disk", "tftp_store", "tftp_ends", None, None, "tftp_show"],
+    [None, None, "tftp_lines", "tftp_server", "tftp_rules", None, "tftp_show_main"],
+    ["tftp_folder", "tftp_sockets", None, "tftp_c", "tftp_player", "tftp_script", None],
+    [None, "tftp_client", "tftp_loop", None, None, "tftp_play", None],
+    [None, "tftp_main", "tftp_handed", None, "tftp_promises", "tftp_play_main", None],
+    [None, None, "tftp_daemon", None, None, None, None],
+    [None, None, "tftpd_main", None, "tftp_words", None, None],
+]
+# what is not drawn: tests, examples, and a crate that hands out others' functions
+HIDDEN = re.compile(r"tests_|serve_memory|fetch_memory|tftp_cmd")
+KINDS = {
+    "sockets": ["tftp_sockets", "tftp_client", "tftp_loop", "tftp_handed", "tftp_supervisor"],
+    "files": ["tftp_disk", "tftp_folder"],
+    "laws": ["tftp_rules", "tftp_promises", "tftp_words"],
+    "program": ["tftp_show_main", "tftp_play_main", "tftp_main", "tftpd_main", "tftp_c"],
+}
+LEGEND = {"sockets": "uses sockets", "files": "uses files", "laws": "definitions and laws, no code that runs",
+          "program": "a program, or the library for C"}
+WIDE, HIGH, ACROSS, DOWN = 118, 28, 148, 52
+
+LANES = ["socket", "tftp_loop", "tftp_server", "tftp_ends", "tftp_wire", "tftp_folder"]
+
+
+class Hop(NamedTuple):
+    """A step of the way: from which lane to which, the function that is called, its file, and what it does."""
+    start: str
+    end: str
+    function: str
+    file: str
+    does: str
+
+
+WAY = [
+    Hop("socket", "tftp_loop", "take_datagrams", "tftp_loop/src/port_visit.rt", "ACK 1 is received, and recorded in the trace"),
+    Hop("tftp_loop", "tftp_server", "handle_datagram", "tftp_server/src/server.rt", "looks the transfer up by its port"),
+    Hop("tftp_server", "tftp_ends", "handle_datagram_as_sender", "tftp_ends/src/end/sides.rt", "checks who sent it"),
+    Hop("tftp_ends", "tftp_wire", "decode_ref", "tftp_wire/src/reader.rt", "reads the packet where it lies"),
+    Hop("tftp_ends", "tftp_ends", "sender_action", "tftp_ends/src/sender.rt", "decides: send block 2"),
+    Hop("tftp_ends", "tftp_wire", "append_data_header", "tftp_wire/src/append.rt", "writes the header of DATA 2"),
+    Hop("tftp_ends", "tftp_folder", "fill", "tftp_folder/src/folder_source.rt", "adds the block that was read ahead"),
+    Hop("tftp_loop", "tftp_server", "bytes_of", "tftp_server/src/server.rt", "looks it up again, and lends DATA 2"),
+    Hop("tftp_loop", "socket", "reply", "tftp_loop/src/transfer_port.rt", "sends DATA 2, and records that"),
+    Hop("tftp_loop", "tftp_loop", "note_step", "tftp_loop/src/transfer_port.rt", "resets the deadline"),
+    Hop("tftp_loop", "tftp_server", "work", "tftp_server/src/server.rt", "looks it up again; the file reads a block ahead"),
+]
+LANE, STEP = 215, 46
+
+
+def svg(width: int, height: int, title: str, lines: list[str]) -> str:
+    """A picture of this size with this title."""
+    head = f'<svg xmlns="http://www.w3.org/2000/svg" width="{width}" height="{height}" viewBox="0 0 {width} {height}" role="img">'
+    page = f'<rect class="page" x=".5" y=".5" width="{width - 1}" height="{height - 1}"/>'
+    return "\n".join([head, f"<title>{title}</title>", STYLE, page, *lines, "</svg>"]) + "\n"
+
+
+def uses() -> dict[str, set[str]]:
+    """The crates of the repository that each uses, by crates.txt."""
+    found = {}
+    for line in (TOP / "crates.txt").read_text().splitlines():
+        line = line.split("#")[0]
+        if ":" in line:
+            name, words = line.split(":")
+            found[name.split()[0]] = set(words.split())
+    return {name: {word for word in words if word in found} for name, words in found.items()}
+
+
+def below(name: str, used: dict[str, set[str]]) -> set[str]:
+    """All crates that this one is built on."""
+    return set().union(*({each} | below(each, used) for each in used[name]))
+
+
+def reduced(used: dict[str, set[str]]) -> dict[str, list[str]]:
+    """The same without those that follow from others."""
+    return {name: sorted(each for each in words if not any(each in below(other, used) for other in words - {each}))
+            for name, words in used.items()}
+
+
+def crates() -> str:
+    """Which crate uses which."""
+    used, places = uses(), {}
+    for column, names in enumerate(COLUMNS):
+        for row, name in enumerate(names):
+            if name:
+                places[name] = (20 + column * ACROSS, 20 + row * DOWN)
+    missing = {name for name in used if not HIDDEN.match(name)} ^ set(places)
+    if missing:
+        sys.exit(f"figures.py: not in crates.txt, or not in the picture: {', '.join(sorted(missing))}")
+    lines = []
+    for name, words in sorted(reduced(used).items()):
+        for word in words if name in places else []:
+            (x, y), (left, top) = places[name], places[word]
+            start, end, half = left + WIDE, x, HIGH // 2
+            bend = max(24, (end - start) // 2)
+            lines.append(f'<path class="edge" d="M{start} {top + half}C{start + bend} {top + half} {end - bend} {y + half} '
+                         f'{end} {y + half}"/>')
+    kinds = {name: kind for kind, names in KINDS.items() for name in names}
+    for name, (x, y) in places.items():
+        lines.append(f'<rect class="{kinds.get(name, "box")}" x="{x}" y="{y}" width="{WIDE}" height="{HIGH}" rx="4"/>')
+        lines.append(f'<text x="{x + WIDE // 2}" y="{y + 18}" text-anchor="middle">{name}</text>')
+    width, height = 40 + (len(COLUMNS) - 1) * ACROSS + WIDE, 40 + 7 * DOWN + 24
+    x = 20
+    for kind, text in LEGEND.items():
+        lines.append(f'<rect class="{kind}" x="{x}" y="{height - 38}" width="16" height="16" rx="3"/>')
+        lines.append(f'<text class="note" x="{x + 22}" y="{height - 26}">{text}</text>')
+        x += 60 + 7 * len(text)
+    return svg(width, height, "The crates: each uses those at its left that a line leads to", lines)
+
+
+def datagram() -> str:
+    """The way of an acknowledgement through tftpd."""
+    centres = {name: 90 + index * LANE for index, name in enumerate(LANES)}
+    width, height = 190 + LANE * (len(LANES) - 1), 90 + STEP * len(WAY)
+    lines = []
+    for name, x in centres.items():
+        lines.append(f'<rect class="{"sockets" if name == "socket" else "box"}" x="{x - 60}" y="16" width="120" height="26" rx="4"/>')
+        lines.append(f'<text x="{x}" y="33" text-anchor="middle">{name}</text>')
+        lines.append(f'<line class="lane" x1="{x}" y1="42" x2="{x}" y2="{height - 16}"/>')
+    for index, hop in enumerate(WAY):
+        if not re.search(rf"\bfn {hop.function}\b", (TOP / "crates" / hop.file).read_text()):
+            sys.exit(f"figures.py: no {hop.function} in {hop.file}")
+        y, start, end = 78 + STEP * index, centres[hop.start], centres[hop.end]
+        at = min(start, end) + 8
+        if start == end:
+            lines.append(f'<path class="arrow" fill="none" marker-end="url(#head)" d="M{start} {y - 8}h22v12h-20"/>')
+            at += 24
+        else:
+            lines.append(f'<line class="arrow" marker-end="url(#head)" x1="{start}" y1="{y}" x2="{end}" y2="{y}"/>')
+        lines.append(f'<text x="{at}" y="{y - 7}">{index + 1} {hop.function}</text>')
+        lines.append(f'<text class="note" x="{at}" y="{y + 15}">{hop.does}</text>')
+    return svg(width, height, "An ACK 1 at the port of a read: what tftpd calls until DATA 2 is sent", lines)
+
+
+def main() -> int:
+    status = 0
+    for name, text in {"crates": crates(), "datagram": datagram()}.items():
+        place = TOP / "docs" / f"{name}.svg"
+        if "--write" in sys.argv:
+            place.write_text(text)
+        elif not place.is_file() or place.read_text() != text:
+            print(f"docs/{name}.svg differs: run tools/figures.py --write")
+            status = 1
+    print(f"figures: 2 compared, status {status}")
+    return status
+
+
+if __name__ == "__main__":
+    sys.exit(main())
