@@ -1,7 +1,8 @@
 #!/usr/bin/env python3
-"""Writes docs/DEFINITIONS.md, the definitions that contracts cite, in the words of their comments in `crates/*/specs`.
+"""Writes out/DEFINITIONS.md, the definitions that contracts cite, in the words of their comments in `crates/*/specs`.
 
-definitions.py --write writes the document; without a word it is compared, and the status is 1 where it differs.
+definitions.py --write writes the document, which is not kept in the repository; without a word it is made and not
+written. The status is 1 if a contract cites what no file of definitions has.
 """
 import re
 import sys
@@ -10,7 +11,7 @@ from typing import Any, Iterator
 
 from specs import TOP, all_files
 
-DOCUMENT = TOP / "docs" / "DEFINITIONS.md"
+DOCUMENT = TOP / "out" / "DEFINITIONS.md"
 USED = re.compile(r"^\s*ghost use Rattle\.(tftp_\w+)\.specs\.(\w+)(?:\.\w+)*\.\{(.*)\};")
 
 PUBLIC = re.compile(r"^\s*pub (const )?fn |^    (const )?fn ")
@@ -121,15 +122,25 @@ def document() -> str:
     return re.sub(r"\n{3,}", "\n\n", "\n".join(lines)).rstrip() + "\n"
 
 
+def unknown() -> list[str]:
+    """What contracts cite and no file of definitions has, nor passes on."""
+    texts = {key: (TOP / "crates" / key[0] / "specs" / f"{key[1]}.antt").read_text() for key in all_files()}
+    return sorted({f"{crate}, {file}: no {name}" for crate, file, name in cited()
+                   if (crate, file) in texts and not re.search(rf"\bpub (?:\w+ )?{re.escape(name)}(?![\w'])|[{{,] *"
+                                                               rf"(?:\w+ as )?{re.escape(name)}\b|^  {name} :",
+                                                               texts[crate, file], re.M)})
+
+
 def main() -> int:
     text = document()
     if sys.argv[1:] == ["--write"]:
+        DOCUMENT.parent.mkdir(exist_ok=True)
         DOCUMENT.write_text(text)
-    elif DOCUMENT.read_text() != text:
-        print(f"{DOCUMENT.relative_to(TOP)} differs from the comments in crates/*/specs: tools/definitions.py --write")
-        return 1
+    missing = unknown()
+    for line in missing:
+        print(line)
     print(f"{DOCUMENT.relative_to(TOP)}: {text.count(chr(10) + '- ')} lines of definitions")
-    return 0
+    return 1 if missing else 0
 
 
 if __name__ == "__main__":
