@@ -18,18 +18,18 @@ MOST_NAMES = 6
 
 HEAD = """# The theorem, word by word
 
-Made by `tools/statement.py` from the definitions in `crates/*/specs`, which the prover checks as they stand there. It is
-read from the top: the theorem, then what each of its ten words means, then the other theorems, then the names of all
+Made by `tools/statement.py` from the definitions in `crates/*/specs`, which the prover checks as they stand there. It
+is read from the top: the theorem, then what each of its ten words means, then the other theorems, then the names of all
 that these need, by file. It takes half an hour. `make docs` makes it, and out/DEFINITIONS.md, which has each definition
 that a contract cites, in words.
 
 **Notation.** `A → B` is "if A then B", and before a value "for all"; `×` is "and", or "there is" before a name; `⊎` is
 "or"; `≡` is "equals", `≢` "differs from". `[]` is the empty list, `x ∷ xs` a list with a first element, `++` joins.
-`slice_get xs k` is the element of a list at an index, if there is one; `Contains xs x` says that it has x; `All P xs` and
-`AllByRecursion P xs` say that P holds of each. A `record` has fields, a `data` has cases; `record r { a = b }` is r with
-that a. Lists of an order or a trace have the newest event first. A name that a definition does not bind is a parameter
-of its module, as `programs`, or `stores`, `sources`, `inputs` and `outputs`: the models of the server's store and files
-and of the clients' files. For the programs these are the models of files on a disk.
+`slice_get xs k` is the element of a list at an index, if there is one; `Contains xs x` says that it has x; `All P xs`
+and `AllByRecursion P xs` say that P holds of each. A `record` has fields, a `data` has cases; `record r { a = b }` is r
+with that a. Lists of an order or a trace have the newest event first. A name that a definition does not bind is a
+parameter of its module, as `programs`, or `stores`, `sources`, `inputs` and `outputs`: the models of the server's store
+and files and of the clients' files. For the programs these are the models of files on a disk.
 
 **Words of the definitions.** A *stranger* is a third party: a program other than these. A *draft* is the temporary file
 of a put. What a program *noted* is its trace. *Honest* is a network that delivers only what was sent.
