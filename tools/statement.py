@@ -31,8 +31,9 @@ with that a. Lists of an order or a trace have the newest event first. A name th
 parameter of its module, as `programs`, or `stores`, `sources`, `inputs` and `outputs`: the models of the server's store
 and files and of the clients' files. For the programs these are the models of files on a disk.
 
-**Words of the definitions.** A *stranger* is a third party: a program other than these. A *draft* is the temporary file
-of a put. What a program *noted* is its trace. *Honest* is a network that delivers only what was sent.
+**Words of the definitions.** *Words* are the arguments of a command line. A *journal* is a trace: what a program asked
+of the system and what it answered; what a program *noted* is its trace. A *stranger* is a third party, a program other
+than these. A *draft* is the temporary file of a put. *Honest* is a network that delivers only what was sent.
 """
 
 
