@@ -14,7 +14,7 @@ from specs import TOP, all_files, source_of
 DOCUMENT = TOP / "docs" / "STATEMENT.md"
 MOST_WORDS = 6_000
 # as many names of a file are listed; of more their number is
-MOST_NAMES = 6
+MOST_NAMES = 5
 
 HEAD = """# The theorem, word by word
 
