@@ -1,7 +1,8 @@
 #!/usr/bin/env python3
-"""Draws docs/crates.svg, which crate uses which, and docs/datagram.svg, the way of one datagram through `tftpd`.
+"""Draws docs/crates.svg, which crate uses which, and docs/datagram.svg, the way of one datagram through `tftpd`; and counts
+the lines of the trusted files, for the table of docs/PROVED.md and where other documents have their sums.
 
-figures.py --write writes both; without a word they are compared, and the status is 1 where one differs. The crates are
+figures.py --write writes them; without a word they are compared, and the status is 1 where one differs. The crates are
 those of crates.txt, and an arrow that follows from two others is left out. Each function on the way of the datagram is
 looked for in the file that is named for it: one that is not there ends the program.
 """
@@ -163,16 +164,49 @@ def datagram() -> str:
     return svg(width, height, "An ACK 1 at the port of a read: what tftpd calls until DATA 2 is sent", lines)
 
 
+def lines_of(path: str) -> int:
+    """How many lines a file of a crate has."""
+    place = TOP / "crates" / path
+    if not place.is_file():
+        sys.exit(f"figures.py: there is no {path}, which docs/PROVED.md says is trusted")
+    return len(place.read_text().splitlines())
+
+
+def counted() -> dict[str, str]:
+    """The documents that have numbers of lines of the trusted files, with these as they are."""
+    proved = (TOP / "docs/PROVED.md").read_text()
+    rows = re.compile(r"(?m)^\| `(tftp_\w+/src/\w+\.rt)` \| \d+ \|")
+    files = [row[1] for row in rows.finditer(proved)]
+    if not files:
+        sys.exit("figures.py: docs/PROVED.md has no table of trusted files")
+    total = f"{sum(map(lines_of, files)):,}"
+    both = lines_of("tftp_sockets/src/sockets.rt") + lines_of("tftp_disk/src/calls.rt")
+    places = {
+        "README.md": [(r"(`sockets\.rt` and `calls\.rt`, )[\d,]+( lines)", f"{both:,}")],
+        "docs/TESTING.md": [(r"(\| trusted files: [^|]* \| )[\d,]+( \|)", total),
+                            (r"(\*\*The trusted files\*\* can be wrong: )[\d,]+( lines)", total)],
+    }
+    found = {"docs/PROVED.md": rows.sub(lambda row: f"| `{row[1]}` | {lines_of(row[1])} |", proved)}
+    for name, patterns in places.items():
+        found[name] = (TOP / name).read_text()
+        for pattern, number in patterns:
+            found[name], count = re.subn(pattern, rf"\g<1>{number}\g<2>", found[name])
+            if count != 1:
+                sys.exit(f"figures.py: {name}: {count} places have {pattern}")
+    return found
+
+
 def main() -> int:
     status = 0
-    for name, text in {"crates": crates(), "datagram": datagram()}.items():
-        place = TOP / "docs" / f"{name}.svg"
+    texts = {"docs/crates.svg": crates(), "docs/datagram.svg": datagram(), **counted()}
+    for name, text in texts.items():
+        place = TOP / name
         if "--write" in sys.argv:
             place.write_text(text)
         elif not place.is_file() or place.read_text() != text:
-            print(f"docs/{name}.svg differs: run tools/figures.py --write")
+            print(f"{name} differs: run tools/figures.py --write")
             status = 1
-    print(f"figures: 2 compared, status {status}")
+    print(f"figures: {len(texts)} compared, status {status}")
     return status
 
 
