@@ -5,7 +5,7 @@
 # make test: the gate, every proof from nothing, and then what is tried of the programs that it built; with REQUIRE_ALL=1
 #   nothing may be skipped. The last line is `N passed, N failed`
 # make quick CRATE=NAME: what a change of one crate is tried by in minutes
-# make docs: writes docs/DEFINITIONS.md and docs/STATEMENT.md from the definitions
+# make docs: writes docs/STATEMENT.md and the pictures of docs/ from the sources, and out/DEFINITIONS.md
 # make slips CRATES="NAME ..": tries the wrong bodies in crates/NAME/slips/, of all crates without words; with FEW=5 five of
 #   them, by the seed of the commit
 # make install, make uninstall: programs, library, manuals, completions, units and documents at DESTDIR and PREFIX; they
@@ -39,8 +39,8 @@ TESTS := tools.tests.test_gate tools.tests.test_packages tools.tests.test_stand_
 # what is run behind `rt ci`, over bin/, which holds by then what `make` builds (tools/shipped.py). Each is run once, with a
 # limit, whatever the others come to: tools/gate.py says what was skipped and what failed
 CHECKS := tools/same_options.py tools/check_install.py tools/check_documents.py tools/statement.py tools/definitions.py \
-	tools/one_journal.py tools/disk_calls.py tools/disk_trace.py tools/power_cuts.py tools/same_pictures.sh tools/lint.py \
-	tools/processors.py \
+	tools/figures.py tools/one_journal.py tools/disk_calls.py tools/disk_trace.py tools/power_cuts.py tools/same_pictures.sh \
+	tools/lint.py tools/processors.py \
 	'$(MAKE) --no-print-directory run' tools/statuses.py tools/captures.py tools/memory_in_turn.py tools/lost_requests.py \
 	tools/out_of_memory.py 'python3 -m unittest $(TESTS)' tools/mutants.py tools/c_library.py tools/library_abi.py \
 	tools/loopback/run.py tools/behaviours.py 'tools/network.py bin/tftp bin/tftpd' tools/soak/run.py
@@ -50,12 +50,16 @@ CHECKS := tools/same_options.py tools/check_install.py tools/check_documents.py 
 # one after another: each crate is proved by as many processors as there are
 .NOTPARALLEL:
 
+# what proves needs the toolchain, and says so in a line where it is not there
+NEEDS_RT = @command -v rt > /dev/null || { echo "make: the Rattle toolchain (rt) is not on the PATH; it is not public, see README.md" >&2; exit 2; }
+
 build: $(PROGRAMS) $(LIBRARY)
 programs: $(PROGRAMS)
 libtftp: $(LIBRARY)
 
 # one run builds all four
 $(PROGRAMS) &: $(SOURCES) tools/build.sh
+	$(NEEDS_RT)
 	@tools/build.sh tftp_show_main tftp_play_main tftp_main tftpd_main
 	@mkdir -p bin
 	@cp crates/tftp_show_main/out/tftp_show_main bin/tftp-show
@@ -64,10 +68,12 @@ $(PROGRAMS) &: $(SOURCES) tools/build.sh
 	@cp crates/tftpd_main/out/tftpd_main bin/tftpd
 
 $(LIBRARY): $(SOURCES) tools/build.sh tools/library.sh
+	$(NEEDS_RT)
 	@tools/build.sh tftp_c
 	@tools/library.sh bin
 
 tftp-show tftp-play tftp tftpd:
+	$(NEEDS_RT)
 	@tools/build.sh $(subst -,_,$@)_main
 	@mkdir -p bin
 	@cp crates/$(subst -,_,$@)_main/out/$(subst -,_,$@)_main bin/$@
@@ -84,6 +90,7 @@ mutants: $(PROGRAMS)
 	tools/mutants.py $(SECONDS) $(SEED)
 
 test:
+	$(NEEDS_RT)
 	@tools/gate.py $(CHECKS)
 
 quick:
@@ -92,6 +99,7 @@ quick:
 docs:
 	tools/definitions.py --write
 	tools/statement.py --write
+	tools/figures.py --write
 
 slips:
 	@tools/slips.py $(if $(FEW),--few $(FEW),$(CRATES))
