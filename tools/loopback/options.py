@@ -35,12 +35,15 @@ def test_retries_of_the_client(scene) -> None:
 
 
 def test_max_file(scene) -> None:
-    """A write that announces a longer file is refused, and one that announces one of this length is not."""
-    server = scene.serve("--max-file", "1000")
+    """A write that announces a longer file is refused, and the log says why; one that announces one of this length is
+    not."""
+    server = scene.serve("--max-file", "1000", "--log")
     is_refused(scene, server, wrq("n", tsize=1001), error(3, "disk full"))
     end = opened(scene, server, wrq("n", tsize=1000, **PATIENT), oack(tsize=1000, **PATIENT))
     end.send(error(0, "stop"))
-    server.has_closed("PeerError(0)")
+    refused = [line for line in server.has_closed("PeerError(0)") if line.startswith("refused ")]
+    said = "octet tsize=1001: ERROR 3 (disk full), longer than --max-file"
+    expect([line.partition(" WRQ n ")[2] for line in refused], [said], "why a write is refused")
 
 
 def test_max_block(scene) -> None:

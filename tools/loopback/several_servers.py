@@ -1,8 +1,10 @@
 """Several servers at one port by one command: their life, their words, their lines and their ports."""
+import fcntl
 import os
 import re
 import signal
 import socket
+import threading
 import time
 from collections import Counter
 from itertools import cycle
@@ -35,11 +37,11 @@ def words_of(pid) -> list[str]:
     return Path(f"/proc/{pid}/cmdline").read_text().split("\0")[:-1]
 
 
-def started(scene, count, *words, root=".", stdin=None, env=None) -> Any:
+def started(scene, count, *words, root=".", **how) -> Any:
     """Starts so many servers of a folder."""
-    listen = ["stdin"] if stdin else [f"{scene.address}:0"]
+    listen = ["stdin"] if "stdin" in how else [f"{scene.address}:0"]
     words = [root, "--listen", *listen, "--servers", count, "--forever", *patiently(words)]
-    return scene.start("tftpd", [str(word) for word in words], env=env, **({"stdin": stdin} if stdin else {}))
+    return scene.start("tftpd", [str(word) for word in words], **how)
 
 
 def served(process, count) -> Server:
@@ -120,14 +122,15 @@ def test_a_server_that_ends_ends_all(scene) -> None:
 
 
 def ends_with_its_supervisor(scene, by) -> None:
-    """By this signal, a hundred times: idle servers are gone soon, the port is free, and nobody has a pipe."""
+    """By this signal, a hundred times: idle servers are gone soon, without a word, the port is free, and nobody has a
+    pipe."""
     lasted = []
     for servers in lives(scene, 2):
         killed = [(server, children_of(server.process), time.monotonic()) for server in servers]
         for server in servers:
             os.kill(server.process.pid, by)
         lasted += [seconds_until_over(*each) for each in killed]
-        expect({ended(server)[0] for server in servers}, {-by}, "how the supervisors ended")
+        expect([ended(server) for server in servers], [(-by, [], [])] * len(servers), "how the supervisors ended")
     were_soon(lasted)
 
 
@@ -159,7 +162,8 @@ def test_busy_servers_end_with_their_supervisor(scene) -> None:
             expect(time.monotonic() < begun + PATIENCE, True, "whether the servers end")
             time.sleep(0.001)
         seconds_until_over(server, pids, begun)
-        expect(ended(server)[0], -by, "how the supervisor ended")
+        status, _, errors = ended(server)
+        expect((status, errors), (-by, []), "how the supervisor ended")
 
 
 def test_several_servers_at_a_socket_that_is_handed_over(scene) -> None:
@@ -252,10 +256,121 @@ def test_lines_of_several_servers_are_whole(scene) -> None:
     expect(sorted(int(line[3]) for line in found), sorted(port.address[1] for port in clients), "the clients")
     server.process.kill()
     log = server.process.communicate(timeout=PATIENCE)[1].decode().splitlines()
-    log = [line for line in log if not line.startswith("tftpd: ")]
-    marked = [bool(re.match(MARKED + "(listening |opened |closed |tftpd: output fault)", line)) for line in log]
+    marked = [bool(re.match(MARKED + "(listening |opened |closed )", line)) for line in log]
     expect(all(marked), True, f"whether each line of the log is marked in {log}")
     expect(sum(" closed " in line for line in log), 64, "the closed lines of the log")
+
+
+def test_a_supervisor_takes_the_port_of_the_one_before(scene) -> None:
+    """Which was ended a moment ago, so that its servers may have the port."""
+    scene.make("a", b"ABC")
+    port = free_ports(1)
+    words = [".", "--listen", f"{scene.address}:{port}", "--servers", "4", "--forever"]
+    for name in ["first", "second", "third"]:
+        server = served(scene.start("tftpd", words), 4)
+        scene.tftp("get", server.word, "a", name, "--no-dally").completes(3)
+        server.process.terminate()
+        expect(server.process.wait(PATIENCE), -signal.SIGTERM, "how a supervisor ends")
+    said = ended(server)
+    expect(said[2], [], "what servers without a supervisor say")
+
+
+def test_a_server_of_several_by_hand(scene) -> None:
+    """Each line of it has its number. Once nobody reads its standard output, also the socket of a stream, it ends, and
+    says nothing."""
+    words = [".", "--listen", "stdin", "--server", "3", "--forever"]
+    process = scene.start("tftpd", words)
+    printed, errors = (text.decode() for text in process.communicate(timeout=PATIENCE))
+    said = "server 3: tftpd: socket fault\nserver 3: tftpd: standard input: not a socket\n"
+    expect((process.returncode, printed, errors), (2, "", said), "what is said of a file")
+    bound, (ours, theirs) = scene.port(), socket.socketpair()
+    with ours, theirs:
+        process = scene.start("tftpd", words, stdin=bound.socket, stdout=theirs)
+        ours.settimeout(PATIENCE)
+        expect(ours.recv(100), f"listening {bound.word}\n".encode(), "the first line")
+    _, errors = process.communicate(timeout=PATIENCE)
+    expect((process.returncode, errors), (2, b""), "how a server without a reader ends")
+
+
+def test_several_servers_without_proc(scene) -> None:
+    """The fault names what is missing."""
+    if os.geteuid() != 0:
+        print("several servers: only root can take /proc away")
+        return
+    taken = 'mount -t tmpfs none /proc && exec "$@"'
+    words = [scene.programs["tftpd"], ".", "--listen", f"{scene.address}:0", "--servers", "2", "--forever"]
+    process = scene.start("unshare", ["--mount", "sh", "-c", taken, "sh", *words])
+    printed, errors = (text.decode() for text in process.communicate(timeout=PATIENCE))
+    said = "tftpd: server fault\ntftpd: --servers: /proc/self/exe: not found\n"
+    expect((process.returncode, printed, errors), (2, "", said), "what is said without /proc")
+
+
+def error_stream(scene, kind) -> tuple[Any, Any]:
+    """What servers write their log to, of a kind, and what reads all of it once they have ended."""
+    if kind == "file":
+        log = scene.folder.with_name(f"{scene.folder.name}.log")
+        return open(log, "wb"), log.read_bytes
+    if kind == "pipe":
+        read, write = os.pipe()
+        fcntl.fcntl(read, fcntl.F_SETPIPE_SZ, 1 << 20)
+    else:
+        # as that of systemd's journal
+        ours, theirs = socket.socketpair()
+        read, write = ours.detach(), theirs.detach()
+    parts = []
+
+    def read_on() -> None:
+        with open(read, "rb", buffering=0) as stream:
+            while part := stream.read(65_536):
+                parts.append(part)
+
+    reader = threading.Thread(target=read_on)
+    reader.start()
+
+    def all_of_it() -> bytes:
+        reader.join(PATIENCE)
+        return b"".join(parts)
+
+    return open(write, "wb", buffering=0), all_of_it
+
+
+def name_to_fill(length) -> bytes:
+    """A name whose request has a line that is as long as 1,024 bytes up to about `length` bytes of the name, each of
+    which stands as three, and behind them a line of its own, as a client would have it."""
+    return b"\x01" * length + b"<0>tftp-server:shell-tftp:opened-69-10.0.0.1:69-RRQ-a-octet:" + b"\x02" * (140 - length // 4)
+
+
+def ask_for(scene, server, names) -> None:
+    """Asks for files by names that are none of paths, many at a time, so that all servers answer at once."""
+    ports = [scene.port() for _ in range(20)]
+    for at in range(0, len(names), len(ports)):
+        for port, name in zip(ports, names[at:at + len(ports)]):
+            port.send(rrq(name), server.address)
+        for port, _ in zip(ports, names[at:at + len(ports)]):
+            expect(port.receive()[0][:4], error(2, "")[:4], "the answer")
+
+
+def test_no_client_writes_a_line_into_the_log(scene) -> None:
+    """Four servers, whose standard error is a file, a pipe or the socket of a stream, and clients whose names fill a line
+    to 1,024 bytes and beyond: each line is of one request, and begins with its server."""
+    lengths = range(280, 330)
+    for kind in ["file", "pipe", "stream"]:
+        errors, read_all = error_stream(scene, kind)
+        with errors:
+            server = served(started(scene, 4, "--log", stderr=errors), 4)
+        names = [name_to_fill(length) for length in lengths] * 12
+        ask_for(scene, server, names)
+        server.process.kill()
+        server.process.communicate(timeout=PATIENCE)
+        lines = read_all().decode().splitlines()
+        refused = [line for line in lines if " refused " in line]
+        pattern = MARKED + r"refused \S+ RRQ (\S+) octet: ERROR 2 \([^)]*\), name not allowed"
+        found = [re.fullmatch(pattern, line) for line in refused]
+        expect([line for line, fits in zip(refused, found) if not fits], [], f"lines of several requests in a {kind}")
+        shown = Counter("".join(f"%{byte:02x}" if byte < 32 else chr(byte) for byte in name) for name in names)
+        expect(Counter(line[2] for line in found), shown, f"the names in the log, a {kind}")
+        foreign = [line for line in lines if not re.match(MARKED + "(refused|listening) ", line)]
+        expect(foreign, [], f"lines in a {kind} that no server began")
 
 
 def shares(scene, pause) -> list[int]:

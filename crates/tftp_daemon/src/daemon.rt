@@ -23,7 +23,9 @@ use tftp_file::Source;
 use tftp_folder::{FolderSource, FolderStore};
 use tftp_handed::{HandedFault, HandedSocket, HandedUdp, Input};
 use tftp_lines::{Reason, reason_of};
-use tftp_loop::{DrainSignal, Ending, LoopConfig, LoopFault, PortRange, ServerUdp};
+use tftp_loop::{
+    DrainSignal, Ending, ErrorLines, LoopConfig, LoopFault, PortRange, ServerUdp, WholeLines,
+};
 use tftp_server::{Config, Server, Store};
 use tftp_sockets::Journal;
 use tftp_supervisor::Supervise;
@@ -100,6 +102,8 @@ pub(crate) enum DaemonFault {
     Memory,
     /// Serving failed.
     Loop(LoopFault),
+    /// The program's own file, which the system names below `/proc`, was not found, for this reason.
+    Program(Reason),
     /// A server of several could not be started, for this reason.
     Start(Reason),
     /// This server of several ended so.
@@ -116,7 +120,7 @@ impl From<AllocError> for DaemonFault {
 
 /// Serves until the configured number of transfers has closed, or of waits is over, or until the
 /// server has drained; of several servers it is the supervisor, and serves nothing itself.
-pub(crate) fn serve<R: Files + Clone + Drop + ServerUdp + Clock + Print + Eprint + Supervise>(
+pub(crate) fn serve<R: Files + Clone + Drop + ServerUdp + Clock + Print + ErrorLines + Supervise>(
     rt: &R,
     alloc: Global,
     config: &DaemonConfig<'_>,
@@ -136,7 +140,7 @@ pub(crate) fn serve<R: Files + Clone + Drop + ServerUdp + Clock + Print + Eprint
 }
 
 /// Supervises several servers, if the folder can be served: else each of them would say so.
-fn supervise_checked<R: Files + Clone + Drop + Print + Eprint + Supervise>(
+fn supervise_checked<R: Files + Clone + Drop + Clock + Print + ErrorLines + Supervise>(
     rt: &R,
     alloc: Global,
     config: &DaemonConfig<'_>,
@@ -151,7 +155,7 @@ fn supervise_checked<R: Files + Clone + Drop + Print + Eprint + Supervise>(
 }
 
 /// Serves alone. Standard input is closed again, unless requests arrive there.
-fn serve_alone<R: Files + Clone + Drop + ServerUdp + Clock + Print + Eprint>(
+fn serve_alone<R: Files + Clone + Drop + ServerUdp + Clock + Print + ErrorLines>(
     rt: &R,
     alloc: Global,
     config: &DaemonConfig<'_>,
@@ -168,14 +172,14 @@ fn serve_alone<R: Files + Clone + Drop + ServerUdp + Clock + Print + Eprint>(
     match config.listen {
         Listen::At(at) => {
             drop(input);
-            serve_at(rt, rt, alloc, config, at, journal)
+            serve_at(&WholeLines::new(rt), rt, alloc, config, at, journal)
         }
         Listen::Handed => serve_handed(rt, alloc, config, input, journal),
     }
 }
 
 /// Serves at the socket that is standard input.
-fn serve_handed<R: Files + Clone + Drop + ServerUdp + Clock + Print + Eprint>(
+fn serve_handed<R: Files + Clone + Drop + ServerUdp + Clock + Print + ErrorLines>(
     rt: &R,
     alloc: Global,
     config: &DaemonConfig<'_>,
@@ -190,10 +194,11 @@ fn serve_handed<R: Files + Clone + Drop + ServerUdp + Clock + Print + Eprint>(
         ⟦<FolderSource<R::File> as Source>⟧.meaning config.now (status_of result.0) journal.events
         result.1.events }
 {
+    let lines = WholeLines::new(rt);
     match HandedSocket::new(input) {
         Ok(socket) => {
             let at = socket.endpoint();
-            match handed_udp(rt, alloc, config, socket) {
+            match handed_udp(&lines, alloc, config, socket) {
                 Ok(net) => serve_at(&net, rt, alloc, config, at, journal),
                 Err(error) => {
                     let reason = reason_of(&error);

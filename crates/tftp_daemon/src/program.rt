@@ -11,17 +11,17 @@ use crate::error_output::ErrorOutput;
 use crate::shown::Shown;
 use std::alloc::Global;
 use std::convert::AsStr;
-use std::io;
 use std::net::Net;
 use std::random::RandomSource;
 use std::rt::{Files, Runtime};
 use std::time::Clock;
+use std::{fmt, io};
 use tftp_arguments::{own_words, print_no_memory, print_words_fault};
 use tftp_file::Source;
 use tftp_folder::{FolderSource, FolderStore};
 use tftp_handed::Input;
 use tftp_lines::Reason;
-use tftp_loop::{LoopFault, ServerUdp};
+use tftp_loop::{ErrorLines, LoopFault, ServerUdp, WholeLines};
 use tftp_server::Store;
 use tftp_sockets::Journal;
 use tftp_supervisor::Supervise;
@@ -29,7 +29,7 @@ use tftp_supervisor::Supervise;
 /// Runs `tftpd` with the program's own command line, and this standard input, and returns its status.
 ///
 /// See [`tftpd_words`].
-pub fn tftpd_command<R: Runtime + AllocGlobal + Net + RandomSource + Supervise>(
+pub fn tftpd_command<R: Runtime + AllocGlobal + Net + RandomSource + ErrorLines + Supervise>(
     rt: &R,
     input: Input,
 ) -> u8
@@ -48,11 +48,10 @@ pub fn tftpd_command<R: Runtime + AllocGlobal + Net + RandomSource + Supervise>(
 /// input that is no request port where it is to be one, and output that cannot be written, each
 /// reported on standard error, and when out of memory. A second line names the folder or the address
 /// that was refused, and why.
-pub fn tftpd_words<R: Runtime + AllocGlobal + Net + RandomSource + Supervise, S: AsStr>(
-    rt: &R,
-    words: &[S],
-    input: Input,
-) -> u8
+pub fn tftpd_words<
+    R: Runtime + AllocGlobal + Net + RandomSource + ErrorLines + Supervise,
+    S: AsStr,
+>(rt: &R, words: &[S], input: Input) -> u8
     ensures { result ≤ 2 }
 {
     let (status, _journal) = tftpd_with_journal(rt, words, input, Journal::new());
@@ -62,12 +61,10 @@ pub fn tftpd_words<R: Runtime + AllocGlobal + Net + RandomSource + Supervise, S:
 /// As [`tftpd_words`], with a journal of what it does over UDP: nothing, as for `--help`, or a run
 /// of one server with the configuration that the words name. With a status of 0 that server served
 /// to its end, or the words ask for the help or the version.
-pub fn tftpd_with_journal<R: Runtime + AllocGlobal + Net + RandomSource + Supervise, S: AsStr>(
-    rt: &R,
-    words: &[S],
-    input: Input,
-    journal: Journal,
-) -> (u8, Journal)
+pub fn tftpd_with_journal<
+    R: Runtime + AllocGlobal + Net + RandomSource + ErrorLines + Supervise,
+    S: AsStr,
+>(rt: &R, words: &[S], input: Input, journal: Journal) -> (u8, Journal)
     ensures status { result.0 ≤ 2 }
     ensures runs { ServesWords ⟦<FolderStore<R> as Store>⟧.meaning
         ⟦<FolderSource<R::File> as Source>⟧.meaning (map S.text words.now) result.0
@@ -85,7 +82,7 @@ pub fn tftpd_with_journal<R: Runtime + AllocGlobal + Net + RandomSource + Superv
 /// Reads the words, and serves by them.
 fn serve_texts<
     'a,
-    R: Files + Clone + Drop + ServerUdp + Clock + Print + Eprint + Supervise,
+    R: Files + Clone + Drop + ServerUdp + Clock + Print + ErrorLines + Supervise,
     S: AsStr,
 >(
     rt: &R,
@@ -108,7 +105,7 @@ fn serve_texts<
 }
 
 /// Does what the command line has the program do.
-fn serve_command_line<R: Files + Clone + Drop + ServerUdp + Clock + Print + Eprint + Supervise>(
+fn serve_command_line<R: Files + Clone + Drop + ServerUdp + Clock + Print + ErrorLines + Supervise>(
     rt: &R,
     alloc: Global,
     line: &CommandLine<'_>,
@@ -131,7 +128,7 @@ fn serve_command_line<R: Files + Clone + Drop + ServerUdp + Clock + Print + Epri
 }
 
 /// Serves by a configuration, reports a fault, and returns the status.
-fn serve_config<R: Files + Clone + Drop + ServerUdp + Clock + Print + Eprint + Supervise>(
+fn serve_config<R: Files + Clone + Drop + ServerUdp + Clock + Print + ErrorLines + Supervise>(
     rt: &R,
     alloc: Global,
     config: &DaemonConfig<'_>,
@@ -148,8 +145,9 @@ fn serve_config<R: Files + Clone + Drop + ServerUdp + Clock + Print + Eprint + S
     (report(rt, config, served), journal)
 }
 
-/// Prints the fault, if there is one, and returns the status.
-fn report<R: Eprint>(
+/// Prints the fault, if there is one, and returns the status. A server of several whose supervisor
+/// has gone says nothing: nobody asked it, and a shell shows its prompt by then.
+fn report<R: ErrorLines>(
     rt: &R,
     config: &DaemonConfig<'_>,
     served: std::result::Result<(), DaemonFault>,
@@ -159,57 +157,95 @@ fn report<R: Eprint>(
     match served {
         Ok(()) => 0,
         Err(fault) => {
-            let _ = print_fault(rt, config, fault);
+            let mark = Mark(config.instance.server);
+            if !mark.is_left_by_supervisor(fault) {
+                let _ = print_fault(&WholeLines::new(rt), config, mark, fault);
+            }
             2
         }
     }
 }
 
-/// Prints a fault. A second line has what was refused, and why, if that is known.
-fn print_fault<R: Eprint>(rt: &R, config: &DaemonConfig<'_>, fault: DaemonFault) -> io::Result<()> {
-    match config.instance.server {
-        Some(server) => eprintln!(rt; "server {server}: {}", first_line(fault))?,
-        None => rt.eprintln(first_line(fault))?,
-    }
-    match fault {
-        DaemonFault::Root(reason) => eprintln!(rt; "tftpd: {}: {reason}", Shown(config.root)),
-        DaemonFault::Uploads(reason) => print_uploads(rt, config.uploads.unwrap_or(""), reason),
-        DaemonFault::Loop(LoopFault::Socket(reason)) => {
-            eprintln!(rt; "tftpd: {}: {reason}", config.listen)
+/// Which of several servers a line is of, before the line; nothing for one that is alone.
+#[derive(Clone, Copy)]
+struct Mark(Option<u8>);
+
+impl Mark {
+    /// Whether a server ends because its supervisor, which reads what it prints, has gone.
+    fn is_left_by_supervisor(self, fault: DaemonFault) -> bool {
+        match fault {
+            DaemonFault::Loop(LoopFault::Output | LoopFault::NoReader) => self.0.is_some(),
+            _ => false,
         }
-        DaemonFault::Handed(fault) => eprintln!(rt; "tftpd: {}: {fault}", config.listen),
+    }
+}
+
+impl fmt::Display for Mark {
+    fn fmt<W: fmt::Write>(&self, f: &mut fmt::Formatter<W>) -> fmt::Result {
+        match self.0 {
+            Some(server) => write!(f, "server {server}: "),
+            None => Ok(()),
+        }
+    }
+}
+
+/// Prints a fault. A second line has what was refused, and why, if that is known.
+fn print_fault<R: Eprint>(
+    rt: &R,
+    config: &DaemonConfig<'_>,
+    mark: Mark,
+    fault: DaemonFault,
+) -> io::Result<()> {
+    eprintln!(rt; "{mark}tftpd: {}", name_of(fault))?;
+    match fault {
+        DaemonFault::Root(reason) => eprintln!(rt; "{mark}tftpd: {}: {reason}", Shown(config.root)),
+        DaemonFault::Uploads(reason) => {
+            print_uploads(rt, mark, config.uploads.unwrap_or(""), reason)
+        }
+        DaemonFault::Loop(LoopFault::Socket(reason)) => {
+            eprintln!(rt; "{mark}tftpd: {}: {reason}", config.listen)
+        }
+        DaemonFault::Handed(fault) => eprintln!(rt; "{mark}tftpd: {}: {fault}", config.listen),
         DaemonFault::Loop(LoopFault::Output) => {
-            rt.eprintln("tftpd: standard output: cannot be written")
+            eprintln!(rt; "{mark}tftpd: standard output: cannot be written")
         }
         DaemonFault::Loop(LoopFault::NoReader) => {
-            rt.eprintln("tftpd: standard output: nobody reads it any more")
+            eprintln!(rt; "{mark}tftpd: standard output: nobody reads it any more")
         }
-        DaemonFault::Start(reason) => eprintln!(rt; "tftpd: a server did not start: {reason}"),
-        DaemonFault::Server(server, status) => eprintln!(rt; "tftpd: server {server}: {status}"),
-        DaemonFault::Words => rt.eprintln("tftpd: a server did not start: its words"),
+        DaemonFault::Program(reason) => {
+            eprintln!(rt; "{mark}tftpd: --servers: /proc/self/exe: {reason}")
+        }
+        DaemonFault::Start(reason) => {
+            eprintln!(rt; "{mark}tftpd: a server did not start: {reason}")
+        }
+        DaemonFault::Server(server, status) => {
+            eprintln!(rt; "{mark}tftpd: server {server}: {status}")
+        }
+        DaemonFault::Words => eprintln!(rt; "{mark}tftpd: a server did not start: its words"),
         DaemonFault::Memory | DaemonFault::Loop(LoopFault::Memory) => Ok(()),
     }
 }
 
-/// The line of a fault.
-fn first_line(fault: DaemonFault) -> &'static str {
+/// The name of a fault.
+fn name_of(fault: DaemonFault) -> &'static str {
     match fault {
-        DaemonFault::Root(_) | DaemonFault::Uploads(_) => "tftpd: file fault",
-        DaemonFault::Handed(_) | DaemonFault::Loop(LoopFault::Socket(_)) => "tftpd: socket fault",
-        DaemonFault::Loop(LoopFault::Output | LoopFault::NoReader) => "tftpd: output fault",
-        DaemonFault::Start(_) | DaemonFault::Server(..) | DaemonFault::Words => {
-            "tftpd: server fault"
-        }
-        DaemonFault::Memory | DaemonFault::Loop(LoopFault::Memory) => "tftpd: out of memory",
+        DaemonFault::Root(_) | DaemonFault::Uploads(_) => "file fault",
+        DaemonFault::Handed(_) | DaemonFault::Loop(LoopFault::Socket(_)) => "socket fault",
+        DaemonFault::Loop(LoopFault::Output | LoopFault::NoReader) => "output fault",
+        DaemonFault::Program(_)
+        | DaemonFault::Start(_)
+        | DaemonFault::Server(..)
+        | DaemonFault::Words => "server fault",
+        DaemonFault::Memory | DaemonFault::Loop(LoopFault::Memory) => "out of memory",
     }
 }
 
 /// Prints why a folder takes no uploads. An absolute one is named below ROOT, as clients name files.
-fn print_uploads<R: Eprint>(rt: &R, folder: &str, reason: Reason) -> io::Result<()> {
+fn print_uploads<R: Eprint>(rt: &R, mark: Mark, folder: &str, reason: Reason) -> io::Result<()> {
     let note = if folder.starts_with('/') {
         " (an absolute FOLDER is below ROOT, too)"
     } else {
         ""
     };
-    eprintln!(rt; "tftpd: --uploads {}: {reason}{note}", Shown(folder))
+    eprintln!(rt; "{mark}tftpd: --uploads {}: {reason}{note}", Shown(folder))
 }

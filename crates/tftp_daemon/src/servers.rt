@@ -9,16 +9,26 @@ use crate::error_output::ErrorOutput;
 use crate::listen::Listen;
 use std::alloc::{AllocError, Global};
 use std::convert::AsStr;
+use std::io::{self, ErrorKind};
 use std::os::fd::OwnedFd;
+use std::time::{Clock, Duration};
+use tftp_ends::Endpoint;
 use tftp_handed::{HandedSocket, Input};
 use tftp_lines::reason_of;
 use tftp_loop::{LoopFault, PortRange};
 use tftp_sockets::address_of;
 use tftp_supervisor::{Supervise, SupervisorFault};
 
+/// How often a port that is in use is tried: the servers of a supervisor that has just ended have it
+/// until they have ended, too.
+const BINDS: u32 = 26;
+
+/// The time between two tries, in milliseconds.
+const BIND_PAUSE: u64 = 20;
+
 /// Starts the servers of a configuration at one request port, and supervises them until they have
 /// ended.
-pub(crate) fn supervise<R: Supervise + Print + Eprint>(
+pub(crate) fn supervise<R: Supervise + Clock + Print + Eprint>(
     rt: &R,
     alloc: Global,
     config: &DaemonConfig<'_>,
@@ -37,6 +47,7 @@ pub(crate) fn supervise<R: Supervise + Print + Eprint>(
 fn fault_of(fault: SupervisorFault) -> DaemonFault {
     match fault {
         SupervisorFault::Ended(server, status) => DaemonFault::Server(server, status),
+        SupervisorFault::Program(error) => DaemonFault::Program(reason_of(&error)),
         SupervisorFault::System(error) => DaemonFault::Start(reason_of(&error)),
         SupervisorFault::Output => DaemonFault::Loop(LoopFault::Output),
         SupervisorFault::Memory => DaemonFault::Memory,
@@ -44,13 +55,13 @@ fn fault_of(fault: SupervisorFault) -> DaemonFault {
 }
 
 /// The socket of the request port: bound here, or handed over.
-fn shared_socket<R: Supervise>(
+fn shared_socket<R: Supervise + Clock>(
     rt: &R,
     config: &DaemonConfig<'_>,
     input: Input,
 ) -> Result<OwnedFd, DaemonFault> {
     match config.listen {
-        Listen::At(at) => match rt.bind_shared(address_of(at)) {
+        Listen::At(at) => match bound_socket(rt, at) {
             Ok(socket) => Ok(socket),
             Err(error) => Err(DaemonFault::Loop(LoopFault::Socket(reason_of(&error)))),
         },
@@ -58,6 +69,26 @@ fn shared_socket<R: Supervise>(
             Ok(socket) => Ok(socket.into_descriptor()),
             Err(fault) => Err(DaemonFault::Handed(fault)),
         },
+    }
+}
+
+/// A socket that is bound to this endpoint, for which it waits half a second.
+fn bound_socket<R: Supervise + Clock>(rt: &R, at: Endpoint) -> io::Result<OwnedFd> {
+    for _ in 1..BINDS {
+        let bound = rt.bind_shared(address_of(at));
+        if !is_in_use(&bound) {
+            return bound;
+        }
+        rt.sleep(Duration::from_millis(BIND_PAUSE));
+    }
+    rt.bind_shared(address_of(at))
+}
+
+/// Whether a port could not be bound since another socket has it.
+fn is_in_use(bound: &io::Result<OwnedFd>) -> bool {
+    match bound {
+        Ok(_) => false,
+        Err(error) => error.kind() == ErrorKind::AddrInUse,
     }
 }
 

@@ -1,4 +1,4 @@
-//! The reader of what a server prints, where that is a pipe.
+//! The reader of what a server prints, where that has one.
 
 use mio::event::Event;
 use mio::unix::SourceFd;
@@ -16,8 +16,9 @@ const OUTPUT: RawFd = 1;
 /// What a poll reports standard output by: no UDP port.
 const TOKEN: Token = Token(1 << 16);
 
-/// The reader of standard output. It has gone once the last descriptor of the pipe's other end is
-/// closed, as by the death of its process; where standard output is no pipe, it never has.
+/// The reader of standard output. It has gone once the last descriptor of the other end is closed, as
+/// by the death of its process: of the pipe, or of the stream socket, that standard output is. A
+/// terminal's has gone once that hangs up. A file or another device has none, which never goes.
 #[derive(Drop)]
 pub struct OutputReader {
     watch: RefCell<Watching>,

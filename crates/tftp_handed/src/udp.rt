@@ -20,7 +20,7 @@ const WARNING: &str = "<4>";
 
 /// A runtime whose request port, bound where the socket is that was handed over, is this socket. All
 /// else is the runtime's own; but as one of several servers it has no reader any more once its
-/// standard output, a pipe, has none.
+/// standard output, a pipe or the socket of a stream, has none.
 #[derive(Drop)]
 pub struct HandedUdp<'a, N> {
     rt: &'a N,

@@ -9,6 +9,8 @@ use std::process::ExitStatus;
 pub enum SupervisorFault {
     /// A server ended, counted from 1: so.
     Ended(u8, ExitStatus),
+    /// The system did not say which file the program is, by its link below `/proc`.
+    Program(io::Error),
     /// The system refused to start a server, or to watch its output.
     System(io::Error),
     /// A line could not be printed.
@@ -18,6 +20,14 @@ pub enum SupervisorFault {
 }
 
 impl SupervisorFault {
+    /// The fault of a system that does not say which file the program is.
+    pub(crate) fn of_program(error: io::Error) -> SupervisorFault {
+        if error.kind() == ErrorKind::OutOfMemory {
+            return SupervisorFault::Memory;
+        }
+        SupervisorFault::Program(error)
+    }
+
     /// The fault of a call that the system refused.
     pub(crate) fn of(error: io::Error) -> SupervisorFault {
         if error.kind() == ErrorKind::OutOfMemory {

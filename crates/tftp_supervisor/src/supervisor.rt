@@ -128,7 +128,7 @@ impl Supervisor {
     {
         let program = match env::current_exe(rt) {
             Ok(program) => program,
-            Err(error) => return Err(SupervisorFault::of(error)),
+            Err(error) => return Err(SupervisorFault::of_program(error)),
         };
         for words in servers {
             self.start(rt, program.as_path(), socket, words.as_slice(), poll)?;
