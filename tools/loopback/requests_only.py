@@ -37,7 +37,7 @@ def test_what_is_no_request_is_dropped(scene) -> None:
 def test_a_client_acknowledges_an_error_at_the_request_port(scene) -> None:
     """The next answer that comes to the client is that to its next request, of a read and of a write."""
     scene.make("a", b"ABC")
-    server = scene.serve("--requests-only")
+    server = scene.serve("--requests-only", "--transfers", "2")
     port = scene.port()
     for request in [rrq("a", **PATIENT), wrq("n", **PATIENT)]:
         for _ in range(3):
@@ -70,7 +70,7 @@ def test_sessions_of_other_clients(scene) -> None:
     for missing in {"tftp-hpa", "GNU inetutils"} - set(clients):
         print(f"requests only: no session of {missing}, which is not installed")
     for kind, path in clients.items():
-        server = scene.serve("--requests-only", root="served")
+        server = scene.serve("--requests-only", "--transfers", "3", root="served")
         local = scene.folder / kind
         local.mkdir()
         host, port = map(str, server.address)
