@@ -425,32 +425,16 @@ def test_a_full_server_leaves_requests_to_others(scene) -> None:
 
 
 def test_a_server_without_ports_leaves_requests_to_others(scene) -> None:
-    """Each client is served as long as a server has a port, though its cap is higher, unless many programs wait for a
-    processor: then a request may be lost, and comes again."""
+    """Each client is served at its first request as long as a server has a port, though the cap of each is higher."""
     scene.make("a", b"ABC")
     first = free_ports(16)
-    server = serve(scene, 4, "--cap", "16", "--ports", f"{first}:{first + 15}")
+    server = serve_slowly(scene, 4, "--cap", "16", "--ports", f"{first}:{first + 15}")
     clients = [scene.port() for _ in range(16)]
     for port in clients:
         port.send(rrq("a", **PATIENT), server.address)
-    lost = [asks_until_answered(port, server) for port in clients]
-    if sum(lost):
-        print(f"several servers: while a server had a port, requests were lost so often: {lost}")
-        expect(is_beside_others(4), True, f"whether requests are lost while a server has a port: {lost}")
-
-
-def asks_until_answered(port, server) -> int:
-    """Asks again as long as there is no answer, and returns how often that was."""
-    for lost in range(PATIENCE):
-        port.socket.settimeout(1)
-        try:
-            answer, (_, number) = port.socket.recvfrom(65_536)
-        except socket.timeout:
-            port.send(rrq("a", **PATIENT), server.address)
-            continue
-        expect((answer, number == server.address[1]), (oack(**PATIENT), False), "the answer")
-        return lost
-    raise AssertionError(f"a request is not answered in {PATIENCE} seconds")
+    answers = [port.receive() for port in clients]
+    expect([answer for answer, _ in answers], [oack(**PATIENT)] * 16, "the answers while a server has a port")
+    expect(sorted(number for _, (_, number) in answers), [*range(first, first + 16)], "the ports of the answers")
 
 
 def test_servers_have_no_descriptor_of_each_other(scene) -> None:
