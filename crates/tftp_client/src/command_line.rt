@@ -370,7 +370,7 @@ fn retries<'a>(alloc: Global) -> Arg<'a>
         "retries",
         "0..10",
         value_parser!(u8).range(0..=10),
-        "How often a datagram is sent again without progress, 0 to 10",
+        "How often a datagram is sent again without progress",
     );
     retries.default_value("5")
 }
@@ -405,8 +405,7 @@ impl BlockTexts {
         Ok(BlockTexts {
             range: format!(in alloc; "{MIN_BLOCK}..{MAX_BLOCK}")?,
             help: format!(in alloc;
-                "Block size that is asked, in bytes, {MIN_BLOCK} to {MAX_BLOCK}; \
-                 without it blocks have {DEFAULT_BLOCK}"
+                "Block size that is asked, in bytes; without it blocks have {DEFAULT_BLOCK}"
             )?,
         })
     }
@@ -448,6 +447,6 @@ fn timeout<'a>(alloc: Global) -> Arg<'a>
         "timeout",
         "1..255",
         value_parser!(u8).range(1..=255),
-        "Timeout that is asked, in seconds, 1 to 255; without it a datagram is sent again after 1",
+        "Timeout that is asked, in seconds; without it a datagram is sent again after 1",
     )
 }
