@@ -4,12 +4,11 @@
 
 use std::alloc::Global;
 use std::process::ExitCode;
-use std::time::Clock;
 use tftp_arguments::{WordsFault, own_words};
 use tftp_file::{Path, StoreFault, path_of};
-use tftp_loop::{Ending, LoopConfig, LoopFault, NoSignal, ServerUdp, serve};
+use tftp_loop::{Ending, LoopConfig, LoopFault, serve};
 use tftp_server::{Config, Server};
-use tftp_sockets::{Journal, endpoint_in};
+use tftp_sockets::{NoSignal, ServerUdp, SystemUdp, endpoint_in};
 use tftp_store::MemStore;
 
 const USAGE: &str = "usage: serve_memory ADDR:PORT TRANSFERS";
@@ -44,8 +43,7 @@ fn run(rt: &HostRuntime) -> Result<(), &'static str> {
     let Ok(store) = store_of_text(rt.alloc()) else {
         return Err(NO_MEMORY);
     };
-    let (served, _journal) = serve_store(rt, rt.alloc(), store, &config, Journal::new());
-    match served {
+    match serve_store(&mut SystemUdp::new(rt), rt.alloc(), store, &config) {
         Ok(()) => Ok(()),
         Err(LoopFault::Socket(_)) => Err("serve_memory: socket fault"),
         Err(LoopFault::Output | LoopFault::NoReader) => Err("serve_memory: output fault"),
@@ -87,15 +85,14 @@ fn store_of_text(alloc: Global) -> Result<MemStore, StoreFault> {
 
 /// Serves the files of the store: what it does over UDP is stated by the clauses of [`serve`], and the
 /// law of `tftp_promises` for files with models speaks of such a server and its clients.
-fn serve_store<N: ServerUdp + Clock + Print + Eprint>(
-    rt: &N,
+fn serve_store<N: ServerUdp + Eprint>(
+    net: &mut N,
     alloc: Global,
     store: MemStore,
     config: &LoopConfig,
-    journal: Journal,
-) -> (Result<(), LoopFault>, Journal) {
+) -> Result<(), LoopFault> {
     match Server::new(alloc, Config::default(), store) {
-        Ok(server) => serve(rt, alloc, server, config, &NoSignal, journal),
-        Err(_) => (Err(LoopFault::Memory), journal),
+        Ok(server) => serve(net, alloc, server, config, &NoSignal),
+        Err(_) => Err(LoopFault::Memory),
     }
 }

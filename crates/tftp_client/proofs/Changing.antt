@@ -1,19 +1,22 @@
--- The changes by calls on a fetched file are its own, and what was named stays named.
-use Rattle.std.proofs.Common.{◌≡◌, List, ◌∷◌, Option, Some, None, Result, Ok, Err, OnOk, OnErr, inl, inr, refl, sym, subst}
+-- The calls on a fetched file are of no other, and what was named stays named.
+use Rattle.std.proofs.Common.{◌≡◌, List, ◌∷◌, Option, Some, None, Result, Ok, Err, OnOk, OnErr, inl, inr, refl, sym, ◌∙◌, subst}
 use Rattle.std.specs.declared.io.Error.{Error}
 use Rattle.std.proofs.Common.{ℕ}
 use Rattle.std.proofs.Math.Logic.{∥∥₁_map}
 use Rattle.tftp_disk.specs.DiskJournal.{DiskEvent, FileState, folder_at}
-use Rattle.tftp_disk.specs.DiskJournal.DiskEvent.{Folder_synced, Linked, Removed}
+use Rattle.tftp_disk.specs.DiskJournal.DiskEvent.{Folder_synced, Linked, Looked, Removed}
 use Rattle.tftp_disk.specs.NamedFolder.{SyncsFolder}
-use Rattle.tftp_disk.specs.declared.calls.DiskFolder.{DiskFolder}
-use Rattle.tftp_client.specs.Fetched.{AreOwn, IsNamed, IsOwn, Keeps, KeepsOne, LosesName, MayRename, Paths}
+use Rattle.tftp_disk.specs.declared.found.Found.{Found}
+use Rattle.tftp_disk.specs.declared.disk_file.DiskFolder.{DiskFolder}
+use Rattle.tftp_client.specs.Fetched.{AreOwn, FindsNothing, IsAbsent, IsBarred, IsNamed, IsOwn, Keeps, KeepsOne, LosesName}
+use Rattle.tftp_client.specs.Fetched.{KeepsPlace, MayRename, Paths, WasUnlinked}
 
 pub same_changes : (paths : Paths) (before after : List DiskEvent) → after ≡ before → Keeps paths before after
 same_changes paths before after same =
     record {
       own = λ own. subst (λ (events : List DiskEvent). AreOwn paths events) (sym same) own;
       named = λ bytes named. subst (λ (events : List DiskEvent). IsNamed paths bytes events) (sym same) named;
+      barred = λ barred. subst (λ (events : List DiskEvent). IsBarred paths.local events) (sym same) barred;
     }
 
 pub own_change : (paths : Paths) (event : DiskEvent) (before after : List DiskEvent) → IsOwn paths event before
@@ -23,23 +26,39 @@ own_change paths event before after is same =
       own = λ own. subst (λ (events : List DiskEvent). AreOwn paths events) (sym same) (is, own);
       named =
           λ bytes named. subst (λ (events : List DiskEvent). IsNamed paths bytes events) (sym same) (inr named);
+      barred = λ barred. subst (λ (events : List DiskEvent). IsBarred paths.local events) (sym same) (inr barred);
     }
 
 pub and_then : (paths : Paths) (before middle after : List DiskEvent) → Keeps paths before middle
     → Keeps paths middle after → Keeps paths before after
 and_then paths before middle after first rest =
-    record { own = λ own. rest.own (first.own own); named = λ bytes named. rest.named bytes (first.named bytes named) }
+    record {
+      own = λ own. rest.own (first.own own);
+      named = λ bytes named. rest.named bytes (first.named bytes named);
+      barred = λ barred. rest.barred (first.barred barred);
+    }
 
 -- the same, of a file whose names are the same
-pub still_own : (paths same : Paths) (before after : List DiskEvent) → same ≡ paths → Keeps paths before after
-    → ∥ AreOwn paths before ∥₁ → ∥ AreOwn same after ∥₁
-still_own paths same before after is keeps own =
-    ∥∥₁_map own (λ own. subst (λ (p : Paths). AreOwn p after) (sym is) (keeps.own own))
+pub still_named : (paths same : Paths) (bytes : List ℕ) (before after : List DiskEvent) → KeepsPlace paths same before after
+    → ∥ IsNamed paths bytes before ∥₁ → ∥ IsNamed same bytes after ∥₁
+still_named paths same bytes before after keeps named =
+    ∥∥₁_map named
+    (λ named. subst (λ (p : Paths). IsNamed p bytes after) (sym keeps.same) (keeps.keeps.named bytes named))
 
-pub still_named : (paths same : Paths) (bytes : List ℕ) (before after : List DiskEvent) → same ≡ paths
-    → Keeps paths before after → ∥ IsNamed paths bytes before ∥₁ → ∥ IsNamed same bytes after ∥₁
-still_named paths same bytes before after is keeps named =
-    ∥∥₁_map named (λ named. subst (λ (p : Paths). IsNamed p bytes after) (sym is) (keeps.named bytes named))
+pub keeps_as : (a b c : Paths) (before middle after : List DiskEvent) → b ≡ a → c ≡ b → after ≡ middle
+    → Keeps a before middle → KeepsPlace a c before after
+keeps_as a b c before middle after names names' log keeps =
+    record { same = names' ∙ names; keeps = subst (λ (l : List DiskEvent). Keeps a before l) (sym log) keeps }
+
+pub then_keeps : (a b c : Paths) (before middle after : List DiskEvent) → KeepsPlace a b before middle
+    → KeepsPlace b c middle after → KeepsPlace a c before after
+then_keeps a b c before middle after first rest =
+    record {
+      same = rest.same ∙ first.same;
+      keeps =
+          and_then a before middle after first.keeps
+          (subst (λ (p : Paths). Keeps p middle after) first.same rest.keeps);
+    }
 
 synced_keeps : {F : Type 0} (folder : Option (DiskFolder F)) (paths : Paths) (before after : List DiskEvent)
     → SyncsFolder folder before after → Keeps paths before after
@@ -82,9 +101,23 @@ link_keeps folder paths file before mid after r is ok err =
 
 -- the system made no link, and the file may then be renamed
 pub unlinked_keeps : (paths : Paths) (file : FileState) (before mid after : List DiskEvent) (refusal : Error)
-    → mid ≡ Linked file paths.part paths.local (Err refusal) ∷ before → (MayRename paths mid → Keeps paths mid after)
+    → mid ≡ Linked file paths.part paths.local (Err refusal) ∷ before → (WasUnlinked paths mid → Keeps paths mid after)
     → Keeps paths before after
 unlinked_keeps paths file before mid after refusal is rest =
     and_then paths before mid after
     (own_change paths (Linked file paths.part paths.local (Err refusal)) before mid (refl, refl) is)
-    (rest (inr (file, before, (refusal, is))))
+    (rest (file, before, (refusal, is)))
+
+-- nothing was found
+pub found_none : (found : Result Found Error) (path : List ℕ) (before after : List DiskEvent)
+    → after ≡ Looked path found ∷ before → IsAbsent found → FindsNothing path before after
+found_none (Ok found) path before after is absent = absurd absent
+found_none (Err error) path before after is absent = (error, absent, is)
+
+-- and then the file was renamed
+pub renamed_keeps : (paths : Paths) (found : Result Found Error) (before mid after : List DiskEvent)
+    → mid ≡ Looked paths.local found ∷ before → IsAbsent found → (MayRename paths mid → Keeps paths mid after)
+    → WasUnlinked paths before → Keeps paths before after
+renamed_keeps paths found before mid after is absent rest unlinked =
+    and_then paths before mid after (own_change paths (Looked paths.local found) before mid tt is)
+    (rest (inr (unlinked.0, unlinked.1, (before, unlinked.2, found_none found paths.local before mid is absent))))

@@ -216,7 +216,7 @@ module _ {S K : Type 0} (sources : SourceMeaning S) (sinks : SinkMeaning K) wher
           counts.2 ∙ (ap (λ (held : Holding). length held.bytes) (sym counted) ∙ ap length h.2),
         )
 
-    run_whole : {port : ℕ} {kind : Kind} {job : Job} {before : List SocketEvent} {s : State} {files : Files S K} {count : ℕ}
+    pub run_whole : {port : ℕ} {kind : Kind} {job : Job} {before : List SocketEvent} {s : State} {files : Files S K} {count : ℕ}
         (run : RunsAs sources sinks port kind job before s files count) → is_complete s.end.position.phase ≡ true
         → IsWhole sources sinks files count (run_moves run.runs.converses nothing_moved).bytes
     run_whole {job = job} {s = s} {files = files} {count = count} run done =

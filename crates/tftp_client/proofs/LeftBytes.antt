@@ -6,7 +6,6 @@ use Rattle.std.specs.declared.io.traits.Read as read
 use Rattle.std.specs.declared.io.traits.Write as write
 use Rattle.std.specs.declared.io.traits.Seek as seek
 use Rattle.std.specs.String.{string_bytes}
-use Rattle.std.proofs.Math.Logic.{∥∥₁_map}
 use Rattle.std.proofs.lemmas.List.{append_assoc}
 use Rattle.std.proofs.lemmas.Option.{same_Some}
 use Rattle.tftp_negotiate.specs.declared.known.Kind.{Kind}
@@ -28,7 +27,7 @@ use Rattle.tftp_ends.specs.Action.{datagram_action}
 use Rattle.tftp_ends.specs.End.{EndState, outcome_of}
 use Rattle.tftp_ends.specs.Files.{KeepsFiles, KeepsHolding}
 use Rattle.tftp_ends.specs.Step.{Acts, Appended, Done, GoesOn, Turn}
-use Rattle.tftp_disk.specs.Changes.{changes}
+use Rattle.tftp_disk.specs.declared.disk.Looks as looks
 use Rattle.tftp_lines.specs.ClientOutcome.{status_of}
 use Rattle.tftp_lines.specs.declared.client_outcome.ClientOutcome.{ClientOutcome}
 use Rattle.tftp_lines.specs.declared.client_outcome.ClientOutcome.TheVariants as ends
@@ -41,14 +40,13 @@ use Rattle.tftp_client.specs.Converses.{Converses, HandlesReceived, IsOpen, MayE
 use Rattle.tftp_client.specs.Converses.Converses.{Begins, Receives, Waits, Times, Rests}
 use Rattle.tftp_client.specs.Converses.HandlesReceived.{Answers, Loses}
 use Rattle.tftp_client.specs.Converses.MayElapse.{Stays, Elapses}
-use Rattle.tftp_client.specs.Fetched.{AreOwn, Paths}
+use Rattle.tftp_client.specs.Fetched.{KeepsPlace, Paths}
 use Rattle.tftp_client.specs.Moved.{Moved, acts_move, handling_moves, nothing_moved, run_moves}
 use Rattle.tftp_client.specs.OnDisk.{IsFor, IsLeft, IsOut, LeavesBy, LeavesEnd, LeavesTransfer, StopsOut, WritesOut, job_paths}
-use Rattle.tftp_client.specs.PartFile.{SameNames}
 use Rattle.tftp_client.specs.Runs.{IsFileOf, IsNew, MayOpen, Refused, StopsBy, begun, opens, plain}
-use Rattle.tftp_client.specs.Written.{HasNoRest, IsWrittenAt, bytes_in, place_in}
+use Rattle.tftp_client.specs.Written.{HasNoRest, IsWrittenAt, bytes_in, held_of, place_in}
 use Rattle.tftp_client.proofs.HeldBytes.{AllHeld, Holds, appends, begins, goes}
-use Rattle.tftp_client.proofs.NamedOnDisk.{is_for}
+use Rattle.tftp_client.proofs.NamedOnDisk.{kept, log_in, paths_in, still_for}
 
 -- a refused append: a beginning of the piece is in the file
 refused : (armed : Bool) (before : Holding) (after : Option Holding) (piece : List ℕ) (fault : StoreFault)
@@ -213,10 +211,11 @@ module _ {F : Type 0} where
   written_at place part bytes (Some file) is placed content out =
       (placed ∙ ap (λ (p : List ℕ). Some p) is, content, out)
 
-module _ {S R F D : Type 0} {reads : read.Ghosts F} {writes : write.Ghosts F} {seeks : seek.Ghosts F}
-    {lists : read.Ghosts D} (sources : SourceMeaning S) (sinks : SinkMeaning (LocalFile R F D reads writes seeks lists)) where
+module _ {S : Type 0} {D F V G : Type 0} {logs : looks.Ghosts D} {writes : write.Ghosts F} {views : looks.Ghosts V}
+    {reads : read.Ghosts G} {seeks : seek.Ghosts G}
+    (sources : SourceMeaning S) (sinks : SinkMeaning (LocalFile D F V G logs writes views reads seeks)) where
   abbrev Local : Type 0
-  Local = LocalFile R F D reads writes seeks lists
+  Local = LocalFile D F V G logs writes views reads seeks
 
   -- a file was written once more after a run
   pub written_out : {port : ℕ} {first : State} {file : Files S Local} {s : State} {files : Files S Local} (files' : Files S Local)
@@ -260,21 +259,21 @@ module _ {S R F D : Type 0} {reads : read.Ghosts F} {writes : write.Ghosts F} {s
       let left = subst Of is (subst Within same leaves) in
       (inr (middle, no_options, left.0), left.1)
 
-  module _ (known : (local : Local) → sinks.held local ≡ Some local.taken.holding)
+  module _ (known : (local : Local) → sinks.held local ≡ Some (held_of local.part.written local.committed))
       (becomes : (before after : Local) (committed : Bool) → sinks.becomes before after committed
-      → SameNames before.part after.part) where
+      → KeepsPlace (paths_in before) (paths_in after) (log_in before) (log_in after)) where
     left : (job : Job) (phase : Phase) (files : Files S Local) (bytes : List ℕ) → IsFor job files → IsOut files
         → TookOf sources sinks phase files bytes → IsLeft job phase files bytes
     left job phase (Source source) bytes is out took = tt
     left job phase (Sink local) bytes is out took =
-        let same : took.0 ≡ local.taken.holding = same_Some took.0 local.taken.holding (sym took.1 ∙ known local) in
+        let holding = held_of local.part.written local.committed in
+        let same : took.0 ≡ holding = same_Some took.0 holding (sym took.1 ∙ known local) in
         record {
           rest = took.2;
           taken = took.3 ∙ ap (λ (h : Holding). h.bytes ++ took.2) same;
           all = took.4;
-          written = written_at (string_bytes local.part.names.part) (job_paths job).part local.taken.holding.bytes
-              local.part.written (ap (λ (p : Paths). p.part) is) local.part.placed local.content out;
-          own = ∥∥₁_map local.own (λ own. subst (λ (p : Paths). AreOwn p (changes local.part.journal.events)) is own);
+          written = written_at (string_bytes local.part.names.part) (job_paths job).part (bytes_in local.part.written)
+              local.part.written (ap (λ (p : Paths). p.part) is) local.part.placed refl out;
         }
 
     -- a run that began by its request, with a new file of the job, stopped; a request is no wait
@@ -294,5 +293,5 @@ module _ {S R F D : Type 0} {reads : read.Ghosts F} {writes : write.Ghosts F} {s
         subst At (sym stopped.1) (
           record { may = may; fails = record { port = port; file = file; stops = s.0 }; side = side },
           left job s.0.last.end.position.phase s.0.files (run_moves s.0.converses nothing_moved).bytes
-              (is_for sources sinks becomes job s.0.converses for) s.1 (took_from sources sinks s.0.converses new),
+              (still_for job file s.0.files (kept sources sinks becomes file s.0.files s.0.converses) for) s.1 (took_from sources sinks s.0.converses new),
         )

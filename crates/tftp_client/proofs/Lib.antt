@@ -1,6 +1,7 @@
 pub mod Changing
 pub mod Commands
 pub mod Committing
+pub mod Concluding
 pub mod Conversing
 pub mod Counting
 pub mod GivenBytes
@@ -17,3 +18,4 @@ pub mod SameSink
 pub mod SentLength
 pub mod Silent
 pub mod StaysComplete
+pub mod StillThere

@@ -1,20 +1,32 @@
 -- A fetched file got its name, and the folder of that was synced.
 use Rattle.std.proofs.Common.{◌≡◌, ℕ, Bool, true, false, List, ◌∷◌, Option, Some, None, Result, Ok, Err, OnOk}
-use Rattle.std.proofs.Common.{[], inl, inr, ap, ◌∙◌, subst}
-use Rattle.tftp_disk.specs.DiskJournal.{DiskEvent, FileState}
+use Rattle.std.proofs.Common.{[], length, arith, inl, inr, sym, ap, ◌∙◌, subst}
+use Rattle.std.proofs.Math.Logic.{∥∥₁_map}
+use Rattle.std.specs.declared.io.Error.{Error}
+use Rattle.tftp_disk.specs.Changes.{changes}
+use Rattle.tftp_disk.specs.DiskJournal.{DiskEvent, Done, FileState, folder_at}
 use Rattle.tftp_disk.specs.DiskJournal.DiskEvent.{Folder_synced, Linked, Removed, Renamed}
-use Rattle.tftp_disk.specs.NamedFolder.{IsFolderFor, SyncsAfter, SyncsFolder}
-use Rattle.tftp_disk.specs.declared.calls.DiskFolder.{DiskFolder}
-use Rattle.tftp_client.specs.Fetched.{IsNamed, IsWholeAt, KeepsOne, NamesBytes, NamesFile, Paths, WasNamed}
+use Rattle.tftp_disk.specs.NamedFolder.{SyncsAlone, SyncsFolder, path_in}
+use Rattle.tftp_disk.specs.Still.{IsStillAt}
+use Rattle.tftp_disk.specs.declared.disk_file.DiskFolder.{DiskFolder}
+use Rattle.tftp_client.specs.Fetched.{IsNamed, IsWholeAt, Keeps, KeepsOne, NamesBytes, NamesFile, Paths, SyncsIn, WasNamed}
+use Rattle.tftp_client.specs.Written.{IsFolderIn}
 
 -- for a last call whose result is returned as it is
 pub on_ok : {T E : Type 0} (r : Result T E) {P Q : Type 0} → (P → Q) → OnOk r P → OnOk r Q
 on_ok (Ok value) weaker p = weaker p
 on_ok (Err error) weaker p = tt
 
-synced_after : {F : Type 0} (folder : Option (DiskFolder F)) (path : List ℕ) → IsFolderFor path folder
-    → (before after : List DiskEvent) → SyncsFolder folder before after → SyncsAfter path before after
-synced_after (Some folder) path fits before after syncs =
+-- a folder that may not be read stays so
+pub folder_later : {F : Type 0} (folder : Option (DiskFolder F)) (paths : Paths) (before after : List DiskEvent)
+    → Keeps paths before after → ∥ IsFolderIn paths.local folder before ∥₁ → ∥ IsFolderIn paths.local folder after ∥₁
+folder_later (Some folder) paths before after keeps fits = fits
+folder_later None paths before after keeps fits = ∥∥₁_map fits keeps.barred
+
+synced_in : {F : Type 0} (folder : Option (DiskFolder F)) (path : List ℕ) (all : List DiskEvent)
+    → IsFolderIn path folder all → (before after : List DiskEvent) → SyncsFolder folder before after
+    → SyncsIn path all before after
+synced_in (Some folder) path all fits before after syncs =
     inl (
       fits.0,
       syncs.0,
@@ -22,7 +34,42 @@ synced_after (Some folder) path fits before after syncs =
       syncs.1,
       syncs.2 ∙ ap (λ (at : Option (List ℕ)). Folder_synced at syncs.0 ∷ before) fits.2,
     )
-synced_after None path fits before after syncs = inr (fits, syncs)
+synced_in None path all fits before after syncs = inr (fits, syncs)
+
+-- a sync by the calls that it may have made
+no_longer : (event : DiskEvent) (before after : List DiskEvent) → after ≡ event ∷ before → after ≡ before → ⊥
+no_longer event before after longer same =
+    absurd (omega (arith, ap length (sym longer ∙ same)))
+
+pub synced_all : {F : Type 0} (folder : Option (DiskFolder F)) (before after : List DiskEvent)
+    → SyncsAlone folder before after → SyncsFolder folder (changes before) (changes after)
+    → SyncsFolder folder before after
+synced_all (Some folder) before after (inl same) syncs =
+    absurd (no_longer (Folder_synced (folder_at folder.journal.events) syncs.0) (changes before) (changes after) syncs.2
+    (ap changes same))
+synced_all (Some folder) before after (inr (answer, noted)) syncs =
+    let at = folder_at folder.journal.events in
+    let one : ◌≡◌ {A = List DiskEvent} (Folder_synced at answer ∷ changes before) (Folder_synced at syncs.0 ∷ changes before) =
+    sym (ap changes noted) ∙ syncs.2 in
+    let same : answer ≡ syncs.0 = cc one in
+    (syncs.0, syncs.1, noted ∙ ap (λ (a : Done). Folder_synced at a ∷ before) same)
+synced_all None before after (inl same) syncs = same
+synced_all None before after (inr (answer, noted)) syncs =
+    absurd (no_longer (Folder_synced None answer) (changes before) (changes after) (ap changes noted) syncs)
+
+pub unsynced_all : {F : Type 0} (folder : Option (DiskFolder F)) (before after : List DiskEvent) (error : Error)
+    → SyncsAlone folder before after
+    → changes after ≡ Folder_synced (path_in folder) (Err error) ∷ changes before
+    → after ≡ Folder_synced (path_in folder) (Err error) ∷ before
+unsynced_all folder before after error (inl same) unsynced =
+    absurd (no_longer (Folder_synced (path_in folder) (Err error)) (changes before) (changes after) unsynced
+    (ap changes same))
+unsynced_all folder before after error (inr (answer, noted)) unsynced =
+    let at = path_in folder in
+    let one : ◌≡◌ {A = List DiskEvent} (Folder_synced at answer ∷ changes before) (Folder_synced at (Err error) ∷ changes before) =
+    sym (ap changes noted) ∙ unsynced in
+    let same : ◌≡◌ {A = Done} answer (Err error) = cc one in
+    noted ∙ ap (λ (a : Done). Folder_synced at a ∷ before) same
 
 module _ (Syncs Other : List DiskEvent → List DiskEvent → Type 0)
     (weaker : (before after : List DiskEvent) → Syncs before after → Other before after) where
@@ -33,34 +80,37 @@ module _ (Syncs Other : List DiskEvent → List DiskEvent → Type 0)
   names_file false paths file before after (inr renames) = inr (renames.0, renames.1, weaker _ _ renames.2)
 
 pub was_named : {F : Type 0} (folder : Option (DiskFolder F)) (paths : Paths) (bytes : List ℕ) (after : List DiskEvent)
-    → IsFolderFor paths.local folder → NamesBytes (SyncsFolder folder) paths bytes after → WasNamed paths bytes after
+    → IsFolderIn paths.local folder after → NamesBytes (SyncsFolder folder) paths bytes after → WasNamed paths bytes after
 was_named folder paths bytes after fits named = (
   named.0,
   named.1,
   named.2,
-  names_file (SyncsFolder folder) (SyncsAfter paths.local) (synced_after folder paths.local fits) paths.replaces paths
-      named.0 named.1 after named.3,
+  named.3,
+  names_file (SyncsFolder folder) (SyncsIn paths.local after) (synced_in folder paths.local after fits) paths.replaces
+      paths named.0 named.1 after named.4,
 )
 
 pub linked_named : (Syncs : List DiskEvent → List DiskEvent → Type 0) (paths : Paths) (bytes : List ℕ) (file : FileState)
-    (before mid after : List DiskEvent) → IsWholeAt paths.part bytes file
+    (before mid after : List DiskEvent) → IsWholeAt paths.part bytes file → ∥ IsStillAt paths.part file.made_when before ∥₁
     → mid ≡ Linked file paths.part paths.local (Ok tt) ∷ before → KeepsOne Syncs paths mid after
-    → (f : FileState) × (b : List DiskEvent) × IsWholeAt paths.part bytes f × NamesFile Syncs false paths f b after
-linked_named Syncs paths bytes file before mid after whole is kept =
-    (file, before, whole, inl (subst (λ (m : List DiskEvent). KeepsOne Syncs paths m after) is kept))
+    → (f : FileState) × (b : List DiskEvent) × IsWholeAt paths.part bytes f × ∥ IsStillAt paths.part f.made_when b ∥₁
+    × NamesFile Syncs false paths f b after
+linked_named Syncs paths bytes file before mid after whole still is kept =
+    (file, before, whole, still, inl (subst (λ (m : List DiskEvent). KeepsOne Syncs paths m after) is kept))
 
-syncs_after_some : (path : List ℕ) (event : DiskEvent) (before : List DiskEvent) → SyncsAfter path (event ∷ before) [] → ⊥
-syncs_after_some path event before (inl (at, answer, folder, synced, is)) = let never : ◌≡◌ {A = List DiskEvent} [] (Folder_synced (Some at) answer ∷ event ∷ before) = is in cc
-syncs_after_some path event before (inr (may, is)) = let never : ◌≡◌ {A = List DiskEvent} [] (event ∷ before) = is in cc
+syncs_in_some : (path : List ℕ) (all : List DiskEvent) (event : DiskEvent) (before : List DiskEvent)
+    → SyncsIn path all (event ∷ before) [] → ⊥
+syncs_in_some path all event before (inl (at, answer, folder, synced, is)) = let never : ◌≡◌ {A = List DiskEvent} [] (Folder_synced (Some at) answer ∷ event ∷ before) = is in cc
+syncs_in_some path all event before (inr (barred, is)) = let never : ◌≡◌ {A = List DiskEvent} [] (event ∷ before) = is in cc
 
-names_some : (replaces : Bool) (paths : Paths) (file : FileState) (before : List DiskEvent)
-    → NamesFile (SyncsAfter paths.local) replaces paths file before [] → ⊥
-names_some true paths file before named = syncs_after_some paths.local (Renamed file paths.part paths.local (Ok tt)) before named
-names_some false paths file before (inl links) = let never : ◌≡◌ {A = List DiskEvent} [] (Removed paths.part links.1 ∷ links.0) = links.3 in cc
-names_some false paths file before (inr renames) = syncs_after_some paths.local (Renamed file paths.part paths.local (Ok tt)) renames.0 renames.2
+names_some : (replaces : Bool) (paths : Paths) (all : List DiskEvent) (file : FileState) (before : List DiskEvent)
+    → NamesFile (SyncsIn paths.local all) replaces paths file before [] → ⊥
+names_some true paths all file before named = syncs_in_some paths.local all (Renamed file paths.part paths.local (Ok tt)) before named
+names_some false paths all file before (inl links) = let never : ◌≡◌ {A = List DiskEvent} [] (Removed paths.part links.1 ∷ links.0) = links.3 in cc
+names_some false paths all file before (inr renames) = syncs_in_some paths.local all (Renamed file paths.part paths.local (Ok tt)) renames.0 renames.2
 
 -- what was named just now is named
 pub is_named : (paths : Paths) (bytes : List ℕ) (after : List DiskEvent) → WasNamed paths bytes after
     → IsNamed paths bytes after
-is_named paths bytes [] named = absurd (names_some paths.replaces paths named.0 named.1 named.3)
+is_named paths bytes [] named = absurd (names_some paths.replaces paths [] named.0 named.1 named.4)
 is_named paths bytes (event ∷ events) named = inl named

@@ -1,16 +1,18 @@
 -- The file of a complete job has its name, and what moved is in it.
-use Rattle.std.proofs.Common.{◌≡◌, ℕ, Bool, true, List, Some, inl, inr, sym, ap, ◌∙◌, subst}
+use Rattle.std.proofs.Common.{◌≡◌, ℕ, Bool, true, List, Some, inl, inr, refl, sym, ap, ◌∙◌, subst}
 use Rattle.std.proofs.Math.Logic.{∥∥₁_map}
 use Rattle.std.proofs.lemmas.Option.{same_Some}
 use Rattle.std.specs.declared.io.traits.Read as read
 use Rattle.std.specs.declared.io.traits.Write as write
 use Rattle.std.specs.declared.io.traits.Seek as seek
+use Rattle.tftp_negotiate.specs.declared.known.Kind.TheVariants as kinds
 use Rattle.tftp_file.specs.Sink.{Holding, SinkMeaning}
 use Rattle.tftp_file.specs.Source.{SourceMeaning}
 use Rattle.tftp_file.specs.declared.files.Files.{Files}
 use Rattle.tftp_file.specs.declared.files.Files.TheVariants.{Source, Sink}
 use Rattle.tftp_arguments.specs.Fault.{AskForText}
-use Rattle.tftp_disk.specs.Changes.{changes}
+use Rattle.tftp_disk.specs.DiskJournal.{DiskEvent}
+use Rattle.tftp_disk.specs.declared.disk.Looks as looks
 use Rattle.tftp_disk.specs.declared.disk_source.DiskSource.{DiskSource}
 use Rattle.tftp_sockets.specs.Journal.{SocketEvent}
 use Rattle.tftp_client.specs.declared.command_line.CommandLine.{CommandLine}
@@ -19,95 +21,111 @@ use Rattle.tftp_client.specs.declared.local.LocalFile.{LocalFile}
 use Rattle.tftp_client.specs.declared.transfer.Job.{Job}
 use Rattle.tftp_client.specs.CommandLine.{IfExit, IfRun}
 use Rattle.tftp_client.specs.Converses.{Converses, State}
-use Rattle.tftp_client.specs.Fetched.{AreOwn, IsNamed, Paths}
-use Rattle.tftp_client.specs.OnDisk.{IsFor, IsOnDisk, job_paths}
-use Rattle.tftp_client.specs.PartFile.{SameNames}
-use Rattle.tftp_client.specs.Runs.{IsWhole, Transfers, moved_by, plain}
+use Rattle.tftp_client.specs.Fetched.{IsNamed, Keeps, KeepsPlace, Paths}
+use Rattle.tftp_client.specs.OnDisk.{IsFor, IsOnDisk, KeepsFile, job_paths}
+use Rattle.tftp_client.specs.Runs.{IsWhole}
 use Rattle.tftp_client.specs.Sent.{DoesOrder, DoesWords}
+use Rattle.tftp_client.specs.Stored.{HasDisk, IsReceived}
 use Rattle.tftp_client.specs.Words.{WordsName, tftp_app}
-use Rattle.tftp_client.specs.Written.{paths_of}
-use Rattle.tftp_client.proofs.SameSink.{OfSink, run_stays}
+use Rattle.tftp_client.specs.Written.{bytes_in, held_of, paths_of}
+use Rattle.tftp_client.proofs.Changing.{then_keeps}
+use Rattle.tftp_client.proofs.SameKind.{converses}
+use Rattle.tftp_client.proofs.SameSink.{run_stays}
 
-module _ {S R F D : Type 0} {reads : read.Ghosts F} {writes : write.Ghosts F} {seeks : seek.Ghosts F}
-    {lists : read.Ghosts D} where
-  -- a job without options has the same file
-  pub for_plain : (job other : Job) (files : Files S (LocalFile R F D reads writes seeks lists)) → other ≡ plain job
-      → IsFor other files → IsFor job files
-  for_plain job other (Source source) same is = tt
-  for_plain job other (Sink local) same is = is ∙ ap job_paths same
+module _ {D F V G : Type 0} {logs : looks.Ghosts D} {writes : write.Ghosts F} {views : looks.Ghosts V}
+    {reads : read.Ghosts G} {seeks : seek.Ghosts G} where
+  abbrev pub paths_in : LocalFile D F V G logs writes views reads seeks → Paths
+  paths_in local = paths_of local.part.names local.part.existing
 
-module _ {S R F D : Type 0} {reads : read.Ghosts F} {writes : write.Ghosts F} {seeks : seek.Ghosts F}
-    {lists : read.Ghosts D} (sources : SourceMeaning S) (sinks : SinkMeaning (LocalFile R F D reads writes seeks lists)) where
-  abbrev Local : Type 0
-  Local = LocalFile R F D reads writes seeks lists
+  abbrev pub log_in : LocalFile D F V G logs writes views reads seeks → List DiskEvent
+  log_in local = logs.log local.part.disk
 
-  abbrev HasPaths : Paths → Local → Type 0
-  HasPaths paths local = paths_of local.part.names local.part.existing ≡ paths
+module _ {S : Type 0} {D F V G : Type 0} {logs : looks.Ghosts D} {writes : write.Ghosts F} {views : looks.Ghosts V}
+    {reads : read.Ghosts G} {seeks : seek.Ghosts G} where
+  -- the file of a job stays that
+  pub still_for : (job : Job) (file files : Files S (LocalFile D F V G logs writes views reads seeks)) → KeepsFile file files → IsFor job file → IsFor job files
+  still_for job (Source a) (Source b) keeps is = tt
+  still_for job (Source a) (Sink b) keeps is = absurd keeps
+  still_for job (Sink a) (Source b) keeps is = absurd keeps
+  still_for job (Sink a) (Sink b) keeps is = keeps.same ∙ is
 
-  same_paths : (paths : Paths) (before after : Local) → SameNames before.part after.part → HasPaths paths before
-      → HasPaths paths after
-  same_paths paths before after same is =
-      let kept : paths_of after.part.names after.part.existing ≡ paths_of before.part.names before.part.existing =
-      λ k. paths_of (same.names k) (same.existing k) in
-      kept ∙ is
+  pub kept_then : (a b c : Files S (LocalFile D F V G logs writes views reads seeks)) → KeepsFile a b → KeepsFile b c → KeepsFile a c
+  kept_then (Source a) (Source b) (Source c) p q = tt
+  kept_then (Source a) (Source b) (Sink c) p q = absurd q
+  kept_then (Source a) (Sink b) c p q = absurd p
+  kept_then (Sink a) (Source b) c p q = absurd p
+  kept_then (Sink a) (Sink b) (Source c) p q = absurd q
+  kept_then (Sink a) (Sink b) (Sink c) p q =
+      then_keeps (paths_in a) (paths_in b) (paths_in c) (log_in a) (log_in b) (log_in c) p q
 
-  module _ (becomes : (before after : Local) (committed : Bool) → sinks.becomes before after committed
-      → SameNames before.part after.part) where
-    of_sink : (job : Job) (files : Files S Local) → IsFor job files
-        → OfSink sources sinks (HasPaths (job_paths job))
-        (λ before after committed same. same_paths (job_paths job) before after (becomes before after committed same)) files
-    of_sink job (Source source) is = is
-    of_sink job (Sink local) is = is
+  pub received : (local : LocalFile D F V G logs writes views reads seeks) (files : Files S (LocalFile D F V G logs writes views reads seeks)) → KeepsFile (Sink local) files → IsReceived files
+  received local (Source b) keeps = absurd keeps
+  received local (Sink b) keeps = tt
 
-    for_job : (job : Job) (files : Files S Local)
-        → OfSink sources sinks (HasPaths (job_paths job))
-        (λ before after committed same. same_paths (job_paths job) before after (becomes before after committed same)) files
-        → IsFor job files
-    for_job job (Source source) is = is
-    for_job job (Sink local) is = is
+  -- the disk of a received file was asked for no other name
+  pub keeps_disk : (local : LocalFile D F V G logs writes views reads seeks) (files : Files S (LocalFile D F V G logs writes views reads seeks)) (disk : D) (paths : Paths) → paths_in local ≡ paths
+      → KeepsFile (Sink local) files → HasDisk files disk → Keeps paths (log_in local) (logs.log disk)
+  keeps_disk local (Source b) disk paths is keeps has = absurd keeps
+  keeps_disk local (Sink b) disk paths is keeps has =
+      subst (λ (d : D). Keeps paths (log_in local) (logs.log d)) (sym has)
+      (subst (λ (p : Paths). Keeps p (log_in local) (log_in b)) is keeps.keeps)
 
-    -- the file of a job is that after each run
-    pub is_for : (job : Job) {port : ℕ} {first : State} {file : Files S Local} {s : State} {files : Files S Local}
-        → Converses sources sinks port first file s files → IsFor job file → IsFor job files
-    is_for job {file = file} {files = files} run is =
-        for_job job files (run_stays sources sinks (HasPaths (job_paths job))
-        (λ before after committed same. same_paths (job_paths job) before after (becomes before after committed same))
-        run (of_sink job file is))
+module _ {S : Type 0} {D F V G : Type 0} {logs : looks.Ghosts D} {writes : write.Ghosts F} {views : looks.Ghosts V}
+    {reads : read.Ghosts G} {seeks : seek.Ghosts G}
+    (sources : SourceMeaning S) (sinks : SinkMeaning (LocalFile D F V G logs writes views reads seeks)) where
+  abbrev TheLocal : Type 0
+  TheLocal = LocalFile D F V G logs writes views reads seeks
 
-  of_file : ((local : Local) → sinks.held local ≡ Some local.taken.holding)
-      → (job : Job) (files : Files S Local) (count : ℕ) (bytes : List ℕ) → IsFor job files
-      → IsWhole sources sinks files count bytes → IsOnDisk job files bytes
-  of_file known job (Source source) count bytes is whole = tt
-  of_file known job (Sink local) count bytes is whole =
-      let same : whole.0 ≡ local.taken.holding = same_Some whole.0 local.taken.holding (sym whole.1 ∙ known local) in
-      let held : local.taken.holding.bytes ≡ bytes = ap (λ (h : Holding). h.bytes) (sym same) ∙ whole.3 in
-      let done : local.taken.holding.committed ≡ true = ap (λ (h : Holding). h.committed) (sym same) ∙ whole.2 in
-      let events = changes local.part.journal.events in
-      record {
-        named = ∥∥₁_map (local.named done) (λ named.
-            subst (λ (b : List ℕ). IsNamed (job_paths job) b events) held
-            (subst (λ (p : Paths). IsNamed p local.taken.holding.bytes events) is named));
-        own = ∥∥₁_map local.own (λ own. subst (λ (p : Paths). AreOwn p events) is own);
-      }
+  module _ (becomes : (before after : TheLocal) (committed : Bool) → sinks.becomes before after committed
+      → KeepsPlace (paths_in before) (paths_in after) (log_in before) (log_in after)) where
+    -- a run asks the disk of its file for no other name
+    pub kept : (file files : Files S TheLocal) {port : ℕ} {first : State} {s : State}
+        → Converses sources sinks port first file s files → KeepsFile file files
+    kept (Source a) (Source b) run = tt
+    kept (Source a) (Sink b) run = absurd (converses sources sinks kinds.Write run tt)
+    kept (Sink a) (Source b) run = absurd (converses sources sinks kinds.Read run tt)
+    kept (Sink a) (Sink b) run =
+        run_stays sources sinks
+        (λ (x : TheLocal). KeepsPlace (paths_in a) (paths_in x) (log_in a) (log_in x))
+        (λ before after committed same until.
+        then_keeps (paths_in a) (paths_in before) (paths_in after) (log_in a)
+        (log_in before) (log_in after) until (becomes before after committed same))
+        run
+        (record {
+          same = refl;
+          keeps = record { own = λ own. own; named = λ bytes named. named; barred = λ barred. barred };
+        })
 
-  -- what moved is in the file of the job, which has its name
-  pub is_on_disk : ((local : Local) → sinks.held local ≡ Some local.taken.holding)
-      → {most port : ℕ} {job : Job} {before : List SocketEvent} {s : State} {files : Files S Local} {count : ℕ}
-      (transfers : Transfers sources sinks most port job before s files count) → IsFor job files
-      → IsWhole sources sinks files count (moved_by sources sinks transfers).bytes
-      → IsOnDisk job files (moved_by sources sinks transfers).bytes
-  is_on_disk known {job = job} {files = files} {count = count} transfers is whole =
-      of_file known job files count (moved_by sources sinks transfers).bytes is whole
+  -- what a complete file holds has the name, and still has it when its disk is handed back
+  pub of_file : ((local : TheLocal) → sinks.held local ≡ Some (held_of local.part.written local.committed))
+      → (job : Job) (files files' : Files S TheLocal) (count : ℕ) (bytes : List ℕ) (disk : D) → IsFor job files
+      → IsWhole sources sinks files count bytes → KeepsFile files files' → HasDisk files' disk
+      → IsOnDisk job files bytes (logs.log disk)
+  of_file known job (Source source) files' count bytes disk is whole keeps has = tt
+  of_file known job (Sink local) (Source source) count bytes disk is whole keeps has = absurd keeps
+  of_file known job (Sink local) (Sink last) count bytes disk is whole keeps has =
+      let holding = held_of local.part.written local.committed in
+      let same : whole.0 ≡ holding = same_Some whole.0 holding (sym whole.1 ∙ known local) in
+      let held : bytes_in local.part.written ≡ bytes = ap (λ (h : Holding). h.bytes) (sym same) ∙ whole.3 in
+      let done : local.committed ≡ true = ap (λ (h : Holding). h.committed) (sym same) ∙ whole.2 in
+      ∥∥₁_map (local.named done) (λ named.
+      subst (λ (d : D). IsNamed (job_paths job) bytes (logs.log d)) (sym has)
+      (subst (λ (p : Paths). IsNamed p bytes (logs.log last.part.disk)) is
+      (keeps.keeps.named bytes
+      (subst (λ (b : List ℕ). IsNamed (paths_in local) b (log_in local)) held named))))
 
-module _ {R F D : Type 0} {reads : read.Ghosts F} {writes : write.Ghosts F} {seeks : seek.Ghosts F}
-    {lists : read.Ghosts D} (sources : SourceMeaning (DiskSource F))
-    (sinks : SinkMeaning (LocalFile R F D reads writes seeks lists)) where
-  -- an order was run, or there is none and nothing was done
-  pub does_words : {before after : List SocketEvent} (words : List (List ℕ)) {status : ℕ} (line : CommandLine)
-      → IfRun line (λ order. WordsName words order.job)
+module _ {D F V G : Type 0} {logs : looks.Ghosts D} {writes : write.Ghosts F} {views : looks.Ghosts V}
+    {reads : read.Ghosts G} {seeks : seek.Ghosts G}
+    (sources : SourceMeaning (DiskSource G)) (sinks : SinkMeaning (LocalFile D F V G logs writes views reads seeks)) where
+  -- a job was run, or there is none and nothing was done
+  pub does_words : {before after : List SocketEvent} {calls calls' : List DiskEvent} (words : List (List ℕ)) {status : ℕ}
+      (line : CommandLine)
+      → IfRun line (λ job. WordsName words job)
       → IfExit line (λ n. n ≡ 0 → AskForText tftp_app words)
-      → IfRun line (λ order. DoesOrder sources sinks order.job status before after)
-      → IfExit line (λ _. after ≡ before) → IfExit line (λ n. status ≡ n)
-      → DoesWords sources sinks words status before after
-  does_words words (lines.Run order) names text runs none same = (inr (order.job, names, runs.0), runs.1, runs.2)
-  does_words words (lines.Exit n) names text runs none same = (inl (none, λ zero. text (sym same ∙ zero)), tt, tt)
+      → IfRun line (λ job. DoesOrder sources sinks job status before after calls calls')
+      → IfExit line (λ _. after ≡ before) → IfExit line (λ _. calls' ≡ calls) → IfExit line (λ n. status ≡ n)
+      → DoesWords sources sinks words status before after calls calls'
+  does_words words (lines.Run job) names text runs none unchanged same =
+      (inr (job, names, runs.0), (runs.1, runs.2), runs.3)
+  does_words words (lines.Exit n) names text runs none unchanged same =
+      (inl (none, λ zero. text (sym same ∙ zero)), unchanged, tt)

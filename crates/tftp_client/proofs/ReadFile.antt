@@ -22,7 +22,7 @@ use Rattle.tftp_client.specs.declared.transfer.Job.{Job}
 use Rattle.tftp_client.specs.Converses.{Converses, State}
 use Rattle.tftp_client.specs.Moved.{nothing_moved, run_moves}
 use Rattle.tftp_client.specs.Outbound.{HasLength, IsPassed}
-use Rattle.tftp_client.specs.Runs.{IsFileOf, Refused, RunsAs, RunsJob, Transfers, begun, moved_by, opens, plain}
+use Rattle.tftp_client.specs.Runs.{IsFileOf, Transfers, begun, moved_by, opens, plain}
 use Rattle.tftp_client.specs.Sent.{BeginsAt, BeginsFor, IsSent, IsSentFrom, SendsTheTextWhole}
 use Rattle.tftp_client.specs.Sent.{SendsWhatReadsReturned, StillHas}
 use Rattle.tftp_client.proofs.GivenBytes.{gave_all}
@@ -32,7 +32,7 @@ use Rattle.tftp_client.proofs.SentLength.{sent_all}
 
 module _ {F K : Type 0} where
   -- a job without options has the same file
-  for_plain : (job : Job) (bytes wire : ℕ) (file : Files (DiskSource F) K) → BeginsAt (plain job) bytes wire file
+  pub for_plain : (job : Job) (bytes wire : ℕ) (file : Files (DiskSource F) K) → BeginsAt (plain job) bytes wire file
       → BeginsAt job bytes wire file
   for_plain job bytes wire (Source source) is = is
   for_plain job bytes wire (Sink sink) is = is
@@ -71,27 +71,6 @@ module _ {F K : Type 0} where
       )
 
   module _ (sources : SourceMeaning (DiskSource F)) (sinks : SinkMeaning K) where
-    -- the run of a job of this kind, or of one without options, with its file
-    pub begins_job : (job : Job) {kind : Kind} {port : ℕ} {before : List SocketEvent} {last : State} {files : Files (DiskSource F) K}
-        {count : ℕ} → job.kind ≡ kind
-        → (run : RunsAs sources sinks port kind job before last files count) × BeginsAt job count run.length run.runs.file
-        → (run : RunsAs sources sinks port job.kind job before last files count)
-        × BeginsAt job count run.length run.runs.file
-    begins_job job {kind} {port} {before} {last} {files} {count} is run =
-        let Of : Kind → Type 0 = λ k. (run : RunsAs sources sinks port k job before last files count)
-        × BeginsAt job count run.length run.runs.file in
-        subst Of (sym is) run
-
-    pub begins_again : {most : ℕ} (port : ℕ) (job other : Job) (before middle : List SocketEvent) (last : State)
-        (files : Files (DiskSource F) K) (count : ℕ) → Refused sources sinks most job before middle → other ≡ plain job
-        → (run : RunsJob sources sinks port other middle last files count) × BeginsAt other count run.length run.runs.file
-        → (transfers : Transfers sources sinks most port job before last files count) × BeginsFor sources sinks transfers
-    begins_again port job other before middle last files count refused is run =
-        let Of : Job → Type 0 = λ j. (run : RunsJob sources sinks port j middle last files count)
-        × BeginsAt j count run.length run.runs.file in
-        let again = subst Of is run in
-        (inr (middle, refused, again.0), for_plain job count again.0.length again.0.runs.file again.1)
-
     -- a file that was sent
     sent : GivesInOrder sources → {port : ℕ} (job : Job) (kind : Kind) (size count : ℕ) {before : List SocketEvent} {s : State}
         (first source : DiskSource F)

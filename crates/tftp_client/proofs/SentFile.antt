@@ -8,10 +8,10 @@ use Rattle.tftp_wire.specs.declared.mode.Mode.{Mode}
 use Rattle.tftp_wire.specs.declared.mode.Mode.TheVariants.{Octet, Netascii}
 use Rattle.tftp_disk.specs.DiskJournal.{DiskEvent}
 use Rattle.tftp_disk.specs.DiskJournal.DiskEvent.{Opened, Given, Sought, Written}
-use Rattle.tftp_disk.specs.Given.{examined, given, is_at_end, passed}
+use Rattle.tftp_disk.specs.Given.{examined, given, is_at_end, is_at_start, passed}
 use Rattle.tftp_disk.specs.Measuring.{CountsPass}
 use Rattle.tftp_disk.specs.declared.measuring.TextLength.{TextLength}
-use Rattle.tftp_client.specs.Outbound.{HasLength, IsPassed, is_at_start}
+use Rattle.tftp_client.specs.Outbound.{HasLength, IsPassed}
 
 -- nothing was given since the start
 pub none_given : (events : List DiskEvent) → is_at_start events ≡ true → given events ≡ []

@@ -1,5 +1,5 @@
 -- The job that the words of a command line name, as they were read (own).
-use Rattle.std.specs.Prelude.{ℕ, ◌≡◌, ◌≢◌, if◌then◌else◌, List, codes, Some, None}
+use Rattle.std.specs.Prelude.{ℕ, ◌≡◌, ◌≢◌, true, false, if◌then◌else◌, List, codes, Some, None}
 use Rattle.std.specs.Str.{bytes_eq}
 use Rattle.tftp_wire.specs.declared.mode.Mode.TheVariants.{Octet, Netascii}
 use Rattle.tftp_negotiate.specs.declared.asked.Asked.{Asked}
@@ -10,7 +10,6 @@ use Rattle.tftp_arguments.specs.Read.{IsChosen, IsFlag, IsNumber, Reads}
 use Rattle.tftp_sockets.specs.Address.{Names}
 use Rattle.tftp_client.specs.declared.command_line.CommandLine.{CommandLine}
 use Rattle.tftp_client.specs.declared.command_line.CommandLine.TheVariants.{Run, Exit}
-use Rattle.tftp_client.specs.declared.command_line.Order.{Order}
 use Rattle.tftp_client.specs.declared.transfer.Job.{Job}
 
 -- the direction of a subcommand
@@ -33,16 +32,17 @@ pub record NamesJob (kind : Kind) (read : Reads) (job : Job) : Type 0 where
       × Names word (Some job.server) × (job.server.port ≢ 0)
   pub existing : IsChosen (read.text (codes "replace")) Replaced Refused job.existing
   pub mode : IsChosen (read.text (codes "netascii")) Netascii Octet job.mode
+  pub dallies : IsChosen (read.text (codes "no-dally")) false true job.dallies
   pub asked : AsksAs read job.asked
   pub retries : IsNumber 8 (read.text (codes "retries")) (Some job.retries)
   pub falls_back : IsFlag (read.text (codes "fallback")) job.falls_back
 
--- what holds of the order that a command line has the program run
-abbrev pub IfRun : CommandLine → (Order → Type 0) → Type 0
-IfRun (Run order) P = P order
+-- what holds of the job that a command line has the program run
+abbrev pub IfRun : CommandLine → (Job → Type 0) → Type 0
+IfRun (Run job) P = P job
 IfRun (Exit status) P = Unit {0}
 
 -- what holds of the status that a command line has the program end with
 abbrev pub IfExit : CommandLine → (ℕ → Type 0) → Type 0
-IfExit (Run order) P = Unit {0}
+IfExit (Run job) P = Unit {0}
 IfExit (Exit status) P = P status

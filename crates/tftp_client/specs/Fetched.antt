@@ -1,10 +1,16 @@
 -- The calls by which a client writes a fetched file and gives it its name (own).
 use Rattle.std.specs.Prelude.{ℕ, ◌≡◌, ◌⊎◌, ⊤, Bool, true, false, List, [], ◌∷◌, Option, Some}
-use Rattle.std.specs.Prelude.{Ok, Err}
+use Rattle.std.specs.Prelude.{Result, Ok, Err}
+use Rattle.std.specs.IoError.{error_kind}
 use Rattle.std.specs.declared.io.Error.{Error}
+use Rattle.std.specs.declared.io.ErrorKind.TheVariants as kinds
+use Rattle.tftp_disk.specs.Changes.{IsSynced}
 use Rattle.tftp_disk.specs.DiskJournal.{DiskEvent, Done, FileState}
-use Rattle.tftp_disk.specs.DiskJournal.DiskEvent.{Made, Linked, Renamed, Removed, Folder_synced}
-use Rattle.tftp_disk.specs.NamedFolder.{SyncsAfter}
+use Rattle.tftp_disk.specs.DiskJournal.DiskEvent.{Looked, Made, Linked, Renamed, Removed}
+use Rattle.tftp_disk.specs.DiskJournal.DiskEvent.{Folder_opened, Folder_synced}
+use Rattle.tftp_disk.specs.Folder.{IsFolderOf}
+use Rattle.tftp_disk.specs.Still.{IsStillAt}
+use Rattle.tftp_disk.specs.declared.found.Found.{Found}
 
 -- the names of a fetched file: its own, and that under which it is written; and whether a file that
 -- has its own is replaced
@@ -21,13 +27,55 @@ pub record IsWholeAt (part bytes : List ℕ) (file : FileState) : Type 0 where
   pub synced : file.is_synced ≡ true
   pub sound : file.sync_failed ≡ false
 
+-- ---- its folder
+-- the call was to open the folder of the path, and was refused since the user may not read it
+abbrev pub Bars : List ℕ → DiskEvent → Type 0
+Bars path (Folder_opened at (Err refusal)) =
+    IsFolderOf path at × (error_kind refusal ≡ kinds.PermissionDenied)
+Bars path event = ⊥
+
+-- one of these calls was
+abbrev pub IsBarred : List ℕ → List DiskEvent → Type 0
+IsBarred path [] = ⊥
+IsBarred path (event ∷ events) = Bars path event ⊎ IsBarred path events
+
+-- the folder was synced, unless its file system syncs none, or the user may not read it, as one of
+-- all these calls was told
+abbrev pub SyncsIn : List ℕ → List DiskEvent → List DiskEvent → List DiskEvent → Type 0
+SyncsIn path all before after =
+    ((at : List ℕ) × (answer : Done) × IsFolderOf path at × IsSynced answer
+    × (after ≡ Folder_synced (Some at) answer ∷ before))
+    ⊎ (IsBarred path all × (after ≡ before))
+
 -- ---- its name
+-- nothing was found at the path
+abbrev pub FindsNothing : List ℕ → List DiskEvent → List DiskEvent → Type 0
+FindsNothing path before after =
+    (absence : Error) × (error_kind absence ≡ kinds.NotFound)
+    × (after ≡ Looked path (Err absence) ∷ before)
+
+-- nothing was
+abbrev pub IsAbsent : Result Found Error → Type 0
+IsAbsent (Ok found) = ⊥
+IsAbsent (Err error) = error_kind error ≡ kinds.NotFound
+
 -- the system made no link
-abbrev pub LinksNone : Paths → FileState → List DiskEvent → List DiskEvent → Type 0
-LinksNone paths file before after =
+abbrev pub IsUnlinked : Paths → FileState → List DiskEvent → List DiskEvent → Type 0
+IsUnlinked paths file before after =
     (refusal : Error) × (after ≡ Linked file paths.part paths.local (Err refusal) ∷ before)
 
--- by how the folder was synced, between these changes
+-- the same, and then nothing was found at the name
+abbrev pub LinksNone : Paths → FileState → List DiskEvent → List DiskEvent → Type 0
+LinksNone paths file before after =
+    (unlinked : List DiskEvent) × IsUnlinked paths file before unlinked
+    × FindsNothing paths.local unlinked after
+
+-- just before
+abbrev pub WasUnlinked : Paths → List DiskEvent → Type 0
+WasUnlinked paths before =
+    (file : FileState) × (earlier : List DiskEvent) × IsUnlinked paths file earlier before
+
+-- by how the folder was synced, between these calls
 module _ (Syncs : List DiskEvent → List DiskEvent → Type 0) where
   -- the file was renamed, over what had the name, and then the folder was synced
   abbrev pub Renames : Paths → FileState → List DiskEvent → List DiskEvent → Type 0
@@ -46,7 +94,7 @@ module _ (Syncs : List DiskEvent → List DiskEvent → Type 0) where
       KeepsOne paths (Linked file paths.part paths.local (Ok tt) ∷ before) after
 
   -- the file got its name: where it may replace one, by a rename; else by a link, which never
-  -- replaces one, or, if the system makes none, by a rename
+  -- replaces one, or, if the system makes none and nothing is found at the name, by a rename
   abbrev pub NamesFile : Bool → Paths → FileState → List DiskEvent → List DiskEvent → Type 0
   NamesFile true paths file before after = Renames paths file before after
   NamesFile false paths file before after =
@@ -54,17 +102,19 @@ module _ (Syncs : List DiskEvent → List DiskEvent → Type 0) where
       ⊎ ((unlinked : List DiskEvent) × LinksNone paths file before unlinked
       × Renames paths file unlinked after)
 
-  -- the newest of these changes gave the name to a file of just these bytes
+  -- the newest of these calls gave the name to a file of just these bytes, which was still what had
+  -- its first name
   abbrev pub NamesBytes : Paths → List ℕ → List DiskEvent → Type 0
   NamesBytes paths bytes after =
       (file : FileState) × (before : List DiskEvent) × IsWholeAt paths.part bytes file
+      × ∥ IsStillAt paths.part file.made_when before ∥₁
       × NamesFile paths.replaces paths file before after
 
 -- the same; the folder of the name was synced then
 abbrev pub WasNamed : Paths → List ℕ → List DiskEvent → Type 0
-WasNamed paths bytes after = NamesBytes (SyncsAfter paths.local) paths bytes after
+WasNamed paths bytes after = NamesBytes (SyncsIn paths.local after) paths bytes after
 
--- these changes did, and there may be others after them
+-- these calls did, and there may be others after them
 abbrev pub IsNamed : Paths → List ℕ → List DiskEvent → Type 0
 IsNamed paths bytes [] = ⊥
 IsNamed paths bytes (event ∷ events) =
@@ -77,7 +127,8 @@ LosesName paths before after =
     × (after ≡ Removed paths.local removal ∷ Folder_synced folder (Err error) ∷ before)
 
 -- ---- no other file
--- a rename replaces no file, unless it is to: the system made no link just before
+-- a rename replaces no file, unless it is to: the system made no link just before, and nothing was
+-- found at the name
 abbrev pub MayRename : Paths → List DiskEvent → Type 0
 MayRename paths before =
     (paths.replaces ≡ true)
@@ -90,8 +141,9 @@ HasUnsyncedName paths before =
     × (before ≡ Folder_synced folder (Err error)
     ∷ Linked file paths.part paths.local (Ok tt) ∷ earlier)
 
--- a change, after those, of no other name than those of the file: that under which it is written is
--- made and removed; its own is given, and removed only if it was new and could not be synced
+-- a call, after those, that changes no other name than those of the file: that under which it is
+-- written is made and removed; its own is given, and removed only if it was new and could not be
+-- synced
 abbrev pub IsOwn : Paths → DiskEvent → List DiskEvent → Type 0
 IsOwn paths (Made path answer) before = path ≡ paths.part
 IsOwn paths (Removed path answer) before =
@@ -101,12 +153,20 @@ IsOwn paths (Renamed file from to answer) before =
     (from ≡ paths.part) × (to ≡ paths.local) × MayRename paths before
 IsOwn paths event before = ⊤
 
--- all these changes are such
+-- all these calls are such
 abbrev pub AreOwn : Paths → List DiskEvent → Type 0
 AreOwn paths [] = ⊤
 AreOwn paths (event ∷ events) = IsOwn paths event events × AreOwn paths events
 
--- the changes from the one list to the other are such, and what was named stays named
+-- ---- what stays
+-- the calls from the one list to the other are of no other file, what was named stays named, and a
+-- folder that may not be read stays so
 pub record Keeps (paths : Paths) (before after : List DiskEvent) : Type 0 where
   pub own : AreOwn paths before → AreOwn paths after
   pub named : (bytes : List ℕ) → IsNamed paths bytes before → IsNamed paths bytes after
+  pub barred : IsBarred paths.local before → IsBarred paths.local after
+
+-- the same, of a file whose names stay the same
+pub record KeepsPlace (paths paths' : Paths) (before after : List DiskEvent) : Type 0 where
+  pub same : paths' ≡ paths
+  pub keeps : Keeps paths before after

@@ -1,5 +1,4 @@
 pub mod Cause
-pub mod Changed
 pub mod CommandLine
 pub mod Conversation
 pub mod Converses
@@ -11,7 +10,6 @@ pub mod Moved
 pub mod OnDisk
 pub mod Ordered
 pub mod Outbound
-pub mod PartFile
 pub mod Runs
 pub mod Sent
 pub mod Silence

@@ -1,97 +1,130 @@
 -- The file of a job, by the calls of the system on it: of a complete one, and what one that failed
 -- leaves.
-use Rattle.std.specs.Prelude.{ℕ, ◌≡◌, ◌⊎◌, List, [], ◌++◌, Some}
+use Rattle.std.specs.Prelude.{ℕ, ◌≡◌, ◌⊎◌, Bool, true, List, [], ◌++◌, Some}
 use Rattle.std.proofs.Common.{inl, inr}
 use Rattle.std.specs.declared.io.traits.Read as read
 use Rattle.std.specs.declared.io.traits.Write as write
 use Rattle.std.specs.declared.io.traits.Seek as seek
 use Rattle.tftp_negotiate.specs.declared.known.Kind.{Kind}
+use Rattle.tftp_negotiate.specs.declared.known.Kind.TheVariants.{Write}
 use Rattle.tftp_file.specs.Sink.{SinkMeaning}
 use Rattle.tftp_file.specs.Source.{SourceMeaning}
 use Rattle.tftp_file.specs.declared.files.Files.{Files}
 use Rattle.tftp_file.specs.declared.files.Files.TheVariants.{Source, Sink}
-use Rattle.tftp_ends.specs.End.{outcome_of}
+use Rattle.tftp_ends.specs.End.{is_complete, outcome_of}
 use Rattle.tftp_ends.specs.declared.outcome.Outcome.{Outcome}
 use Rattle.tftp_ends.specs.declared.outcome.Outcome.TheVariants.{StoreFault}
 use Rattle.tftp_ends.specs.declared.phase.Phase.{Phase}
-use Rattle.tftp_disk.specs.Changes.{changes}
+use Rattle.tftp_disk.specs.DiskJournal.{DiskEvent}
+use Rattle.tftp_disk.specs.declared.disk.Looks as looks
 use Rattle.tftp_lines.specs.declared.client_outcome.ClientOutcome.{ClientOutcome}
 use Rattle.tftp_lines.specs.declared.client_outcome.ClientOutcome.TheVariants as ends
 use Rattle.tftp_sockets.specs.Journal.{SocketEvent}
 use Rattle.tftp_client.specs.declared.local.LocalFile.{LocalFile}
 use Rattle.tftp_client.specs.declared.transfer.Job.{Job}
-use Rattle.tftp_client.specs.Converses.{State, WorksOnFile, most_waits}
-use Rattle.tftp_client.specs.Fetched.{AreOwn, IsNamed, Paths}
+use Rattle.tftp_client.specs.Converses.{Converses, State, WorksOnFile, most_waits}
+use Rattle.tftp_client.specs.Fetched.{AreOwn, IsNamed, KeepsPlace, Paths}
 use Rattle.tftp_client.specs.Moved.{nothing_moved, run_moves}
 use Rattle.tftp_client.specs.Ordered.{RunsOrder, RunsWords}
-use Rattle.tftp_client.specs.Runs.{FailsBy, FailsEnd, FailsTransfer, StopsBy, moved_by, plain}
-use Rattle.tftp_client.specs.Written.{HasNoRest, IsWrittenAt, paths_for, paths_of}
+use Rattle.tftp_client.specs.Runs.{DalliesTo, FailsBy, FailsEnd, FailsTransfer, StopsBy}
+use Rattle.tftp_client.specs.Runs.{moved_by, plain, printed}
+use Rattle.tftp_client.specs.Stored.{count_of}
+use Rattle.tftp_client.specs.Written.{HasNoRest, IsWrittenAt, bytes_in, paths_for, paths_of}
 
 -- the names of the file of a job
 abbrev pub job_paths : Job → Paths
 job_paths job = paths_for job.local.now job.existing
 
-module _ {R F D : Type 0} {reads : read.Ghosts F} {writes : write.Ghosts F}
-    {seeks : seek.Ghosts F} {lists : read.Ghosts D} where
-  -- a file of just these bytes was made under the other name of the job, written, synced and then
-  -- named; its folder was synced after that, and no other name was changed
-  pub record IsStored (job : Job) (local : LocalFile R F D reads writes seeks lists)
-      (bytes : List ℕ) : Type 0 where
-    pub named : ∥ IsNamed (job_paths job) bytes (changes local.part.journal.events) ∥₁
-    pub own : ∥ AreOwn (job_paths job) (changes local.part.journal.events) ∥₁
+-- a file of just these bytes was made under the other name of the job, written, synced and then
+-- named, while it was still what had that other name; its folder was synced after that: by these
+-- calls of the disk, and there may be others after them
+abbrev pub IsStored : Job → List ℕ → List DiskEvent → Type 0
+IsStored job bytes calls = ∥ IsNamed (job_paths job) bytes calls ∥₁
 
+-- between these calls of the disk no other name was changed than those of the job's file, and
+-- nothing was asked if the file is sent
+pub record KeepsDisk (job : Job) (before after : List DiskEvent) : Type 0 where
+  pub own : AreOwn (job_paths job) before → AreOwn (job_paths job) after
+  pub put : job.kind ≡ Write → after ≡ before
+
+-- these bytes moved between the socket of a job and the disk, which has these calls: those of a
+-- received file are stored
+abbrev pub IsOnDisk : {S K : Type 0} → Job → Files S K → List ℕ → List DiskEvent → Type 0
+IsOnDisk job (Source source) bytes calls = Unit {0}
+IsOnDisk job (Sink sink) bytes calls = IsStored job bytes calls
+
+module _ {D F V G : Type 0} {logs : looks.Ghosts D} {writes : write.Ghosts F}
+    {views : looks.Ghosts V} {reads : read.Ghosts G} {seeks : seek.Ghosts G} where
   -- a received file was handed these bytes, and its end came to that phase. Those that its appends
   -- took are in the file that was made under the other name of the job, in order and each once,
   -- except those behind a write that was refused. An append took each of them, unless the end
-  -- closed since the file refused its newest block. No other name was changed
-  pub record IsLeftOf (job : Job) (phase : Phase) (local : LocalFile R F D reads writes seeks lists)
-      (bytes : List ℕ) : Type 0 where
+  -- closed since the file refused its newest block
+  pub record IsLeftOf (job : Job) (phase : Phase)
+      (local : LocalFile D F V G logs writes views reads seeks) (bytes : List ℕ) : Type 0 where
     pub rest : List ℕ
-    pub taken : bytes ≡ local.taken.holding.bytes ++ rest
+    pub taken : bytes ≡ bytes_in local.part.written ++ rest
     pub all : (rest ≡ []) ⊎ (outcome_of phase ≡ Some StoreFault)
-    pub written : IsWrittenAt (job_paths job).part local.taken.holding.bytes local.part.written
-    pub own : ∥ AreOwn (job_paths job) (changes local.part.journal.events) ∥₁
+    pub written : IsWrittenAt (job_paths job).part (bytes_in local.part.written) local.part.written
 
-module _ {S R F D : Type 0} {reads : read.Ghosts F} {writes : write.Ghosts F}
-    {seeks : seek.Ghosts F} {lists : read.Ghosts D} where
+module _ {S : Type 0} {D F V G : Type 0} {logs : looks.Ghosts D} {writes : write.Ghosts F}
+    {views : looks.Ghosts V} {reads : read.Ghosts G} {seeks : seek.Ghosts G} where
   -- a received file is to get the name of the job, and is written under its other one
-  abbrev pub IsFor : Job → Files S (LocalFile R F D reads writes seeks lists) → Type 0
+  abbrev pub IsFor : Job → Files S (LocalFile D F V G logs writes views reads seeks) → Type 0
   IsFor job (Source source) = Unit {0}
   IsFor job (Sink local) = paths_of local.part.names local.part.existing ≡ job_paths job
 
-  -- these bytes moved between the socket of a job and the disk: those of a received file are stored
-  abbrev pub IsOnDisk : Job → Files S (LocalFile R F D reads writes seeks lists) → List ℕ → Type 0
-  IsOnDisk job (Source source) bytes = Unit {0}
-  IsOnDisk job (Sink local) bytes = IsStored job local bytes
-
   -- these bytes moved in a run of a job that is not complete: those of a received file are left
-  abbrev pub IsLeft : Job → Phase → Files S (LocalFile R F D reads writes seeks lists) → List ℕ
-      → Type 0
+  abbrev pub IsLeft : Job → Phase → Files S (LocalFile D F V G logs writes views reads seeks)
+      → List ℕ → Type 0
   IsLeft job phase (Source source) bytes = Unit {0}
   IsLeft job phase (Sink local) bytes = IsLeftOf job phase local bytes
 
   -- nothing of a received file is still in its buffer, unless a write was refused
-  abbrev pub IsOut : Files S (LocalFile R F D reads writes seeks lists) → Type 0
+  abbrev pub IsOut : Files S (LocalFile D F V G logs writes views reads seeks) → Type 0
   IsOut (Source source) = Unit {0}
   IsOut (Sink local) = HasNoRest local.part.written
 
-module _ {S R F D : Type 0} {reads : read.Ghosts F} {writes : write.Ghosts F}
-    {seeks : seek.Ghosts F} {lists : read.Ghosts D}
+  -- a received file has the names that it had, and its disk was asked for no other's
+  abbrev pub KeepsFile : Files S (LocalFile D F V G logs writes views reads seeks)
+      → Files S (LocalFile D F V G logs writes views reads seeks) → Type 0
+  KeepsFile (Source old) (Source new) = Unit {0}
+  KeepsFile (Sink old) (Sink new) =
+      KeepsPlace (paths_of old.part.names old.part.existing)
+      (paths_of new.part.names new.part.existing) (logs.log old.part.disk) (logs.log new.part.disk)
+  KeepsFile (Source old) (Sink new) = ⊥
+  KeepsFile (Sink old) (Source new) = ⊥
+
+module _ {S : Type 0} {D F V G : Type 0} {logs : looks.Ghosts D} {writes : write.Ghosts F}
+    {views : looks.Ghosts V} {reads : read.Ghosts G} {seeks : seek.Ghosts G}
     (sources : SourceMeaning S)
-    (sinks : SinkMeaning (LocalFile R F D reads writes seeks lists)) where
+    (sinks : SinkMeaning (LocalFile D F V G logs writes views reads seeks)) where
   -- a received file was written once more, and a source was not used
-  abbrev pub WritesOut : Files S (LocalFile R F D reads writes seeks lists)
-      → Files S (LocalFile R F D reads writes seeks lists) → Type 0
+  abbrev pub WritesOut : Files S (LocalFile D F V G logs writes views reads seeks)
+      → Files S (LocalFile D F V G logs writes views reads seeks) → Type 0
   WritesOut (Source old) new = new ≡ Source old
   WritesOut (Sink old) new = WorksOnFile sources sinks (Sink old) new
 
   -- the run of an end from that state stopped, and is not complete; nothing of a received file is
   -- still in its buffer
-  abbrev pub StopsOut : ℕ → ℕ → State → Files S (LocalFile R F D reads writes seeks lists)
+  abbrev pub StopsOut : ℕ → ℕ → State → Files S (LocalFile D F V G logs writes views reads seeks)
       → List SocketEvent → ClientOutcome → Type 0
   StopsOut most port first file after end =
       (outcome : Outcome) × (end ≡ ends.Failed outcome)
       × (stops : StopsBy sources sinks most port first file after outcome) × IsOut stops.files
+
+  -- the run of an end from that state on is complete; then its line was printed, with N of the
+  -- file, and it went on to that file
+  pub record Reaches (dallies : Bool) (most port : ℕ) (first : State)
+      (file : Files S (LocalFile D F V G logs writes views reads seeks)) (sent : ℕ)
+      (after : List SocketEvent)
+      (files' : Files S (LocalFile D F V G logs writes views reads seeks)) : Type 0 where
+    pub last : State
+    pub files : Files S (LocalFile D F V G logs writes views reads seeks)
+    pub converses : Converses sources sinks port first file last files
+    pub complete : is_complete last.end.position.phase ≡ true
+    pub stays : DalliesTo sources sinks dallies most port (printed (count_of sent files) last)
+        files after files'
+    pub kept : KeepsFile files files'
 
   -- what moved in the run of a failed end is left
   abbrev pub EndLeaves : (most : ℕ) (kind : Kind) (job : Job) (length : ℕ)
@@ -134,26 +167,24 @@ module _ {S R F D : Type 0} {reads : read.Ghosts F} {writes : write.Ghosts F}
   -- what moved in the run of a complete job is on the disk, and what moved in one that failed is
   -- left
   abbrev pub OrderOnDisk : (job : Job) (status : ℕ) (before after : List SocketEvent)
-      → RunsOrder sources sinks job status before after → Type 0
-  OrderOnDisk job status before after (inl done) =
-      IsOnDisk job done.1.files (moved_by sources sinks done.1.transfers).bytes
-  OrderOnDisk job status before after (inr failed) =
+      (calls : List DiskEvent) → RunsOrder sources sinks job status before after → Type 0
+  OrderOnDisk job status before after calls (inl done) =
+      IsOnDisk job done.1.files (moved_by sources sinks done.1.transfers).bytes calls
+  OrderOnDisk job status before after calls (inr failed) =
       TransferLeaves (most_waits before) job before after failed.1 failed.3
 
-  -- the same of the job that words name
+  -- the same of the job that words name, between these calls of the disk; without a job nothing was
+  -- asked
   abbrev pub WordsOnDisk : (words : List (List ℕ)) (status : ℕ) (before after : List SocketEvent)
-      → RunsWords sources sinks words status before after → Type 0
-  WordsOnDisk words status before after (inl none) = Unit {0}
-  WordsOnDisk words status before after (inr did) = OrderOnDisk did.0 status before after did.2
+      (calls calls' : List DiskEvent) → RunsWords sources sinks words status before after → Type 0
+  WordsOnDisk words status before after calls calls' (inl none) = calls' ≡ calls
+  WordsOnDisk words status before after calls calls' (inr did) =
+      OrderOnDisk did.0 status before after calls' did.2 × KeepsDisk did.0 calls calls'
 
-  -- a job was run, and what moved is on the disk if it is complete, and left if it failed
-  abbrev pub StoresOrder : Job → ℕ → List SocketEvent → List SocketEvent → Type 0
-  StoresOrder job status before after =
-      (runs : RunsOrder sources sinks job status before after)
-      × OrderOnDisk job status before after runs
-
-  -- the same of words
-  abbrev pub StoresWords : List (List ℕ) → ℕ → List SocketEvent → List SocketEvent → Type 0
-  StoresWords words status before after =
+  -- a job was run for these words, between these calls of the disk: what moved is on the disk if it
+  -- is complete, and left if it failed
+  abbrev pub StoresWords : List (List ℕ) → ℕ → List SocketEvent → List SocketEvent → List DiskEvent
+      → List DiskEvent → Type 0
+  StoresWords words status before after calls calls' =
       (runs : RunsWords sources sinks words status before after)
-      × WordsOnDisk words status before after runs
+      × WordsOnDisk words status before after calls calls' runs

@@ -1,7 +1,7 @@
 -- What the program did for a job: the run of one end from its request on, or of a second one, where
 -- options were refused.
-use Rattle.std.specs.Prelude.{ℕ, ◌≡◌, ◌≤◌, ◌⊎◌, true, List, ◌∷◌, length as list_length, Some}
-use Rattle.std.specs.Prelude.{None, option_map}
+use Rattle.std.specs.Prelude.{ℕ, ◌≡◌, ◌≤◌, ◌⊎◌, Bool, true, List, ◌∷◌, length as list_length}
+use Rattle.std.specs.Prelude.{Some, None, IsSome, option_map}
 use Rattle.std.proofs.Common.{inl, inr}
 use Rattle.tftp_wire.specs.declared.mode.Mode.{Mode}
 use Rattle.tftp_wire.specs.declared.mode.Mode.TheVariants.{Octet, Netascii}
@@ -13,7 +13,7 @@ use Rattle.tftp_file.specs.Source.{SourceMeaning}
 use Rattle.tftp_file.specs.declared.files.Files.{Files}
 use Rattle.tftp_file.specs.declared.files.Files.TheVariants.{Source, Sink}
 use Rattle.tftp_file.specs.declared.length.TheConstants.{MAX_WIRE}
-use Rattle.tftp_ends.specs.End.{EndState, is_complete}
+use Rattle.tftp_ends.specs.End.{EndState, is_complete, outcome_of}
 use Rattle.tftp_ends.specs.Opening.{MayGet, MayPut, getting, putting}
 use Rattle.tftp_ends.specs.declared.endpoint.Endpoint.{Endpoint}
 use Rattle.tftp_ends.specs.declared.outcome.Outcome.{Outcome}
@@ -197,6 +197,30 @@ module _ {S K : Type 0} (sources : SourceMeaning S) (sinks : SinkMeaning K) wher
     pub converses : Converses sources sinks port first file last files
     pub events : last.events ≡ after
 
+  -- it dallied, if it was to, until its end was closed or it had made so many waits
+  abbrev pub HasDallied : Bool → ℕ → State → List SocketEvent → Type 0
+  HasDallied dallies most last after =
+      dallies ≡ true → IsSome (outcome_of last.end.position.phase) ⊎ (most ≤ waits after)
+
+  -- the client went on from that state to that file, and dallied if it was to
+  pub record DalliesTo (dallies : Bool) (most port : ℕ) (first : State) (file : Files S K)
+      (after : List SocketEvent) (files : Files S K) : Type 0 where
+    pub last : State
+    pub converses : Converses sources sinks port first file last files
+    pub events : last.events ≡ after
+    pub over : HasDallied dallies most last after
+
+  abbrev pub dallied : {dallies : Bool} {most port : ℕ} {first : State} {file : Files S K}
+      {after : List SocketEvent} {files : Files S K}
+      → DalliesTo dallies most port first file after files → Dallies port first file after
+  dallied {files = files} stays =
+      record {
+        last = stays.last;
+        files = files;
+        converses = stays.converses;
+        events = stays.events;
+      }
+
   -- a job is complete: its end is, and a received file holds the bytes that moved in the run; then
   -- its line was printed, with N of the file, and from then on its end stayed (RFC 1350, section 6)
   pub record Completes (job : Job) (before after : List SocketEvent) : Type 0 where
@@ -212,5 +236,7 @@ module _ {S K : Type 0} (sources : SourceMeaning S) (sinks : SinkMeaning K) wher
     -- it stays complete, and nothing moves
     pub stayed : is_complete stays.last.end.position.phase ≡ true
     pub still : (moved : Moved) → run_moves stays.converses moved ≡ moved
+    -- it dallied, if it was to
+    pub over : HasDallied job.dallies (most_waits before) stays.last after
     -- all its runs and what it did after them make so many waits at most
     pub within : waits after ≤ most_waits before

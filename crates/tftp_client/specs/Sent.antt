@@ -4,6 +4,8 @@ use Rattle.std.proofs.Common.{inl, inr}
 use Rattle.std.specs.declared.io.traits.Read as read
 use Rattle.std.specs.declared.io.traits.Write as write
 use Rattle.std.specs.declared.io.traits.Seek as seek
+use Rattle.tftp_disk.specs.DiskJournal.{DiskEvent}
+use Rattle.tftp_disk.specs.declared.disk.Looks as looks
 use Rattle.tftp_wire.specs.declared.mode.Mode.{Mode}
 use Rattle.tftp_wire.specs.declared.mode.Mode.TheVariants.{Netascii}
 use Rattle.tftp_negotiate.specs.declared.known.Kind.{Kind}
@@ -15,16 +17,17 @@ use Rattle.tftp_file.specs.declared.files.Files.{Files}
 use Rattle.tftp_file.specs.declared.files.Files.TheVariants.{Source, Sink}
 use Rattle.tftp_ends.specs.End.{is_complete}
 use Rattle.tftp_disk.specs.DiskSource.{HasGiven, IsUnread, source_calls, source_mode}
-use Rattle.tftp_disk.specs.Given.{given, opened_at, passed}
+use Rattle.tftp_disk.specs.Given.{given, is_at_start, opened_at, passed}
 use Rattle.tftp_disk.specs.declared.disk_source.DiskSource.{DiskSource}
 use Rattle.tftp_sockets.specs.Journal.{SocketEvent}
 use Rattle.tftp_client.specs.declared.local.LocalFile.{LocalFile}
 use Rattle.tftp_client.specs.declared.transfer.Job.{Job}
 use Rattle.tftp_client.specs.Converses.{State}
-use Rattle.tftp_client.specs.OnDisk.{OrderOnDisk, WordsOnDisk}
+use Rattle.tftp_client.specs.Moved.{nothing_moved, run_moves}
+use Rattle.tftp_client.specs.OnDisk.{IsOnDisk, KeepsDisk, OrderOnDisk, WordsOnDisk}
 use Rattle.tftp_client.specs.Ordered.{RunsOrder, RunsWords}
-use Rattle.tftp_client.specs.Outbound.{HasLength, is_at_start}
-use Rattle.tftp_client.specs.Runs.{RunsAs, Transfers, moved_by}
+use Rattle.tftp_client.specs.Outbound.{HasLength}
+use Rattle.tftp_client.specs.Runs.{Dallies, HasDallied, RunsAs, Transfers, moved_by, printed}
 
 module _ {F : Type 0} where
   -- a file to send in this mode, as it was opened at the path: nothing was read of it since, or
@@ -87,6 +90,42 @@ module _ {F K : Type 0} (sources : SourceMeaning (DiskSource F)) (sinks : SinkMe
       (transfers : Transfers sources sinks most port job before s files count)
       × BeginsFor transfers
 
+  -- the run of an end of this kind, as a job opens it, from the file of the job on, is complete;
+  -- then its line was printed, with N of the file, and the client went on
+  pub record Concludes (most : ℕ) (kind : Kind) (job : Job) (before after : List SocketEvent)
+      : Type 0 where
+    pub port : ℕ
+    pub last : State
+    pub files : Files (DiskSource F) K
+    pub count : ℕ
+    pub run : RunsFor port kind job before last files count
+    pub complete : is_complete last.end.position.phase ≡ true
+    pub stays : Dallies sources sinks port (printed count last) files after
+    pub over : HasDallied sources sinks job.dallies most stays.last after
+
+  -- the same, and what moved in it is on the disk, which has these calls
+  abbrev pub EndStores : ℕ → Kind → Job → List SocketEvent → List SocketEvent → List DiskEvent
+      → Type 0
+  EndStores most kind job before after calls =
+      (done : Concludes most kind job before after)
+      × IsOnDisk job done.files (run_moves done.run.0.runs.converses nothing_moved).bytes calls
+
+  -- the same of a job, which may have been run without its options, once these were refused
+  pub record Finishes (most : ℕ) (job : Job) (before after : List SocketEvent) : Type 0 where
+    pub port : ℕ
+    pub last : State
+    pub files : Files (DiskSource F) K
+    pub count : ℕ
+    pub transfers : TransfersFor most port job before last files count
+    pub complete : is_complete last.end.position.phase ≡ true
+    pub stays : Dallies sources sinks port (printed count last) files after
+    pub over : HasDallied sources sinks job.dallies most stays.last after
+
+  abbrev pub JobStores : ℕ → Job → List SocketEvent → List SocketEvent → List DiskEvent → Type 0
+  JobStores most job before after calls =
+      (done : Finishes most job before after)
+      × IsOnDisk job done.files (moved_by sources sinks done.transfers.0).bytes calls
+
   -- what moved in the run of a complete put was read of its file
   abbrev pub OrderSent : (job : Job) (status : ℕ) (before after : List SocketEvent)
       → RunsOrder sources sinks job status before after → Type 0
@@ -127,20 +166,24 @@ module _ {F K : Type 0} (sources : SourceMeaning (DiskSource F)) (sinks : SinkMe
       → ((moved_by sources sinks transfers).bytes ≡ wire_text Netascii text)
       × (count ≡ length text)
 
-module _ {R F D : Type 0} {reads : read.Ghosts F} {writes : write.Ghosts F}
-    {seeks : seek.Ghosts F} {lists : read.Ghosts D}
-    (sources : SourceMeaning (DiskSource F))
-    (sinks : SinkMeaning (LocalFile R F D reads writes seeks lists)) where
-  -- a job was run: what moved in a complete run is on the disk, or came from it
-  abbrev pub DoesOrder : Job → ℕ → List SocketEvent → List SocketEvent → Type 0
-  DoesOrder job status before after =
+module _ {D F V G : Type 0} {logs : looks.Ghosts D} {writes : write.Ghosts F}
+    {views : looks.Ghosts V} {reads : read.Ghosts G} {seeks : seek.Ghosts G}
+    (sources : SourceMeaning (DiskSource G))
+    (sinks : SinkMeaning (LocalFile D F V G logs writes views reads seeks)) where
+  -- a job was run, between these calls of the disk: what moved in a complete run is on the disk, or
+  -- came from it, and no other file was changed
+  abbrev pub DoesOrder : Job → ℕ → List SocketEvent → List SocketEvent → List DiskEvent
+      → List DiskEvent → Type 0
+  DoesOrder job status before after calls calls' =
       (runs : RunsOrder sources sinks job status before after)
-      × OrderOnDisk sources sinks job status before after runs
+      × OrderOnDisk sources sinks job status before after calls' runs
+      × KeepsDisk job calls calls'
       × OrderSent sources sinks job status before after runs
 
   -- the same of words
-  abbrev pub DoesWords : List (List ℕ) → ℕ → List SocketEvent → List SocketEvent → Type 0
-  DoesWords words status before after =
+  abbrev pub DoesWords : List (List ℕ) → ℕ → List SocketEvent → List SocketEvent → List DiskEvent
+      → List DiskEvent → Type 0
+  DoesWords words status before after calls calls' =
       (runs : RunsWords sources sinks words status before after)
-      × WordsOnDisk sources sinks words status before after runs
+      × WordsOnDisk sources sinks words status before after calls calls' runs
       × WordsSent sources sinks words status before after runs

@@ -1,11 +1,16 @@
 -- The file of a fetch that is being written, by the calls on it (own).
-use Rattle.std.specs.Prelude.{ℕ, ◌≡◌, ◌⊎◌, List, [], ◌++◌, codes, Option, Some, None}
+use Rattle.std.specs.Prelude.{ℕ, ◌≡◌, ◌⊎◌, ⊤, Bool, false, List, [], ◌++◌, codes, Option, Some}
+use Rattle.std.specs.Prelude.{None}
 use Rattle.std.specs.String.{string_bytes}
+use Rattle.tftp_file.specs.Sink.{Holding}
 use Rattle.tftp_disk.specs.declared.existing.Existing.{Existing}
 use Rattle.tftp_disk.specs.DiskFault.{is_replaced}
-use Rattle.tftp_disk.specs.DiskJournal.{made_at, state_of}
+use Rattle.tftp_disk.specs.DiskJournal.{DiskEvent, folder_at, made_at, made_when, state_of}
 use Rattle.tftp_disk.specs.DiskWriter.{calls_of, handed, IsRefused}
-use Rattle.tftp_client.specs.Fetched.{IsWholeAt, Paths}
+use Rattle.tftp_disk.specs.Folder.{IsFolderOf}
+use Rattle.tftp_disk.specs.Still.{IsStillAt}
+use Rattle.tftp_disk.specs.declared.disk_file.DiskFolder.{DiskFolder}
+use Rattle.tftp_client.specs.Fetched.{IsBarred, IsWholeAt, Paths}
 use Rattle.tftp_client.specs.declared.local_names.LocalNames.{LocalNames}
 use Rattle.tftp_client.specs.declared.written.Written.{Written}
 
@@ -34,10 +39,21 @@ module _ {F : Type 0} where
   place_in part None = Some part
   place_in part (Some written) = made_at (calls_of written.writer)
 
-  -- it was handed what it was before, and is where it was made
+  -- what is appended to the file, by whether it has its name
+  abbrev pub held_of : Option (Written F) → Bool → Holding
+  held_of written committed =
+      record { bytes = bytes_in written; committed = committed; refuses = false }
+
+  -- once it is made, it is still what has its first name
+  abbrev pub IsStillIn : List ℕ → Option (Written F) → List DiskEvent → Type 0
+  IsStillIn part None log = ⊤
+  IsStillIn part (Some written) log = IsStillAt part (made_when (calls_of written.writer)) log
+
+  -- it was handed what it was before, and is what was made where and when it was
   pub record SameFile (before after : Written F) : Type 0 where
     pub content : handed after.writer ≡ handed before.writer
     pub place : made_at (calls_of after.writer) ≡ made_at (calls_of before.writer)
+    pub making : made_when (calls_of after.writer) ≡ made_when (calls_of before.writer)
 
   -- nothing that it was handed is still in its buffer, unless the newest call on it is a write that
   -- was refused
@@ -49,8 +65,8 @@ module _ {F : Type 0} where
   HasNoRest None = Unit {0}
   HasNoRest (Some file) = IsWrittenOut file
 
-  -- these bytes were written to the file that was made at this path, in order and each once, up to a
-  -- write that was refused; without bytes there may be no file
+  -- these bytes were written to the file that was made at this path, in order and each once, up to
+  -- a write that was refused; without bytes there may be no file
   abbrev pub IsWrittenAt : List ℕ → List ℕ → Option (Written F) → Type 0
   IsWrittenAt part bytes None = bytes ≡ []
   IsWrittenAt part bytes (Some file) =
@@ -60,3 +76,9 @@ module _ {F : Type 0} where
   -- all that it was handed is in it and synced
   abbrev pub IsDone : List ℕ → List ℕ → Written F → Type 0
   IsDone part bytes written = IsWholeAt part bytes (state_of (calls_of written.writer))
+
+  -- the folder is that of the path, or the user may not read that
+  abbrev pub IsFolderIn : List ℕ → Option (DiskFolder F) → List DiskEvent → Type 0
+  IsFolderIn path (Some folder) log =
+      (at : List ℕ) × IsFolderOf path at × (folder_at folder.journal.events ≡ Some at)
+  IsFolderIn path None log = IsBarred path log

@@ -1,6 +1,6 @@
 //! The command line of `tftp`, and the job that its words name.
 
-ghost use Rattle.std.specs.Prelude.{◌≡◌, ◌≢◌, ◌≤◌, codes, Some, None, map};
+ghost use Rattle.std.specs.Prelude.{◌≡◌, ◌≢◌, ◌≤◌, true, false, codes, Some, None, map};
 ghost use Rattle.std.specs.Prelude.{IfOk, IfSome};
 ghost use Rattle.clap.specs.Simple.{App, subcommand_rows_of};
 ghost use Rattle.tftp_wire.specs.declared.mode.Mode.TheVariants.{Octet, Netascii};
@@ -54,19 +54,11 @@ impl ErrorOutput {
     }
 }
 
-/// The order of a command line.
-#[derive(Clone, Copy)]
-pub(crate) struct Order<'a> {
-    pub(crate) job: Job<'a>,
-    /// Whether a receiver dallies to repeat its last acknowledgement.
-    pub(crate) dallies: bool,
-}
-
 /// What a command line has the program do.
 #[derive(Clone, Copy)]
 pub(crate) enum CommandLine<'a> {
-    /// Run this order.
-    Run(Order<'a>),
+    /// Run this job.
+    Run(Job<'a>),
     /// End with this status: what was to be printed is printed.
     Exit(u8),
 }
@@ -80,8 +72,8 @@ pub(crate) fn read_words<'a, P: Print + Eprint, S: AsStr>(
     errors: ErrorOutput,
 ) -> anyhow::Result<CommandLine<'a>>
     ensures status { IfOk result (λ line. IfExit line (λ status. status ≤ 2)) }
-    ensures names { IfOk result (λ line. IfRun line (λ order.
-        WordsName (map S.text words.now) order.job)) }
+    ensures names { IfOk result (λ line. IfRun line (λ job.
+        WordsName (map S.text words.now) job)) }
     ensures text { IfOk result (λ line. IfExit line (λ status. status ≡ 0
         → AskForText tftp_app (map S.text words.now))) }
 {
@@ -102,8 +94,8 @@ fn match_words<'a, P: Print + Eprint, S: AsStr>(
 ) -> anyhow::Result<CommandLine<'a>>
     requires { IsApp tftp_app command.old }
     ensures status { IfOk result (λ line. IfExit line (λ status. status ≤ 2)) }
-    ensures names { IfOk result (λ line. IfRun line (λ order.
-        WordsName (map S.text words.now) order.job)) }
+    ensures names { IfOk result (λ line. IfRun line (λ job.
+        WordsName (map S.text words.now) job)) }
     ensures text { IfOk result (λ line. IfExit line (λ status. status ≡ 0
         → AskForText tftp_app (map S.text words.now))) }
 {
@@ -122,17 +114,14 @@ fn read_matches<'a, P: Print + Eprint>(
     errors: ErrorOutput,
 ) -> anyhow::Result<CommandLine<'a>>
     ensures status { IfOk result (λ line. IfExit line (λ status. status ≡ 2)) }
-    ensures names { IfOk result (λ line. IfRun line (λ order.
-        NamesBy (subcommand_rows_of matches.now) order.job)) }
+    ensures names { IfOk result (λ line. IfRun line (λ job.
+        NamesBy (subcommand_rows_of matches.now) job)) }
 {
     let Some((word, matches)) = matches.subcommand() else {
         return Ok(CommandLine::Exit(2));
     };
     match job_of(kind_of(word), matches, errors) {
-        Some(job) => Ok(CommandLine::Run(Order {
-            job,
-            dallies: !matches.get_flag("no-dally"),
-        })),
+        Some(job) => Ok(CommandLine::Run(job)),
         None => {
             let status = report_address(rt, alloc, texts, word, matches)?;
             Ok(CommandLine::Exit(status))
@@ -190,6 +179,7 @@ fn job_of<'a>(kind: Kind, matches: &ArgMatches<'a>, errors: ErrorOutput) -> Opti
         retries: matches.get_one::<u8>("retries")?,
         falls_back: is_set(matches, "fallback"),
         progress: progress(matches, errors),
+        dallies: dallies(matches),
     })
 }
 
@@ -219,6 +209,17 @@ fn progress(matches: &ArgMatches<'_>, errors: ErrorOutput) -> Progress {
     match errors {
         ErrorOutput::Terminal if matches.get_flag("progress") => Progress::Shown,
         _ => Progress::Hidden,
+    }
+}
+
+/// Whether a receiver dallies.
+fn dallies(matches: &ArgMatches<'_>) -> bool
+    ensures { IsChosen (text_of matches.now (codes "no-dally")) false true result }
+{
+    if is_set(matches, "no-dally") {
+        false
+    } else {
+        true
     }
 }
 

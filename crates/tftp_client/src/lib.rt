@@ -4,7 +4,6 @@
 #![tactic(auto)]
 
 mod cause;
-mod client_udp;
 mod command_line;
 pub mod laws;
 mod local;
@@ -14,11 +13,10 @@ mod naming;
 mod outbound;
 mod part_file;
 mod program;
-mod taken;
 mod transfer;
 mod without_options;
 mod written;
 
 pub use local::LocalFile;
-pub use program::{tftp_command, tftp_with_journal, tftp_words};
+pub use program::{tftp_command, tftp_on, tftp_words};
 pub use without_options::fallback;

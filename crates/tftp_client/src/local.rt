@@ -1,25 +1,28 @@
 //! The local file of a client. A fetched file is written under another name, and gets its name at
 //! the commit, once it is on the disk.
 //!
-//! Clauses state by which calls of the system, as a journal has them: not what a disk then holds.
+//! Clauses state by which calls of the system, as the history of a disk has them: not what a disk
+//! then holds.
 
-ghost use Rattle.std.specs.Prelude.{◌≡◌, ◌≢◌, true, false, length, IfOk};
-ghost use Rattle.tftp_disk.specs.Changes.{changes};
+ghost use Rattle.std.specs.Prelude.{◌≡◌, ◌≢◌, true, false, length};
 ghost use Rattle.tftp_file.specs.declared.fault.StoreFault.TheVariants.{Memory};
-ghost use Rattle.tftp_client.specs.Fetched.{AreOwn, IsNamed};
-ghost use Rattle.tftp_client.specs.Taken.{nothing};
-ghost use Rattle.tftp_client.specs.Written.{bytes_in, paths_for, paths_of, HasNoRest};
+ghost use Rattle.tftp_client.specs.Fetched.{IsNamed, KeepsPlace};
+ghost use Rattle.tftp_client.specs.Written.{bytes_in, held_of, paths_of, HasNoRest, IsFolderIn};
 
 use crate::local_error::LocalError;
-use crate::part_file::PartFile;
-use crate::taken::Taken;
+use crate::part_file::{PartFile, Place};
 use std::alloc::Global;
-use std::rt::Files;
-use tftp_disk::{DiskSource, Existing};
+use tftp_disk::{Disk, DiskSource, Looks, View};
 use tftp_file::{Sink, StoreFault};
 
 /// The source of a file to send.
 pub(crate) type LocalSource<F> = DiskSource<F>;
+
+/// A file that a view of this disk opened.
+pub(crate) type FileOf<D> = <<D as Disk>::View as View>::File;
+
+/// The source of a file that a view of this disk opened.
+pub(crate) type SourceOf<D> = LocalSource<FileOf<D>>;
 
 /// The error of the last failed read, if a read failed.
 pub(crate) fn read_error<F: Drop>(source: &LocalSource<F>) -> Option<LocalError> {
@@ -34,45 +37,47 @@ pub(crate) fn read_error<F: Drop>(source: &LocalSource<F>) -> Option<LocalError>
 /// Its model is the bytes of the appends that succeeded, and whether a commit succeeded after them:
 /// the file that was made then has just these bytes and the name. No other name was changed.
 #[derive(Drop)]
-pub struct LocalFile<R: Files + Drop> {
-    part: PartFile<R>,
+pub struct LocalFile<D: Disk> {
+    part: PartFile<D>,
     count: u64,
-    taken: Taken,
+    /// Whether a commit succeeded after the last append.
+    committed: bool,
     error: Option<LocalError>,
-    ghost counts: { count ≡ length taken.holding.bytes },
-    ghost never_refuses: { taken.holding.refuses ≡ false },
-    ghost content: { bytes_in part.written ≡ taken.holding.bytes },
-    ghost own: { ∥ AreOwn (paths_of part.names part.existing) (changes part.journal.events) ∥₁ },
-    ghost named: { taken.holding.committed ≡ true
-        → ∥ IsNamed (paths_of part.names part.existing) taken.holding.bytes
-        (changes part.journal.events) ∥₁ },
+    ghost counts: { count ≡ length (bytes_in part.written) },
+    ghost named: { committed ≡ true
+        → ∥ IsNamed (paths_of part.names part.existing) (bytes_in part.written)
+        (D.log part.disk) ∥₁ },
 }
 
-impl<R: Files + Drop> LocalFile<R> {
+impl<D: Disk> LocalFile<D> {
     ghost use Rattle.tftp_file.specs.Sink.{WritesBehind};
-    ghost use Rattle.tftp_client.specs.PartFile.{SameNames};
+    ghost use Rattle.std.specs.String.{string_bytes};
+    ghost use Rattle.tftp_client.specs.Taken.{nothing};
 
-    /// A new file of this name. Nothing is changed on the disk before bytes are appended or an
+    /// A new file at this place. Nothing is changed on the disk before bytes are appended or an
     /// empty file is committed.
-    pub(crate) fn new(
-        files: R,
-        alloc: Global,
-        local: &str,
-        existing: Existing,
-    ) -> Result<LocalFile<R>, LocalError>
-        ensures empty { IfOk result (λ file. file.taken.holding ≡ nothing) }
-        ensures paths { IfOk result (λ file. paths_of file.part.names file.part.existing
-            ≡ paths_for local.now existing) }
+    pub(crate) fn new(disk: D, alloc: Global, place: Place<D::File>) -> LocalFile<D>
+        requires { ∥ IsFolderIn (string_bytes place.names.local) place.folder.folder
+            (D.log disk) ∥₁ }
+        ensures empty { held_of result.part.written result.committed ≡ nothing }
+        ensures paths { paths_of result.part.names result.part.existing
+            ≡ paths_of place.names place.existing }
+        ensures disk { result.part.disk ≡ disk }
     {
-        match PartFile::new(files, alloc, local, existing) {
-            Ok(part) => Ok(LocalFile {
-                part,
-                count: 0,
-                taken: Taken::new(),
-                error: None,
-            }),
-            Err(error) => Err(error),
+        LocalFile {
+            part: PartFile::new(disk, alloc, place),
+            count: 0,
+            committed: false,
+            error: None,
         }
+    }
+
+    /// Its disk.
+    pub(crate) fn into_disk(self) -> D
+        ensures { result ≡ self.part.disk }
+    {
+        let LocalFile { part, .. } = self;
+        part.into_disk()
     }
 
     /// The number of bytes appended to it.
@@ -85,22 +90,22 @@ impl<R: Files + Drop> LocalFile<R> {
     /// Writes what is buffered, and syncs nothing: what `LOCAL.part` is to have after a transfer
     /// that failed. A write that fails is not tried again.
     pub(crate) fn write_out(&mut self)
-        ensures behind { WritesBehind ⟦<LocalFile<R> as Sink>⟧.meaning self.old self.new }
-        ensures leaves { SameNames self.old.part self.new.part }
+        ensures behind { WritesBehind ⟦<LocalFile<D> as Sink>⟧.meaning self.old self.new }
+        ensures leaves { ⟦<LocalFile<D> as Sink>⟧.meaning.becomes self.old self.new false }
         ensures written { HasNoRest self.new.part.written }
     {
         self.part.write_out();
     }
 
     /// The error of the last failed append or commit, if one failed.
-    pub(crate) fn into_error(self) -> Option<LocalError> {
+    pub(crate) fn error(&self) -> Option<LocalError> {
         self.error
     }
 
     /// Records the error of a call, and returns its fault.
     fn record_error(&mut self, error: LocalError) -> StoreFault
         ensures fault { result ≢ Memory }
-        ensures taken { self.new.taken ≡ self.old.taken }
+        ensures committed { self.new.committed ≡ self.old.committed }
         ensures part { self.new.part ≡ self.old.part }
     {
         let fault = error.fault();
@@ -109,15 +114,15 @@ impl<R: Files + Drop> LocalFile<R> {
     }
 }
 
-impl<R: Files + Drop> Sink for LocalFile<R> {
+impl<D: Disk> Sink for LocalFile<D> {
     ghost use Rattle.std.specs.Prelude.{Some, ⊤, refl};
-    ghost use Rattle.tftp_client.specs.PartFile.{SameNames};
 
     ghost meaning = { record {
-      held = λ file. Some file.taken.holding;
+      held = λ file. Some (held_of file.part.written file.committed);
       may_refuse_append = λ _ _ _. ⊤;
       may_refuse_commit = λ _ _. ⊤;
-      becomes = λ old new _. SameNames old.part new.part;
+      becomes = λ old new _. KeepsPlace (paths_of old.part.names old.part.existing)
+          (paths_of new.part.names new.part.existing) (D.log old.part.disk) (D.log new.part.disk);
       after_append = λ _ _ _ _. ⊤;
       after_commit = λ _ _ _. ⊤;
     } };
@@ -128,7 +133,10 @@ impl<R: Files + Drop> Sink for LocalFile<R> {
 
     ghost joins = { λ _ _ _ _ _. tt };
 
-    ghost unmoved = { λ _. record { names = refl; existing = refl } };
+    ghost unmoved = { λ _. record {
+      same = refl;
+      keeps = record { own = λ own. own; named = λ _ named. named; barred = λ barred. barred };
+    } };
 
     /// It accepts at most 2^64 - 1 bytes, as many as it can count.
     fn append(&mut self, bytes: &[u8]) -> Result<(), StoreFault> {
@@ -137,7 +145,7 @@ impl<R: Files + Drop> Sink for LocalFile<R> {
         };
         match self.part.append(bytes) {
             Ok(()) => {
-                self.taken.appended(bytes);
+                self.committed = false;
                 self.count = count;
                 Ok(())
             }
@@ -152,7 +160,7 @@ impl<R: Files + Drop> Sink for LocalFile<R> {
     fn commit(&mut self) -> Result<(), StoreFault> {
         match self.part.commit() {
             Ok(()) => {
-                self.taken.committed();
+                self.committed = true;
                 Ok(())
             }
             Err(error) => Err(self.record_error(error)),

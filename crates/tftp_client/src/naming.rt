@@ -1,246 +1,227 @@
 //! Gives a fetched file its name.
 
-ghost use Rattle.std.specs.Prelude.{◌≡◌, ◌∷◌, OnOk, OnErr};
+ghost use Rattle.std.specs.Prelude.{◌≡◌, ◌∷◌, Err, List, IfErr, OnOk, OnErr};
 ghost use Rattle.std.specs.String.{string_bytes};
-ghost use Rattle.tftp_disk.specs.Changes.{changes};
 ghost use Rattle.tftp_disk.specs.declared.existing.Existing.TheVariants.{Refused, Replaced};
-ghost use Rattle.tftp_disk.specs.DiskJournal.{Done, state_of};
-ghost use Rattle.tftp_disk.specs.DiskJournal.DiskEvent.{Linked, Removed};
+ghost use Rattle.tftp_disk.specs.DiskJournal.{DiskEvent, Done, made_when, state_of};
+ghost use Rattle.tftp_disk.specs.DiskJournal.DiskEvent.{Folder_synced, Linked, Removed};
 ghost use Rattle.tftp_disk.specs.DiskWriter.{calls_of, handed};
-ghost use Rattle.tftp_disk.specs.NamedFolder.{IsFolderFor, SyncsFolder};
-ghost use Rattle.tftp_client.specs.Fetched.{Keeps, KeepsOne, LosesName, MayRename, NamesBytes};
-ghost use Rattle.tftp_client.specs.Fetched.{Renames, WasNamed};
-ghost use Rattle.tftp_client.specs.Written.{IsDone, SameFile, paths_of};
+ghost use Rattle.tftp_disk.specs.NamedFolder.{SyncsFolder, path_in};
+ghost use Rattle.tftp_disk.specs.Still.{IsStillAt};
+ghost use Rattle.tftp_client.specs.Fetched.{FindsNothing, IsAbsent, Keeps, KeepsOne, LosesName};
+ghost use Rattle.tftp_client.specs.Fetched.{MayRename, NamesBytes, Renames, WasNamed, WasUnlinked};
+ghost use Rattle.tftp_client.specs.Written.{IsDone, IsFolderIn, SameFile, paths_of};
 
 use crate::local_error::LocalError;
 use crate::local_names::LocalNames;
 use crate::written::Written;
 use std::io::{self, ErrorKind};
-use std::rt::Files;
-use tftp_disk::{DiskJournal, Existing, Found, Kind, NamedFolder};
+use tftp_disk::{Disk, Existing, Found, Kind, Looks, NamedFolder};
 
 /// Gives the file its name, and syncs the folder.
 ///
 /// `PartReplaced` if another file has its first name. `Exists` if a file has the name and none is
 /// to be replaced, `NotAFile` if what has it is no regular file.
-pub(crate) fn give_name<R: Files>(
-    files: &R,
-    journal: &mut DiskJournal,
+pub(crate) fn give_name<D: Disk>(
+    disk: &mut D,
     names: &LocalNames,
     existing: Existing,
-    folder: &NamedFolder<R::File>,
-    written: &mut Written<R::File>,
+    folder: &NamedFolder<D::File>,
+    written: &mut Written<D::File>,
 ) -> Result<(), LocalError>
     requires whole { IsDone (string_bytes names.now.part) (handed written.old.writer) written.old }
-    requires folder { ∥ IsFolderFor (string_bytes names.now.local) folder.now.folder ∥₁ }
+    requires folder { ∥ IsFolderIn (string_bytes names.now.local) folder.now.folder
+        (D.log disk.old) ∥₁ }
+    requires still { ∥ IsStillAt (string_bytes names.now.part)
+        (made_when (calls_of written.old.writer)) (D.log disk.old) ∥₁ }
     ensures same { SameFile written.old written.new }
-    ensures keeps { Keeps (paths_of names.now existing) (changes journal.old.events)
-        (changes journal.new.events) }
+    ensures keeps { Keeps (paths_of names.now existing) (D.log disk.old) (D.log disk.new) }
     ensures ok { OnOk result ∥ WasNamed (paths_of names.now existing)
-        (handed written.old.writer) (changes journal.new.events) ∥₁ }
+        (handed written.old.writer) (D.log disk.new) ∥₁ }
 {
-    check_is_open(files, journal, names, written)?;
-    put_name(files, journal, names, existing, folder, written)
+    let opened = written.examine()?;
+    let found = disk.look(names.part.as_str())?;
+    if !opened.id.is(found.id) {
+        return Err(LocalError::PartReplaced);
+    }
+    put_name(disk, names, existing, folder, written)
 }
 
 /// Gives the file its name, and syncs this folder.
-fn put_name<R: Files>(
-    files: &R,
-    journal: &mut DiskJournal,
+fn put_name<D: Disk>(
+    disk: &mut D,
     names: &LocalNames,
     existing: Existing,
-    folder: &NamedFolder<R::File>,
-    written: &mut Written<R::File>,
+    folder: &NamedFolder<D::File>,
+    written: &mut Written<D::File>,
 ) -> Result<(), LocalError>
-    requires { IsDone (string_bytes names.now.part) (handed written.old.writer) written.old }
+    requires whole { IsDone (string_bytes names.now.part) (handed written.old.writer) written.old }
+    requires still { ∥ IsStillAt (string_bytes names.now.part)
+        (made_when (calls_of written.old.writer)) (D.log disk.old) ∥₁ }
     ensures same { SameFile written.old written.new }
-    ensures keeps { Keeps (paths_of names.now existing) (changes journal.old.events)
-        (changes journal.new.events) }
+    ensures keeps { Keeps (paths_of names.now existing) (D.log disk.old) (D.log disk.new) }
     ensures ok { OnOk result (NamesBytes (SyncsFolder folder.now.folder)
-        (paths_of names.now existing) (handed written.old.writer) (changes journal.new.events)) }
+        (paths_of names.now existing) (handed written.old.writer) (D.log disk.new)) }
 {
     match existing {
-        Existing::Refused => name_new(files, journal, names, folder, written),
-        Existing::Replaced => replace(files, journal, names, folder, written),
-    }
-}
-
-/// Fails unless `LOCAL.part` is the open file.
-fn check_is_open<R: Files>(
-    files: &R,
-    journal: &mut DiskJournal,
-    names: &LocalNames,
-    written: &mut Written<R::File>,
-) -> Result<(), LocalError>
-    ensures state { state_of (calls_of written.new.writer)
-        ≡ state_of (calls_of written.old.writer) }
-    ensures same { SameFile written.old written.new }
-    ensures looks { changes journal.new.events ≡ changes journal.old.events }
-{
-    let opened = written.examine()?;
-    let found = tftp_disk::look(files, journal, names.part.as_str())?;
-    if opened.id.is(found.id) {
-        Ok(())
-    } else {
-        Err(LocalError::PartReplaced)
+        Existing::Refused => name_new(disk, names, folder, written),
+        Existing::Replaced => replace(disk, names, folder, written),
     }
 }
 
 /// Gives the file its name, if no file has that name. A hard link never replaces a file. If the
 /// system makes no link, the file is renamed.
-fn name_new<R: Files>(
-    files: &R,
-    journal: &mut DiskJournal,
+fn name_new<D: Disk>(
+    disk: &mut D,
     names: &LocalNames,
-    folder: &NamedFolder<R::File>,
-    written: &Written<R::File>,
+    folder: &NamedFolder<D::File>,
+    written: &Written<D::File>,
 ) -> Result<(), LocalError>
-    requires { IsDone (string_bytes names.now.part) (handed written.now.writer) written.now }
-    ensures keeps { Keeps (paths_of names.now Refused) (changes journal.old.events)
-        (changes journal.new.events) }
+    requires whole { IsDone (string_bytes names.now.part) (handed written.now.writer) written.now }
+    requires still { ∥ IsStillAt (string_bytes names.now.part)
+        (made_when (calls_of written.now.writer)) (D.log disk.old) ∥₁ }
+    ensures keeps { Keeps (paths_of names.now Refused) (D.log disk.old) (D.log disk.new) }
     ensures ok { OnOk result (NamesBytes (SyncsFolder folder.now.folder)
-        (paths_of names.now Refused) (handed written.now.writer) (changes journal.new.events)) }
+        (paths_of names.now Refused) (handed written.now.writer) (D.log disk.new)) }
 {
-    match link(files, journal, names, written) {
-        Ok(()) => keep_one(files, journal, names, folder),
+    match link(disk, names, written) {
+        Ok(()) => keep_one(disk, names, folder),
         Err(error) => {
             if error.kind() == ErrorKind::AlreadyExists {
                 return Err(LocalError::Exists);
             }
-            rename_new(files, journal, names, folder, written)
+            rename_new(disk, names, folder, written)
         }
     }
 }
 
 /// Gives the file its name beside the first, if no file has it.
-fn link<R: Files>(
-    files: &R,
-    journal: &mut DiskJournal,
-    names: &LocalNames,
-    written: &Written<R::File>,
-) -> io::Result<()>
-    ensures { changes journal.new.events ≡ Linked (state_of (calls_of written.now.writer))
+fn link<D: Disk>(disk: &mut D, names: &LocalNames, written: &Written<D::File>) -> io::Result<()>
+    ensures { D.log disk.new ≡ Linked (state_of (calls_of written.now.writer))
         (string_bytes names.now.part) (string_bytes names.now.local) result
-        ∷ changes journal.old.events }
+        ∷ D.log disk.old }
 {
     let (part, local) = (names.part.as_str(), names.local.as_str());
-    tftp_disk::link(files, journal, written.file(), part, local)
+    disk.link(written.file(), part, local)
 }
 
 /// Syncs the folder of a file with both names. The file keeps its name, or the first one if the
 /// sync fails.
-fn keep_one<R: Files>(
-    files: &R,
-    journal: &mut DiskJournal,
+fn keep_one<D: Disk>(
+    disk: &mut D,
     names: &LocalNames,
-    folder: &NamedFolder<R::File>,
+    folder: &NamedFolder<D::File>,
 ) -> Result<(), LocalError>
     ensures ok { OnOk result (KeepsOne (SyncsFolder folder.now.folder)
-        (paths_of names.now Refused) (changes journal.old.events) (changes journal.new.events)) }
+        (paths_of names.now Refused) (D.log disk.old) (D.log disk.new)) }
     ensures err { OnErr result (LosesName (paths_of names.now Refused)
-        (changes journal.old.events) (changes journal.new.events)) }
+        (D.log disk.old) (D.log disk.new)) }
 {
-    match folder.sync(journal) {
+    match sync_folder(disk, folder) {
         Ok(()) => {
-            let _ = tftp_disk::remove(files, journal, names.part.as_str());
+            let _ = disk.remove(names.part.as_str());
             Ok(())
         }
         Err(error) => {
-            remove_name(files, journal, names);
+            remove_name(disk, names);
             Err(LocalError::System(error))
         }
     }
 }
 
-/// Removes the name again.
-fn remove_name<R: Files>(files: &R, journal: &mut DiskJournal, names: &LocalNames)
-    ensures { (removal : Done) × (changes journal.new.events
-        ≡ Removed (string_bytes names.now.local) removal ∷ changes journal.old.events) }
+/// Syncs the folder, if its file system supports that.
+fn sync_folder<D: Disk>(disk: &mut D, folder: &NamedFolder<D::File>) -> io::Result<()>
+    ensures ok { OnOk result (SyncsFolder folder.now.folder (D.log disk.old) (D.log disk.new)) }
+    ensures err { IfErr result (λ error. D.log disk.new
+        ≡ Folder_synced (path_in folder.now.folder) (Err error) ∷ D.log disk.old) }
 {
-    let _ = tftp_disk::remove(files, journal, names.local.as_str());
+    folder.sync(disk)
+}
+
+/// Removes the name again.
+fn remove_name<D: Disk>(disk: &mut D, names: &LocalNames)
+    ensures { (removal : Done) × (D.log disk.new
+        ≡ Removed (string_bytes names.now.local) removal ∷ D.log disk.old) }
+{
+    let _ = disk.remove(names.local.as_str());
 }
 
 /// Renames the file once no file was found at its name.
-fn rename_new<R: Files>(
-    files: &R,
-    journal: &mut DiskJournal,
+fn rename_new<D: Disk>(
+    disk: &mut D,
     names: &LocalNames,
-    folder: &NamedFolder<R::File>,
-    written: &Written<R::File>,
+    folder: &NamedFolder<D::File>,
+    written: &Written<D::File>,
 ) -> Result<(), LocalError>
-    ensures keeps { MayRename (paths_of names.now Refused) (changes journal.old.events)
-        → Keeps (paths_of names.now Refused) (changes journal.old.events)
-        (changes journal.new.events) }
-    ensures ok { OnOk result (Renames (SyncsFolder folder.now.folder)
-        (paths_of names.now Refused) (state_of (calls_of written.now.writer))
-        (changes journal.old.events) (changes journal.new.events)) }
+    ensures keeps { WasUnlinked (paths_of names.now Refused) (D.log disk.old)
+        → Keeps (paths_of names.now Refused) (D.log disk.old) (D.log disk.new) }
+    ensures ok { OnOk result ((found : List DiskEvent)
+        × FindsNothing (string_bytes names.now.local) (D.log disk.old) found
+        × Renames (SyncsFolder folder.now.folder) (paths_of names.now Refused)
+        (state_of (calls_of written.now.writer)) found (D.log disk.new)) }
 {
-    match replaced_at(files, journal, names.local.as_str(), Existing::Refused) {
-        Ok(_) => rename(files, journal, names, Existing::Refused, folder, written),
+    let found = disk.look(names.local.as_str());
+    match replaced_of(found, Existing::Refused) {
+        Ok(_) => rename(disk, names, Existing::Refused, folder, written),
         Err(error) => Err(error),
     }
 }
 
 /// Replaces the file that has the name, if it is a regular one still, and takes the permissions
 /// that it has by now.
-fn replace<R: Files>(
-    files: &R,
-    journal: &mut DiskJournal,
+fn replace<D: Disk>(
+    disk: &mut D,
     names: &LocalNames,
-    folder: &NamedFolder<R::File>,
-    written: &mut Written<R::File>,
+    folder: &NamedFolder<D::File>,
+    written: &mut Written<D::File>,
 ) -> Result<(), LocalError>
-    requires { IsDone (string_bytes names.now.part) (handed written.old.writer) written.old }
+    requires whole { IsDone (string_bytes names.now.part) (handed written.old.writer) written.old }
+    requires still { ∥ IsStillAt (string_bytes names.now.part)
+        (made_when (calls_of written.old.writer)) (D.log disk.old) ∥₁ }
     ensures same { SameFile written.old written.new }
-    ensures keeps { Keeps (paths_of names.now Replaced) (changes journal.old.events)
-        (changes journal.new.events) }
+    ensures keeps { Keeps (paths_of names.now Replaced) (D.log disk.old) (D.log disk.new) }
     ensures ok { OnOk result (NamesBytes (SyncsFolder folder.now.folder)
-        (paths_of names.now Replaced) (handed written.old.writer) (changes journal.new.events)) }
+        (paths_of names.now Replaced) (handed written.old.writer) (D.log disk.new)) }
 {
-    let local = names.local.as_str();
-    if let Some(replaced) = replaced_at(files, journal, local, Existing::Replaced)? {
-        written.keep_permissions(&replaced)?;
-    }
-    rename(files, journal, names, Existing::Replaced, folder, written)
+    let found = disk.look(names.local.as_str());
+    let replaced = replaced_of(found, Existing::Replaced)?;
+    written.keep_permissions(replaced)?;
+    rename(disk, names, Existing::Replaced, folder, written)
 }
 
 /// Renames the file, and syncs the folder. If the sync fails, the file has the name.
-fn rename<R: Files>(
-    files: &R,
-    journal: &mut DiskJournal,
+fn rename<D: Disk>(
+    disk: &mut D,
     names: &LocalNames,
     existing: Existing,
-    folder: &NamedFolder<R::File>,
-    written: &Written<R::File>,
+    folder: &NamedFolder<D::File>,
+    written: &Written<D::File>,
 ) -> Result<(), LocalError>
-    ensures keeps { MayRename (paths_of names.now existing) (changes journal.old.events)
-        → Keeps (paths_of names.now existing) (changes journal.old.events)
-        (changes journal.new.events) }
+    ensures keeps { MayRename (paths_of names.now existing) (D.log disk.old)
+        → Keeps (paths_of names.now existing) (D.log disk.old) (D.log disk.new) }
     ensures ok { OnOk result (Renames (SyncsFolder folder.now.folder)
         (paths_of names.now existing) (state_of (calls_of written.now.writer))
-        (changes journal.old.events) (changes journal.new.events)) }
+        (D.log disk.old) (D.log disk.new)) }
 {
     let (part, local) = (names.part.as_str(), names.local.as_str());
-    if let Err(error) = tftp_disk::rename(files, journal, written.file(), part, local) {
+    if let Err(error) = disk.rename(written.file(), part, local) {
         return Err(LocalError::System(error));
     }
-    match folder.sync(journal) {
+    match sync_folder(disk, folder) {
         Ok(()) => Ok(()),
         Err(error) => Err(LocalError::System(error)),
     }
 }
 
-/// The regular file that has the name and is to be replaced, or `None` if there is no file. It
+/// The regular file that was found at the name and is to be replaced, or `None` if nothing was. It
 /// fails if no file is to be replaced, or it is no regular file.
-pub(crate) fn replaced_at<R: Files>(
-    files: &R,
-    journal: &mut DiskJournal,
-    local: &str,
+pub(crate) fn replaced_of(
+    found: io::Result<Found>,
     existing: Existing,
 ) -> Result<Option<Found>, LocalError>
-    ensures { changes journal.new.events ≡ changes journal.old.events }
+    ensures { existing ≡ Refused → OnOk result (IsAbsent found) }
 {
-    match tftp_disk::look(files, journal, local) {
+    match found {
         Ok(found) => replaced_if(existing, found),
         Err(error) => {
             if error.kind() == ErrorKind::NotFound {
@@ -253,7 +234,9 @@ pub(crate) fn replaced_at<R: Files>(
 }
 
 /// What was found at the name, if it is a regular file and to be replaced.
-fn replaced_if(existing: Existing, found: Found) -> Result<Option<Found>, LocalError> {
+fn replaced_if(existing: Existing, found: Found) -> Result<Option<Found>, LocalError>
+    ensures { OnOk result (existing ≡ Replaced) }
+{
     match (found.kind, existing) {
         (Kind::Regular, Existing::Replaced) => Ok(Some(found)),
         (Kind::Regular, Existing::Refused) => Err(LocalError::Exists),

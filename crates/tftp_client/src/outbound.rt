@@ -3,8 +3,9 @@
 ghost use Rattle.std.specs.Prelude.{◌≡◌, ◌≤◌, true, IfOk, OnOk};
 ghost use Rattle.tftp_wire.specs.declared.mode.Mode.TheVariants.{Octet};
 ghost use Rattle.tftp_disk.specs.DiskSource.{source_calls};
+ghost use Rattle.tftp_disk.specs.Given.{is_at_start};
 ghost use Rattle.tftp_disk.specs.Measuring.{StaysOpen, calls_on};
-ghost use Rattle.tftp_client.specs.Outbound.{HasLength, IsLongAs, IsPassed, is_at_start};
+ghost use Rattle.tftp_client.specs.Outbound.{HasLength, IsLongAs, IsPassed};
 ghost use Rattle.tftp_client.specs.Sent.{IsOpenedAt};
 
 use crate::local::LocalSource;
@@ -12,8 +13,7 @@ use crate::local_error::LocalError;
 use std::alloc::Global;
 use std::fs::OpenFile;
 use std::io::{Read, Seek, SeekFrom};
-use std::rt::Files;
-use tftp_disk::{DiskFile, DiskJournal, DiskSource, Kind, TextLength, count_netascii};
+use tftp_disk::{DiskFile, DiskSource, Kind, Looks, TextLength, View, count_netascii};
 use tftp_file::MAX_WIRE;
 use tftp_wire::Mode;
 
@@ -33,8 +33,8 @@ impl<F: Read + Seek + OpenFile + Drop> Outbound<F> {
     /// since opening a FIFO would block. The length is that of the open file, as the system says,
     /// or in netascii as one pass over it counts; a file that states none and has a byte is
     /// refused, as many of `/proc` are.
-    pub(crate) fn open<R: Files<File = F>>(
-        files: &R,
+    pub(crate) fn open<V: View<File = F>>(
+        view: &mut V,
         alloc: Global,
         local: &str,
         mode: Mode,
@@ -46,11 +46,10 @@ impl<F: Read + Seek + OpenFile + Drop> Outbound<F> {
             → HasLength mode outbound.length.bytes outbound.length.wire_bytes
             (source_calls outbound.source)) }
     {
-        let mut journal = DiskJournal::new();
-        if tftp_disk::follow(files, &mut journal, local)?.kind != Kind::Regular {
+        if view.follow(local)?.kind != Kind::Regular {
             return Err(LocalError::NotAFile);
         }
-        let mut file = tftp_disk::open(files, &mut journal, local)?;
+        let mut file = view.open(local)?;
         let host_bytes = file.examine()?.bytes;
         check_known(&mut file, host_bytes)?;
         let length = text_length(&mut file, mode, host_bytes)?;

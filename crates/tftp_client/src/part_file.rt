@@ -1,64 +1,49 @@
 //! `LOCAL.part`, the file that a fetch writes until it gets the name `LOCAL`.
 
-ghost use Rattle.std.specs.Prelude.{◌≡◌, ◌≢◌, ◌++◌, [], Some, IsSome, IfOk, OnOk, OnErr, codes};
+ghost use Rattle.std.specs.Prelude.{◌≡◌, ◌≢◌, ◌++◌, [], false, Some, IsSome, IfOk, OnOk, OnErr};
+ghost use Rattle.std.specs.Prelude.{codes};
 ghost use Rattle.std.specs.String.{string_bytes};
-ghost use Rattle.tftp_disk.specs.Changes.{changes};
-ghost use Rattle.tftp_disk.specs.DiskJournal.{made_at};
+ghost use Rattle.tftp_disk.specs.DiskJournal.{made_at, made_when};
 ghost use Rattle.tftp_disk.specs.DiskWriter.{calls_of, handed};
-ghost use Rattle.tftp_disk.specs.NamedFolder.{IsFolderFor};
-ghost use Rattle.tftp_client.specs.Fetched.{AreOwn, Keeps, WasNamed};
-ghost use Rattle.tftp_client.specs.Written.{bytes_in, place_in, paths_of, HasNoRest};
+ghost use Rattle.tftp_disk.specs.Still.{IsStillAt};
+ghost use Rattle.tftp_client.specs.Fetched.{Keeps, WasNamed};
+ghost use Rattle.tftp_client.specs.Written.{bytes_in, place_in, paths_for, paths_of, HasNoRest};
+ghost use Rattle.tftp_client.specs.Written.{IsFolderIn, IsStillIn};
 
 use crate::local_error::LocalError;
 use crate::local_names::LocalNames;
-use crate::naming::{give_name, replaced_at};
+use crate::naming::{give_name, replaced_of};
 use crate::written::Written;
 use std::alloc::Global;
-use std::io::ErrorKind;
-use std::rt::Files;
-use tftp_disk::{DiskJournal, Existing, Kind, NamedFolder, write_buffer};
+use std::io::{self, ErrorKind};
+use tftp_disk::{Disk, Existing, Found, Kind, Looks, NamedFolder, write_buffer};
 
-/// A file that is fetched, on the disk. `LOCAL.part` is created by the first append, or by the
-/// commit of an empty file, and replaces an old one only then. It gets the name `LOCAL` at the
-/// commit. Without a commit `LOCAL.part` remains, with the bytes that were appended once
-/// [`PartFile::write_out`] has written them.
+/// The names of a file that is to be fetched, and their folder.
 #[derive(Drop)]
-pub(crate) struct PartFile<R: Files + Drop> {
-    files: R,
-    alloc: Global,
-    /// The calls on paths.
-    journal: DiskJournal,
+pub(crate) struct Place<F> {
     names: LocalNames,
     existing: Existing,
     /// The folder of both names.
-    folder: NamedFolder<R::File>,
-    /// `LOCAL.part`, once it is created.
-    written: Option<Written<R::File>>,
-    ghost placed: { place_in (string_bytes names.part) written ≡ Some (string_bytes names.part) },
-    ghost folder_fits: { ∥ IsFolderFor (string_bytes names.local) folder.folder ∥₁ },
+    folder: NamedFolder<F>,
 }
 
-impl<R: Files + Drop> PartFile<R> {
-    ghost use Rattle.tftp_client.specs.PartFile.{SameNames};
-
-    /// A file that is to get the name `LOCAL`. Nothing is changed on the disk.
+impl<F> Place<F> {
+    /// The place of a file that is to get the name `LOCAL`. Nothing is changed on the disk.
     ///
     /// It fails if `LOCAL` is empty or exists, unless it is a regular file that is to be replaced,
     /// if `LOCAL.part` is a folder, and if their folder cannot be opened.
-    pub(crate) fn new(
-        files: R,
+    pub(crate) fn of<D: Disk<File = F>>(
+        disk: &mut D,
         alloc: Global,
         local: &str,
         existing: Existing,
-    ) -> Result<PartFile<R>, LocalError>
+    ) -> Result<Place<F>, LocalError>
         ensures named { OnOk result (local.now ≢ []) }
-        ensures local { IfOk result (λ file. string_bytes file.names.local ≡ local.now) }
-        ensures part { IfOk result (λ file. string_bytes file.names.part
-            ≡ local.now ++ codes ".part") }
-        ensures existing { IfOk result (λ file. file.existing ≡ existing) }
-        ensures empty { IfOk result (λ file. bytes_in file.written ≡ []) }
-        ensures own { IfOk result (λ file. AreOwn (paths_of file.names file.existing)
-            (changes file.journal.events)) }
+        ensures paths { IfOk result (λ place. paths_of place.names place.existing
+            ≡ paths_for local.now existing) }
+        ensures folder { IfOk result (λ place. ∥ IsFolderIn (string_bytes place.names.local)
+            place.folder.folder (D.log disk.new) ∥₁) }
+        ensures keeps { Keeps (paths_for local.now existing) (D.log disk.old) (D.log disk.new) }
     {
         if local.is_empty() {
             return Err(LocalError::EmptyPath);
@@ -67,39 +52,87 @@ impl<R: Files + Drop> PartFile<R> {
             local: String::from_str(alloc, local)?,
             part: format!(in alloc; "{local}.part")?,
         };
-        let mut journal = DiskJournal::new();
-        replaced_at(&files, &mut journal, local, existing)?;
-        check_part(&files, &mut journal, names.part.as_str())?;
-        let folder = NamedFolder::of(&files, &mut journal, names.local.as_str())?;
-        Ok(PartFile {
-            files,
+        replaced_of(disk.look(local), existing)?;
+        check_part(disk.look(names.part.as_str()))?;
+        let folder = NamedFolder::of(disk, names.local.as_str())?;
+        Ok(Place {
+            names,
+            existing,
+            folder,
+        })
+    }
+}
+
+/// A file that is fetched, on the disk. `LOCAL.part` is created by the first append, or by the
+/// commit of an empty file, and replaces an old one only then. It gets the name `LOCAL` at the
+/// commit. Without a commit `LOCAL.part` remains, with the bytes that were appended once
+/// [`PartFile::write_out`] has written them.
+#[derive(Drop)]
+pub(crate) struct PartFile<D: Disk> {
+    disk: D,
+    alloc: Global,
+    names: LocalNames,
+    existing: Existing,
+    /// The folder of both names.
+    folder: NamedFolder<D::File>,
+    /// `LOCAL.part`, once it is created.
+    written: Option<Written<D::File>>,
+    /// Whether it was to get its name: that is tried once.
+    is_tried: bool,
+    ghost placed: { place_in (string_bytes names.part) written ≡ Some (string_bytes names.part) },
+    ghost folder_fits: { ∥ IsFolderIn (string_bytes names.local) folder.folder (D.log disk) ∥₁ },
+    ghost still: { is_tried ≡ false
+        → ∥ IsStillIn (string_bytes names.part) written (D.log disk) ∥₁ },
+}
+
+impl<D: Disk> PartFile<D> {
+    /// A file at its place. Nothing is changed on the disk.
+    pub(crate) fn new(disk: D, alloc: Global, place: Place<D::File>) -> PartFile<D>
+        requires { ∥ IsFolderIn (string_bytes place.names.local) place.folder.folder
+            (D.log disk) ∥₁ }
+        ensures disk { result.disk ≡ disk }
+        ensures names { result.names ≡ place.names }
+        ensures existing { result.existing ≡ place.existing }
+        ensures empty { bytes_in result.written ≡ [] }
+    {
+        let Place {
+            names,
+            existing,
+            folder,
+        } = place;
+        PartFile {
+            disk,
             alloc,
-            journal,
             names,
             existing,
             folder,
             written: None,
-        })
+            is_tried: false,
+        }
+    }
+
+    /// Its disk.
+    pub(crate) fn into_disk(self) -> D
+        ensures { result ≡ self.disk }
+    {
+        let PartFile { disk, .. } = self;
+        disk
     }
 
     /// Creates `LOCAL.part`, unless this was done.
     fn create_once(&mut self) -> Result<(), LocalError>
-        ensures names { SameNames self.old self.new }
+        ensures names { self.new.names ≡ self.old.names }
+        ensures existing { self.new.existing ≡ self.old.existing }
         ensures bytes { bytes_in self.new.written ≡ bytes_in self.old.written }
         ensures keeps { Keeps (paths_of self.old.names self.old.existing)
-            (changes self.old.journal.events) (changes self.new.journal.events) }
+            (D.log self.old.disk) (D.log self.new.disk) }
         ensures some { OnOk result (IsSome self.new.written) }
+        ensures tried { self.new.is_tried ≡ self.old.is_tried }
     {
         if self.written.is_some() {
             return Ok(());
         }
-        match make_part(
-            &self.files,
-            self.alloc,
-            &mut self.journal,
-            &self.names,
-            self.existing,
-        ) {
+        match make_part(&mut self.disk, self.alloc, &self.names, self.existing) {
             Ok(written) => {
                 self.written = Some(written);
                 Ok(())
@@ -110,12 +143,13 @@ impl<R: Files + Drop> PartFile<R> {
 
     /// Appends a block, which is buffered.
     pub(crate) fn append(&mut self, bytes: &[u8]) -> Result<(), LocalError>
-        ensures names { SameNames self.old self.new }
+        ensures names { self.new.names ≡ self.old.names }
+        ensures existing { self.new.existing ≡ self.old.existing }
         ensures ok { OnOk result (bytes_in self.new.written
             ≡ bytes_in self.old.written ++ bytes.now) }
         ensures err { OnErr result (bytes_in self.new.written ≡ bytes_in self.old.written) }
         ensures keeps { Keeps (paths_of self.old.names self.old.existing)
-            (changes self.old.journal.events) (changes self.new.journal.events) }
+            (D.log self.old.disk) (D.log self.new.disk) }
     {
         self.create_once()?;
         match &mut self.written {
@@ -126,9 +160,10 @@ impl<R: Files + Drop> PartFile<R> {
 
     /// Writes the buffer if it is due, and syncs the file every few megabytes.
     pub(crate) fn write_behind(&mut self)
-        ensures names { SameNames self.old self.new }
+        ensures names { self.new.names ≡ self.old.names }
+        ensures existing { self.new.existing ≡ self.old.existing }
         ensures bytes { bytes_in self.new.written ≡ bytes_in self.old.written }
-        ensures journal { self.new.journal ≡ self.old.journal }
+        ensures disk { self.new.disk ≡ self.old.disk }
     {
         if let Some(written) = &mut self.written {
             written.write_behind();
@@ -137,9 +172,10 @@ impl<R: Files + Drop> PartFile<R> {
 
     /// Writes what is buffered, and syncs nothing. A write that fails is not tried again.
     pub(crate) fn write_out(&mut self)
-        ensures names { SameNames self.old self.new }
+        ensures names { self.new.names ≡ self.old.names }
+        ensures existing { self.new.existing ≡ self.old.existing }
         ensures bytes { bytes_in self.new.written ≡ bytes_in self.old.written }
-        ensures journal { self.new.journal ≡ self.old.journal }
+        ensures disk { self.new.disk ≡ self.old.disk }
         ensures written { HasNoRest self.new.written }
     {
         if let Some(written) = &mut self.written {
@@ -147,23 +183,27 @@ impl<R: Files + Drop> PartFile<R> {
         }
     }
 
-    /// Writes and syncs the file, gives it its name, and syncs the folder.
+    /// Writes and syncs the file, gives it its name, and syncs the folder. Its name is tried once.
     pub(crate) fn commit(&mut self) -> Result<(), LocalError>
-        ensures names { SameNames self.old self.new }
+        ensures names { self.new.names ≡ self.old.names }
+        ensures existing { self.new.existing ≡ self.old.existing }
         ensures bytes { bytes_in self.new.written ≡ bytes_in self.old.written }
         ensures keeps { Keeps (paths_of self.old.names self.old.existing)
-            (changes self.old.journal.events) (changes self.new.journal.events) }
+            (D.log self.old.disk) (D.log self.new.disk) }
         ensures named { OnOk result ∥ WasNamed (paths_of self.old.names self.old.existing)
-            (bytes_in self.old.written) (changes self.new.journal.events) ∥₁ }
+            (bytes_in self.old.written) (D.log self.new.disk) ∥₁ }
     {
+        if self.is_tried {
+            return Err(LocalError::PartReplaced);
+        }
         self.create_once()?;
         let Some(written) = &mut self.written else {
             return Err(LocalError::PartReplaced);
         };
         written.finish()?;
+        self.is_tried = true;
         give_name(
-            &self.files,
-            &mut self.journal,
+            &mut self.disk,
             &self.names,
             self.existing,
             &self.folder,
@@ -174,33 +214,29 @@ impl<R: Files + Drop> PartFile<R> {
 
 /// Creates `LOCAL.part`. An old one is removed first; a link there is not followed. It has the
 /// permissions of a file that it is to replace.
-fn make_part<R: Files>(
-    files: &R,
+fn make_part<D: Disk>(
+    disk: &mut D,
     alloc: Global,
-    journal: &mut DiskJournal,
     names: &LocalNames,
     existing: Existing,
-) -> Result<Written<R::File>, LocalError>
+) -> Result<Written<D::File>, LocalError>
     ensures made { IfOk result (λ written. (handed written.writer ≡ [])
         × (made_at (calls_of written.writer) ≡ Some (string_bytes names.now.part))) }
-    ensures keeps { Keeps (paths_of names.now existing) (changes journal.old.events)
-        (changes journal.new.events) }
+    ensures still { IfOk result (λ written. ∥ IsStillAt (string_bytes names.now.part)
+        (made_when (calls_of written.writer)) (D.log disk.new) ∥₁) }
+    ensures keeps { Keeps (paths_of names.now existing) (D.log disk.old) (D.log disk.new) }
 {
-    let replaced = replaced_at(files, journal, names.local.as_str(), existing)?;
-    let _ = tftp_disk::remove(files, journal, names.part.as_str());
-    let file = tftp_disk::make(files, journal, names.part.as_str())?;
+    let replaced = replaced_of(disk.look(names.local.as_str()), existing)?;
+    let _ = disk.remove(names.part.as_str());
+    let file = disk.make(names.part.as_str())?;
     let mut written = Written::new(file, write_buffer(alloc)?);
-    if let Some(replaced) = replaced {
-        written.keep_permissions(&replaced)?;
-    }
+    written.keep_permissions(replaced)?;
     Ok(written)
 }
 
-/// Fails if `LOCAL.part` is a folder, which cannot be removed, or cannot be a name.
-fn check_part<R: Files>(files: &R, journal: &mut DiskJournal, part: &str) -> Result<(), LocalError>
-    ensures { changes journal.new.events ≡ changes journal.old.events }
-{
-    match tftp_disk::look(files, journal, part) {
+/// Fails if `LOCAL.part` was found to be a folder, which cannot be removed, or cannot be a name.
+fn check_part(found: io::Result<Found>) -> Result<(), LocalError> {
+    match found {
         Ok(found) => {
             if found.kind == Kind::Folder {
                 Err(LocalError::PartIsAFolder)

@@ -1,49 +1,46 @@
 //! A transfer over UDP, and a second one without options if the server refuses them.
 
 mod asking;
-mod completed;
+mod concluding;
 mod conversation;
 mod failure;
 mod notes;
 
-ghost use Rattle.std.specs.Prelude.{ℕ, ◌≡◌, ◌≤◌, ◌+◌, IfOk, IfErr, IsTrue};
+ghost use Rattle.std.specs.Prelude.{ℕ, ◌≡◌, ◌≤◌, ◌+◌, ◌⊎◌, IfOk, IfErr, IsTrue};
 ghost use Rattle.tftp_negotiate.specs.declared.known.Kind.TheVariants.{Read, Write};
 ghost use Rattle.tftp_disk.specs.DiskSource.{source_calls};
 ghost use Rattle.tftp_ends.specs.Files.{AreFilesOf};
-ghost use Rattle.tftp_lines.specs.ClientOutcome.{status_of};
 ghost use Rattle.tftp_lines.specs.declared.client_outcome.ClientOutcome.TheVariants as ends;
 ghost use Rattle.tftp_sockets.specs.Quiet.{waits as waits_in};
 ghost use Rattle.tftp_client.specs.Conversation.{IsReady, state_of};
-ghost use Rattle.tftp_client.specs.Converses.{Converses, IsOpen};
-ghost use Rattle.tftp_client.specs.OnDisk.{IsFor, IsOut, job_paths, LeavesBy, LeavesEnd};
-ghost use Rattle.tftp_client.specs.OnDisk.{LeavesTransfer, StopsOut, WritesOut};
+ghost use Rattle.tftp_client.specs.Converses.{IsOpen};
+ghost use Rattle.tftp_client.specs.Fetched.{Keeps};
+ghost use Rattle.tftp_client.specs.OnDisk.{IsOut, KeepsDisk, KeepsFile, LeavesBy, LeavesEnd};
+ghost use Rattle.tftp_client.specs.OnDisk.{LeavesTransfer, Reaches, StopsOut, WritesOut, job_paths};
 ghost use Rattle.tftp_client.specs.Outbound.{HasLength};
-ghost use Rattle.tftp_client.specs.Sent.{BeginsAt, IsOpenedAt, RunsFor, TransfersFor};
-ghost use Rattle.tftp_client.specs.Stored.{count_of, stored};
+ghost use Rattle.tftp_client.specs.Sent.{Concludes, EndStores, IsOpenedAt, JobStores};
+ghost use Rattle.tftp_client.specs.Stored.{HasDisk, IsReceived, count_of, stored};
 ghost use Rattle.tftp_client.specs.Taken.{nothing};
-ghost use Rattle.tftp_client.specs.Written.{paths_for, paths_of};
-ghost use Rattle.tftp_client.specs.Runs.{IsFileOf, MayFallBack, MayOpen, Runs, opens, plain};
+ghost use Rattle.tftp_client.specs.Written.{held_of, paths_of};
+ghost use Rattle.tftp_client.specs.Runs.{MayFallBack, plain};
 
 use crate::cause::Cause;
-use crate::client_udp::ClientUdp;
-use crate::local::{LocalFile, LocalSource, read_error};
+use crate::local::{FileOf, LocalFile, SourceOf, read_error};
 use crate::outbound::Outbound;
+use crate::part_file::Place;
 use crate::transfer::asking::{ask_to_get, ask_to_put};
-pub(crate) use crate::transfer::completed::Completed;
+use crate::transfer::concluding::conclude;
 use crate::transfer::conversation::Conversation;
 pub(crate) use crate::transfer::conversation::{MAX_WAITS, Progress};
 pub(crate) use crate::transfer::failure::Failure;
 use crate::without_options::fallback;
 use std::alloc::Global;
-use std::io::Read;
-use std::rt::Files as FileSystem;
-use std::time::Clock;
-use tftp_disk::Existing;
+use tftp_disk::{Disk, Existing, Looks, View};
 use tftp_ends::{EndConfig, Endpoint, Outcome};
 use tftp_file::{Files, MAX_WIRE, Sink, Source};
 use tftp_lines::ClientOutcome;
 use tftp_negotiate::{Asked, Kind, Limits, MAX_BLOCK};
-use tftp_sockets::Journal;
+use tftp_sockets::{ClientUdp, Udp};
 use tftp_wire::Mode;
 
 /// What `tftp` is to transfer.
@@ -69,6 +66,8 @@ pub(crate) struct Job<'a> {
     pub(crate) falls_back: bool,
     /// Whether progress is shown on standard error.
     pub(crate) progress: Progress,
+    /// Whether a receiver dallies to repeat its last acknowledgement.
+    pub(crate) dallies: bool,
 }
 
 impl Job<'_> {
@@ -87,35 +86,37 @@ impl Job<'_> {
     }
 }
 
-/// Transfers a file. It makes so many waits at most, and counts those that are left.
-pub(crate) fn transfer<R: FileSystem + Clone + Drop + ClientUdp + Clock + Eprint>(
-    rt: &R,
+/// Transfers a file, and returns the status of a complete transfer. It makes so many waits at most,
+/// in both of its runs and in its dally.
+pub(crate) fn transfer<E: Eprint, N: ClientUdp, D: Disk>(
+    rt: &E,
+    net: &mut N,
     alloc: Global,
     job: &Job<'_>,
+    disk: D,
     waits: &mut u32,
-    journal: &mut Journal,
-) -> Result<Completed<R>, Failure>
-    ensures ok { IfOk result (λ completed. TransfersFor
-        ⟦<LocalSource<R::File> as Source>⟧.meaning ⟦<LocalFile<R> as Sink>⟧.meaning
-        (waits.old + waits_in journal.old.events) completed.conversation.socket.port job.now
-        journal.old.events (state_of completed.conversation journal.new.events) completed.files
-        completed.count) }
-    ensures local { IfOk result (λ completed. IsFor job.now completed.files) }
-    ensures err { IfErr result (λ failure. LeavesTransfer
-        ⟦<LocalSource<R::File> as Source>⟧.meaning ⟦<LocalFile<R> as Sink>⟧.meaning
-        (waits.old + waits_in journal.old.events) job.now
-        journal.old.events journal.new.events failure.end) }
-    ensures counted { waits.new + waits_in journal.new.events
-        ≡ waits.old + waits_in journal.old.events }
+) -> (Result<u8, Failure>, D)
+    ensures ends { IfOk result.0 (λ status. (status ≡ 0) ⊎ (status ≡ 2)) }
+    ensures ok { IfOk result.0 (λ _. JobStores
+        ⟦<SourceOf<D> as Source>⟧.meaning ⟦<LocalFile<D> as Sink>⟧.meaning
+        (waits.old + waits_in (N.log net.old)) job.now (N.log net.old) (N.log net.new)
+        (D.log result.1)) }
+    ensures err { IfErr result.0 (λ failure. LeavesTransfer
+        ⟦<SourceOf<D> as Source>⟧.meaning ⟦<LocalFile<D> as Sink>⟧.meaning
+        (waits.old + waits_in (N.log net.old)) job.now (N.log net.old) (N.log net.new)
+        failure.end) }
+    ensures keeps { KeepsDisk job.now (D.log disk) (D.log result.1) }
+    ensures within { waits_in (N.log net.new) ≤ waits.old + waits_in (N.log net.old) }
 {
-    let failure = match transfer_once(rt, alloc, job, waits, journal) {
-        Ok(completed) => return Ok(completed),
+    let (ended, disk) = transfer_once(rt, net, alloc, job, disk, waits);
+    let failure = match ended {
+        Ok(status) => return (Ok(status), disk),
         Err(failure) => failure,
     };
     if !falls_back(job, failure.end) {
-        return Err(failure);
+        return (Err(failure), disk);
     }
-    transfer_once(rt, alloc, &plain(job), waits, journal)
+    transfer_once(rt, net, alloc, &plain(job), disk, waits)
 }
 
 /// Whether to try a job with this outcome again without options.
@@ -143,229 +144,223 @@ fn plain<'a>(job: &Job<'a>) -> Job<'a>
 }
 
 /// Runs one transfer, on a new socket.
-fn transfer_once<R: FileSystem + Clone + Drop + ClientUdp + Clock + Eprint>(
-    rt: &R,
+fn transfer_once<E: Eprint, N: ClientUdp, D: Disk>(
+    rt: &E,
+    net: &mut N,
     alloc: Global,
     job: &Job<'_>,
+    disk: D,
     waits: &mut u32,
-    journal: &mut Journal,
-) -> Result<Completed<R>, Failure>
-    ensures ok { IfOk result (λ completed. RunsFor
-        ⟦<LocalSource<R::File> as Source>⟧.meaning ⟦<LocalFile<R> as Sink>⟧.meaning
-        completed.conversation.socket.port job.now.kind job.now
-        journal.old.events (state_of completed.conversation journal.new.events) completed.files
-        completed.count) }
-    ensures local { IfOk result (λ completed. IsFor job.now completed.files) }
-    ensures err { IfErr result (λ failure. LeavesBy
-        ⟦<LocalSource<R::File> as Source>⟧.meaning ⟦<LocalFile<R> as Sink>⟧.meaning
-        (waits.old + waits_in journal.old.events) job.now
-        journal.old.events journal.new.events failure.end) }
-    ensures counted { waits.new + waits_in journal.new.events
-        ≡ waits.old + waits_in journal.old.events }
+) -> (Result<u8, Failure>, D)
+    ensures ends { IfOk result.0 (λ status. (status ≡ 0) ⊎ (status ≡ 2)) }
+    ensures ok { IfOk result.0 (λ _. EndStores
+        ⟦<SourceOf<D> as Source>⟧.meaning ⟦<LocalFile<D> as Sink>⟧.meaning
+        (waits.old + waits_in (N.log net.old)) job.now.kind job.now
+        (N.log net.old) (N.log net.new) (D.log result.1)) }
+    ensures err { IfErr result.0 (λ failure. LeavesBy
+        ⟦<SourceOf<D> as Source>⟧.meaning ⟦<LocalFile<D> as Sink>⟧.meaning
+        (waits.old + waits_in (N.log net.old)) job.now (N.log net.old) (N.log net.new)
+        failure.end) }
+    ensures keeps { KeepsDisk job.now (D.log disk) (D.log result.1) }
+    ensures counted { IfErr result.0 (λ _. waits.new + waits_in (N.log net.new)
+        ≡ waits.old + waits_in (N.log net.old)) }
+    ensures within { waits_in (N.log net.new) ≤ waits.old + waits_in (N.log net.old) }
 {
     match job.kind {
-        Kind::Read => get(rt, alloc, job, waits, journal),
-        Kind::Write => put(rt, alloc, job, waits, journal),
+        Kind::Read => get(rt, net, alloc, job, disk, waits),
+        Kind::Write => {
+            let ended = put(rt, net, alloc, job, &disk, waits);
+            (ended, disk)
+        }
     }
 }
 
 /// Fetches a file.
-fn get<R: FileSystem + Clone + Drop + ClientUdp + Clock + Eprint>(
-    rt: &R,
+fn get<E: Eprint, N: ClientUdp, D: Disk>(
+    rt: &E,
+    net: &mut N,
     alloc: Global,
     job: &Job<'_>,
+    mut disk: D,
     waits: &mut u32,
-    journal: &mut Journal,
-) -> Result<Completed<R>, Failure>
-    ensures ok { IfOk result (λ completed. RunsFor
-        ⟦<LocalSource<R::File> as Source>⟧.meaning ⟦<LocalFile<R> as Sink>⟧.meaning
-        completed.conversation.socket.port Read job.now journal.old.events
-        (state_of completed.conversation journal.new.events) completed.files completed.count) }
-    ensures local { IfOk result (λ completed. IsFor job.now completed.files) }
-    ensures err { IfErr result (λ failure. LeavesEnd
-        ⟦<LocalSource<R::File> as Source>⟧.meaning ⟦<LocalFile<R> as Sink>⟧.meaning
-        (waits.old + waits_in journal.old.events) Read job.now 0
-        journal.old.events journal.new.events failure.end) }
-    ensures counted { waits.new + waits_in journal.new.events
-        ≡ waits.old + waits_in journal.old.events }
+) -> (Result<u8, Failure>, D)
+    ensures ends { IfOk result.0 (λ status. (status ≡ 0) ⊎ (status ≡ 2)) }
+    ensures ok { IfOk result.0 (λ _. EndStores
+        ⟦<SourceOf<D> as Source>⟧.meaning ⟦<LocalFile<D> as Sink>⟧.meaning
+        (waits.old + waits_in (N.log net.old)) Read job.now
+        (N.log net.old) (N.log net.new) (D.log result.1)) }
+    ensures err { IfErr result.0 (λ failure. LeavesEnd
+        ⟦<SourceOf<D> as Source>⟧.meaning ⟦<LocalFile<D> as Sink>⟧.meaning
+        (waits.old + waits_in (N.log net.old)) Read job.now 0 (N.log net.old) (N.log net.new)
+        failure.end) }
+    ensures keeps { Keeps (job_paths job.now) (D.log disk) (D.log result.1) }
+    ensures counted { IfErr result.0 (λ _. waits.new + waits_in (N.log net.new)
+        ≡ waits.old + waits_in (N.log net.old)) }
+    ensures within { waits_in (N.log net.new) ≤ waits.old + waits_in (N.log net.old) }
 {
-    match create_local(rt, alloc, job.local, job.existing) {
-        Ok(local) => get_into(rt, alloc, job, local, waits, journal),
-        Err(failure) => Err(failure),
+    match Place::of(&mut disk, alloc, job.local, job.existing) {
+        Ok(place) => {
+            let local = LocalFile::new(disk, alloc, place);
+            get_into(rt, net, alloc, job, local, waits)
+        }
+        Err(error) => (Err(Failure::of_file(error)), disk),
     }
 }
 
-/// Creates the local file of a fetch.
-fn create_local<R: FileSystem + Clone + Drop>(
-    rt: &R,
-    alloc: Global,
-    path: &str,
-    existing: Existing,
-) -> Result<LocalFile<R>, Failure>
-    ensures empty { IfOk result (λ local. local.taken.holding ≡ nothing) }
-    ensures paths { IfOk result (λ local. paths_of local.part.names local.part.existing
-        ≡ paths_for path.now existing) }
-    ensures err { IfErr result (λ failure. status_of failure.end ≡ 2) }
-{
-    let Ok(system) = rt.clone() else {
-        return Err(Failure::memory());
-    };
-    match LocalFile::new(system, alloc, path, existing) {
-        Ok(local) => Ok(local),
-        Err(error) => Err(Failure::of_file(error)),
-    }
-}
-
-/// Fetches a file into the local file, which is new.
-fn get_into<N: ClientUdp + Clock + Eprint, R: FileSystem + Drop>(
-    rt: &N,
+/// Fetches a file into the local file, which is new, and returns the disk of that.
+fn get_into<E: Eprint, N: ClientUdp, D: Disk>(
+    rt: &E,
+    net: &mut N,
     alloc: Global,
     job: &Job<'_>,
-    local: LocalFile<R>,
+    local: LocalFile<D>,
     waits: &mut u32,
-    journal: &mut Journal,
-) -> Result<Completed<R>, Failure>
-    requires empty { local.taken.holding ≡ nothing }
+) -> (Result<u8, Failure>, D)
+    requires empty { held_of local.part.written local.committed ≡ nothing }
     requires paths { paths_of local.part.names local.part.existing ≡ job_paths job.now }
-    ensures ok { IfOk result (λ completed. RunsFor
-        ⟦<LocalSource<R::File> as Source>⟧.meaning ⟦<LocalFile<R> as Sink>⟧.meaning
-        completed.conversation.socket.port Read job.now journal.old.events
-        (state_of completed.conversation journal.new.events) completed.files completed.count) }
-    ensures local { IfOk result (λ completed. IsFor job.now completed.files) }
-    ensures err { IfErr result (λ failure. LeavesEnd
-        ⟦<LocalSource<R::File> as Source>⟧.meaning ⟦<LocalFile<R> as Sink>⟧.meaning
-        (waits.old + waits_in journal.old.events) Read job.now 0
-        journal.old.events journal.new.events failure.end) }
-    ensures counted { waits.new + waits_in journal.new.events
-        ≡ waits.old + waits_in journal.old.events }
+    ensures ends { IfOk result.0 (λ status. (status ≡ 0) ⊎ (status ≡ 2)) }
+    ensures ok { IfOk result.0 (λ _. EndStores
+        ⟦<SourceOf<D> as Source>⟧.meaning ⟦<LocalFile<D> as Sink>⟧.meaning
+        (waits.old + waits_in (N.log net.old)) Read job.now
+        (N.log net.old) (N.log net.new) (D.log result.1)) }
+    ensures err { IfErr result.0 (λ failure. LeavesEnd
+        ⟦<SourceOf<D> as Source>⟧.meaning ⟦<LocalFile<D> as Sink>⟧.meaning
+        (waits.old + waits_in (N.log net.old)) Read job.now 0 (N.log net.old) (N.log net.new)
+        failure.end) }
+    ensures keeps { Keeps (job_paths job.now) (D.log local.part.disk) (D.log result.1) }
+    ensures counted { IfErr result.0 (λ _. waits.new + waits_in (N.log net.new)
+        ≡ waits.old + waits_in (N.log net.old)) }
+    ensures within { waits_in (N.log net.new) ≤ waits.old + waits_in (N.log net.old) }
 {
-    match ask_to_get(rt, alloc, job, journal) {
-        Ok(conversation) => converse(rt, conversation, Files::Sink(local), 0, waits, journal),
-        Err(failure) => Err(failure),
+    let conversation = match ask_to_get(net, alloc, job) {
+        Ok(conversation) => conversation,
+        Err(failure) => return (Err(failure), local.into_disk()),
+    };
+    let mut files: Files<SourceOf<D>, LocalFile<D>> = Files::Sink(local);
+    let ended = converse(rt, net, conversation, &mut files, 0, job, waits);
+    (ended, disk_of(files))
+}
+
+/// The disk of a received file.
+fn disk_of<S: Drop, D: Disk>(files: Files<S, LocalFile<D>>) -> D
+    requires { IsReceived files }
+    ensures { HasDisk files result }
+{
+    match files {
+        Files::Sink(local) => local.into_disk(),
+        Files::Source(_) => unreachable!(),
     }
 }
 
 /// Sends a file.
-fn put<R: FileSystem + Clone + Drop + ClientUdp + Clock + Eprint>(
-    rt: &R,
+fn put<E: Eprint, N: ClientUdp, D: Disk>(
+    rt: &E,
+    net: &mut N,
     alloc: Global,
     job: &Job<'_>,
+    disk: &D,
     waits: &mut u32,
-    journal: &mut Journal,
-) -> Result<Completed<R>, Failure>
-    ensures ok { IfOk result (λ completed. RunsFor
-        ⟦<LocalSource<R::File> as Source>⟧.meaning ⟦<LocalFile<R> as Sink>⟧.meaning
-        completed.conversation.socket.port Write job.now journal.old.events
-        (state_of completed.conversation journal.new.events) completed.files completed.count) }
-    ensures local { IfOk result (λ completed. IsFor job.now completed.files) }
+) -> Result<u8, Failure>
+    ensures ends { IfOk result (λ status. (status ≡ 0) ⊎ (status ≡ 2)) }
+    ensures ok { IfOk result (λ _. Concludes
+        ⟦<SourceOf<D> as Source>⟧.meaning ⟦<LocalFile<D> as Sink>⟧.meaning
+        (waits.old + waits_in (N.log net.old)) Write job.now
+        (N.log net.old) (N.log net.new)) }
     ensures err { IfErr result (λ failure. (length : ℕ) × LeavesEnd
-        ⟦<LocalSource<R::File> as Source>⟧.meaning ⟦<LocalFile<R> as Sink>⟧.meaning
-        (waits.old + waits_in journal.old.events) Write job.now length
-        journal.old.events journal.new.events failure.end) }
-    ensures counted { waits.new + waits_in journal.new.events
-        ≡ waits.old + waits_in journal.old.events }
+        ⟦<SourceOf<D> as Source>⟧.meaning ⟦<LocalFile<D> as Sink>⟧.meaning
+        (waits.old + waits_in (N.log net.old)) Write job.now length
+        (N.log net.old) (N.log net.new) failure.end) }
+    ensures counted { IfErr result (λ _. waits.new + waits_in (N.log net.new)
+        ≡ waits.old + waits_in (N.log net.old)) }
+    ensures within { waits_in (N.log net.new) ≤ waits.old + waits_in (N.log net.old) }
 {
-    match Outbound::open(rt, alloc, job.local, job.mode) {
-        Ok(outbound) => put_from(rt, alloc, job, outbound, waits, journal),
+    match Outbound::open(&mut disk.view(), alloc, job.local, job.mode) {
+        Ok(outbound) => put_from::<E, N, D>(rt, net, alloc, job, outbound, waits),
         Err(error) => Err(Failure::of_file(error)),
     }
 }
 
 /// Sends the local file.
-fn put_from<R: FileSystem + Drop + ClientUdp + Clock + Eprint>(
-    rt: &R,
+fn put_from<E: Eprint, N: ClientUdp, D: Disk>(
+    rt: &E,
+    net: &mut N,
     alloc: Global,
     job: &Job<'_>,
-    outbound: Outbound<R::File>,
+    outbound: Outbound<FileOf<D>>,
     waits: &mut u32,
-    journal: &mut Journal,
-) -> Result<Completed<R>, Failure>
+) -> Result<u8, Failure>
     requires opened { IsOpenedAt job.now.local.now job.now.mode outbound.source }
     requires long { outbound.length.wire_bytes ≤ MAX_WIRE → HasLength job.now.mode
         outbound.length.bytes outbound.length.wire_bytes (source_calls outbound.source) }
-    ensures ok { IfOk result (λ completed. (runs : Runs
-        ⟦<LocalSource<R::File> as Source>⟧.meaning ⟦<LocalFile<R> as Sink>⟧.meaning
-        completed.conversation.socket.port (opens Write job.now outbound.length.wire_bytes)
-        journal.old.events (state_of completed.conversation journal.new.events) completed.files)
-        × (completed.count ≡ count_of outbound.length.bytes completed.files)
-        × MayOpen Write job.now outbound.length.wire_bytes
-        × IsFileOf ⟦<LocalSource<R::File> as Source>⟧.meaning
-        ⟦<LocalFile<R> as Sink>⟧.meaning Write runs.file
-        × HasLength job.now.mode outbound.length.bytes outbound.length.wire_bytes
-        (source_calls outbound.source)
-        × BeginsAt job.now outbound.length.bytes outbound.length.wire_bytes runs.file) }
-    ensures local { IfOk result (λ completed. IsFor job.now completed.files) }
+    ensures ends { IfOk result (λ status. (status ≡ 0) ⊎ (status ≡ 2)) }
+    ensures ok { IfOk result (λ _. Concludes
+        ⟦<SourceOf<D> as Source>⟧.meaning ⟦<LocalFile<D> as Sink>⟧.meaning
+        (waits.old + waits_in (N.log net.old)) Write job.now
+        (N.log net.old) (N.log net.new)) }
     ensures err { IfErr result (λ failure. LeavesEnd
-        ⟦<LocalSource<R::File> as Source>⟧.meaning ⟦<LocalFile<R> as Sink>⟧.meaning
-        (waits.old + waits_in journal.old.events) Write job.now outbound.length.wire_bytes
-        journal.old.events journal.new.events failure.end) }
-    ensures counted { waits.new + waits_in journal.new.events
-        ≡ waits.old + waits_in journal.old.events }
+        ⟦<SourceOf<D> as Source>⟧.meaning ⟦<LocalFile<D> as Sink>⟧.meaning
+        (waits.old + waits_in (N.log net.old)) Write job.now outbound.length.wire_bytes
+        (N.log net.old) (N.log net.new) failure.end) }
+    ensures counted { IfErr result (λ _. waits.new + waits_in (N.log net.new)
+        ≡ waits.old + waits_in (N.log net.old)) }
+    ensures within { waits_in (N.log net.new) ≤ waits.old + waits_in (N.log net.old) }
 {
-    match ask_to_put(rt, alloc, job, outbound.length.wire_bytes, journal) {
+    match ask_to_put(net, alloc, job, outbound.length.wire_bytes) {
         Ok(conversation) => {
-            let files: Files<LocalSource<R::File>, LocalFile<R>> = Files::Source(outbound.source);
-            converse(
-                rt,
-                conversation,
-                files,
-                outbound.length.bytes,
-                waits,
-                journal,
-            )
+            let mut files: Files<SourceOf<D>, LocalFile<D>> = Files::Source(outbound.source);
+            let sent = outbound.length.bytes;
+            converse(rt, net, conversation, &mut files, sent, job, waits)
         }
         Err(failure) => Err(failure),
     }
 }
 
-/// Runs a transfer until it is complete or fails. `sent` is the length of a local file that is
-/// sent, in bytes.
-fn converse<C: Clock + Eprint, R: FileSystem + Drop>(
-    rt: &C,
+/// Runs a transfer until it is complete or fails, and concludes a complete one. `sent` is the
+/// length of a local file that is sent, in bytes.
+fn converse<E: Eprint, N: ClientUdp, D: Disk>(
+    rt: &E,
+    net: &mut N,
     mut conversation: Conversation,
-    mut files: Files<LocalSource<R::File>, LocalFile<R>>,
+    files: &mut Files<SourceOf<D>, LocalFile<D>>,
     sent: u64,
+    job: &Job<'_>,
     waits: &mut u32,
-    journal: &mut Journal,
-) -> Result<Completed<R>, Failure>
-    requires files { AreFilesOf conversation.end.role.side files }
+) -> Result<u8, Failure>
+    requires files { AreFilesOf conversation.end.role.side files.old }
     requires not_closed { IsOpen conversation.end }
     requires ready { IsReady conversation }
-    ensures ok { IfOk result (λ completed.
-        (completed.conversation.socket.port ≡ conversation.socket.port)
-        × Converses ⟦<LocalSource<R::File> as Source>⟧.meaning ⟦<LocalFile<R> as Sink>⟧.meaning
-        conversation.socket.port (state_of conversation journal.old.events) files
-        (state_of completed.conversation journal.new.events) completed.files
-        × (completed.count ≡ count_of sent completed.files)) }
+    ensures ends { IfOk result (λ status. (status ≡ 0) ⊎ (status ≡ 2)) }
+    ensures ok { IfOk result (λ _. Reaches
+        ⟦<SourceOf<D> as Source>⟧.meaning ⟦<LocalFile<D> as Sink>⟧.meaning
+        job.now.dallies (waits.old + waits_in (N.log net.old)) conversation.socket.port
+        (state_of conversation (N.log net.old)) files.old sent (N.log net.new) files.new) }
     ensures err { IfErr result (λ failure. StopsOut
-        ⟦<LocalSource<R::File> as Source>⟧.meaning ⟦<LocalFile<R> as Sink>⟧.meaning
-        (waits.old + waits_in journal.old.events) conversation.socket.port
-        (state_of conversation journal.old.events) files journal.new.events failure.end) }
-    ensures counted { waits.new + waits_in journal.new.events
-        ≡ waits.old + waits_in journal.old.events }
+        ⟦<SourceOf<D> as Source>⟧.meaning ⟦<LocalFile<D> as Sink>⟧.meaning
+        (waits.old + waits_in (N.log net.old)) conversation.socket.port
+        (state_of conversation (N.log net.old)) files.old (N.log net.new) failure.end) }
+    ensures keeps { KeepsFile files.old files.new }
+    ensures counted { IfErr result (λ _. waits.new + waits_in (N.log net.new)
+        ≡ waits.old + waits_in (N.log net.old)) }
+    ensures within { waits_in (N.log net.new) ≤ waits.old + waits_in (N.log net.old) }
 {
-    let ended = conversation.run(rt, journal, &mut files, waits);
-    conversation.finish(rt, stored(&files));
+    let ended = conversation.run(rt, net, files, waits);
+    conversation.finish(rt, stored(files));
     match ended {
         Ok(()) => {
-            let count = count_of(&files, sent);
-            Ok(Completed {
-                conversation,
-                files,
-                count,
-            })
+            let count = count_of(files, sent);
+            Ok(conclude(rt, net, conversation, files, count, job, *waits))
         }
         Err(outcome) => {
-            write_out(&mut files);
+            write_out(files);
             Err(failed(outcome, files, conversation.into_cause(outcome)))
         }
     }
 }
 
 /// Writes what is buffered of a received file, which stays under its other name.
-fn write_out<R: FileSystem + Drop>(files: &mut Files<LocalSource<R::File>, LocalFile<R>>)
-    ensures works { WritesOut ⟦<LocalSource<R::File> as Source>⟧.meaning
-        ⟦<LocalFile<R> as Sink>⟧.meaning files.old files.new }
+fn write_out<D: Disk>(files: &mut Files<SourceOf<D>, LocalFile<D>>)
+    ensures works { WritesOut
+        ⟦<SourceOf<D> as Source>⟧.meaning ⟦<LocalFile<D> as Sink>⟧.meaning files.old files.new }
     ensures out { IsOut files.new }
 {
     match files {
@@ -375,7 +370,7 @@ fn write_out<R: FileSystem + Drop>(files: &mut Files<LocalSource<R::File>, Local
 }
 
 /// The number of bytes appended to a received file.
-fn stored<S, R: FileSystem + Drop>(files: &Files<S, LocalFile<R>>) -> Option<u64>
+fn stored<S, D: Disk>(files: &Files<S, LocalFile<D>>) -> Option<u64>
     ensures { result ≡ stored files.now }
 {
     match files {
@@ -385,7 +380,7 @@ fn stored<S, R: FileSystem + Drop>(files: &Files<S, LocalFile<R>>) -> Option<u64
 }
 
 /// The length of a file here, in bytes: of what was appended to a received one, or `sent`.
-fn count_of<S, R: FileSystem + Drop>(files: &Files<S, LocalFile<R>>, sent: u64) -> u64
+fn count_of<S, D: Disk>(files: &Files<S, LocalFile<D>>, sent: u64) -> u64
     ensures { result ≡ count_of sent files.now }
 {
     match files {
@@ -396,16 +391,16 @@ fn count_of<S, R: FileSystem + Drop>(files: &Files<S, LocalFile<R>>, sent: u64) 
 
 /// A transfer that failed with this outcome. Its cause is an error of the local file, if there was
 /// one.
-fn failed<R: FileSystem + Drop>(
+fn failed<D: Disk>(
     outcome: Outcome,
-    files: Files<LocalSource<R::File>, LocalFile<R>>,
+    files: &Files<SourceOf<D>, LocalFile<D>>,
     cause: Cause,
 ) -> Failure
     ensures { result.end ≡ ends.Failed outcome }
 {
     let error = match files {
-        Files::Sink(local) => local.into_error(),
-        Files::Source(source) => read_error(&source),
+        Files::Sink(local) => local.error(),
+        Files::Source(source) => read_error(source),
     };
     Failure {
         end: ClientOutcome::Failed(outcome),

@@ -1,7 +1,8 @@
 //! The open file of a fetch.
 
 ghost use Rattle.std.specs.Prelude.{◌≡◌, ◌++◌, [], None, true, false, OnOk, OnErr};
-ghost use Rattle.tftp_disk.specs.DiskJournal.{made_at, written, is_synced, sync_failed, state_of};
+ghost use Rattle.tftp_disk.specs.DiskJournal.{made_at, made_when, written, is_synced, sync_failed};
+ghost use Rattle.tftp_disk.specs.DiskJournal.{state_of};
 ghost use Rattle.tftp_disk.specs.DiskWriter.{calls_of, handed, IsRefused};
 
 use std::fs::OpenFile;
@@ -50,6 +51,8 @@ impl<F: Write> Written<F> {
         ensures ok { OnOk result (handed self.new.writer ≡ handed self.old.writer ++ bytes.now) }
         ensures err { OnErr result (handed self.new.writer ≡ handed self.old.writer) }
         ensures place { made_at (calls_of self.new.writer) ≡ made_at (calls_of self.old.writer) }
+        ensures making { made_when (calls_of self.new.writer)
+            ≡ made_when (calls_of self.old.writer) }
     {
         match self.writer.append(bytes) {
             Ok(()) => {
@@ -133,11 +136,15 @@ impl<F: Write + OpenFile> Written<F> {
         self.writer.examine()
     }
 
-    /// Gives the file the permissions of the one that it replaces, unless it has these.
-    pub(crate) fn keep_permissions(&mut self, replaced: &Found) -> io::Result<()>
+    /// Gives the file the permissions of the one that it replaces, if it replaces one, unless it
+    /// has these.
+    pub(crate) fn keep_permissions(&mut self, replaced: Option<Found>) -> io::Result<()>
         ensures state { state_of (calls_of self.new.writer) ≡ state_of (calls_of self.old.writer) }
         ensures buffer { self.new.writer.buffer ≡ self.old.writer.buffer }
     {
+        let Some(replaced) = replaced else {
+            return Ok(());
+        };
         let wanted = replaced.mode & PERMISSIONS;
         match self.writer.examine() {
             Ok(found) => {

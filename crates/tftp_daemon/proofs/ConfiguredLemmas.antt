@@ -5,6 +5,7 @@ use Rattle.tftp_file.specs.Source.{SourceMeaning}
 use Rattle.tftp_server.specs.State.{ServerState}
 use Rattle.tftp_loop.specs.declared.serving.LoopConfig.{LoopConfig}
 use Rattle.tftp_store.specs.Store.{StoreMeaning}
+use Rattle.tftp_disk.specs.DiskJournal.{DiskEvent}
 use Rattle.tftp_sockets.specs.Journal.{SocketEvent}
 use Rattle.tftp_daemon.specs.CommandLine.{IfExit, IfRun}
 use Rattle.tftp_daemon.specs.Configured.{IsServerOf, ListensAt, MayServe, RunsService, ServesWords, service_at}
@@ -15,20 +16,20 @@ use Rattle.tftp_daemon.specs.declared.command_line.CommandLine.TheVariants.{Run,
 use Rattle.tftp_daemon.specs.declared.daemon.DaemonConfig.{DaemonConfig}
 use Rattle.tftp_folder.specs.declared.folder_store.FolderStore.{FolderStore}
 
-module _ {R G H F D : Type 0} {meaning : StoreMeaning (FolderStore R G H) D} {sources : SourceMeaning F}
-    {before after : List SocketEvent} where
+module _ {B G H W F D : Type 0} {log : B → List DiskEvent} {start : List DiskEvent}
+    {meaning : StoreMeaning (FolderStore B G H W) D} {sources : SourceMeaning F} {before after : List SocketEvent} where
   -- what was noted is the same by another name of the status
   pub with_status : {config : DaemonConfig} {status other : ℕ} → status ≡ other
-      → MayServe meaning sources config status before after
-      → MayServe meaning sources config other before after
-  with_status {config} same serves = subst (λ (n : ℕ). MayServe meaning sources config n before after) same serves
+      → MayServe log start meaning sources config status before after
+      → MayServe log start meaning sources config other before after
+  with_status {config} same serves = subst (λ (n : ℕ). MayServe log start meaning sources config n before after) same serves
 
   -- a server ran with the configuration of the loop that has its request port there
   pub serves_at : {config : DaemonConfig} {at : Endpoint} {service : LoopConfig}
-      {server : ServerState (FolderStore R G H) F D} {status : ℕ} → service ≡ service_at config at
-      → config.instance.servers ≤ 1 → ListensAt config.listen at → IsServerOf config server
+      {server : ServerState (FolderStore B G H W) F D} {status : ℕ} → service ≡ service_at config at
+      → config.instance.servers ≤ 1 → ListensAt config.listen at → IsServerOf log start config server
       → RunsService meaning sources service server status before after
-      → MayServe meaning sources config status before after
+      → MayServe log start meaning sources config status before after
   serves_at {config} {at} {service} {server} {status} same alone listens is runs =
       inr (record {
         alone = alone;
@@ -43,8 +44,8 @@ module _ {R G H F D : Type 0} {meaning : StoreMeaning (FolderStore R G H) D} {so
   -- a status of 0 only if they ask for a text
   pub serves_words : (words : List (List ℕ)) {status : ℕ} (line : CommandLine)
       → IfRun line (WordsConfigure words) → IfExit line (λ n. n ≡ 0 → AskForText tftpd_app words)
-      → IfRun line (λ config. MayServe meaning sources config status before after) → IfExit line (λ _. after ≡ before)
-      → IfExit line (λ n. status ≡ n) → ServesWords meaning sources words status before after
+      → IfRun line (λ config. MayServe log start meaning sources config status before after) → IfExit line (λ _. after ≡ before)
+      → IfExit line (λ n. status ≡ n) → ServesWords log start meaning sources words status before after
   serves_words words (Run config) names asks (inl (none, inl two)) same is =
       inl (none, λ zero. absurd (omega (arith, two, zero)))
   serves_words words (Run config) names asks (inl (none, inr several)) same is =
@@ -54,5 +55,15 @@ module _ {R G H F D : Type 0} {meaning : StoreMeaning (FolderStore R G H) D} {so
 
   -- nothing was done, with a status of 2
   pub done_nothing : (words : List (List ℕ)) {status : ℕ} → after ≡ before → status ≡ 2
-      → ServesWords meaning sources words status before after
+      → ServesWords log start meaning sources words status before after
   done_nothing words same two = inl (same, λ zero. absurd (omega arith))
+
+-- what was done from one history on was done from another that is the same
+pub from_same : {B G H W F D : Type 0} {log : B → List DiskEvent} {start : List DiskEvent}
+    {meaning : StoreMeaning (FolderStore B G H W) D} {sources : SourceMeaning F} {config : DaemonConfig} {status : ℕ}
+    {before middle after : List SocketEvent} → middle ≡ before
+    → MayServe log start meaning sources config status middle after
+    → MayServe log start meaning sources config status before after
+from_same {log = log} {start = start} {meaning = meaning} {sources = sources} {config = config} {status = status}
+    {after = after} same serves =
+    subst (λ (events : List SocketEvent). MayServe log start meaning sources config status events after) same serves

@@ -3,4 +3,5 @@ mod Commands
 mod HeldLemmas
 mod Keeping
 mod NoneStores
+mod Supervising
 mod WithinLimits

@@ -7,8 +7,8 @@ use Rattle.std.proofs.lemmas.List.Elements.{All-cons, All-nil}
 use Rattle.std.proofs.lemmas.List.{append_assoc}
 use Rattle.tftp_file.specs.Source.{SourceMeaning}
 use Rattle.tftp_disk.specs.DiskJournal.{DiskEvent}
-use Rattle.tftp_disk.specs.DiskJournal.DiskEvent.{Looked, Followed, Resolved, Opened, Tried, Made, Linked, Renamed}
-use Rattle.tftp_disk.specs.DiskJournal.DiskEvent.{Removed, Folder_opened, Folder_synced, Examined, Given, Not_given}
+use Rattle.tftp_disk.specs.DiskJournal.DiskEvent.{Looked, Followed, Resolved, Opened, Tried, Created, Made, Linked}
+use Rattle.tftp_disk.specs.DiskJournal.DiskEvent.{Renamed, Removed, Folder_opened, Folder_synced, Examined, Given, Not_given}
 use Rattle.tftp_disk.specs.DiskJournal.DiskEvent.{Sought, Written, Not_written, Synced, Mode_set}
 use Rattle.tftp_store.specs.Store.{StoreMeaning}
 use Rattle.tftp_server.specs.State.{TransferState, draft_of}
@@ -68,6 +68,7 @@ module _ (limits : Limits) (folder : List ℕ) (uploads : limits.uploads ≡ Som
   change_below : (event : DiskEvent) (before : List DiskEvent) → IsChange limits event before
       → IsChangeBelow limits.drafts event
   change_below (Made path answer) before is = made_in path is.change
+  change_below (Created path calls) before is = tt
   change_below (Removed path answer) before is = either_in path is.change
   change_below (Linked file from to answer) before is =
       (draft_below limits.drafts from is.change.0, target_in to is.change.1)
@@ -102,18 +103,18 @@ drafts_inside : (root drafts : List ℕ) (uploads : Option (List ℕ)) → draft
 drafts_inside root drafts None is = inl is
 drafts_inside root drafts (Some folder) is = inr (folder, is)
 
-module _ {R G H F E : Type 0} (meaning : StoreMeaning (FolderStore R G H) (FolderDraft E))
+module _ {D G H W F E : Type 0} (log : D → List DiskEvent) (meaning : StoreMeaning (FolderStore D G H W) (FolderDraft E))
     (sources : SourceMeaning F) where
-  pub stays_within : KeepsWithin meaning → RunStaysWithin meaning sources
+  pub stays_within : KeepsWithin log meaning → RunStaysWithin log meaning sources
   stays_within keeps config first last runs =
       let limits = limits_of first.server.store in
-      run_keeps (IsWithin limits) (IsOwnDraft limits) meaning sources (keeps limits) first last runs.run
+      run_keeps (IsWithin log limits) (IsOwnDraft limits) meaning sources (keeps limits) first last runs.run
       (record {
         store = record {
           has = refl;
           changed = subst (AreChanges limits) (sym runs.is_server.unchanged) tt;
           drafts = drafts_inside limits.root limits.drafts limits.uploads runs.is_server.drafts;
-          inside = runs.is_server.inside;
+          inside = runs.is_server.inside tt;
         };
         drafts =
             none_held (λ transfer. IfSome (draft_of transfer.files) (IsOwnDraft limits)) first.server.held
@@ -126,12 +127,12 @@ module _ {R G H F E : Type 0} (meaning : StoreMeaning (FolderStore R G H) (Folde
           subst (λ (h : List (ℕ × TransferState F (FolderDraft E))). All P (values_of h))
           (sym none) (All-nil P)
 
-  pub read_only_changes_nothing : RunStaysWithin meaning sources → ReadOnlyChangesNothing
-      → ReadOnlyRunChangesNothing meaning sources
+  pub read_only_changes_nothing : RunStaysWithin log meaning sources → ReadOnlyChangesNothing
+      → ReadOnlyRunChangesNothing log meaning sources
   read_only_changes_nothing stays nothing words config first last named asks runs =
       let refuses : first.server.store.is_read_only ≡ true =
       runs.is_server.read_only ∙ named.read_only.yes asks in
-      nothing (limits_of first.server.store) last.server.store.journal.events refuses
+      nothing (limits_of first.server.store) (log last.server.store.disk) refuses
       (stays config first last runs).store.changed
 
   -- the folder of uploads that the words name
@@ -144,7 +145,7 @@ module _ {R G H F E : Type 0} (meaning : StoreMeaning (FolderStore R G H) (Folde
       subst (λ (n : List ℕ). Ok takes.0 ≡ path_of_folder n) same (sym takes.1) in
       cc
 
-  pub uploads_change_below : RunStaysWithin meaning sources → UploadsRunChangesBelow meaning sources
+  pub uploads_change_below : RunStaysWithin log meaning sources → UploadsRunChangesBelow log meaning sources
   uploads_change_below stays words config folder path first last named asks names runs =
       let store = first.server.store in
       let uploads : store.uploads ≡ Some path =
@@ -152,6 +153,6 @@ module _ {R G H F E : Type 0} (meaning : StoreMeaning (FolderStore R G H) (Folde
       let drafts : string_bytes store.folder.drafts ≡ path_below (string_bytes store.folder.root) path =
       runs.is_server.drafts
       ∙ ap (λ (u : Option (List ℕ)). drafts_in (string_bytes store.folder.root) u) uploads in
-      subst (λ (f : List ℕ). All (IsChangeBelow f) (changes_of last.server.store)) drafts
-      (changes_below (limits_of store) path uploads drafts (changes_of last.server.store)
+      subst (λ (f : List ℕ). All (IsChangeBelow f) (changes_of log last.server.store)) drafts
+      (changes_below (limits_of store) path uploads drafts (changes_of log last.server.store)
       (stays config first last runs).store.changed)

@@ -41,12 +41,13 @@ IsChangeBelow folder event = ⊤
 abbrev pub IsOwnDraft : {F : Type 0} → Limits → FolderDraft F → Type 0
 IsOwnDraft limits draft = IsOwn limits (string_bytes draft.draft) (string_bytes draft.target)
 
-module _ {R G H F E : Type 0} (meaning : StoreMeaning (FolderStore R G H) (FolderDraft E))
-    (sources : SourceMeaning F) where
-  -- a run of a server that a configuration has, from a state to another
-  pub record RunsConfig (config : DaemonConfig) (first last : LoopState (FolderStore R G H) F (FolderDraft E))
+module _ {D G H W F E : Type 0} (log : D → List DiskEvent)
+    (meaning : StoreMeaning (FolderStore D G H W) (FolderDraft E)) (sources : SourceMeaning F) where
+  -- a run of a server that a configuration has, over a disk of which nothing was asked before, from a
+  -- state to another
+  pub record RunsConfig (config : DaemonConfig) (first last : LoopState (FolderStore D G H W) F (FolderDraft E))
       : Type 0 where
-    pub is_server : IsServerOf config first.server
+    pub is_server : IsServerOf log [] config first.server
     pub run : Run (LoopStep meaning sources) first last
 
   -- whatever the words, the server keeps the limits that it began with, which are those of its
@@ -55,9 +56,9 @@ module _ {R G H F E : Type 0} (meaning : StoreMeaning (FolderStore R G H) (Folde
   -- is one that it may begin
   abbrev pub RunStaysWithin : Type 0
   RunStaysWithin =
-      (config : DaemonConfig) (first last : LoopState (FolderStore R G H) F (FolderDraft E))
+      (config : DaemonConfig) (first last : LoopState (FolderStore D G H W) F (FolderDraft E))
       → RunsConfig config first last
-      → HasOfServer (IsWithin (limits_of first.server.store)) (IsOwnDraft (limits_of first.server.store))
+      → HasOfServer (IsWithin log (limits_of first.server.store)) (IsOwnDraft (limits_of first.server.store))
       last.server
 
   -- with `--read-only` nothing was changed: no file was made, named or removed, and no folder
@@ -65,17 +66,17 @@ module _ {R G H F E : Type 0} (meaning : StoreMeaning (FolderStore R G H) (Folde
   abbrev pub ReadOnlyRunChangesNothing : Type 0
   ReadOnlyRunChangesNothing =
       (words : List (List ℕ)) (config : DaemonConfig)
-      (first last : LoopState (FolderStore R G H) F (FolderDraft E))
+      (first last : LoopState (FolderStore D G H W) F (FolderDraft E))
       → WordsConfigure words config → AskForReadOnly words → RunsConfig config first last
-      → changes_of last.server.store ≡ []
+      → changes_of log last.server.store ≡ []
 
   -- with `--uploads FOLDER` each file that was made, named or removed is in that folder of the root,
   -- or below it
   abbrev pub UploadsRunChangesBelow : Type 0
   UploadsRunChangesBelow =
       (words : List (List ℕ)) (config : DaemonConfig) (folder path : List ℕ)
-      (first last : LoopState (FolderStore R G H) F (FolderDraft E))
+      (first last : LoopState (FolderStore D G H W) F (FolderDraft E))
       → WordsConfigure words config → AskForUploads words folder → path_of_folder folder ≡ Ok path
       → RunsConfig config first last
       → All (IsChangeBelow (path_below (string_bytes first.server.store.folder.root) path))
-      (changes_of last.server.store)
+      (changes_of log last.server.store)

@@ -17,7 +17,9 @@ use Rattle.tftp_daemon.specs.declared.daemon.DaemonConfig.{DaemonConfig}
 use Rattle.tftp_daemon.specs.declared.listen.Listen.{Listen}
 use Rattle.tftp_daemon.specs.declared.listen.Listen.TheVariants.{At, Handed}
 use Rattle.tftp_folder.specs.Effects.{changes_of}
-use Rattle.tftp_folder.specs.Inside.{AreInside}
+use Rattle.tftp_disk.specs.Changes.{changes}
+use Rattle.tftp_disk.specs.DiskJournal.{DiskEvent}
+use Rattle.tftp_folder.specs.Inside.{StaysInside}
 use Rattle.tftp_folder.specs.Opened.{IsRootOf}
 use Rattle.tftp_folder.specs.Uploads.{path_below, path_of_folder}
 use Rattle.tftp_folder.specs.declared.folder_store.FolderStore.{FolderStore}
@@ -65,44 +67,45 @@ abbrev pub drafts_in : List ℕ → Option (List ℕ) → List ℕ
 drafts_in root None = root
 drafts_in root (Some folder) = path_below root folder
 
--- the root is the folder that this path leads to, as the system said when the store was opened
-abbrev pub IsRootAt : List ℕ → List ℕ → Type 0
-IsRootAt path root = (events : _) × IsRootOf path root events
-
-module _ {R G H F D : Type 0} where
-  -- the server of a configuration, which is valid, without transfers: its limits, and a store over
-  -- its folder that refuses writes, or takes them below one folder alone, as it says, has its drafts
-  -- there, has changed nothing on the disk, and has passed no path outside its root to the system
-  pub record IsServerOf (config : DaemonConfig) (server : ServerState (FolderStore R G H) F D)
-      : Type 0 where
-    pub valid : IsConfig config.config
-    pub limits : server.config ≡ config.config
-    pub empty : server.held ≡ []
-    pub root : IsRootAt config.root.now (string_bytes server.store.folder.root)
-    pub read_only : server.store.is_read_only ≡ config.read_only
-    pub uploads : IsUploads (option_map (λ folder. folder.now) config.uploads) server.store.uploads
-    pub drafts : string_bytes server.store.folder.drafts
-        ≡ drafts_in (string_bytes server.store.folder.root) server.store.uploads
-    pub unchanged : changes_of server.store ≡ []
-    pub inside : AreInside (string_bytes server.store.folder.root) server.store.journal.events
-
-  module _ (meaning : StoreMeaning (FolderStore R G H) D) (sources : SourceMeaning F) where
-    -- a server ran over UDP, from one journal to the other, and its result has this status
-    pub record RunsService (service : LoopConfig) (server : ServerState (FolderStore R G H) F D)
+module _ {B G H W F D : Type 0} (meaning : StoreMeaning (FolderStore B G H W) D) (sources : SourceMeaning F)
+  where
+    -- a server ran over UDP, from one history to the other, and its result has this status
+    pub record RunsService (service : LoopConfig) (server : ServerState (FolderStore B G H W) F D)
         (status : ℕ) (before after : List SocketEvent) : Type 0 where
       pub result : Result (Unit {0}) LoopFault
       pub is_status : status ≡ status_of result
       pub serves : RunsServer meaning sources service server result before after
 
+module _ {B G H W F D : Type 0} (log : B → List DiskEvent) (start : List DiskEvent) where
+  -- the server of a configuration, which is valid, without transfers: its limits, and a store over
+  -- its folder, to which the system led the word ROOT by the first calls that it was asked for since
+  -- this history of the disk. The store refuses writes, or takes them below one folder alone, as it
+  -- says, has its drafts there, has changed nothing on the disk, and has passed no path outside its
+  -- root to the system
+  pub record IsServerOf (config : DaemonConfig) (server : ServerState (FolderStore B G H W) F D)
+      : Type 0 where
+    pub valid : IsConfig config.config
+    pub limits : server.config ≡ config.config
+    pub empty : server.held ≡ []
+    pub root : IsRootOf config.root.now (string_bytes server.store.folder.root) start
+        (log server.store.disk)
+    pub read_only : server.store.is_read_only ≡ config.read_only
+    pub uploads : IsUploads (option_map (λ folder. folder.now) config.uploads) server.store.uploads
+    pub drafts : string_bytes server.store.folder.drafts
+        ≡ drafts_in (string_bytes server.store.folder.root) server.store.uploads
+    pub unchanged : changes_of log server.store ≡ changes start
+    pub inside : StaysInside (string_bytes server.store.folder.root) start (log server.store.disk)
+
+  module _ (meaning : StoreMeaning (FolderStore B G H W) D) (sources : SourceMeaning F) where
     -- a server of the configuration ran
     pub record ServesConfig (config : DaemonConfig) (status : ℕ) (before after : List SocketEvent)
         : Type 0 where
       pub alone : config.instance.servers ≤ 1
       pub at : Endpoint
       pub listens : ListensAt config.listen at
-      pub server : ServerState (FolderStore R G H) F D
+      pub server : ServerState (FolderStore B G H W) F D
       pub is_server : IsServerOf config server
-      pub runs : RunsService (service_at config at) server status before after
+      pub runs : RunsService meaning sources (service_at config at) server status before after
 
     -- nothing was done over UDP, as without the folder, with a status of 2, or with another by the
     -- supervisor of several servers; or a server of the configuration ran

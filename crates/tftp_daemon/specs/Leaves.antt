@@ -34,7 +34,7 @@ module _ {S F D : Type 0} (Same : S → S → Type 0) (meaning : StoreMeaning S 
       → Same old.server.store new.server.store
 
 -- a run leaves the settings of its store
-abbrev pub RunKeepsSettings : {R G H F D : Type 0} → StoreMeaning (FolderStore R G H) D
+abbrev pub RunKeepsSettings : {B G H W F D : Type 0} → StoreMeaning (FolderStore B G H W) D
     → SourceMeaning F → Type 0
 RunKeepsSettings meaning sources = RunLeaves SameSettings meaning sources
 
@@ -58,14 +58,14 @@ module _ {S F D : Type 0} (Admits : S → Type 0) (meaning : StoreMeaning S D)
       → Admits old.server.store → Holds old.server.held → Holds new.server.held
 
 -- a run over a store that refuses writes never has a transfer that stores, if it began with none
-abbrev pub ReadOnlyRunStoresNothing : {R G H F D : Type 0} → StoreMeaning (FolderStore R G H) D
+abbrev pub ReadOnlyRunStoresNothing : {B G H W F D : Type 0} → StoreMeaning (FolderStore B G H W) D
     → SourceMeaning F → Type 0
 ReadOnlyRunStoresNothing meaning sources =
     RunKeepsHeld (λ store. store.is_read_only ≡ true) meaning sources NoneStores
 
 -- a run over a store that takes writes below a folder alone never has a transfer that stores
 -- elsewhere, if it began with none
-abbrev pub UploadsStayInTheirFolder : {R G H F D : Type 0} → StoreMeaning (FolderStore R G H) D
+abbrev pub UploadsStayInTheirFolder : {B G H W F D : Type 0} → StoreMeaning (FolderStore B G H W) D
     → SourceMeaning F → Type 0
 UploadsStayInTheirFolder meaning sources =
     (folder : List ℕ) → RunKeepsHeld (λ store. store.uploads ≡ Some folder) meaning sources

@@ -4,3 +4,4 @@ pub mod Words
 pub mod Configured
 pub mod Changes
 pub mod Servers
+pub mod Supervised

@@ -1,14 +1,16 @@
 //! `tftpd`: a server over UDP that serves the files of a folder.
 
-ghost use Rattle.std.specs.Prelude.{◌≡◌, ◌≤◌, [], IfOk, None, false, option_map};
+ghost use Rattle.std.specs.Prelude.{◌≡◌, ◌≤◌, IfOk, None, OnOk, false, option_map};
 ghost use Rattle.std.specs.String.{string_bytes};
 ghost use Rattle.tftp_server.specs.Config.{IsConfig};
 ghost use Rattle.tftp_folder.specs.Effects.{changes_of};
-ghost use Rattle.tftp_folder.specs.Inside.{AreInside};
+ghost use Rattle.tftp_disk.specs.Changes.{changes};
+ghost use Rattle.tftp_folder.specs.Inside.{StaysInside};
 ghost use Rattle.tftp_folder.specs.Opened.{IsRootOf};
-ghost use Rattle.tftp_daemon.specs.Configured.{IsRootAt, IsServerOf, IsUploads, ListensAt};
+ghost use Rattle.tftp_daemon.specs.Configured.{IsServerOf, IsUploads, ListensAt};
 ghost use Rattle.tftp_daemon.specs.Configured.{MayServe, RunsService, drafts_in, service_at};
 ghost use Rattle.tftp_daemon.specs.Configured.{status_of};
+ghost use Rattle.tftp_daemon.specs.Supervised.{MaySupervise, Supervised};
 
 use crate::drain_file::DrainFile;
 use crate::listen::Listen;
@@ -16,18 +18,16 @@ use crate::servers::supervise;
 use std::alloc::{AllocError, Global};
 use std::io::{self, ErrorKind};
 use std::process::ExitStatus;
-use std::rt::Files;
 use std::time::Clock;
+use tftp_disk::Disk;
 use tftp_ends::Endpoint;
 use tftp_file::Source;
 use tftp_folder::{FolderSource, FolderStore};
 use tftp_handed::{HandedFault, HandedSocket, HandedUdp, Input};
 use tftp_lines::{Reason, reason_of};
-use tftp_loop::{
-    DrainSignal, Ending, ErrorLines, LoopConfig, LoopFault, PortRange, ServerUdp, WholeLines,
-};
+use tftp_loop::{Ending, LoopConfig, LoopFault, PortRange};
 use tftp_server::{Config, Server, Store};
-use tftp_sockets::Journal;
+use tftp_sockets::{DrainSignal, ErrorLines, ServerUdp};
 use tftp_supervisor::Supervise;
 
 /// The configuration of `tftpd`.
@@ -120,149 +120,145 @@ impl From<AllocError> for DaemonFault {
 
 /// Serves until the configured number of transfers has closed, or of waits is over, or until the
 /// server has drained; of several servers it is the supervisor, and serves nothing itself.
-pub(crate) fn serve<R: Files + Clone + Drop + ServerUdp + Clock + Print + ErrorLines + Supervise>(
-    rt: &R,
+pub(crate) fn serve<P: Print + ErrorLines + Clock + Supervise, D: Disk, N: ServerUdp + Eprint>(
+    rt: &P,
     alloc: Global,
-    config: &DaemonConfig<'_>,
-    input: Input,
-    journal: Journal,
-) -> (Result<(), DaemonFault>, Journal)
-    requires { IsConfig config.now.config }
-    ensures status { status_of result.0 ≤ 2 }
-    ensures runs { MayServe ⟦<FolderStore<R> as Store>⟧.meaning
-        ⟦<FolderSource<R::File> as Source>⟧.meaning config.now (status_of result.0) journal.events
-        result.1.events }
-{
-    if config.instance.servers > 1 {
-        return (supervise_checked(rt, alloc, config, input), journal);
-    }
-    serve_alone(rt, alloc, config, input, journal)
-}
-
-/// Supervises several servers, if the folder can be served: else each of them would say so.
-fn supervise_checked<R: Files + Clone + Drop + Clock + Print + ErrorLines + Supervise>(
-    rt: &R,
-    alloc: Global,
+    disk: D,
+    net: &mut HandedUdp<N>,
     config: &DaemonConfig<'_>,
     input: Input,
 ) -> Result<(), DaemonFault>
     requires { IsConfig config.now.config }
+    ensures status { status_of result ≤ 2 }
+    ensures runs { MayServe D.log (D.log disk) ⟦<FolderStore<D> as Store>⟧.meaning
+        ⟦<FolderSource<D::View> as Source>⟧.meaning
+        config.now (status_of result) (N.log net.old.net) (N.log net.new.net) }
+    ensures several { MaySupervise P.supervised config.now (status_of result) }
 {
-    match open_server(rt, alloc, config) {
+    if config.instance.servers > 1 {
+        return supervise_checked(rt, alloc, disk, config, input);
+    }
+    serve_alone(alloc, disk, net, config, input)
+}
+
+/// Supervises several servers, if the folder can be served: else each of them would say so.
+fn supervise_checked<P: Print + Eprint + Clock + Supervise, D: Disk>(
+    rt: &P,
+    alloc: Global,
+    disk: D,
+    config: &DaemonConfig<'_>,
+    input: Input,
+) -> Result<(), DaemonFault>
+    requires { IsConfig config.now.config }
+    ensures { OnOk result (Supervised P.supervised config.now) }
+{
+    match open_server(disk, alloc, config) {
         Ok(_) => supervise(rt, alloc, config, input),
         Err(fault) => Err(fault),
     }
 }
 
 /// Serves alone. Standard input is closed again, unless requests arrive there.
-fn serve_alone<R: Files + Clone + Drop + ServerUdp + Clock + Print + ErrorLines>(
-    rt: &R,
+fn serve_alone<D: Disk, N: ServerUdp + Eprint>(
     alloc: Global,
+    disk: D,
+    net: &mut HandedUdp<N>,
     config: &DaemonConfig<'_>,
     input: Input,
-    journal: Journal,
-) -> (Result<(), DaemonFault>, Journal)
+) -> Result<(), DaemonFault>
     requires valid { IsConfig config.now.config }
     requires alone { config.now.instance.servers ≤ 1 }
-    ensures status { status_of result.0 ≤ 2 }
-    ensures runs { MayServe ⟦<FolderStore<R> as Store>⟧.meaning
-        ⟦<FolderSource<R::File> as Source>⟧.meaning config.now (status_of result.0) journal.events
-        result.1.events }
+    ensures status { status_of result ≤ 2 }
+    ensures runs { MayServe D.log (D.log disk) ⟦<FolderStore<D> as Store>⟧.meaning
+        ⟦<FolderSource<D::View> as Source>⟧.meaning
+        config.now (status_of result) (N.log net.old.net) (N.log net.new.net) }
 {
     match config.listen {
         Listen::At(at) => {
             drop(input);
-            serve_at(&WholeLines::new(rt), rt, alloc, config, at, journal)
+            serve_at(alloc, disk, net, config, at)
         }
-        Listen::Handed => serve_handed(rt, alloc, config, input, journal),
+        Listen::Handed => serve_handed(alloc, disk, net, config, input),
     }
 }
 
 /// Serves at the socket that is standard input.
-fn serve_handed<R: Files + Clone + Drop + ServerUdp + Clock + Print + ErrorLines>(
-    rt: &R,
+fn serve_handed<D: Disk, N: ServerUdp + Eprint>(
     alloc: Global,
+    disk: D,
+    net: &mut HandedUdp<N>,
     config: &DaemonConfig<'_>,
     input: Input,
-    journal: Journal,
-) -> (Result<(), DaemonFault>, Journal)
+) -> Result<(), DaemonFault>
     requires valid { IsConfig config.now.config }
     requires alone { config.now.instance.servers ≤ 1 }
     requires handed { config.now.listen ≡ Listen.Handed }
-    ensures status { status_of result.0 ≤ 2 }
-    ensures runs { MayServe ⟦<FolderStore<R> as Store>⟧.meaning
-        ⟦<FolderSource<R::File> as Source>⟧.meaning config.now (status_of result.0) journal.events
-        result.1.events }
+    ensures status { status_of result ≤ 2 }
+    ensures runs { MayServe D.log (D.log disk) ⟦<FolderStore<D> as Store>⟧.meaning
+        ⟦<FolderSource<D::View> as Source>⟧.meaning
+        config.now (status_of result) (N.log net.old.net) (N.log net.new.net) }
 {
-    let lines = WholeLines::new(rt);
     match HandedSocket::new(input) {
         Ok(socket) => {
             let at = socket.endpoint();
-            match handed_udp(&lines, alloc, config, socket) {
-                Ok(net) => serve_at(&net, rt, alloc, config, at, journal),
-                Err(error) => {
-                    let reason = reason_of(&error);
-                    (Err(DaemonFault::Loop(LoopFault::Socket(reason))), journal)
-                }
+            match hand_over(net, alloc, config, socket) {
+                Ok(()) => serve_at(alloc, disk, net, config, at),
+                Err(error) => Err(DaemonFault::Loop(LoopFault::Socket(reason_of(&error)))),
             }
         }
-        Err(fault) => (Err(DaemonFault::Handed(fault)), journal),
+        Err(fault) => Err(DaemonFault::Handed(fault)),
     }
 }
 
-/// The sockets of a server whose request port was handed over, alone or as one of several.
-fn handed_udp<'a, N: ServerUdp>(
-    rt: &'a N,
+/// Hands the request port over to the network of a server, alone or one of several.
+fn hand_over<N: ServerUdp>(
+    net: &mut HandedUdp<N>,
     alloc: Global,
     config: &DaemonConfig<'_>,
     socket: HandedSocket,
-) -> io::Result<HandedUdp<'a, N>> {
+) -> io::Result<()>
+    ensures { N.log net.new.net ≡ N.log net.old.net }
+{
+    net.hand_over(socket);
     match config.instance.server {
-        Some(server) => HandedUdp::one_of_several(rt, alloc, socket, server),
-        None => Ok(HandedUdp::new(rt, socket)),
+        Some(server) => net.join_several(alloc, server),
+        None => Ok(()),
     }
 }
 
 /// Serves with the request port at this endpoint.
-fn serve_at<N: ServerUdp + Clock + Print + Eprint, R: Files + Clone + Drop>(
-    net: &N,
-    files: &R,
+fn serve_at<D: Disk, N: ServerUdp + Eprint>(
     alloc: Global,
+    disk: D,
+    net: &mut HandedUdp<N>,
     config: &DaemonConfig<'_>,
     at: Endpoint,
-    journal: Journal,
-) -> (Result<(), DaemonFault>, Journal)
+) -> Result<(), DaemonFault>
     requires valid { IsConfig config.now.config }
     requires alone { config.now.instance.servers ≤ 1 }
     requires listens { ListensAt config.now.listen at }
-    ensures status { status_of result.0 ≤ 2 }
-    ensures runs { MayServe ⟦<FolderStore<R> as Store>⟧.meaning
-        ⟦<FolderSource<R::File> as Source>⟧.meaning config.now (status_of result.0) journal.events
-        result.1.events }
+    ensures status { status_of result ≤ 2 }
+    ensures runs { MayServe D.log (D.log disk) ⟦<FolderStore<D> as Store>⟧.meaning
+        ⟦<FolderSource<D::View> as Source>⟧.meaning
+        config.now (status_of result) (N.log net.old.net) (N.log net.new.net) }
 {
-    match open_server(files, alloc, config) {
-        Ok(server) => {
-            let signal = DrainFile::new(files, config.drain);
-            let service = config.service_at(at);
-            serve_loop(net, alloc, server, &service, &signal, journal)
-        }
-        Err(fault) => (Err(fault), journal),
+    let signal = DrainFile::new(disk.view(), config.drain);
+    match open_server(disk, alloc, config) {
+        Ok(server) => serve_loop(net, alloc, server, &config.service_at(at), &signal),
+        Err(fault) => Err(fault),
     }
 }
 
 /// A server over the folder.
-fn open_server<R: Files + Clone + Drop>(
-    rt: &R,
+fn open_server<D: Disk>(
+    disk: D,
     alloc: Global,
     config: &DaemonConfig<'_>,
-) -> Result<Server<FolderStore<R>>, DaemonFault>
+) -> Result<Server<FolderStore<D>>, DaemonFault>
     requires { IsConfig config.now.config }
-    ensures { IfOk result (IsServerOf config.now) }
+    ensures { IfOk result (IsServerOf D.log (D.log disk) config.now) }
 {
-    let Ok(files) = rt.clone() else {
-        return Err(DaemonFault::Memory);
-    };
-    match open_store(files, alloc, config) {
+    match open_store(disk, alloc, config) {
         Ok(store) => match Server::new(alloc, config.config, store) {
             Ok(server) => Ok(server),
             Err(_) => Err(DaemonFault::Memory),
@@ -272,23 +268,23 @@ fn open_server<R: Files + Clone + Drop>(
 }
 
 /// The store over the folder, with its writes refused or kept below one folder.
-fn open_store<R: Files + Drop>(
-    files: R,
+fn open_store<D: Disk>(
+    disk: D,
     alloc: Global,
     config: &DaemonConfig<'_>,
-) -> Result<FolderStore<R>, DaemonFault>
-    ensures root { IfOk result (λ store.
-        IsRootAt config.now.root.now (string_bytes store.folder.root)) }
+) -> Result<FolderStore<D>, DaemonFault>
+    ensures root { IfOk result (λ store. IsRootOf config.now.root.now
+        (string_bytes store.folder.root) (D.log disk) (D.log store.disk)) }
     ensures read_only { IfOk result (λ store. store.is_read_only ≡ config.now.read_only) }
     ensures uploads { IfOk result (λ store.
         IsUploads (option_map (λ folder. folder.now) config.now.uploads) store.uploads) }
     ensures drafts { IfOk result (λ store. string_bytes store.folder.drafts
         ≡ drafts_in (string_bytes store.folder.root) store.uploads) }
-    ensures unchanged { IfOk result (λ store. changes_of store ≡ []) }
-    ensures inside { IfOk result (λ store. AreInside (string_bytes store.folder.root)
-        store.journal.events) }
+    ensures unchanged { IfOk result (λ store. changes_of D.log store ≡ changes (D.log disk)) }
+    ensures inside { IfOk result (λ store. StaysInside (string_bytes store.folder.root)
+        (D.log disk) (D.log store.disk)) }
 {
-    let mut store = match open_root(files, alloc, config) {
+    let mut store = match open_root(disk, alloc, config) {
         Ok(store) => store,
         Err(fault) => return Err(fault),
     };
@@ -304,21 +300,22 @@ fn open_store<R: Files + Drop>(
 }
 
 /// The store over the folder, which takes writes everywhere.
-fn open_root<R: Files + Drop>(
-    files: R,
+fn open_root<D: Disk>(
+    disk: D,
     alloc: Global,
     config: &DaemonConfig<'_>,
-) -> Result<FolderStore<R>, DaemonFault>
+) -> Result<FolderStore<D>, DaemonFault>
     ensures root { IfOk result (λ store. IsRootOf config.now.root.now
-        (string_bytes store.folder.root) store.journal.events) }
+        (string_bytes store.folder.root) (D.log disk) (D.log store.disk)) }
     ensures settings { IfOk result (λ store. (store.is_read_only ≡ false)
         × (store.uploads ≡ None)) }
     ensures drafts { IfOk result (λ store. string_bytes store.folder.drafts
         ≡ string_bytes store.folder.root) }
-    ensures inside { IfOk result (λ store. AreInside (string_bytes store.folder.root)
-        store.journal.events) }
+    ensures inside { IfOk result (λ store. StaysInside (string_bytes store.folder.root)
+        (D.log disk) (D.log store.disk)) }
+    ensures looks { IfOk result (λ store. changes (D.log store.disk) ≡ changes (D.log disk)) }
 {
-    match FolderStore::new(files, alloc, config.root) {
+    match FolderStore::new(disk, alloc, config.root) {
         Ok(store) => Ok(store),
         Err(error) => Err(fault_of(&error, DaemonFault::Root(reason_of(&error)))),
     }
@@ -334,21 +331,19 @@ fn fault_of(error: &io::Error, other: DaemonFault) -> DaemonFault {
 }
 
 /// Serves from the request port.
-fn serve_loop<N: ServerUdp + Clock + Print + Eprint, R: Files + Drop, D: DrainSignal>(
-    rt: &N,
+fn serve_loop<D: Disk, N: ServerUdp + Eprint, G: DrainSignal>(
+    net: &mut HandedUdp<N>,
     alloc: Global,
-    server: Server<FolderStore<R>>,
+    server: Server<FolderStore<D>>,
     service: &LoopConfig,
-    signal: &D,
-    journal: Journal,
-) -> (Result<(), DaemonFault>, Journal)
-    ensures { RunsService ⟦<FolderStore<R> as Store>⟧.meaning
-        ⟦<FolderSource<R::File> as Source>⟧.meaning service.now server (status_of result.0)
-        journal.events result.1.events }
+    signal: &G,
+) -> Result<(), DaemonFault>
+    ensures { RunsService ⟦<FolderStore<D> as Store>⟧.meaning
+        ⟦<FolderSource<D::View> as Source>⟧.meaning service.now server (status_of result)
+        (N.log net.old.net) (N.log net.new.net) }
 {
-    let (served, journal) = tftp_loop::serve(rt, alloc, server, service, signal, journal);
-    match served {
-        Ok(()) => (Ok(()), journal),
-        Err(fault) => (Err(DaemonFault::Loop(fault)), journal),
+    match tftp_loop::serve(net, alloc, server, service, signal) {
+        Ok(()) => Ok(()),
+        Err(fault) => Err(DaemonFault::Loop(fault)),
     }
 }

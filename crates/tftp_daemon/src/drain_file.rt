@@ -1,30 +1,36 @@
 //! The file that has a server drain.
 
-use std::fs;
-use std::rt::Files;
-use tftp_loop::DrainSignal;
+use std::cell::RefCell;
+use tftp_disk::Looks;
+use tftp_sockets::DrainSignal;
 
 /// A signal that is given once a file is there.
 #[derive(Drop)]
-pub(crate) struct DrainFile<'a, R> {
-    files: &'a R,
+pub(crate) struct DrainFile<'a, L> {
+    looks: RefCell<L>,
     /// The path of the file; `None` for a signal that is never given.
     path: Option<&'a str>,
 }
 
-impl<'a, R> DrainFile<'a, R> {
+impl<'a, L> DrainFile<'a, L> {
     /// The signal of the file at this path, if there is one.
-    pub(crate) fn new(files: &'a R, path: Option<&'a str>) -> DrainFile<'a, R> {
-        DrainFile { files, path }
+    pub(crate) fn new(looks: L, path: Option<&'a str>) -> DrainFile<'a, L> {
+        DrainFile {
+            looks: RefCell::new(looks),
+            path,
+        }
     }
 }
 
-impl<R: Files> DrainSignal for DrainFile<'_, R> {
+impl<L: Looks> DrainSignal for DrainFile<'_, L> {
     /// Whether the file is there. One that cannot be looked for counts as absent.
     fn is_given(&self) -> bool {
-        match self.path {
-            Some(path) => matches!(fs::exists(self.files, path), Ok(true)),
-            None => false,
+        let Some(path) = self.path else {
+            return false;
+        };
+        match self.looks.try_borrow_mut() {
+            Ok(mut looks) => looks.follow(path).is_ok(),
+            Err(_) => false,
         }
     }
 }

@@ -6,7 +6,7 @@ use std::{env, fs};
 
 /// What standard error writes to.
 #[derive(Clone, Copy)]
-pub(crate) enum ErrorOutput {
+pub enum ErrorOutput {
     /// The journal of systemd, which takes a priority off a line.
     Journal,
     /// A terminal, a file, a pipe or another device.

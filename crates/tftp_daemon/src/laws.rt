@@ -5,7 +5,7 @@ ghost use Rattle.tftp_daemon.specs.Changes.{UploadsRunChangesBelow};
 ghost use Rattle.tftp_daemon.specs.Leaves.{ReadOnlyRunStoresNothing, RunKeepsSettings};
 ghost use Rattle.tftp_daemon.specs.Leaves.{UploadsStayInTheirFolder};
 
-use std::rt::Files;
+use tftp_disk::Disk;
 use tftp_file::Source;
 use tftp_folder::laws::{keeps_within_its_limits, read_only_changes_nothing};
 use tftp_folder::{FolderSource, FolderStore};
@@ -13,27 +13,27 @@ use tftp_server::Store;
 
 /// A run leaves the settings of its store: one that refuses writes refuses them to its end, and one
 /// that takes them below a folder alone takes them there alone.
-pub fn a_run_keeps_the_settings<R: Files + Drop>()
-    ensures { RunKeepsSettings ⟦<FolderStore<R> as Store>⟧.meaning
-        ⟦<FolderSource<R::File> as Source>⟧.meaning }
+pub fn a_run_keeps_the_settings<D: Disk>()
+    ensures { RunKeepsSettings ⟦<FolderStore<D> as Store>⟧.meaning
+        ⟦<FolderSource<D::View> as Source>⟧.meaning }
 {}
 
 /// A run whose store refuses writes never holds a transfer that stores, if it begins with none: no
 /// request opens one.
-pub fn a_read_only_run_stores_nothing<R: Files + Drop>()
-    ensures { ReadOnlyRunStoresNothing ⟦<FolderStore<R> as Store>⟧.meaning
-        ⟦<FolderSource<R::File> as Source>⟧.meaning }
+pub fn a_read_only_run_stores_nothing<D: Disk>()
+    ensures { ReadOnlyRunStoresNothing ⟦<FolderStore<D> as Store>⟧.meaning
+        ⟦<FolderSource<D::View> as Source>⟧.meaning }
 {
-    a_run_keeps_the_settings::<R>();
+    a_run_keeps_the_settings::<D>();
 }
 
 /// A run whose store takes writes below a folder alone never holds a transfer that stores elsewhere,
 /// if it begins with none: each has the path of its request, and no request opens one with another.
-pub fn uploads_stay_in_their_folder<R: Files + Drop>()
-    ensures { UploadsStayInTheirFolder ⟦<FolderStore<R> as Store>⟧.meaning
-        ⟦<FolderSource<R::File> as Source>⟧.meaning }
+pub fn uploads_stay_in_their_folder<D: Disk>()
+    ensures { UploadsStayInTheirFolder ⟦<FolderStore<D> as Store>⟧.meaning
+        ⟦<FolderSource<D::View> as Source>⟧.meaning }
 {
-    a_run_keeps_the_settings::<R>();
+    a_run_keeps_the_settings::<D>();
 }
 
 /// A run changes nothing on the disk but within the limits of its store, which are those of the
@@ -47,27 +47,27 @@ pub fn uploads_stay_in_their_folder<R: Files + Drop>()
 /// in that of its source: they change nothing, and keep to such paths (`OpensSource` of
 /// `tftp_folder`). Those of one that fails are seen by no caller; the clauses of `open_file` there
 /// state the same of them.
-pub fn a_run_stays_within_its_limits<R: Files + Drop>()
-    ensures { RunStaysWithin ⟦<FolderStore<R> as Store>⟧.meaning
-        ⟦<FolderSource<R::File> as Source>⟧.meaning }
+pub fn a_run_stays_within_its_limits<D: Disk>()
+    ensures { RunStaysWithin D.log ⟦<FolderStore<D> as Store>⟧.meaning
+        ⟦<FolderSource<D::View> as Source>⟧.meaning }
 {
-    keeps_within_its_limits::<R>();
+    keeps_within_its_limits::<D>();
 }
 
 /// A run by words with `--read-only` changes nothing on the disk.
-pub fn a_read_only_run_changes_nothing<R: Files + Drop>()
-    ensures { ReadOnlyRunChangesNothing ⟦<FolderStore<R> as Store>⟧.meaning
-        ⟦<FolderSource<R::File> as Source>⟧.meaning }
+pub fn a_read_only_run_changes_nothing<D: Disk>()
+    ensures { ReadOnlyRunChangesNothing D.log ⟦<FolderStore<D> as Store>⟧.meaning
+        ⟦<FolderSource<D::View> as Source>⟧.meaning }
 {
-    a_run_stays_within_its_limits::<R>();
+    a_run_stays_within_its_limits::<D>();
     read_only_changes_nothing();
 }
 
 /// A run by words with `--uploads FOLDER` makes, names and removes files in that folder of the root
 /// and below it alone.
-pub fn a_run_changes_its_uploads_alone<R: Files + Drop>()
-    ensures { UploadsRunChangesBelow ⟦<FolderStore<R> as Store>⟧.meaning
-        ⟦<FolderSource<R::File> as Source>⟧.meaning }
+pub fn a_run_changes_its_uploads_alone<D: Disk>()
+    ensures { UploadsRunChangesBelow D.log ⟦<FolderStore<D> as Store>⟧.meaning
+        ⟦<FolderSource<D::View> as Source>⟧.meaning }
 {
-    a_run_stays_within_its_limits::<R>();
+    a_run_stays_within_its_limits::<D>();
 }

@@ -13,4 +13,5 @@ mod program;
 mod servers;
 mod shown;
 
-pub use program::{tftpd_command, tftpd_with_journal, tftpd_words};
+pub use error_output::ErrorOutput;
+pub use program::{tftpd_command, tftpd_on, tftpd_words};

@@ -4,6 +4,7 @@ ghost use Rattle.std.specs.Prelude.{◌≡◌, ◌≤◌, map};
 ghost use Rattle.tftp_server.specs.Config.{IsConfig};
 ghost use Rattle.tftp_daemon.specs.CommandLine.{IfExit, IfRun};
 ghost use Rattle.tftp_daemon.specs.Configured.{MayServe, ServesWords, status_of};
+ghost use Rattle.tftp_daemon.specs.Supervised.{MaySupervise, SupervisesWords};
 
 use crate::command_line::{CommandLine, Texts, read_words};
 use crate::daemon::{DaemonConfig, DaemonFault, serve};
@@ -13,17 +14,18 @@ use std::alloc::Global;
 use std::convert::AsStr;
 use std::net::Net;
 use std::random::RandomSource;
-use std::rt::{Files, Runtime};
+use std::rt::Runtime;
 use std::time::Clock;
 use std::{fmt, io};
 use tftp_arguments::{own_words, print_no_memory, print_words_fault};
+use tftp_disk::{Disk, SystemDisk};
 use tftp_file::Source;
 use tftp_folder::{FolderSource, FolderStore};
-use tftp_handed::Input;
+use tftp_handed::{HandedUdp, Input};
 use tftp_lines::Reason;
-use tftp_loop::{ErrorLines, LoopFault, ServerUdp, WholeLines};
+use tftp_loop::LoopFault;
 use tftp_server::Store;
-use tftp_sockets::Journal;
+use tftp_sockets::{ErrorLines, ServerUdp, SystemUdp, WholeLines};
 use tftp_supervisor::Supervise;
 
 /// Runs `tftpd` with the program's own command line, and this standard input, and returns its status.
@@ -54,95 +56,121 @@ pub fn tftpd_words<
 >(rt: &R, words: &[S], input: Input) -> u8
     ensures { result ≤ 2 }
 {
-    let (status, _journal) = tftpd_with_journal(rt, words, input, Journal::new());
-    status
+    let mut net = HandedUdp::new(SystemUdp::new(rt));
+    let disk = SystemDisk::new(rt);
+    tftpd_on(
+        rt,
+        rt.alloc(),
+        disk,
+        &mut net,
+        words,
+        input,
+        ErrorOutput::of(rt),
+    )
 }
 
-/// As [`tftpd_words`], with a journal of what it does over UDP: nothing, as for `--help`, or a run
-/// of one server with the configuration that the words name. With a status of 0 that server served
-/// to its end, or the words ask for the help or the version.
-pub fn tftpd_with_journal<
-    R: Runtime + AllocGlobal + Net + RandomSource + ErrorLines + Supervise,
+/// As [`tftpd_words`], over a disk and a network: it does nothing over UDP, as for `--help`, or runs
+/// one server with the configuration that the words name. With a status of 0 that server served to
+/// its end, or the words ask for the help or the version, or for several servers: then their
+/// supervisor has started each of them, and each has ended with status 0.
+pub fn tftpd_on<
+    P: Print + ErrorLines + Clock + Supervise,
+    D: Disk,
+    N: ServerUdp + Eprint,
     S: AsStr,
->(rt: &R, words: &[S], input: Input, journal: Journal) -> (u8, Journal)
-    ensures status { result.0 ≤ 2 }
-    ensures runs { ServesWords ⟦<FolderStore<R> as Store>⟧.meaning
-        ⟦<FolderSource<R::File> as Source>⟧.meaning (map S.text words.now) result.0
-        journal.events result.1.events }
+>(
+    rt: &P,
+    alloc: Global,
+    disk: D,
+    net: &mut HandedUdp<N>,
+    words: &[S],
+    input: Input,
+    errors: ErrorOutput,
+) -> u8
+    ensures status { result ≤ 2 }
+    ensures runs { ServesWords D.log (D.log disk) ⟦<FolderStore<D> as Store>⟧.meaning
+        ⟦<FolderSource<D::View> as Source>⟧.meaning (map S.text words.now) result
+        (N.log net.old.net) (N.log net.new.net) }
+    ensures several { SupervisesWords P.supervised (map S.text words.now) result }
 {
-    match Texts::new(rt.alloc()) {
-        Ok(texts) => {
-            let errors = ErrorOutput::of(rt);
-            serve_texts(rt, rt.alloc(), &texts, words, errors, input, journal)
-        }
-        Err(_) => (print_no_memory(rt, "tftpd"), journal),
+    match Texts::new(alloc) {
+        Ok(texts) => serve_texts(rt, alloc, disk, net, &texts, words, input, errors),
+        Err(_) => print_no_memory(rt, "tftpd"),
     }
 }
 
 /// Reads the words, and serves by them.
 fn serve_texts<
     'a,
-    R: Files + Clone + Drop + ServerUdp + Clock + Print + ErrorLines + Supervise,
+    P: Print + ErrorLines + Clock + Supervise,
+    D: Disk,
+    N: ServerUdp + Eprint,
     S: AsStr,
 >(
-    rt: &R,
+    rt: &P,
     alloc: Global,
+    disk: D,
+    net: &mut HandedUdp<N>,
     texts: &'a Texts,
     words: &'a [S],
-    errors: ErrorOutput,
     input: Input,
-    journal: Journal,
-) -> (u8, Journal)
-    ensures status { result.0 ≤ 2 }
-    ensures runs { ServesWords ⟦<FolderStore<R> as Store>⟧.meaning
-        ⟦<FolderSource<R::File> as Source>⟧.meaning (map S.text words.now) result.0
-        journal.events result.1.events }
+    errors: ErrorOutput,
+) -> u8
+    ensures status { result ≤ 2 }
+    ensures runs { ServesWords D.log (D.log disk) ⟦<FolderStore<D> as Store>⟧.meaning
+        ⟦<FolderSource<D::View> as Source>⟧.meaning (map S.text words.now) result
+        (N.log net.old.net) (N.log net.new.net) }
+    ensures several { SupervisesWords P.supervised (map S.text words.now) result }
 {
     match read_words(rt, alloc, texts, words, errors) {
-        Ok(line) => serve_command_line(rt, alloc, &line, input, journal),
-        Err(_) => (print_no_memory(rt, "tftpd"), journal),
+        Ok(line) => serve_command_line(rt, alloc, disk, net, &line, input),
+        Err(_) => print_no_memory(rt, "tftpd"),
     }
 }
 
 /// Does what the command line has the program do.
-fn serve_command_line<R: Files + Clone + Drop + ServerUdp + Clock + Print + ErrorLines + Supervise>(
-    rt: &R,
+fn serve_command_line<P: Print + ErrorLines + Clock + Supervise, D: Disk, N: ServerUdp + Eprint>(
+    rt: &P,
     alloc: Global,
+    disk: D,
+    net: &mut HandedUdp<N>,
     line: &CommandLine<'_>,
     input: Input,
-    journal: Journal,
-) -> (u8, Journal)
+) -> u8
     requires config { IfRun line.now (λ config. IsConfig config.config) }
     requires status { IfExit line.now (λ status. status ≤ 2) }
-    ensures status { result.0 ≤ 2 }
-    ensures same { IfExit line.now (λ status. result.0 ≡ status) }
-    ensures runs { IfRun line.now (λ config. MayServe ⟦<FolderStore<R> as Store>⟧.meaning
-        ⟦<FolderSource<R::File> as Source>⟧.meaning config result.0 journal.events
-        result.1.events) }
-    ensures none { IfExit line.now (λ _. result.1.events ≡ journal.events) }
+    ensures status { result ≤ 2 }
+    ensures same { IfExit line.now (λ status. result ≡ status) }
+    ensures runs { IfRun line.now (λ config. MayServe D.log (D.log disk)
+        ⟦<FolderStore<D> as Store>⟧.meaning ⟦<FolderSource<D::View> as Source>⟧.meaning config
+        result (N.log net.old.net) (N.log net.new.net)) }
+    ensures several { IfRun line.now (λ config. MaySupervise P.supervised config result) }
+    ensures none { IfExit line.now (λ _. N.log net.new.net ≡ N.log net.old.net) }
 {
     match line {
-        CommandLine::Run(config) => serve_config(rt, alloc, config, input, journal),
-        CommandLine::Exit(status) => (*status, journal),
+        CommandLine::Run(config) => serve_config(rt, alloc, disk, net, config, input),
+        CommandLine::Exit(status) => *status,
     }
 }
 
 /// Serves by a configuration, reports a fault, and returns the status.
-fn serve_config<R: Files + Clone + Drop + ServerUdp + Clock + Print + ErrorLines + Supervise>(
-    rt: &R,
+fn serve_config<P: Print + ErrorLines + Clock + Supervise, D: Disk, N: ServerUdp + Eprint>(
+    rt: &P,
     alloc: Global,
+    disk: D,
+    net: &mut HandedUdp<N>,
     config: &DaemonConfig<'_>,
     input: Input,
-    journal: Journal,
-) -> (u8, Journal)
+) -> u8
     requires { IsConfig config.now.config }
-    ensures status { result.0 ≤ 2 }
-    ensures runs { MayServe ⟦<FolderStore<R> as Store>⟧.meaning
-        ⟦<FolderSource<R::File> as Source>⟧.meaning config.now result.0 journal.events
-        result.1.events }
+    ensures status { result ≤ 2 }
+    ensures runs { MayServe D.log (D.log disk) ⟦<FolderStore<D> as Store>⟧.meaning
+        ⟦<FolderSource<D::View> as Source>⟧.meaning config.now result (N.log net.old.net)
+        (N.log net.new.net) }
+    ensures several { MaySupervise P.supervised config.now result }
 {
-    let (served, journal) = serve(rt, alloc, config, input, journal);
-    (report(rt, config, served), journal)
+    let served = serve(rt, alloc, disk, net, config, input);
+    report(rt, config, served)
 }
 
 /// Prints the fault, if there is one, and returns the status. A server of several whose supervisor

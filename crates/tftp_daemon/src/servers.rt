@@ -1,7 +1,10 @@
 //! Several servers at one request port: their command lines, and their supervisor.
 
-ghost use Rattle.std.specs.Prelude.{◌≡◌, map, option_map, Some, IfOk, IfSome, IsTrue};
+ghost use Rattle.std.specs.Prelude.{◌≡◌, ◌++◌, ◌∷◌, [], length, map, option_map, Some, IfOk, IfSome};
+ghost use Rattle.std.specs.Prelude.{IsTrue, OnOk};
+ghost use Rattle.std.specs.String.{string_bytes};
 ghost use Rattle.tftp_daemon.specs.Servers.{IsPart, IsServer, NamesServerOf, PartOf, start_of};
+ghost use Rattle.tftp_daemon.specs.Supervised.{AreServerLines, Supervised};
 
 use crate::command_line::{CommandLine, Texts, read_words};
 use crate::daemon::{DaemonConfig, DaemonFault};
@@ -33,10 +36,12 @@ pub(crate) fn supervise<R: Supervise + Clock + Print + Eprint>(
     alloc: Global,
     config: &DaemonConfig<'_>,
     input: Input,
-) -> Result<(), DaemonFault> {
+) -> Result<(), DaemonFault>
+    ensures { OnOk result (Supervised R.supervised config.now) }
+{
     let socket = shared_socket(rt, config, input)?;
     let servers = command_lines(rt, alloc, config)?;
-    let (ended, _journal) = rt.supervise(&socket, servers.as_slice());
+    let (ended, _history) = rt.supervise(&socket, servers.as_slice());
     match ended {
         Ok(()) => Ok(()),
         Err(fault) => Err(fault_of(fault)),
@@ -97,16 +102,28 @@ fn command_lines<P: Print + Eprint>(
     rt: &P,
     alloc: Global,
     config: &DaemonConfig<'_>,
-) -> Result<Vec<Vec<String>>, DaemonFault> {
+) -> Result<Vec<Vec<String>>, DaemonFault>
+    ensures count { IfOk result (λ lines. length lines.items ≡ config.now.instance.servers) }
+    ensures named { IfOk result (λ lines. AreServerLines config.now
+        (map (λ line. map string_bytes line.items) lines.items)) }
+{
     let texts = Texts::new(alloc)?;
     let mut lines = Vec::new(alloc);
-    for server in 1..=config.instance.servers {
-        let line = command_line_of(rt, alloc, &texts, config, server)?;
-        if lines.push(line).is_err() {
-            return Err(DaemonFault::Memory);
-        }
+    for before in 0..config.instance.servers {
+        let line = command_line_of(rt, alloc, &texts, config, before + 1)?;
+        add_line(&mut lines, line)?;
     }
     Ok(lines)
+}
+
+/// Adds a command line.
+fn add_line(lines: &mut Vec<Vec<String>>, line: Vec<String>) -> Result<(), DaemonFault>
+    ensures { OnOk result (lines.new.items ≡ lines.old.items ++ line ∷ []) }
+{
+    match lines.push(line) {
+        Ok(()) => Ok(()),
+        Err(_) => Err(DaemonFault::Memory),
+    }
 }
 
 /// The command line of a server, which names its configuration: it is read, and compared.

@@ -11,7 +11,7 @@ use Rattle.tftp_disk.specs.DiskJournal.{DiskEvent}
 use Rattle.tftp_disk.specs.DiskJournal.DiskEvent.{Given}
 use Rattle.tftp_disk.specs.Given.{Reads}
 use Rattle.tftp_disk.specs.DiskSource.{pending, source_calls, source_mode, AppendsRead, GivesPiece, HoldsAhead, Passes}
-use Rattle.tftp_disk.specs.declared.calls.DiskFile.{DiskFile}
+use Rattle.tftp_disk.specs.declared.disk_file.DiskFile.{DiskFile}
 use Rattle.tftp_disk.specs.declared.disk_source.DiskSource.{DiskSource}
 use Rattle.std.specs.declared.io.Error.{Error}
 use Rattle.tftp_disk.specs.ReadBuffer.{ReadsSome}

@@ -1,8 +1,8 @@
 -- The events that the calls note, as events of a disk journal (ours).
-use Rattle.std.specs.Prelude.{Ok, Err}
+use Rattle.std.specs.Prelude.{Ok, Err, length}
 use Rattle.tftp_disk.specs.DiskJournal.{DiskEvent, state_of, folder_at}
-use Rattle.tftp_disk.specs.DiskJournal.DiskEvent.{Looked, Followed, Resolved, Opened, Tried, Made}
-use Rattle.tftp_disk.specs.DiskJournal.DiskEvent.{Linked, Renamed, Removed, Folder_opened}
+use Rattle.tftp_disk.specs.DiskJournal.DiskEvent.{Looked, Followed, Resolved, Opened, Tried, Created}
+use Rattle.tftp_disk.specs.DiskJournal.DiskEvent.{Made, Linked, Renamed, Removed, Folder_opened}
 use Rattle.tftp_disk.specs.DiskJournal.DiskEvent.{Folder_synced, Examined, Given, Not_given, Sought}
 use Rattle.tftp_disk.specs.DiskJournal.DiskEvent.{Written, Not_written, Synced, Mode_set}
 use Rattle.tftp_disk.specs.declared.disk_event_ref.DiskEventRef.{DiskEventRef}
@@ -16,6 +16,7 @@ event_of (refs.Resolved path answer) = Resolved path.now (Ok answer.now)
 event_of (refs.NotResolved path error) = Resolved path.now (Err error)
 event_of (refs.Opened path answer) = Opened path.now answer
 event_of (refs.Tried path answer) = Tried path.now answer
+event_of (refs.Created path disk) = Created path.now (length disk.now.events)
 event_of (refs.Made path answer) = Made path.now answer
 event_of (refs.Linked file from to answer) =
     Linked (state_of file.now.events) from.now to.now answer

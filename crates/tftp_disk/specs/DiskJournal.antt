@@ -1,14 +1,17 @@
--- The calls of the system on paths and on open files, the newest first (ours).
+-- The calls of the system on paths and on open files, the newest first: of a disk, of a view, or of
+-- one open file (ours).
 use Rattle.std.specs.Prelude.{ℕ, Bool, true, false, List, [], ◌∷◌, ◌++◌, Option, Some, None}
 use Rattle.std.specs.Prelude.{Result, Ok, Err}
 use Rattle.std.specs.declared.io.Error.{Error}
 use Rattle.std.specs.declared.io.SeekFrom.{SeekFrom}
 use Rattle.tftp_disk.specs.declared.found.Found.{Found}
 
--- what an open file is, by the calls on it: where it was made, if it was; the bytes that were
--- written to it; whether a sync succeeded after the last write; and whether a sync failed
+-- what an open file is, by the calls on it: where it was made, if it was, and how many calls its disk
+-- had seen by then; the bytes that were written to it; whether a sync succeeded after the last write;
+-- and whether a sync failed
 pub record FileState : Type 0 where
   pub made_at : Option (List ℕ)
+  pub made_when : Option ℕ
   pub written : List ℕ
   pub is_synced : Bool
   pub sync_failed : Bool
@@ -33,6 +36,8 @@ pub data DiskEvent : Type 0 where
   Opened : (path : List ℕ) (answer : Done) → DiskEvent
   -- a file was opened to be written, and closed
   Tried : (path : List ℕ) (answer : Done) → DiskEvent
+  -- the open file was made, to be written, when its disk had seen so many calls
+  Created : (path : List ℕ) (calls : ℕ) → DiskEvent
   -- a file was made, to be written; none was there
   Made : (path : List ℕ) (answer : Done) → DiskEvent
   -- an open file's path got a second name, which no file had
@@ -65,8 +70,14 @@ pub data DiskEvent : Type 0 where
 -- where the open file of these calls was made
 abbrev pub made_at : List DiskEvent → Option (List ℕ)
 made_at [] = None
-made_at (Made path (Ok done) ∷ events) = Some path
+made_at (Created path calls ∷ events) = Some path
 made_at (event ∷ events) = made_at events
+
+-- how many calls its disk had seen when it was made
+abbrev pub made_when : List DiskEvent → Option ℕ
+made_when [] = None
+made_when (Created path calls ∷ events) = Some calls
+made_when (event ∷ events) = made_when events
 
 -- the path of the open folder of these calls
 abbrev pub folder_at : List DiskEvent → Option (List ℕ)
@@ -100,6 +111,7 @@ abbrev pub state_of : List DiskEvent → FileState
 state_of events =
     record {
       made_at = made_at events;
+      made_when = made_when events;
       written = written events;
       is_synced = is_synced events;
       sync_failed = sync_failed events;

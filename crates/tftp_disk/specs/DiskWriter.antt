@@ -1,6 +1,6 @@
 -- What a writer of a file was handed, and what its writes leave (ours).
 use Rattle.std.specs.Prelude.{ℕ, ◌≡◌, ⊤, List, [], ◌∷◌, ◌++◌}
-use Rattle.tftp_disk.specs.DiskJournal.{DiskEvent, made_at, written, sync_failed}
+use Rattle.tftp_disk.specs.DiskJournal.{DiskEvent, made_at, made_when, written, sync_failed}
 use Rattle.tftp_disk.specs.DiskJournal.DiskEvent.{Written, Not_written}
 use Rattle.tftp_disk.specs.declared.disk_writer.DiskWriter.{DiskWriter}
 
@@ -15,6 +15,7 @@ handed writer = written (calls_of writer) ++ writer.buffer.items
 -- calls on a file that made it nowhere else, and of which no sync failed
 pub record NoSyncs (before after : List DiskEvent) : Type 0 where
   pub same_place : made_at after ≡ made_at before
+  pub same_making : made_when after ≡ made_when before
   pub same_syncs : sync_failed after ≡ sync_failed before
 
 -- the newest of these calls is a write that failed, or that wrote no byte

@@ -4,7 +4,7 @@ use Rattle.std.specs.Prelude.{Option, Some, None, Ok}
 use Rattle.std.specs.declared.io.SeekFrom.{SeekFrom}
 use Rattle.std.specs.declared.io.SeekFrom.TheVariants.{Start}
 use Rattle.tftp_disk.specs.DiskJournal.{DiskEvent}
-use Rattle.tftp_disk.specs.DiskJournal.DiskEvent.{Opened, Examined, Given, Sought}
+use Rattle.tftp_disk.specs.DiskJournal.DiskEvent.{Opened, Examined, Given, Sought, Written}
 use Rattle.tftp_disk.specs.declared.found.Found.{Found}
 
 -- the path of the open file of these calls
@@ -23,6 +23,17 @@ examined (event ∷ events) = examined events
 abbrev pub is_rewind : SeekFrom → Bool
 is_rewind (Start place) = place == 0
 is_rewind to = false
+
+-- its next read is from its start: nothing was read since it was opened or set there
+abbrev pub is_at_start : List DiskEvent → Bool
+is_at_start [] = false
+is_at_start (Opened path (Ok done) ∷ events) = true
+is_at_start (Sought (Start offset) (Ok place) ∷ events) = offset == 0
+is_at_start (Sought to answer ∷ events) = false
+is_at_start (Given [] ∷ events) = is_at_start events
+is_at_start (Given (byte ∷ bytes) ∷ events) = false
+is_at_start (Written bytes ∷ events) = false
+is_at_start (event ∷ events) = is_at_start events
 
 -- the bytes that were read of it, in order, since its opening or its newest rewind
 abbrev pub given : List DiskEvent → List ℕ

@@ -12,3 +12,4 @@ pub mod Given
 pub mod Measuring
 pub mod NamedFolder
 pub mod ReadBuffer
+pub mod Still

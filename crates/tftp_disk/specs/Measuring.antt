@@ -6,7 +6,7 @@ use Rattle.tftp_file.specs.Netascii.{wire_text}
 use Rattle.tftp_file.specs.declared.length.TheConstants.{MAX_WIRE}
 use Rattle.tftp_disk.specs.DiskJournal.{DiskEvent}
 use Rattle.tftp_disk.specs.Given.{IsAtEnd, Reads, examined, opened_at}
-use Rattle.tftp_disk.specs.declared.calls.DiskFile.{DiskFile}
+use Rattle.tftp_disk.specs.declared.disk_file.DiskFile.{DiskFile}
 use Rattle.tftp_disk.specs.declared.measuring.TextLength.{TextLength}
 
 module _ {F : Type 0} where

@@ -1,5 +1,6 @@
 -- The folder in which a file gets its name (ours).
 use Rattle.std.specs.Prelude.{ℕ, ◌≡◌, ◌⊎◌, List, ◌∷◌, Option, Some, None, Ok, Err}
+use Rattle.std.specs.Prelude.{Contains}
 use Rattle.std.specs.IoError.{error_kind}
 use Rattle.std.specs.declared.io.Error.{Error}
 use Rattle.std.specs.declared.io.ErrorKind.TheVariants as kinds
@@ -7,13 +8,15 @@ use Rattle.tftp_disk.specs.Changes.{IsSynced}
 use Rattle.tftp_disk.specs.DiskJournal.{DiskEvent, Done, folder_at}
 use Rattle.tftp_disk.specs.DiskJournal.DiskEvent.{Folder_opened, Folder_synced}
 use Rattle.tftp_disk.specs.Folder.{IsFolderOf}
-use Rattle.tftp_disk.specs.declared.calls.DiskFolder.{DiskFolder}
+use Rattle.tftp_disk.specs.declared.disk_file.DiskFolder.{DiskFolder}
 
--- the user may not read the folder of the path, so that it is not synced
-abbrev pub MayNotSync : List ℕ → Type 0
-MayNotSync path =
+-- the user may not read the folder of the path, so that it is not synced: one of these calls was to
+-- open it, and was refused for that
+abbrev pub MayNotSync : List ℕ → List DiskEvent → Type 0
+MayNotSync path calls =
     (at : List ℕ) × (refusal : Error) × IsFolderOf path at
     × (error_kind refusal ≡ kinds.PermissionDenied)
+    × Contains calls (Folder_opened at (Err refusal))
 
 -- the folder of the path was opened, or may not be
 abbrev pub OpensFolder : {F : Type 0} → List ℕ → Option (DiskFolder F) → List DiskEvent
@@ -26,11 +29,11 @@ OpensFolder path None before after =
     × (error_kind refusal ≡ kinds.PermissionDenied)
     × (after ≡ Folder_opened at (Err refusal) ∷ before)
 
--- the folder is that of the path, or may not be opened
-abbrev pub IsFolderFor : {F : Type 0} → List ℕ → Option (DiskFolder F) → Type 0
-IsFolderFor path (Some folder) =
+-- the folder is that of the path, or one of these calls was to open it, and was refused
+abbrev pub IsFolderFor : {F : Type 0} → List ℕ → Option (DiskFolder F) → List DiskEvent → Type 0
+IsFolderFor path (Some folder) calls =
     (at : List ℕ) × IsFolderOf path at × (folder_at folder.journal.events ≡ Some at)
-IsFolderFor path None = MayNotSync path
+IsFolderFor path None calls = MayNotSync path calls
 
 -- the folder was not opened
 abbrev pub OpensNoFolder : List ℕ → List DiskEvent → List DiskEvent → Type 0
@@ -63,7 +66,7 @@ abbrev pub SyncsAfter : List ℕ → List DiskEvent → List DiskEvent → Type 
 SyncsAfter path before after =
     ((at : List ℕ) × (answer : Done) × IsFolderOf path at × IsSynced answer
     × (after ≡ Folder_synced (Some at) answer ∷ before))
-    ⊎ (MayNotSync path × (after ≡ before))
+    ⊎ (MayNotSync path before × (after ≡ before))
 
 -- the one call is the opening of the folder of the path
 abbrev pub OpensAlone : List ℕ → List DiskEvent → List DiskEvent → Type 0

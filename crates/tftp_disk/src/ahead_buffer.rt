@@ -5,7 +5,7 @@ ghost use Rattle.std.specs.Prelude.{IsSome, OnOk, OnErr};
 ghost use Rattle.tftp_disk.specs.DiskSource.{HoldsAhead};
 ghost use Rattle.tftp_disk.specs.ReadBuffer.{ReadsSome};
 
-use crate::calls::DiskFile;
+use crate::disk_file::DiskFile;
 use crate::disk_source::{Failure, fill_from};
 use crate::read_buffer::ReadBuffer;
 use std::alloc::{AllocError, Global};

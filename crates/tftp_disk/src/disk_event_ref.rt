@@ -20,6 +20,8 @@ pub(crate) enum DiskEventRef<'a> {
     Opened(&'a str, io::Result<()>),
     /// A file was opened to be written, and closed.
     Tried(&'a str, io::Result<()>),
+    /// The open file was made, by a disk with this history.
+    Created(&'a str, &'a DiskJournal),
     /// A file was made.
     Made(&'a str, io::Result<()>),
     /// The path of an open file got a second name.

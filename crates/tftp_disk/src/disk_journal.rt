@@ -1,5 +1,5 @@
-//! What a program asked of the disk, and what it was answered. Only clauses read it: it uses no
-//! memory, and a note does nothing.
+//! The history of a disk, of a view, or of an open file. Only clauses read it: it uses no memory, and
+//! a note does nothing. No other crate can make one, or note in one.
 
 ghost use Rattle.std.specs.Prelude.{◌≡◌, List, [], ◌∷◌};
 ghost use Rattle.std.specs.Borrow.{ftrue};
@@ -8,7 +8,7 @@ ghost use Rattle.tftp_disk.specs.DiskJournal.{DiskEvent};
 use crate::disk_event_ref::DiskEventRef;
 use std::marker::{Model, PhantomData};
 
-/// What a program asked of the disk, the newest event first: of paths, or of one open file.
+/// What was asked of a disk or of one open file, and what was answered, the newest event first.
 #[derive(Drop)]
 pub struct DiskJournal {
     marker: PhantomData<u8>,
@@ -23,7 +23,7 @@ impl DiskJournal {
     ghost use Rattle.tftp_disk.specs.DiskEventRef.{event_of};
 
     /// A journal without an event.
-    pub fn new() -> DiskJournal
+    pub(crate) fn new() -> DiskJournal
         ensures { result.events ≡ [] }
     {
         DiskJournal {

@@ -9,7 +9,7 @@ ghost use Rattle.tftp_disk.specs.DiskSource.{Passes, AppendsRead, IsUnread};
 ghost use Rattle.tftp_disk.specs.DiskSource.{source_calls, source_error};
 
 use crate::ahead_buffer::AheadBuffer;
-use crate::calls::DiskFile;
+use crate::disk_file::DiskFile;
 use crate::read_buffer::ReadBuffer;
 use std::alloc::{AllocError, Global};
 use std::io::{self, Read};

@@ -6,7 +6,7 @@ ghost use Rattle.tftp_disk.specs.DiskJournal.{written};
 ghost use Rattle.tftp_disk.specs.DiskJournal.DiskEvent.{Examined, Synced, Mode_set};
 ghost use Rattle.tftp_disk.specs.DiskWriter.{calls_of, handed, IsRefused, NoSyncs};
 
-use crate::calls::DiskFile;
+use crate::disk_file::DiskFile;
 use crate::found::Found;
 use std::alloc::{AllocError, Global};
 use std::fs::OpenFile;

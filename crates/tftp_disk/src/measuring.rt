@@ -3,7 +3,7 @@
 ghost use Rattle.std.specs.Prelude.{◌≤◌, IfOk};
 ghost use Rattle.tftp_disk.specs.Measuring.{CountsChunk, CountsPass, StaysOpen, calls_on};
 
-use crate::calls::DiskFile;
+use crate::disk_file::DiskFile;
 use std::io::{self, Read};
 use tftp_file::{MAX_WIRE, wire_length_within};
 use tftp_wire::Mode;

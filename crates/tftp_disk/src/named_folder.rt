@@ -6,12 +6,10 @@ ghost use Rattle.tftp_disk.specs.NamedFolder.{OpensFolder, OpensNoFolder, IsFold
 ghost use Rattle.tftp_disk.specs.NamedFolder.{SyncsNoFolder, path_in, OpensAlone, SyncsAlone};
 ghost use Rattle.tftp_disk.specs.DiskJournal.DiskEvent.{Folder_synced};
 
-use crate::calls::{DiskFolder, open_folder};
-use crate::disk_journal::DiskJournal;
+use crate::disk::Disk;
+use crate::disk_file::DiskFolder;
 use crate::folder::folder_of;
-use std::fs::OpenFile;
 use std::io::{self, ErrorKind};
-use std::rt::Files;
 
 /// The open folder of a path. It is opened before a name is given there, so that no name is given
 /// in a folder that cannot be synced.
@@ -23,20 +21,17 @@ pub struct NamedFolder<F> {
 
 impl<F> NamedFolder<F> {
     /// Opens the folder of a path.
-    pub fn of<R: Files<File = F>>(
-        files: &R,
-        journal: &mut DiskJournal,
-        path: &str,
-    ) -> io::Result<NamedFolder<F>>
+    pub fn of<D: Disk<File = F>>(disk: &mut D, path: &str) -> io::Result<NamedFolder<F>>
         ensures ok { IfOk result (λ folder. OpensFolder path.now folder.folder
-            (changes journal.old.events) (changes journal.new.events)) }
+            (changes (D.log disk.old)) (changes (D.log disk.new))) }
         ensures err { OnErr result (OpensNoFolder path.now
-            (changes journal.old.events) (changes journal.new.events)) }
-        ensures fits { IfOk result (λ folder. IsFolderFor path.now folder.folder) }
-        ensures renames { renames journal.new.events ≡ renames journal.old.events }
-        ensures calls { OpensAlone path.now journal.old.events journal.new.events }
+            (changes (D.log disk.old)) (changes (D.log disk.new))) }
+        ensures fits { IfOk result (λ folder. IsFolderFor path.now folder.folder
+            (changes (D.log disk.new))) }
+        ensures renames { renames (D.log disk.new) ≡ renames (D.log disk.old) }
+        ensures calls { OpensAlone path.now (D.log disk.old) (D.log disk.new) }
     {
-        match open_folder(files, journal, folder_of(path)) {
+        match disk.open_folder(folder_of(path)) {
             Ok(folder) => Ok(NamedFolder {
                 folder: Some(folder),
             }),
@@ -49,24 +44,22 @@ impl<F> NamedFolder<F> {
             }
         }
     }
-}
 
-impl<F: OpenFile> NamedFolder<F> {
     /// Syncs the folder, if its file system supports that.
-    pub fn sync(&self, journal: &mut DiskJournal) -> io::Result<()>
+    pub fn sync<D: Disk<File = F>>(&self, disk: &mut D) -> io::Result<()>
         ensures ok { OnOk result (SyncsFolder self.now.folder
-            (changes journal.old.events) (changes journal.new.events)) }
+            (changes (D.log disk.old)) (changes (D.log disk.new))) }
         ensures err { IfErr result (λ error. SyncsNoFolder self.now.folder
-            (changes journal.old.events) error (changes journal.new.events)) }
-        ensures unsynced { IfErr result (λ error. changes journal.new.events
-            ≡ Folder_synced (path_in self.now.folder) (Err error) ∷ changes journal.old.events) }
-        ensures renames { renames journal.new.events ≡ renames journal.old.events }
-        ensures calls { SyncsAlone self.now.folder journal.old.events journal.new.events }
+            (changes (D.log disk.old)) error (changes (D.log disk.new))) }
+        ensures unsynced { IfErr result (λ error. changes (D.log disk.new)
+            ≡ Folder_synced (path_in self.now.folder) (Err error) ∷ changes (D.log disk.old)) }
+        ensures renames { renames (D.log disk.new) ≡ renames (D.log disk.old) }
+        ensures calls { SyncsAlone self.now.folder (D.log disk.old) (D.log disk.new) }
     {
         let Some(folder) = &self.folder else {
             return Ok(());
         };
-        match folder.sync(journal) {
+        match disk.sync_folder(folder) {
             Ok(()) => Ok(()),
             Err(error) => {
                 if is_unsupported(error.kind()) {

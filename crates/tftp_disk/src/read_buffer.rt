@@ -6,7 +6,7 @@ ghost use Rattle.tftp_disk.specs.ReadBuffer.{Refills, ReadsSome};
 ghost use Rattle.tftp_file.specs.Netascii.{netascii_text};
 ghost use Rattle.tftp_wire.specs.declared.mode.Mode.TheVariants.{Octet, Netascii};
 
-use crate::calls::DiskFile;
+use crate::disk_file::DiskFile;
 use std::alloc::{AllocError, Global};
 use std::io::{self, ErrorKind, Read};
 use std::marker::Model;

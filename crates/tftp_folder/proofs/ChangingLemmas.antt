@@ -1,22 +1,24 @@
 -- The calls of a store stay within its limits.
 use Rattle.std.proofs.Common.{◌≡◌, ◌∙◌, ℕ, Bool, true, false, List, [], ◌∷◌, Option, Some, None, Result, Ok, Err, IfOk, refl, sym, ap, subst, inl, inr}
+use Rattle.std.specs.Prelude.{⊤}
 use Rattle.std.specs.String.{string_bytes}
 use Rattle.std.specs.declared.io.Error.{Error}
 use Rattle.tftp_disk.specs.Changes.{changes}
 use Rattle.tftp_disk.specs.DiskJournal.{DiskEvent, Done, FileState, state_of}
-use Rattle.tftp_disk.specs.DiskJournal.DiskEvent.{Looked, Followed, Resolved, Opened, Tried, Made, Linked, Renamed, Removed}
+use Rattle.tftp_disk.specs.DiskJournal.DiskEvent.{Looked, Followed, Resolved, Opened, Tried, Created, Made, Linked, Renamed, Removed}
 use Rattle.tftp_disk.specs.DiskJournal.DiskEvent.{Folder_opened, Folder_synced, Examined, Given, Not_given, Sought}
 use Rattle.tftp_disk.specs.DiskJournal.DiskEvent.{Written, Not_written, Synced, Mode_set}
 use Rattle.tftp_disk.specs.DiskWriter.{calls_of}
 use Rattle.tftp_disk.specs.NamedFolder.{OpensFolder, SyncsFolder, SyncsNoFolder}
-use Rattle.tftp_disk.specs.declared.calls.DiskFolder.{DiskFolder}
+use Rattle.tftp_disk.specs.declared.disk_file.DiskFolder.{DiskFolder}
 use Rattle.tftp_folder.specs.Begin.{draft_name, BeginsNone}
 use Rattle.tftp_folder.specs.Changing.{limits_of, Admits, AreChanges, BeginStaysWithin, BeginsOwn, CommitStaysWithin, IsGiven, IsMade}
-use Rattle.tftp_folder.specs.Changing.{IsOwn, IsWithin, KeepsWithin, Limits, ReadOnlyChangesNothing}
+use Rattle.tftp_folder.specs.Changing.{IsOwn, IsWithin, KeepsRoot, KeepsWithin, Limits, ReadOnlyChangesNothing}
 use Rattle.tftp_folder.specs.Commit.{lock_of, MayRemoveNew, Names, RefusesLocked, RefusesName}
 use Rattle.tftp_folder.specs.Draft.{IsDraftBelow, LosesName, NamesNothingIn, SameNames}
 use Rattle.tftp_folder.specs.Effects.{changes_of, folder_meaning, HasBegun, HasCommitted}
 use Rattle.tftp_folder.specs.Inside.{AreInside, IsInside, StaysInside}
+use Rattle.tftp_folder.specs.Opened.{follows, IsRootOf}
 use Rattle.tftp_folder.specs.Settings.{AsksNothing, SameSettings}
 use Rattle.tftp_folder.specs.declared.folder_draft.FolderDraft.{FolderDraft}
 use Rattle.tftp_folder.specs.declared.folder_store.FolderStore.{FolderStore}
@@ -220,8 +222,12 @@ no_writes : (read_only : Bool) → (read_only ≡ true → ⊥) → read_only �
 no_writes true never = absurd (never refl)
 no_writes false never = refl
 
-module _ {R G H : Type 0} where
-  same_limits : (before after : FolderStore R G H) → SameSettings before after → limits_of after ≡ limits_of before
+whatever : {A : Type 0} (result : Result A StoreFault) → IfOk result (λ value. ⊤)
+whatever (Ok value) = tt
+whatever (Err fault) = tt
+
+module _ {D G H K : Type 0} where
+  same_limits : (before after : FolderStore D G H K) → SameSettings before after → limits_of after ≡ limits_of before
   same_limits before after same = λ i. record {
     root = same.root i;
     drafts = same.drafts i;
@@ -229,13 +235,38 @@ module _ {R G H : Type 0} where
     uploads = same.uploads i;
   }
 
-  asks_within : (limits : Limits) (before after : FolderStore R G H) → IsWithin limits before
-      → AsksNothing before after → IsWithin limits after
+module _ {D G H K : Type 0} (log : D → List DiskEvent) where
+  asks_within : (limits : Limits) (before after : FolderStore D G H K) → IsWithin log limits before
+      → AsksNothing log before after → IsWithin log limits after
   asks_within limits before after within asks = record {
     has = same_limits before after asks.settings ∙ within.has;
-    changed = along limits (changes_of before) (changes_of after) (ap changes asks.calls) within.changed;
+    changed = along limits (changes_of log before) (changes_of log after) (ap changes asks.calls) within.changed;
     drafts = within.drafts;
     inside = subst (AreInside limits.root) (sym asks.calls) within.inside;
+  }
+
+root_stays : (path root : List ℕ) (first before after : List DiskEvent) → follows after ≡ follows before
+    → IsRootOf path root first before → IsRootOf path root first after
+root_stays path root first before after same is = record {
+  text = is.text;
+  found = is.found;
+  looked = same ∙ is.looked;
+  is_folder = is.is_folder;
+  whole = is.whole;
+}
+
+module _ {D G H K F : Type 0} (log : D → List DiskEvent) where
+  pub keeps_root : KeepsRoot log (folder_meaning {D = D} {G = G} {H = H} {K = K} {F = F} log)
+  keeps_root path root first = record {
+    begun = λ name replace before after result is does.
+        (root_stays path root first (log before.disk) (log after.disk) does.follows is, whatever result);
+    appended = λ bytes before after draft draft' fault is own does.
+        (root_stays path root first (log before.disk) (log after.disk) (ap follows does.store.calls) is, tt);
+    committed = λ name replace before after draft draft' fault is own does.
+        (root_stays path root first (log before.disk) (log after.disk) does.follows is, tt);
+    behind = λ before after is asks.
+        root_stays path root first (log before.disk) (log after.disk) (ap follows asks.calls) is;
+    drafts_behind = λ draft draft' own writes. tt;
   }
 
 module _ {F : Type 0} where
@@ -257,33 +288,33 @@ module _ {F : Type 0} where
   abbrev IsOwnDraft : Limits → FolderDraft F → Type 0
   IsOwnDraft limits draft = IsOwn limits (string_bytes draft.draft) (string_bytes draft.target)
 
-module _ {R G H F : Type 0} where
+module _ {D G H K F : Type 0} (log : D → List DiskEvent) where
   -- a store that began a draft does not refuse writes
-  pub writes_admitted : (path : List ℕ) (before after : FolderStore R G H) (draft : FolderDraft F)
-      → HasBegun path before after (Ok draft) → before.is_read_only ≡ false
+  pub writes_admitted : (path : List ℕ) (before after : FolderStore D G H K) (draft : FolderDraft F)
+      → HasBegun log path before after (Ok draft) → before.is_read_only ≡ false
   writes_admitted path before after draft begun =
       no_writes before.is_read_only (λ yes. let refused = begun.read_only yes in cc)
 
-  begun_within : (path : List ℕ) (before after : FolderStore R G H) (result : Result (FolderDraft F) StoreFault)
-      → IsWithin (limits_of before) before → HasBegun path before after result
-      → IsWithin (limits_of before) after × IfOk result (IsOwnDraft (limits_of before))
+  begun_within : (path : List ℕ) (before after : FolderStore D G H K) (result : Result (FolderDraft F) StoreFault)
+      → IsWithin log (limits_of before) before → HasBegun log path before after result
+      → IsWithin log (limits_of before) after × IfOk result (IsOwnDraft (limits_of before))
   begun_within path before after (Ok draft) within begun = (
     record {
       has = same_limits before after begun.settings;
       changed =
-          begin_stays_within (limits_of before) before.port (changes_of before) (changes_of after) begun.untouched
+          begin_stays_within (limits_of before) before.port (changes_of log before) (changes_of log after) begun.untouched
           (inr (Ok tt, begun.made.made)) within.changed;
       drafts = within.drafts;
       inside = begun.inside within.drafts within.inside;
     },
-    begins_own draft (limits_of before) before.port path (changes_of before) (changes_of after) begun.is_path
+    begins_own draft (limits_of before) before.port path (changes_of log before) (changes_of log after) begun.is_path
         (writes_admitted path before after draft begun) begun.uploads begun.made,
   )
   begun_within path before after (Err fault) within begun = (
     record {
       has = same_limits before after begun.settings;
       changed =
-          begin_stays_within (limits_of before) before.port (changes_of before) (changes_of after) begun.untouched
+          begin_stays_within (limits_of before) before.port (changes_of log before) (changes_of log after) begun.untouched
           begun.not_made within.changed;
       drafts = within.drafts;
       inside = begun.inside within.drafts within.inside;
@@ -291,30 +322,30 @@ module _ {R G H F : Type 0} where
     tt,
   )
 
-  committed_within : (limits : Limits) (before after : FolderStore R G H) (draft draft' : FolderDraft F)
+  committed_within : (limits : Limits) (before after : FolderStore D G H K) (draft draft' : FolderDraft F)
       (replaces : Bool) (fault : Option StoreFault) → IsOwnDraft limits draft'
-      → HasCommitted before draft replaces after draft' fault → AreChanges limits (changes_of before)
-      → AreChanges limits (changes_of after)
+      → HasCommitted log before draft replaces after draft' fault → AreChanges limits (changes_of log before)
+      → AreChanges limits (changes_of log after)
   committed_within limits before after draft draft' replaces None own does changed =
-      commit_stays_within draft' limits replaces (changes_of before) (changes_of after) own (inl does.named) changed
+      commit_stays_within draft' limits replaces (changes_of log before) (changes_of log after) own (inl does.named) changed
   committed_within limits before after draft draft' replaces (Some fault) own does changed =
-      commit_stays_within draft' limits replaces (changes_of before) (changes_of after) own (inr does.not_named) changed
+      commit_stays_within draft' limits replaces (changes_of log before) (changes_of log after) own (inr does.not_named) changed
 
-  commits_inside : (limits : Limits) (before after : FolderStore R G H) (draft draft' : FolderDraft F)
-      (replaces : Bool) (fault : Option StoreFault) → IsWithin limits before → IsOwnDraft limits draft
-      → HasCommitted before draft replaces after draft' fault → AreInside limits.root after.journal.events
+  commits_inside : (limits : Limits) (before after : FolderStore D G H K) (draft draft' : FolderDraft F)
+      (replaces : Bool) (fault : Option StoreFault) → IsWithin log limits before → IsOwnDraft limits draft
+      → HasCommitted log before draft replaces after draft' fault → AreInside limits.root (log after.disk)
   commits_inside limits before after draft draft' replaces fault within own does =
       let same : string_bytes before.folder.root ≡ limits.root = ap (λ (l : Limits). l.root) within.has in
-      subst (λ (r : List ℕ). IsDraftBelow r draft → StaysInside r before.journal.events after.journal.events) same
+      subst (λ (r : List ℕ). IsDraftBelow r draft → StaysInside r (log before.disk) (log after.disk)) same
       does.inside (own_below limits draft within.drafts own) within.inside
 
-  pub keeps_within : KeepsWithin (folder_meaning {R = R} {G = G} {H = H} {F = F})
+  pub keeps_within : KeepsWithin log (folder_meaning {D = D} {G = G} {H = H} {K = K} {F = F} log)
   keeps_within limits = record {
     begun = λ path replace before after result within does.
-        subst (λ (l : Limits). IsWithin l after × IfOk result (IsOwnDraft l)) within.has
-        (begun_within path before after result (subst (λ (l : Limits). IsWithin l before) (sym within.has) within) does);
+        subst (λ (l : Limits). IsWithin log l after × IfOk result (IsOwnDraft l)) within.has
+        (begun_within path before after result (subst (λ (l : Limits). IsWithin log l before) (sym within.has) within) does);
     appended = λ bytes before after draft draft' fault within own does. (
-      asks_within limits before after within does.store,
+      asks_within log limits before after within does.store,
       own_stays limits draft draft' does.names own,
     );
     committed = λ path replace before after draft draft' fault within own does.
@@ -327,7 +358,7 @@ module _ {R G H F : Type 0} where
           },
           own',
         );
-    behind = λ before after within asks. asks_within limits before after within asks;
+    behind = λ before after within asks. asks_within log limits before after within asks;
     drafts_behind = λ draft draft' own writes. own_stays limits draft draft' writes.names own;
   }
 
@@ -348,6 +379,7 @@ read_only_changes_nothing limits (Followed path answer ∷ calls) only changed =
 read_only_changes_nothing limits (Resolved path answer ∷ calls) only changed = read_only_changes_nothing limits calls only changed
 read_only_changes_nothing limits (Opened path answer ∷ calls) only changed = read_only_changes_nothing limits calls only changed
 read_only_changes_nothing limits (Tried path answer ∷ calls) only changed = read_only_changes_nothing limits calls only changed
+read_only_changes_nothing limits (Created path length ∷ calls) only changed = read_only_changes_nothing limits calls only changed
 read_only_changes_nothing limits (Examined answer ∷ calls) only changed = read_only_changes_nothing limits calls only changed
 read_only_changes_nothing limits (Given bytes ∷ calls) only changed = read_only_changes_nothing limits calls only changed
 read_only_changes_nothing limits (Not_given error ∷ calls) only changed = read_only_changes_nothing limits calls only changed

@@ -10,11 +10,12 @@ use Rattle.tftp_disk.specs.DiskJournal.DiskEvent.{Looked, Renamed}
 use Rattle.tftp_disk.specs.Folder.{HasNoSlash, IsFolderOf, folder_or_root}
 use Rattle.tftp_disk.specs.Folder.IsFolderOf.{Before, Here}
 use Rattle.tftp_disk.specs.NamedFolder.{IsFolderFor, OpensAlone, SyncsAlone, path_in}
-use Rattle.tftp_disk.specs.declared.calls.DiskFolder.{DiskFolder}
+use Rattle.tftp_disk.specs.declared.disk_file.DiskFolder.{DiskFolder}
 use Rattle.tftp_disk.specs.declared.found.Found.{Found}
 use Rattle.tftp_folder.specs.Commit.{lock_of}
 use Rattle.tftp_folder.specs.Draft.{IsDraftBelow, SameNames}
 use Rattle.tftp_folder.specs.Inside.{AreInside, IsInside, StaysInside}
+use Rattle.tftp_folder.specs.Opened.{follows}
 use Rattle.tftp_folder.specs.Uploads.{IsBelow}
 use Rattle.tftp_folder.specs.declared.folder_draft.FolderDraft.{FolderDraft}
 
@@ -107,12 +108,23 @@ pub opens_inside : (root path text : List ℕ) (before after : List DiskEvent) �
 opens_inside root path text before after same below (at, answer, is_folder, is) =
     λ all. subst (AreInside root) (sym is) (above_inside root path text at same below is_folder, all)
 
+-- it is looked at no otherwise
+pub opens_follows : (text : List ℕ) (before after : List DiskEvent) → OpensAlone text before after
+    → follows after ≡ follows before
+opens_follows text before after (at, answer, is_folder, is) = ap follows is
+
 module _ {F : Type 0} where
+  -- it is synced, and looked at no otherwise
+  pub syncs_follows : (folder : Option (DiskFolder F)) (before after : List DiskEvent) → SyncsAlone folder before after
+      → follows after ≡ follows before
+  syncs_follows folder before after (inl same) = ap follows same
+  syncs_follows folder before after (inr (answer, is)) = ap follows is
+
   -- that folder is inside the root, if it is open
   pub folder_fits : (root path text : List ℕ) (folder : Option (DiskFolder F)) → text ≡ path → IsBelow root path
-      → IsFolderFor text folder → IfSome (path_in folder) (IsInside root)
-  folder_fits root path text None same below fits = tt
-  folder_fits root path text (Some folder) same below (at, is_folder, told) =
+      → (calls : List DiskEvent) → IsFolderFor text folder calls → IfSome (path_in folder) (IsInside root)
+  folder_fits root path text None same below calls fits = tt
+  folder_fits root path text (Some folder) same below calls (at, is_folder, told) =
       subst (λ (o : Option (List ℕ)). IfSome o (IsInside root)) (sym told)
       (above_inside root path text at same below is_folder)
 

@@ -1,6 +1,8 @@
 pub mod ChangingLemmas
+mod ApartLemmas
 mod InsideLemmas
 mod NamingLemmas
+mod PlacedLemmas
 pub mod SourceLemmas
 pub mod StoredLemmas
 mod UploadLemmas

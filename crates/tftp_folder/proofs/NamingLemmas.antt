@@ -90,6 +90,7 @@ module _ {F : Type 0} where
       target = second.names.target ∙ first.names.target;
       folder = second.names.folder ∙ first.names.folder;
       port = second.names.port ∙ first.names.port;
+      making = second.names.making ∙ first.names.making;
     };
     state = second.state ∙ first.state;
   }

@@ -13,6 +13,7 @@ use Rattle.tftp_folder.specs.Commit.{lock_of}
 use Rattle.tftp_folder.specs.Draft.{BeginsAt, GivesName, NamesNothing}
 use Rattle.tftp_folder.specs.Effects.{changes_of}
 use Rattle.tftp_folder.specs.Inside.{AreInside, IsInside}
+use Rattle.tftp_folder.specs.Opened.{IsRootOf}
 use Rattle.tftp_folder.specs.Uploads.{IsBelow, path_below}
 use Rattle.tftp_folder.specs.declared.folder_draft.FolderDraft.{FolderDraft}
 use Rattle.tftp_folder.specs.declared.folder_store.FolderStore.{FolderStore}
@@ -25,9 +26,9 @@ pub record Limits : Type 0 where
   pub read_only : Bool
   pub uploads : Option (List ℕ)
 
-module _ {R G H : Type 0} where
+module _ {D G H K : Type 0} where
   -- those of a store
-  abbrev pub limits_of : FolderStore R G H → Limits
+  abbrev pub limits_of : FolderStore D G H K → Limits
   limits_of store =
       record {
         root = string_bytes store.folder.root;
@@ -125,21 +126,28 @@ module _ {F : Type 0} where
       → GivesName draft before replaces after ⊎ NamesNothing draft before replaces after
       → AreChanges limits before → AreChanges limits after
 
-module _ {R G H : Type 0} where
+module _ {D G H K : Type 0} (log : D → List DiskEvent) where
   -- a store has these limits, and has changed nothing beyond them; it passed no path outside its
   -- root to the system, and its folder of drafts is inside the root
-  pub record IsWithin (limits : Limits) (store : FolderStore R G H) : Type 0 where
+  pub record IsWithin (limits : Limits) (store : FolderStore D G H K) : Type 0 where
     pub has : limits_of store ≡ limits
-    pub changed : AreChanges limits (changes_of store)
+    pub changed : AreChanges limits (changes_of log store)
     pub drafts : IsInside limits.root limits.drafts
-    pub inside : AreInside limits.root store.journal.events
+    pub inside : AreInside limits.root (log store.disk)
 
-module _ {R G H F : Type 0} where
+module _ {D G H K F : Type 0} (log : D → List DiskEvent) where
   -- each call of a store that is within its limits keeps it so, and its drafts its own
-  abbrev pub KeepsWithin : StoreMeaning (FolderStore R G H) (FolderDraft F) → Type 0
+  abbrev pub KeepsWithin : StoreMeaning (FolderStore D G H K) (FolderDraft F) → Type 0
   KeepsWithin stores =
-      (limits : Limits) → CallsKeep (IsWithin limits)
+      (limits : Limits) → CallsKeep (IsWithin log limits)
       (λ draft. IsOwn limits (string_bytes draft.draft) (string_bytes draft.target)) stores
+
+module _ {D G H K F : Type 0} (log : D → List DiskEvent) where
+  -- each call of a store keeps that this is its root
+  abbrev pub KeepsRoot : StoreMeaning (FolderStore D G H K) (FolderDraft F) → Type 0
+  KeepsRoot stores =
+      (path root : List ℕ) (first : List DiskEvent)
+      → CallsKeep (λ store. IsRootOf path root first (log store.disk)) (λ draft. ⊤) stores
 
 -- a store that refuses writes, and is within its limits, has changed nothing on the disk
 abbrev pub ReadOnlyChangesNothing : Type 0

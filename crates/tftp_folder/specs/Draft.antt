@@ -1,17 +1,19 @@
 -- A draft of a store over a folder, by the calls on its file (ours).
-use Rattle.std.specs.Prelude.{ℕ, ◌≡◌, ◌⊎◌, Bool, true, false, List, [], ◌∷◌, Option, Some, None, Ok}
+use Rattle.std.specs.Prelude.{ℕ, ◌≡◌, ◌≢◌, ◌⊎◌, Bool, true, false, List, [], ◌∷◌, Option, Some, None, Ok}
 use Rattle.std.specs.Prelude.{Err}
 use Rattle.std.specs.declared.io.Error.{Error}
 use Rattle.std.specs.String.{string_bytes}
-use Rattle.tftp_disk.specs.DiskJournal.{DiskEvent, Done, made_at, is_synced, sync_failed, state_of, written}
+use Rattle.tftp_disk.specs.DiskJournal.{DiskEvent, Done, made_at, made_when, is_synced}
+use Rattle.tftp_disk.specs.DiskJournal.{sync_failed, state_of, written}
 use Rattle.tftp_disk.specs.DiskWriter.{calls_of, handed}
 use Rattle.tftp_disk.specs.NamedFolder.{OpensFolder, OpensNoFolder, SyncsFolder, SyncsNoFolder}
-use Rattle.tftp_disk.specs.declared.calls.DiskFolder.{DiskFolder}
+use Rattle.tftp_disk.specs.declared.disk_file.DiskFolder.{DiskFolder}
 use Rattle.tftp_disk.specs.Changes.{changes}
+use Rattle.tftp_disk.specs.Still.{IsStillAt}
 use Rattle.tftp_disk.specs.DiskJournal.DiskEvent.{Renamed}
 use Rattle.tftp_folder.specs.Begin.{MakesDraft}
 use Rattle.tftp_folder.specs.Commit.{Names, RefusesName, RenamesLocked, RefusesLocked}
-use Rattle.tftp_folder.specs.Commit.{MayRemove, MayRemoveNew}
+use Rattle.tftp_folder.specs.Commit.{lock_of, MayRemove, MayRemoveNew}
 use Rattle.tftp_folder.specs.Looked.{LooksFor, RemovesIf}
 use Rattle.tftp_folder.specs.Uploads.{IsBelow}
 use Rattle.tftp_folder.specs.declared.folder_draft.FolderDraft.{FolderDraft}
@@ -25,17 +27,23 @@ module _ {F : Type 0} where
   abbrev pub file_bytes : FolderDraft F → List ℕ
   file_bytes draft = written (calls_of draft.writer)
 
-  -- a draft has its names
+  -- a draft has its names, and the file that was made for it
   pub record SameNames (before after : FolderDraft F) : Type 0 where
     pub draft : after.draft ≡ before.draft
     pub target : after.target ≡ before.target
     pub folder : after.folder ≡ before.folder
     pub port : after.port ≡ before.port
+    pub making : made_when (calls_of after.writer) ≡ made_when (calls_of before.writer)
 
   -- the paths of a draft are below the root
   pub record IsDraftBelow (root : List ℕ) (draft : FolderDraft F) : Type 0 where
     pub path : IsBelow root (string_bytes draft.draft)
     pub target : IsBelow root (string_bytes draft.target)
+
+  -- its file is still at its path, which is not that of the lock of its name
+  pub record IsThere (draft : FolderDraft F) (log : List DiskEvent) : Type 0 where
+    pub apart : string_bytes draft.draft ≢ lock_of (string_bytes draft.target)
+    pub still : IsStillAt (string_bytes draft.draft) (made_when (calls_of draft.writer)) log
 
   -- all that is in its file is synced, and no sync of it failed
   pub record IsDone (draft : FolderDraft F) : Type 0 where

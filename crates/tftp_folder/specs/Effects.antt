@@ -11,22 +11,25 @@ use Rattle.tftp_disk.specs.DiskJournal.{DiskEvent}
 use Rattle.tftp_store.specs.Store.{StoreMeaning}
 use Rattle.tftp_folder.specs.Begin.{draft_name, BeginsNone}
 use Rattle.tftp_folder.specs.Commit.{LooksThenRenames}
-use Rattle.tftp_folder.specs.Draft.{bytes_of, BeginsAt, GivesName, IsDraftBelow, IsWhole}
+use Rattle.tftp_folder.specs.Draft.{bytes_of, BeginsAt, GivesName, IsDraftBelow, IsThere, IsWhole}
 use Rattle.tftp_folder.specs.Draft.{NamesNothing, SameNames}
 use Rattle.tftp_folder.specs.Inside.{IsInside, StaysInside}
+use Rattle.tftp_folder.specs.Opened.{follows}
+use Rattle.tftp_folder.specs.Placed.{LeavesOthers, StaysThere}
 use Rattle.tftp_folder.specs.Settings.{AsksNothing, SameSettings}
 use Rattle.tftp_folder.specs.Uploads.{IsBelow, path_below}
 use Rattle.tftp_folder.specs.declared.folder_draft.FolderDraft.{FolderDraft}
 use Rattle.tftp_folder.specs.declared.folder_store.FolderStore.{FolderStore}
 
-module _ {R G H : Type 0} where
-  -- the calls of a store that change something
-  abbrev pub changes_of : FolderStore R G H → List DiskEvent
-  changes_of store = changes store.journal.events
-
+module _ {D G H K : Type 0} where
   -- where the next draft of a store is made
-  abbrev pub draft_of : FolderStore R G H → List ℕ
+  abbrev pub draft_of : FolderStore D G H K → List ℕ
   draft_of store = draft_name (string_bytes store.folder.drafts) store.port
+
+module _ {D G H K : Type 0} (log : D → List DiskEvent) where
+  -- the calls of a store that change something
+  abbrev pub changes_of : FolderStore D G H K → List DiskEvent
+  changes_of store = changes (log store.disk)
 
 module _ {F : Type 0} where
   -- a draft was written back: it has its names, and what it was handed
@@ -34,61 +37,68 @@ module _ {F : Type 0} where
     pub names : SameNames draft draft'
     pub handed : bytes_of draft' ≡ bytes_of draft
 
-module _ {R G H F : Type 0} where
+module _ {D G H K F : Type 0} (log : D → List DiskEvent) where
   -- a draft of the path was begun, or refused: the settings stay, a store that refuses all writes
   -- has refused it, and changed nothing; it was begun only for a path that a client can name, below
   -- the folder of uploads, if there is one. It was made for that place of the root, and is empty;
-  -- if it was refused, nothing else changed. No path outside the root was passed to the system, if
-  -- the folder of the drafts is inside it
-  pub record HasBegun (path : List ℕ) (before after : FolderStore R G H)
+  -- if it was refused, nothing else changed. Its file is at its path, and what was still at another
+  -- path is there. No path outside the root was passed to the system, if the folder of the drafts is
+  -- inside it
+  pub record HasBegun (path : List ℕ) (before after : FolderStore D G H K)
       (result : Result (FolderDraft F) StoreFault) : Type 0 where
     pub settings : SameSettings before after
     pub read_only : before.is_read_only ≡ true → result ≡ Err Io
-    pub untouched : before.is_read_only ≡ true → changes_of after ≡ changes_of before
+    pub untouched : before.is_read_only ≡ true → changes_of log after ≡ changes_of log before
     pub is_path : IfOk result (λ draft. IsPath path)
     pub uploads : IfOk result (λ draft. IfSome before.uploads (λ folder. IsBelow folder path))
     pub made : IfOk result (λ draft. BeginsAt (draft_of before)
-        (path_below (string_bytes before.folder.root) path) draft (changes_of before)
-        (changes_of after))
+        (path_below (string_bytes before.folder.root) path) draft (changes_of log before)
+        (changes_of log after))
     pub not_made : OnErr result
-        (BeginsNone (draft_of before) (changes_of before) (changes_of after))
+        (BeginsNone (draft_of before) (changes_of log before) (changes_of log after))
+    pub there : IfOk result (λ draft. IsThere draft (log after.disk))
+    pub others : LeavesOthers (draft_of before) (log before.disk) (log after.disk)
+    pub follows : follows (log after.disk) ≡ follows (log before.disk)
     pub inside : IsInside (string_bytes before.folder.root) (string_bytes before.folder.drafts)
-        → StaysInside (string_bytes before.folder.root) before.journal.events
-        after.journal.events
+        → StaysInside (string_bytes before.folder.root) (log before.disk)
+        (log after.disk)
 
   -- bytes were appended to a draft, or refused: it was handed them after all earlier ones, or none
   -- of them, and has its names; the store asked nothing of the disk on a path
-  pub record HasAppended (before : FolderStore R G H) (draft : FolderDraft F) (bytes : List ℕ)
-      (after : FolderStore R G H) (draft' : FolderDraft F) (fault : Option StoreFault)
+  pub record HasAppended (before : FolderStore D G H K) (draft : FolderDraft F) (bytes : List ℕ)
+      (after : FolderStore D G H K) (draft' : FolderDraft F) (fault : Option StoreFault)
       : Type 0 where
-    pub store : AsksNothing before after
+    pub store : AsksNothing log before after
     pub names : SameNames draft draft'
     pub handed : IfNone fault (bytes_of draft' ≡ bytes_of draft ++ bytes)
     pub kept : OnSome fault (bytes_of draft' ≡ bytes_of draft)
 
   -- a draft was committed: by then all that it was handed was in its file and synced, and then it
-  -- got its name; or that was refused, and it got none, or lost it. A rename to the name
+  -- got its name; or that was refused, and it got none, or lost it. If its file was still at its path
+  -- before, it was so when it was to get the name. A rename to the name
   -- came just after a look at what had it. The settings stay. No path outside the root was passed to
   -- the system, if those of the draft are below it
-  pub record HasCommitted (before : FolderStore R G H) (draft : FolderDraft F) (replaces : Bool)
-      (after : FolderStore R G H) (draft' : FolderDraft F) (fault : Option StoreFault)
+  pub record HasCommitted (before : FolderStore D G H K) (draft : FolderDraft F) (replaces : Bool)
+      (after : FolderStore D G H K) (draft' : FolderDraft F) (fault : Option StoreFault)
       : Type 0 where
     pub settings : SameSettings before after
     pub names : SameNames draft draft'
     pub whole : IfNone fault (IsWhole draft' (bytes_of draft))
     pub named : IfNone fault
-        (GivesName draft' (changes_of before) replaces (changes_of after))
+        (GivesName draft' (changes_of log before) replaces (changes_of log after))
     pub not_named : OnSome fault
-        (NamesNothing draft' (changes_of before) replaces (changes_of after))
-    pub over : LooksThenRenames replaces (string_bytes draft.target) before.journal.events
-        after.journal.events
+        (NamesNothing draft' (changes_of log before) replaces (changes_of log after))
+    pub over : LooksThenRenames replaces (string_bytes draft.target) (log before.disk)
+        (log after.disk)
+    pub there : IsThere draft (log before.disk) → StaysThere (log before.disk) (log after.disk)
+    pub follows : follows (log after.disk) ≡ follows (log before.disk)
     pub inside : IsDraftBelow (string_bytes before.folder.root) draft
-        → StaysInside (string_bytes before.folder.root) before.journal.events
-        after.journal.events
+        → StaysInside (string_bytes before.folder.root) (log before.disk)
+        (log after.disk)
 
   -- the model of a store over a folder: what its calls return, and their effect. Of what its files
   -- have in them it says nothing
-  abbrev pub folder_meaning : StoreMeaning (FolderStore R G H) (FolderDraft F)
+  abbrev pub folder_meaning : StoreMeaning (FolderStore D G H K) (FolderDraft F)
   folder_meaning =
       record {
         root = λ store. string_bytes store.folder.root;
@@ -102,7 +112,7 @@ module _ {R G H F : Type 0} where
         after_append = HasAppended;
         after_commit = λ before path draft replaces after draft' fault.
             HasCommitted before draft replaces after draft' fault;
-        after_write_behind = AsksNothing;
+        after_write_behind = AsksNothing log;
         writes_behind = HasWritten;
         may_refuse_append = λ store draft bytes fault. MayNotStore fault;
         may_refuse_commit = λ store path draft replaces fault. MayNotName replaces fault;

@@ -7,6 +7,7 @@ pub mod Effects
 pub mod Inside
 pub mod Looked
 pub mod Opened
+pub mod Placed
 pub mod Settings
 pub mod Source
 pub mod Stored

@@ -12,11 +12,19 @@ use Rattle.tftp_disk.specs.declared.found.Kind.TheVariants.{Regular, Folder}
 use Rattle.tftp_folder.specs.Inside.{IsRootText}
 use Rattle.tftp_folder.specs.Uploads.{IsBelow, path_below}
 
--- the root is the folder that the system resolved the operator's path to, without its last slash
-pub record IsRootOf (path root : List ℕ) (after : List DiskEvent) : Type 0 where
+-- the calls up to each look at what a path leads to, whatever its answer: the newest first
+abbrev pub follows : List DiskEvent → List (List DiskEvent)
+follows [] = []
+follows (Followed path answer ∷ events) = (Followed path answer ∷ events) ∷ follows events
+follows (event ∷ events) = follows events
+
+-- the root is the folder that the system resolved the operator's path to, without its last slash:
+-- by the oldest calls after those before, and nothing was followed since
+pub record IsRootOf (path root : List ℕ) (before after : List DiskEvent) : Type 0 where
   pub text : List ℕ
   pub found : Found
-  pub looked : after ≡ Followed text (Ok found) ∷ Resolved path (Ok text) ∷ []
+  pub looked : follows after
+      ≡ (Followed text (Ok found) ∷ Resolved path (Ok text) ∷ before) ∷ follows before
   pub is_folder : found.kind ≡ Folder
   pub whole : IsRootText root text
 

@@ -1,5 +1,5 @@
 -- The file of a source of a folder, and how long its text is (ours).
-use Rattle.std.specs.Prelude.{ℕ, ◌≡◌, ◌+◌, ◌<◌, ◌≤◌, min, List, [], Some}
+use Rattle.std.specs.Prelude.{ℕ, ◌≡◌, ◌+◌, ◌<◌, ◌≤◌, min, true, List, [], Some}
 use Rattle.std.specs.Option.{option_map_or}
 use Rattle.tftp_wire.specs.declared.mode.Mode.{Mode}
 use Rattle.tftp_wire.specs.declared.mode.Mode.TheVariants.{Octet, Netascii}
@@ -7,7 +7,7 @@ use Rattle.tftp_disk.specs.Changes.{changes}
 use Rattle.tftp_disk.specs.DiskJournal.{DiskEvent}
 use Rattle.tftp_disk.specs.DiskSource.{IsUnread, source_calls}
 use Rattle.tftp_disk.specs.DiskSourceLaws.{GivenInOrder}
-use Rattle.tftp_disk.specs.Given.{examined, given}
+use Rattle.tftp_disk.specs.Given.{examined, is_at_start}
 use Rattle.tftp_disk.specs.declared.disk_source.DiskSource.{DiskSource}
 use Rattle.tftp_disk.specs.declared.found.Found.{Found}
 use Rattle.tftp_file.specs.Source.{GivesInTurn, SourceMeaning}
@@ -19,13 +19,13 @@ use Rattle.tftp_folder.specs.Opened.{OpensAt}
 use Rattle.tftp_folder.specs.declared.measured.StatedLength.{StatedLength}
 use Rattle.tftp_folder.specs.declared.folder_source.FolderSource.{FolderSource}
 
-module _ {F : Type 0} where
+module _ {V F : Type 0} where
   -- the text of the file that a source reads
-  abbrev pub text_of : FolderSource F → DiskSource F
+  abbrev pub text_of : FolderSource V F → DiskSource F
   text_of source = source.text
 
   -- the calls on the open file of a source
-  abbrev pub calls_of : FolderSource F → List DiskEvent
+  abbrev pub calls_of : FolderSource V F → List DiskEvent
   calls_of source = source_calls source.text
 
 -- the calls on the file whose text was counted: none if none was
@@ -42,20 +42,30 @@ pub record StatesLength (longest : ℕ) (mode : Mode) (found : Found) (calls : L
   pub netascii : mode ≡ Netascii → found.bytes ≤ min longest MAX_WIRE
       → IsCounted found calls stated
 
-module _ {F : Type 0} where
+module _ {V F : Type 0} where
+  -- the length of an opened file is stated by what the system said of it, and in netascii by one
+  -- pass, of which the source has the calls
+  pub record StatesOpened (longest : ℕ) (mode : Mode) (opening : Opening (FolderSource V F))
+      : Type 0 where
+    pub found : Found
+    pub told : examined (calls_of opening.source) ≡ Some found
+    pub states : StatesLength longest mode found (counted_by opening.source.stated.value)
+        opening.length
+
+module _ {V F : Type 0} (log : V → List DiskEvent) where
   -- the source of a file that was found at the path of a request and opened there, in this mode: it
   -- begins with the first byte, and has read nothing since. The calls that found the file changed
   -- nothing, and no path outside the root was passed to the system
-  pub record OpensSource (root path : List ℕ) (mode : Mode) (source : FolderSource F) : Type 0 where
+  pub record OpensSource (root path : List ℕ) (mode : Mode) (source : FolderSource V F) : Type 0 where
     pub opened : Found
-    pub opens : OpensAt root path opened source.found.events (calls_of source)
-    pub start : given (calls_of source) ≡ []
+    pub opens : OpensAt root path opened (log source.found) (calls_of source)
+    pub start : is_at_start (calls_of source) ≡ true
     pub unread : IsUnread mode (text_of source)
-    pub looks : changes source.found.events ≡ []
-    pub inside : AreInside root source.found.events
+    pub looks : changes (log source.found) ≡ []
+    pub inside : AreInside root (log source.found)
 
   -- the model of a source of a folder: that of its text, and how a store opens it
-  abbrev pub folder_source : SourceMeaning (DiskSource F) → SourceMeaning (FolderSource F)
+  abbrev pub folder_source : SourceMeaning (DiskSource F) → SourceMeaning (FolderSource V F)
   folder_source texts =
       record {
         left = λ s. texts.left s.text;
@@ -65,20 +75,11 @@ module _ {F : Type 0} where
         opens = OpensSource;
       }
 
-  -- the length of an opened file is stated by what the system said of it, and in netascii by one
-  -- pass, of which the source has the calls
-  pub record StatesOpened (longest : ℕ) (mode : Mode) (opening : Opening (FolderSource F))
-      : Type 0 where
-    pub found : Found
-    pub told : examined (calls_of opening.source) ≡ Some found
-    pub states : StatesLength longest mode found (counted_by opening.source.stated.value)
-        opening.length
-
   -- whatever calls there are of a source since it was opened, what they gave is a beginning of the
   -- wire text of what reads of that file returned, in order and each byte once, and it is all of it
   -- but what the source still has, unless a read failed
-  abbrev pub GivesFile : SourceMeaning (FolderSource F) → Type 0
+  abbrev pub GivesFile : SourceMeaning (FolderSource V F) → Type 0
   GivesFile sources =
-      (root path : List ℕ) (mode : Mode) (first last : FolderSource F) (text : List ℕ)
+      (root path : List ℕ) (mode : Mode) (first last : FolderSource V F) (text : List ℕ)
       → OpensSource root path mode first → GivesInTurn sources first text last
       → GivenInOrder (text_of first) (text_of last) text

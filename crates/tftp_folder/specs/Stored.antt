@@ -5,10 +5,12 @@ use Rattle.tftp_disk.specs.DiskJournal.{DiskEvent, Done, FileState}
 use Rattle.tftp_disk.specs.DiskJournal.DiskEvent.{Folder_opened}
 use Rattle.tftp_disk.specs.Folder.{IsFolderOf}
 use Rattle.tftp_disk.specs.NamedFolder.{SyncsAfter}
+use Rattle.tftp_disk.specs.Still.{IsStillAt}
 use Rattle.tftp_store.specs.Drafts.{TakesInTurn}
 use Rattle.tftp_store.specs.Store.{StoreMeaning}
 use Rattle.tftp_folder.specs.Changing.{limits_of, IsOwn, Limits}
 use Rattle.tftp_folder.specs.Commit.{LooksThenRenames, Names}
+use Rattle.tftp_folder.specs.Placed.{StaysThere}
 use Rattle.tftp_folder.specs.Uploads.{path_below}
 use Rattle.tftp_folder.specs.declared.folder_draft.FolderDraft.{FolderDraft}
 use Rattle.tftp_folder.specs.declared.folder_store.FolderStore.{FolderStore}
@@ -27,7 +29,8 @@ pub record IsNamedBy (file : FileState) (draft target : List ℕ) (before : List
 -- a file was made at a path of the drafts, and just these bytes were written to it, in order and
 -- each once; a sync succeeded after the last write, and none failed; then it got the name of this
 -- path in the root, by a call that replaces no file, unless it may, and then just after a look at
--- that file. `before` and `after` are the store's calls
+-- that file. If it was still at the path of the draft before, it was when it got the name. `before`
+-- and `after` are the store's calls
 pub record IsStoredAt (limits : Limits) (path bytes : List ℕ) (replaces : Bool)
     (before after : List DiskEvent) : Type 0 where
   pub draft : List ℕ
@@ -40,16 +43,17 @@ pub record IsStoredAt (limits : Limits) (path bytes : List ℕ) (replaces : Bool
   pub named : IsNamedBy file draft (path_below limits.root path) (changes before) replaces
       (changes after)
   pub over : LooksThenRenames replaces (path_below limits.root path) before after
+  pub there : IsStillAt draft file.made_when before → StaysThere before after
 
-module _ {R G H F : Type 0} where
+module _ {D G H K F : Type 0} (log : D → List DiskEvent) where
   -- a draft that the store began for a path, that then took these bytes, call by call, and whose
   -- commit succeeded, is stored at that path
-  abbrev pub StoresWhatItTook : StoreMeaning (FolderStore R G H) (FolderDraft F) → Type 0
+  abbrev pub StoresWhatItTook : StoreMeaning (FolderStore D G H K) (FolderDraft F) → Type 0
   StoresWhatItTook stores =
       (path bytes : List ℕ) (replace replaces : Bool)
-      (before begun committing after : FolderStore R G H) (first draft left : FolderDraft F)
+      (before begun committing after : FolderStore D G H K) (first draft left : FolderDraft F)
       → stores.begun path replace before begun (Ok first)
       → TakesInTurn stores first bytes draft
       → stores.after_commit committing path draft replaces after left None
-      → IsStoredAt (limits_of before) path bytes replaces committing.journal.events
-      after.journal.events
+      → IsStoredAt (limits_of before) path bytes replaces (log committing.disk)
+      (log after.disk)

@@ -1,20 +1,22 @@
 //! Begins the draft of a new file.
 
-ghost use Rattle.std.specs.Prelude.{◌≡◌, ◌⊎◌, [], Ok, IfOk, IfErr, OnErr};
+ghost use Rattle.std.specs.Prelude.{◌≡◌, ◌≢◌, ◌⊎◌, [], Ok, IfOk, IfErr, OnErr};
 ghost use Rattle.std.specs.String.{string_bytes};
 ghost use Rattle.tftp_file.specs.Path.{IsPath};
 ghost use Rattle.tftp_disk.specs.Changes.{changes};
 ghost use Rattle.tftp_disk.specs.DiskFault.{MayNotName, is_replaced};
 ghost use Rattle.tftp_folder.specs.Begin.{draft_name, MakesDraft, BeginsNone};
-ghost use Rattle.tftp_folder.specs.Draft.{bytes_of};
+ghost use Rattle.tftp_folder.specs.Commit.{lock_of};
+ghost use Rattle.tftp_folder.specs.Draft.{bytes_of, IsThere};
 ghost use Rattle.tftp_folder.specs.Inside.{IsInside, StaysInside};
+ghost use Rattle.tftp_folder.specs.Opened.{follows};
+ghost use Rattle.tftp_folder.specs.Placed.{LeavesOthers};
 ghost use Rattle.tftp_folder.specs.Uploads.{path_below};
 
 use crate::folder_draft::FolderDraft;
 use crate::served_folder::ServedFolder;
 use std::alloc::Global;
-use std::rt::Files;
-use tftp_disk::{DiskJournal, DiskWriter, Existing, write_buffer};
+use tftp_disk::{Disk, DiskWriter, Existing, write_buffer};
 use tftp_file::{Path, StoreFault};
 use tftp_lines::Reason;
 
@@ -26,12 +28,13 @@ pub(crate) struct DraftMemory {
     /// The path of the draft.
     draft: String,
     buffer: Vec<u8>,
+    ghost apart: { string_bytes draft ≢ lock_of (string_bytes target) },
 }
 
 impl DraftMemory {
     /// The memory of a draft of this path, of the transfer at the port.
-    pub(crate) fn new<R: Files + Drop>(
-        served: &ServedFolder<R>,
+    pub(crate) fn new(
+        served: &ServedFolder,
         alloc: Global,
         path: &Path,
         port: u16,
@@ -59,33 +62,36 @@ impl DraftMemory {
 
 /// Finds the place of the path, and makes its draft. It has the permissions of a file that it is to
 /// replace.
-pub(crate) fn begin_draft<R: Files + Drop>(
-    served: &ServedFolder<R>,
-    journal: &mut DiskJournal,
+pub(crate) fn begin_draft<D: Disk>(
+    served: &ServedFolder,
+    disk: &mut D,
     path: &Path,
     port: u16,
     memory: DraftMemory,
     existing: Existing,
-) -> Result<FolderDraft<R::File>, StoreFault>
+) -> Result<FolderDraft<D::File>, StoreFault>
     ensures fault { IfErr result (MayNotName (is_replaced existing)) }
     ensures ok { IfOk result (λ draft. (draft.draft ≡ memory.draft)
         × (draft.target ≡ memory.target) × (bytes_of draft ≡ [])
-        × MakesDraft (string_bytes memory.draft) (changes journal.old.events) (Ok tt)
-        (changes journal.new.events)) }
+        × MakesDraft (string_bytes memory.draft) (changes (D.log disk.old)) (Ok tt)
+        (changes (D.log disk.new))) }
     ensures err { OnErr result (BeginsNone (string_bytes memory.draft)
-        (changes journal.old.events) (changes journal.new.events)) }
+        (changes (D.log disk.old)) (changes (D.log disk.new))) }
+    ensures there { IfOk result (λ draft. IsThere draft (D.log disk.new)) }
+    ensures others { LeavesOthers (string_bytes memory.draft) (D.log disk.old) (D.log disk.new) }
+    ensures follows { follows (D.log disk.new) ≡ follows (D.log disk.old) }
     ensures inside { IsInside (string_bytes served.now.root) (string_bytes served.now.drafts)
         → IsInside (string_bytes served.now.root) (string_bytes memory.draft)
         → IsInside (string_bytes served.now.root) (string_bytes memory.target)
-        → StaysInside (string_bytes served.now.root) journal.old.events journal.new.events }
+        → StaysInside (string_bytes served.now.root) (D.log disk.old) (D.log disk.new) }
 {
     let DraftMemory {
         target,
         draft,
         buffer,
     } = memory;
-    let place = served.place_to_write(journal, path, target, existing)?;
-    let file = served.make_draft(journal, draft.as_str())?;
+    let place = served.place_to_write(disk, path, target, existing)?;
+    let file = served.make_draft(disk, draft.as_str())?;
     let replaced = place.replaced;
     let mut draft = FolderDraft::new(DiskWriter::new(file, buffer), port, draft, place);
     match replaced {

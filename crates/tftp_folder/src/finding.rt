@@ -6,13 +6,14 @@ ghost use Rattle.std.specs.String.{string_bytes};
 ghost use Rattle.tftp_file.specs.Path.{IsPath};
 ghost use Rattle.tftp_disk.specs.Changes.{changes};
 ghost use Rattle.tftp_disk.specs.DiskJournal.{Done};
-ghost use Rattle.tftp_disk.specs.DiskJournal.DiskEvent.{Made, Looked, Opened, Examined};
+ghost use Rattle.tftp_disk.specs.DiskJournal.DiskEvent.{Looked, Opened, Examined};
 ghost use Rattle.tftp_disk.specs.Found.{is_same_file};
 ghost use Rattle.tftp_disk.specs.declared.found.Found.{Found};
-ghost use Rattle.tftp_folder.specs.Opened.{FindsAt, FollowsTo, LooksLast, IsStill, OpensAt};
-ghost use Rattle.tftp_disk.specs.Given.{given};
+ghost use Rattle.tftp_folder.specs.Opened.{FindsAt, FollowsTo, LooksLast, IsStill, OpensAt, follows};
+ghost use Rattle.tftp_folder.specs.Placed.{LeavesOthers, placed};
+ghost use Rattle.tftp_disk.specs.Given.{is_at_start};
 ghost use Rattle.tftp_folder.specs.Opened.{OpensSeen};
-ghost use Rattle.tftp_folder.specs.Begin.{draft_name, MakesDraft};
+ghost use Rattle.tftp_folder.specs.Begin.{draft_name, IsNew, MakesDraft};
 ghost use Rattle.tftp_folder.specs.Inside.{IsInside, StaysInside};
 ghost use Rattle.tftp_folder.specs.Uploads.{IsBelow, path_below};
 ghost use Rattle.tftp_disk.specs.DiskFault.{MayNotOpen, MayNotStore, MayNotName, is_replaced};
@@ -23,8 +24,9 @@ use crate::replacing::check_replaced;
 use crate::served_folder::ServedFolder;
 use std::alloc::{AllocError, Global};
 use std::io::{self, ErrorKind};
-use std::rt::Files;
-use tftp_disk::{DiskFile, DiskJournal, Existing, FileId, Found, Kind, folder_of, folder_or_root};
+use tftp_disk::{
+    Disk, DiskFile, Existing, FileId, Found, Kind, Looks, View, folder_of, folder_or_root,
+};
 use tftp_file::{Path, StoreFault};
 use tftp_lines::Reason;
 
@@ -73,7 +75,7 @@ pub(crate) struct DraftPlace {
     pub(crate) replaced: Option<Found>,
 }
 
-impl<R: Files + Drop> ServedFolder<R> {
+impl ServedFolder {
     /// The path on the system of a path of the store. `Missing` never comes: the path is text.
     pub(crate) fn path_of(&self, alloc: Global, path: &Path) -> Result<String, StoreFault>
         ensures below { IfOk result (λ target. string_bytes target
@@ -94,22 +96,24 @@ impl<R: Files + Drop> ServedFolder<R> {
 
     /// Looks at a path of the store, after each folder above it, from the root down. `Missing` if a
     /// folder is. `target` is the path on the system.
-    fn walk(
+    fn walk<L: Looks>(
         &self,
-        journal: &mut DiskJournal,
+        looks: &mut L,
         path: &Path,
         target: String,
     ) -> Result<Location, StoreFault>
         ensures fault { IfErr result MayNotOpen }
         ensures path { IfOk result (λ location. location.path ≡ target) }
         ensures found { IfOk result (λ location. LooksLast (string_bytes target) location.found
-            journal.new.events) }
-        ensures looks { changes journal.new.events ≡ changes journal.old.events }
+            (L.log looks.new)) }
+        ensures looks { changes (L.log looks.new) ≡ changes (L.log looks.old) }
+        ensures placed { placed (L.log looks.new) ≡ placed (L.log looks.old) }
+        ensures follows { follows (L.log looks.new) ≡ follows (L.log looks.old) }
         ensures inside { IsInside (string_bytes self.now.root) (string_bytes target)
-            → StaysInside (string_bytes self.now.root) journal.old.events journal.new.events }
+            → StaysInside (string_bytes self.now.root) (L.log looks.old) (L.log looks.new) }
     {
-        let above = self.walk_folders(journal, path, target.as_str())?;
-        match tftp_disk::look(&self.files, journal, target.as_str()) {
+        let above = self.walk_folders(looks, path, target.as_str())?;
+        match looks.look(target.as_str()) {
             Ok(found) => Ok(Location {
                 path: target,
                 has_link: above.has_link || found.kind == Kind::Link,
@@ -132,16 +136,18 @@ impl<R: Files + Drop> ServedFolder<R> {
     }
 
     /// Looks at each folder above a path of the store, from the root down. `Missing` if one is.
-    fn walk_folders(
+    fn walk_folders<L: Looks>(
         &self,
-        journal: &mut DiskJournal,
+        looks: &mut L,
         path: &Path,
         target: &str,
     ) -> Result<Above, StoreFault>
         ensures fault { IfErr result MayNotOpen }
-        ensures looks { changes journal.new.events ≡ changes journal.old.events }
+        ensures looks { changes (L.log looks.new) ≡ changes (L.log looks.old) }
+        ensures placed { placed (L.log looks.new) ≡ placed (L.log looks.old) }
+        ensures follows { follows (L.log looks.new) ≡ follows (L.log looks.old) }
         ensures inside { IsInside (string_bytes self.now.root) target.now
-            → StaysInside (string_bytes self.now.root) journal.old.events journal.new.events }
+            → StaysInside (string_bytes self.now.root) (L.log looks.old) (L.log looks.new) }
     {
         let mut above = Above {
             has_link: false,
@@ -159,7 +165,7 @@ impl<R: Files + Drop> ServedFolder<R> {
             let Some(at) = target.get(..end) else {
                 return Err(StoreFault::Missing);
             };
-            match tftp_disk::look(&self.files, journal, at) {
+            match looks.look(at) {
                 Ok(seen) => {
                     above.has_link |= seen.kind == Kind::Link;
                     above.folder = Some(seen.id);
@@ -171,22 +177,22 @@ impl<R: Files + Drop> ServedFolder<R> {
     }
 
     /// The target of a path with links. `Io` if it is outside the folder.
-    fn follow(
+    fn follow<L: Looks>(
         &self,
-        journal: &mut DiskJournal,
+        looks: &mut L,
         alloc: Global,
         path: &str,
     ) -> Result<Location, StoreFault>
         ensures fault { IfErr result MayNotOpen }
         ensures ok { IfOk result (λ location. FollowsTo (string_bytes self.now.root) path.now
-            (string_bytes location.path) location.found journal.new.events) }
+            (string_bytes location.path) location.found (L.log looks.new)) }
         ensures below { IfOk result (λ location. IsBelow (string_bytes self.now.root)
             (string_bytes location.path)) }
-        ensures looks { changes journal.new.events ≡ changes journal.old.events }
+        ensures looks { changes (L.log looks.new) ≡ changes (L.log looks.old) }
         ensures inside { IsInside (string_bytes self.now.root) path.now
-            → StaysInside (string_bytes self.now.root) journal.old.events journal.new.events }
+            → StaysInside (string_bytes self.now.root) (L.log looks.old) (L.log looks.new) }
     {
-        let canonical = match tftp_disk::resolve(&self.files, journal, alloc, path) {
+        let canonical = match looks.resolve(alloc, path) {
             Ok(canonical) => canonical,
             Err(error) => return Err(self.open_refused(&error)),
         };
@@ -194,7 +200,7 @@ impl<R: Files + Drop> ServedFolder<R> {
         if !is_below(self.root.as_bytes(), text.as_bytes()) {
             return Err(self.refused(Reason::LeadsOut));
         }
-        match tftp_disk::look(&self.files, journal, text) {
+        match looks.look(text) {
             Ok(found) => Ok(Location {
                 path: String::from_str(alloc, text)?,
                 has_link: false,
@@ -206,25 +212,25 @@ impl<R: Files + Drop> ServedFolder<R> {
     }
 
     /// Finds the file of a path of the store, through links within the folder.
-    fn locate(
+    fn locate<L: Looks>(
         &self,
-        journal: &mut DiskJournal,
+        looks: &mut L,
         alloc: Global,
         path: &Path,
     ) -> Result<Location, StoreFault>
         ensures fault { IfErr result MayNotOpen }
         ensures ok { IfOk result (λ location. FindsAt (string_bytes self.now.root) path.now
-            (string_bytes location.path) location.found journal.new.events) }
+            (string_bytes location.path) location.found (L.log looks.new)) }
         ensures below { IfOk result (λ location. IsBelow (string_bytes self.now.root)
             (string_bytes location.path)) }
-        ensures looks { changes journal.new.events ≡ changes journal.old.events }
-        ensures inside { StaysInside (string_bytes self.now.root) journal.old.events
-            journal.new.events }
+        ensures looks { changes (L.log looks.new) ≡ changes (L.log looks.old) }
+        ensures inside { StaysInside (string_bytes self.now.root) (L.log looks.old)
+            (L.log looks.new) }
     {
         let target = self.path_of(alloc, path)?;
-        let location = self.walk(journal, path, target)?;
+        let location = self.walk(looks, path, target)?;
         if location.has_link {
-            self.follow(journal, alloc, location.path.as_str())
+            self.follow(looks, alloc, location.path.as_str())
         } else {
             Ok(location)
         }
@@ -233,22 +239,23 @@ impl<R: Files + Drop> ServedFolder<R> {
     /// Opens the regular file at the path, and returns it with what was found of it. A folder is
     /// `Missing`, and any other file that is not regular is `Io`, as is one that is replaced again
     /// and again.
-    pub(crate) fn open_file(
+    pub(crate) fn open_file<V: View>(
         &self,
-        journal: &mut DiskJournal,
+        view: &mut V,
         alloc: Global,
         path: &Path,
-    ) -> Result<OpenedFile<R::File>, StoreFault>
+    ) -> Result<OpenedFile<V::File>, StoreFault>
         ensures fault { IfErr result MayNotOpen }
         ensures opens { IfOk result (λ opened. OpensAt (string_bytes self.now.root) path.now
-            opened.found journal.new.events opened.file.journal.events) }
-        ensures start { IfOk result (λ opened. given opened.file.journal.events ≡ []) }
-        ensures looks { changes journal.new.events ≡ changes journal.old.events }
-        ensures inside { StaysInside (string_bytes self.now.root) journal.old.events
-            journal.new.events }
+            opened.found (V.log view.new) opened.file.journal.events) }
+        ensures start { IfOk result (λ opened. is_at_start opened.file.journal.events
+            ≡ true) }
+        ensures looks { changes (V.log view.new) ≡ changes (V.log view.old) }
+        ensures inside { StaysInside (string_bytes self.now.root) (V.log view.old)
+            (V.log view.new) }
     {
         for _ in 0..MOST_LOOKS {
-            match self.open_found(journal, alloc, path) {
+            match self.open_found(view, alloc, path) {
                 Ok(Some(opened)) => return Ok(opened),
                 Ok(None) => {}
                 Err(fault) => return Err(fault),
@@ -259,51 +266,51 @@ impl<R: Files + Drop> ServedFolder<R> {
 
     /// Looks the path up once, and opens its file; `None` if that was replaced meanwhile. The type
     /// is checked before the open, because opening a FIFO blocks.
-    fn open_found(
+    fn open_found<V: View>(
         &self,
-        journal: &mut DiskJournal,
+        view: &mut V,
         alloc: Global,
         path: &Path,
-    ) -> Result<Option<OpenedFile<R::File>>, StoreFault>
+    ) -> Result<Option<OpenedFile<V::File>>, StoreFault>
         ensures fault { IfErr result MayNotOpen }
         ensures opens { IfOk result (λ opened. IfSome opened (λ file. OpensAt
-            (string_bytes self.now.root) path.now file.found journal.new.events
+            (string_bytes self.now.root) path.now file.found (V.log view.new)
             file.file.journal.events)) }
         ensures start { IfOk result (λ opened. IfSome opened (λ file.
-            given file.file.journal.events ≡ [])) }
-        ensures looks { changes journal.new.events ≡ changes journal.old.events }
-        ensures inside { StaysInside (string_bytes self.now.root) journal.old.events
-            journal.new.events }
+            is_at_start file.file.journal.events ≡ true)) }
+        ensures looks { changes (V.log view.new) ≡ changes (V.log view.old) }
+        ensures inside { StaysInside (string_bytes self.now.root) (V.log view.old)
+            (V.log view.new) }
     {
-        let location = self.locate(journal, alloc, path)?;
+        let location = self.locate(view, alloc, path)?;
         let Some(found) = location.found else {
             return Err(StoreFault::Missing);
         };
         match found.kind {
-            Kind::Regular => self.open_seen(journal, location.path.as_str(), found.id),
+            Kind::Regular => self.open_seen(view, location.path.as_str(), found.id),
             Kind::Folder => Err(StoreFault::Missing),
             Kind::Link | Kind::Special => Err(self.refused(Reason::NotAFile)),
         }
     }
 
     /// Opens the file that was seen at the path; `None` if that was replaced meanwhile.
-    fn open_seen(
+    fn open_seen<V: View>(
         &self,
-        journal: &mut DiskJournal,
+        view: &mut V,
         path: &str,
         seen: FileId,
-    ) -> Result<Option<OpenedFile<R::File>>, StoreFault>
+    ) -> Result<Option<OpenedFile<V::File>>, StoreFault>
         ensures fault { IfErr result MayNotOpen }
         ensures opens { IfOk result (λ opened. IfSome opened (λ file. OpensSeen
-            (string_bytes self.now.root) path.now seen file.found journal.old.events
-            journal.new.events)) }
+            (string_bytes self.now.root) path.now seen file.found (V.log view.old)
+            (V.log view.new))) }
         ensures file { IfOk result (λ opened. IfSome opened (λ file. file.file.journal.events
             ≡ Examined (Ok file.found) ∷ Opened path.now (Ok tt) ∷ [])) }
-        ensures looks { changes journal.new.events ≡ changes journal.old.events }
+        ensures looks { changes (V.log view.new) ≡ changes (V.log view.old) }
         ensures inside { IsBelow (string_bytes self.now.root) path.now
-            → StaysInside (string_bytes self.now.root) journal.old.events journal.new.events }
+            → StaysInside (string_bytes self.now.root) (V.log view.old) (V.log view.new) }
     {
-        let mut file = match tftp_disk::open(&self.files, journal, path) {
+        let mut file = match view.open(path) {
             Ok(file) => file,
             Err(error) => return Err(self.open_refused(&error)),
         };
@@ -311,7 +318,7 @@ impl<R: Files + Drop> ServedFolder<R> {
             Ok(found) => found,
             Err(error) => return Err(self.open_refused(&error)),
         };
-        if found.id.is(seen) && self.is_still(journal, path, seen) {
+        if found.id.is(seen) && self.is_still(view, path, seen) {
             Ok(Some(OpenedFile { file, found }))
         } else {
             Ok(None)
@@ -319,27 +326,26 @@ impl<R: Files + Drop> ServedFolder<R> {
     }
 
     /// Whether the file still is at the path, below folders alone.
-    fn is_still(&self, journal: &mut DiskJournal, path: &str, id: FileId) -> bool
+    fn is_still<L: Looks>(&self, looks: &mut L, path: &str, id: FileId) -> bool
         ensures still { result ≡ true → IsStill (string_bytes self.now.root) path.now id
-            journal.old.events journal.new.events }
-        ensures looks { changes journal.new.events ≡ changes journal.old.events }
+            (L.log looks.old) (L.log looks.new) }
+        ensures looks { changes (L.log looks.new) ≡ changes (L.log looks.old) }
         ensures inside { IsBelow (string_bytes self.now.root) path.now
-            → StaysInside (string_bytes self.now.root) journal.old.events journal.new.events }
+            → StaysInside (string_bytes self.now.root) (L.log looks.old) (L.log looks.new) }
     {
-        has_no_link(&self.files, journal, self.root.as_str(), folder_of(path))
-            && self.is_at(journal, path, id)
+        has_no_link(looks, self.root.as_str(), folder_of(path)) && self.is_at(looks, path, id)
     }
 
     /// Whether the file is at the path.
-    fn is_at(&self, journal: &mut DiskJournal, path: &str, id: FileId) -> bool
+    fn is_at<L: Looks>(&self, looks: &mut L, path: &str, id: FileId) -> bool
         ensures again { result ≡ true → (again : Found)
-            × (journal.new.events ≡ Looked path.now (Ok again) ∷ journal.old.events)
+            × (L.log looks.new ≡ Looked path.now (Ok again) ∷ L.log looks.old)
             × (is_same_file id again.id ≡ true) }
-        ensures looks { changes journal.new.events ≡ changes journal.old.events }
+        ensures looks { changes (L.log looks.new) ≡ changes (L.log looks.old) }
         ensures inside { IsInside (string_bytes self.now.root) path.now
-            → StaysInside (string_bytes self.now.root) journal.old.events journal.new.events }
+            → StaysInside (string_bytes self.now.root) (L.log looks.old) (L.log looks.new) }
     {
-        match tftp_disk::look(&self.files, journal, path) {
+        match looks.look(path) {
             Ok(found) => id.is(found.id),
             Err(_) => false,
         }
@@ -348,21 +354,23 @@ impl<R: Files + Drop> ServedFolder<R> {
     /// The place to write a file at. Its path has no link and is on the device of the drafts. A
     /// regular file may be there only if it is to be replaced, and then the server's user may write
     /// it. `target` is the path on the system.
-    pub(crate) fn place_to_write(
+    pub(crate) fn place_to_write<D: Disk>(
         &self,
-        journal: &mut DiskJournal,
+        disk: &mut D,
         path: &Path,
         target: String,
         existing: Existing,
     ) -> Result<DraftPlace, StoreFault>
         ensures fault { IfErr result (MayNotName (is_replaced existing)) }
         ensures place { IfOk result (λ place. place.path ≡ target) }
-        ensures looks { changes journal.new.events ≡ changes journal.old.events }
+        ensures looks { changes (D.log disk.new) ≡ changes (D.log disk.old) }
+        ensures placed { placed (D.log disk.new) ≡ placed (D.log disk.old) }
+        ensures follows { follows (D.log disk.new) ≡ follows (D.log disk.old) }
         ensures inside { IsInside (string_bytes self.now.root) (string_bytes self.now.drafts)
             → IsInside (string_bytes self.now.root) (string_bytes target)
-            → StaysInside (string_bytes self.now.root) journal.old.events journal.new.events }
+            → StaysInside (string_bytes self.now.root) (D.log disk.old) (D.log disk.new) }
     {
-        let location = match self.walk(journal, path, target) {
+        let location = match self.walk(disk, path, target) {
             Ok(location) => location,
             // The path is there: this is the system's memory.
             Err(StoreFault::Memory) => return Err(StoreFault::Full),
@@ -377,9 +385,9 @@ impl<R: Files + Drop> ServedFolder<R> {
             return Err(self.refused(Reason::ThroughLink));
         }
         if let Some(found) = &location.found {
-            self.may_replace(journal, location.path.as_str(), found)?;
+            self.may_replace(disk, location.path.as_str(), found)?;
         }
-        let folder = self.folder_to_write(journal, location.folder)?;
+        let folder = self.folder_to_write(disk, location.folder)?;
         Ok(DraftPlace {
             path: location.path,
             folder,
@@ -388,18 +396,20 @@ impl<R: Files + Drop> ServedFolder<R> {
     }
 
     /// Refuses to replace what is no regular file, or what the server's user may not write.
-    fn may_replace(
+    fn may_replace<D: Disk>(
         &self,
-        journal: &mut DiskJournal,
+        disk: &mut D,
         path: &str,
         found: &Found,
     ) -> Result<(), StoreFault>
         ensures fault { IfErr result MayNotStore }
-        ensures looks { changes journal.new.events ≡ changes journal.old.events }
+        ensures looks { changes (D.log disk.new) ≡ changes (D.log disk.old) }
+        ensures placed { placed (D.log disk.new) ≡ placed (D.log disk.old) }
+        ensures follows { follows (D.log disk.new) ≡ follows (D.log disk.old) }
         ensures inside { IsInside (string_bytes self.now.root) path.now
-            → StaysInside (string_bytes self.now.root) journal.old.events journal.new.events }
+            → StaysInside (string_bytes self.now.root) (D.log disk.old) (D.log disk.new) }
     {
-        match check_replaced(&self.files, journal, path, found) {
+        match check_replaced(disk, path, found) {
             Ok(()) => Ok(()),
             Err(NameFault::System(error)) => Err(self.write_refused(&error)),
             Err(NameFault::Rule(reason)) => Err(self.refused(reason)),
@@ -408,18 +418,20 @@ impl<R: Files + Drop> ServedFolder<R> {
 
     /// The folder of a new file, which is the root if no other was found. `Io` if the drafts are
     /// not on its device.
-    fn folder_to_write(
+    fn folder_to_write<L: Looks>(
         &self,
-        journal: &mut DiskJournal,
+        looks: &mut L,
         found: Option<FileId>,
     ) -> Result<FileId, StoreFault>
         ensures fault { IfErr result MayNotStore }
-        ensures looks { changes journal.new.events ≡ changes journal.old.events }
+        ensures looks { changes (L.log looks.new) ≡ changes (L.log looks.old) }
+        ensures placed { placed (L.log looks.new) ≡ placed (L.log looks.old) }
+        ensures follows { follows (L.log looks.new) ≡ follows (L.log looks.old) }
         ensures inside { IsInside (string_bytes self.now.root) (string_bytes self.now.drafts)
-            → StaysInside (string_bytes self.now.root) journal.old.events journal.new.events }
+            → StaysInside (string_bytes self.now.root) (L.log looks.old) (L.log looks.new) }
     {
-        let folder = self.found_or_root(journal, found)?;
-        let drafts = self.id_of(journal, self.drafts.as_str())?;
+        let folder = self.found_or_root(looks, found)?;
+        let drafts = self.id_of(looks, self.drafts.as_str())?;
         if folder.device == drafts.device {
             Ok(folder)
         } else {
@@ -428,30 +440,34 @@ impl<R: Files + Drop> ServedFolder<R> {
     }
 
     /// The folder that was found, or else the root.
-    fn found_or_root(
+    fn found_or_root<L: Looks>(
         &self,
-        journal: &mut DiskJournal,
+        looks: &mut L,
         found: Option<FileId>,
     ) -> Result<FileId, StoreFault>
         ensures fault { IfErr result MayNotStore }
-        ensures looks { changes journal.new.events ≡ changes journal.old.events }
-        ensures inside { StaysInside (string_bytes self.now.root) journal.old.events
-            journal.new.events }
+        ensures looks { changes (L.log looks.new) ≡ changes (L.log looks.old) }
+        ensures placed { placed (L.log looks.new) ≡ placed (L.log looks.old) }
+        ensures follows { follows (L.log looks.new) ≡ follows (L.log looks.old) }
+        ensures inside { StaysInside (string_bytes self.now.root) (L.log looks.old)
+            (L.log looks.new) }
     {
         match found {
             Some(folder) => Ok(folder),
-            None => self.id_of(journal, self.root.as_str()),
+            None => self.id_of(looks, self.root.as_str()),
         }
     }
 
     /// The folder at a path, without a trailing slash.
-    fn id_of(&self, journal: &mut DiskJournal, path: &str) -> Result<FileId, StoreFault>
+    fn id_of<L: Looks>(&self, looks: &mut L, path: &str) -> Result<FileId, StoreFault>
         ensures fault { IfErr result MayNotStore }
-        ensures looks { changes journal.new.events ≡ changes journal.old.events }
+        ensures looks { changes (L.log looks.new) ≡ changes (L.log looks.old) }
+        ensures placed { placed (L.log looks.new) ≡ placed (L.log looks.old) }
+        ensures follows { follows (L.log looks.new) ≡ follows (L.log looks.old) }
         ensures inside { IsInside (string_bytes self.now.root) path.now
-            → StaysInside (string_bytes self.now.root) journal.old.events journal.new.events }
+            → StaysInside (string_bytes self.now.root) (L.log looks.old) (L.log looks.new) }
     {
-        match tftp_disk::look(&self.files, journal, folder_or_root(path)) {
+        match looks.look(folder_or_root(path)) {
             Ok(found) => Ok(found.id),
             Err(error) => Err(self.write_refused(&error)),
         }
@@ -467,21 +483,23 @@ impl<R: Files + Drop> ServedFolder<R> {
     }
 
     /// Creates the draft file, after removing an old one of that name.
-    pub(crate) fn make_draft(
+    pub(crate) fn make_draft<D: Disk>(
         &self,
-        journal: &mut DiskJournal,
+        disk: &mut D,
         draft: &str,
-    ) -> Result<DiskFile<R::File>, StoreFault>
+    ) -> Result<DiskFile<D::File>, StoreFault>
         ensures fault { IfErr result MayNotStore }
-        ensures ok { IfOk result (λ file. (file.journal.events ≡ Made draft.now (Ok tt) ∷ [])
-            × MakesDraft draft.now (changes journal.old.events) (Ok tt)
-            (changes journal.new.events)) }
+        ensures ok { IfOk result (λ file. IsNew draft.now file.journal.events (D.log disk.new)
+            × MakesDraft draft.now (changes (D.log disk.old)) (Ok tt)
+            (changes (D.log disk.new))) }
         ensures err { OnErr result ((answer : Done) × MakesDraft draft.now
-            (changes journal.old.events) answer (changes journal.new.events)) }
+            (changes (D.log disk.old)) answer (changes (D.log disk.new))) }
+        ensures others { LeavesOthers draft.now (D.log disk.old) (D.log disk.new) }
+        ensures follows { follows (D.log disk.new) ≡ follows (D.log disk.old) }
         ensures inside { IsInside (string_bytes self.now.root) draft.now
-            → StaysInside (string_bytes self.now.root) journal.old.events journal.new.events }
+            → StaysInside (string_bytes self.now.root) (D.log disk.old) (D.log disk.new) }
     {
-        match make_again(&self.files, journal, draft) {
+        match make_again(disk, draft) {
             Ok(file) => Ok(file),
             Err(error) => Err(self.draft_refused(&error)),
         }
@@ -489,21 +507,19 @@ impl<R: Files + Drop> ServedFolder<R> {
 }
 
 /// Creates a draft file, after removing an old one of that name.
-fn make_again<R: Files>(
-    files: &R,
-    journal: &mut DiskJournal,
-    draft: &str,
-) -> io::Result<DiskFile<R::File>>
-    ensures ok { IfOk result (λ file. (file.journal.events ≡ Made draft.now (Ok tt) ∷ [])
-        × MakesDraft draft.now (changes journal.old.events) (Ok tt)
-        (changes journal.new.events)) }
-    ensures err { IfErr result (λ error. MakesDraft draft.now (changes journal.old.events)
-        (Err error) (changes journal.new.events)) }
+fn make_again<D: Disk>(disk: &mut D, draft: &str) -> io::Result<DiskFile<D::File>>
+    ensures ok { IfOk result (λ file. IsNew draft.now file.journal.events (D.log disk.new)
+        × MakesDraft draft.now (changes (D.log disk.old)) (Ok tt)
+        (changes (D.log disk.new))) }
+    ensures err { IfErr result (λ error. MakesDraft draft.now (changes (D.log disk.old))
+        (Err error) (changes (D.log disk.new))) }
+    ensures others { LeavesOthers draft.now (D.log disk.old) (D.log disk.new) }
+    ensures follows { follows (D.log disk.new) ≡ follows (D.log disk.old) }
     ensures inside { (root : List ℕ) → IsInside root draft.now
-        → StaysInside root journal.old.events journal.new.events }
+        → StaysInside root (D.log disk.old) (D.log disk.new) }
 {
-    let _ = tftp_disk::remove(files, journal, draft);
-    match tftp_disk::make(files, journal, draft) {
+    let _ = disk.remove(draft);
+    match disk.make(draft) {
         Ok(file) => Ok(file),
         Err(error) => Err(error),
     }

@@ -9,14 +9,15 @@ ghost use Rattle.tftp_disk.specs.DiskWriter.{calls_of, handed};
 ghost use Rattle.tftp_folder.specs.Commit.{lock_of};
 ghost use Rattle.tftp_folder.specs.Looked.{LooksFor, is_found};
 ghost use Rattle.tftp_folder.specs.Inside.{IsInside, StaysInside};
+ghost use Rattle.tftp_folder.specs.Opened.{follows};
+ghost use Rattle.tftp_folder.specs.Placed.{placed};
 
 use crate::finding::DraftPlace;
 use crate::replacing::permissions_of;
 use std::alloc::AllocError;
 use std::fs::OpenFile;
 use std::io::{self, Write};
-use std::rt::Files;
-use tftp_disk::{DiskFile, DiskJournal, DiskWriter, FileId, Found};
+use tftp_disk::{DiskFile, DiskWriter, FileId, Found, Looks};
 
 /// The number of unsynced bytes from which on a draft is to be synced once no transfer waits: so
 /// few that those that come meanwhile do not wait long.
@@ -231,47 +232,48 @@ impl<F: Write + OpenFile> FolderDraft<F> {
     }
 
     /// Whether the path of the draft is that of the open file.
-    pub(crate) fn is_at_draft<R: Files>(&mut self, files: &R, journal: &mut DiskJournal) -> bool
+    pub(crate) fn is_at_draft<L: Looks>(&mut self, looks: &mut L) -> bool
         ensures stays { StaysDone self.old self.new }
-        ensures looks { changes journal.new.events ≡ changes journal.old.events }
-        ensures renames { renames journal.new.events ≡ renames journal.old.events }
+        ensures looks { changes (L.log looks.new) ≡ changes (L.log looks.old) }
+        ensures renames { renames (L.log looks.new) ≡ renames (L.log looks.old) }
+        ensures placed { placed (L.log looks.new) ≡ placed (L.log looks.old) }
+        ensures follows { follows (L.log looks.new) ≡ follows (L.log looks.old) }
         ensures inside { (root : List ℕ) → IsInside root (string_bytes self.old.draft)
-            → StaysInside root journal.old.events journal.new.events }
+            → StaysInside root (L.log looks.old) (L.log looks.new) }
     {
-        is_at(&mut self.writer, files, journal, self.draft.as_str())
+        is_at(&mut self.writer, looks, self.draft.as_str())
     }
 
     /// Whether the path of the file after the commit is that of the open file.
-    pub(crate) fn is_at_target<R: Files>(&mut self, files: &R, journal: &mut DiskJournal) -> bool
+    pub(crate) fn is_at_target<L: Looks>(&mut self, looks: &mut L) -> bool
         ensures stays { StaysDone self.old self.new }
-        ensures own { LooksForOwn self.old self.new journal.old.events journal.new.events result }
-        ensures looks { changes journal.new.events ≡ changes journal.old.events }
-        ensures renames { renames journal.new.events ≡ renames journal.old.events }
+        ensures own { LooksForOwn self.old self.new (L.log looks.old) (L.log looks.new) result }
+        ensures looks { changes (L.log looks.new) ≡ changes (L.log looks.old) }
+        ensures renames { renames (L.log looks.new) ≡ renames (L.log looks.old) }
+        ensures placed { placed (L.log looks.new) ≡ placed (L.log looks.old) }
+        ensures follows { follows (L.log looks.new) ≡ follows (L.log looks.old) }
         ensures inside { (root : List ℕ) → IsInside root (string_bytes self.old.target)
-            → StaysInside root journal.old.events journal.new.events }
+            → StaysInside root (L.log looks.old) (L.log looks.new) }
     {
-        is_at(&mut self.writer, files, journal, self.target.as_str())
+        is_at(&mut self.writer, looks, self.target.as_str())
     }
 }
 
 /// Whether the path is that of the file.
-fn is_at<R: Files, F: OpenFile>(
-    writer: &mut DiskWriter<F>,
-    files: &R,
-    journal: &mut DiskJournal,
-    path: &str,
-) -> bool
+fn is_at<L: Looks, F: OpenFile>(writer: &mut DiskWriter<F>, looks: &mut L, path: &str) -> bool
     ensures state { state_of (calls_of writer.new) ≡ state_of (calls_of writer.old) }
     ensures buffer { writer.new.buffer ≡ writer.old.buffer }
     ensures own { LooksFor path.now (calls_of writer.old) (calls_of writer.new)
-        journal.old.events journal.new.events result }
-    ensures looks { changes journal.new.events ≡ changes journal.old.events }
-    ensures renames { renames journal.new.events ≡ renames journal.old.events }
+        (L.log looks.old) (L.log looks.new) result }
+    ensures looks { changes (L.log looks.new) ≡ changes (L.log looks.old) }
+    ensures renames { renames (L.log looks.new) ≡ renames (L.log looks.old) }
+    ensures placed { placed (L.log looks.new) ≡ placed (L.log looks.old) }
+    ensures follows { follows (L.log looks.new) ≡ follows (L.log looks.old) }
     ensures inside { (root : List ℕ) → IsInside root path.now
-        → StaysInside root journal.old.events journal.new.events }
+        → StaysInside root (L.log looks.old) (L.log looks.new) }
 {
     let opened = writer.examine();
-    let found = tftp_disk::look(files, journal, path);
+    let found = looks.look(path);
     is_found(opened, found)
 }
 

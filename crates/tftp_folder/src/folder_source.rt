@@ -7,10 +7,9 @@ ghost use Rattle.tftp_folder.specs.Source.{calls_of, text_of};
 use crate::measured::StatedLength;
 use std::alloc::{AllocError, Global};
 use std::cell::Cell;
-use std::io::Read;
 use std::rc::Rc;
 use std::snapshot::Snapshot;
-use tftp_disk::{DiskFile, DiskJournal, DiskSource};
+use tftp_disk::{DiskFile, DiskSource, View};
 use tftp_file::{FileFault, Source};
 use tftp_lines::{Reason, reason_of};
 use tftp_wire::Mode;
@@ -56,26 +55,26 @@ impl SharedReason {
 /// The source of a file of a [`FolderStore`](crate::FolderStore). Its store gets the reason for a
 /// fill that fails, or that finds fewer bytes than it requests.
 #[derive(Drop)]
-pub struct FolderSource<F: Read + Drop> {
-    text: DiskSource<F>,
-    /// The calls that found the file.
-    found: DiskJournal,
+pub struct FolderSource<V: View> {
+    text: DiskSource<V::File>,
+    /// The view that found the file, with its calls.
+    found: V,
     /// How long its text is said to be. Only clauses read it: it uses no memory.
     stated: Snapshot<StatedLength>,
     /// The reason of the store.
     reason: SharedReason,
 }
 
-impl<F: Read + Drop> FolderSource<F> {
+impl<V: View> FolderSource<V> {
     /// The source of an open file whose text has this length. It fails only when out of memory.
     pub(crate) fn new(
         alloc: Global,
-        file: DiskFile<F>,
-        found: DiskJournal,
+        file: DiskFile<V::File>,
+        found: V,
         mode: Mode,
         length: &StatedLength,
         reason: SharedReason,
-    ) -> Result<FolderSource<F>, AllocError>
+    ) -> Result<FolderSource<V>, AllocError>
         ensures unread { IfOk result (λ source. IsUnread mode (text_of source)) }
         ensures calls { IfOk result (λ source. calls_of source ≡ file.journal.events) }
         ensures found { IfOk result (λ source. source.found ≡ found) }
@@ -111,12 +110,12 @@ impl<F: Read + Drop> FolderSource<F> {
     }
 }
 
-impl<F: Read + Drop> Source for FolderSource<F> {
+impl<V: View> Source for FolderSource<V> {
     ghost use Rattle.std.specs.Prelude.{⊤};
     ghost use Rattle.tftp_disk.specs.DiskSourceLaws.{gives_nothing};
     ghost use Rattle.tftp_folder.specs.Source.{folder_source, text_of};
 
-    ghost meaning = { folder_source ⟦<DiskSource<F> as Source>⟧.meaning };
+    ghost meaning = { folder_source V.log ⟦<DiskSource<V::File> as Source>⟧.meaning };
 
     /// Always true: it constrains nothing.
     ghost is_same = { λ _ _. ⊤ };

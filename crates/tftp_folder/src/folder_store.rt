@@ -6,13 +6,14 @@ ghost use Rattle.std.specs.Prelude.{[], ◌++◌, ◌⊎◌, codes, IfSome, OnOk
 ghost use Rattle.std.specs.String.{string_bytes};
 ghost use Rattle.tftp_disk.specs.Changes.{changes};
 ghost use Rattle.tftp_disk.specs.DiskFault.{MayNotOpen, MayNotStore, MayNotName, is_replaced};
-ghost use Rattle.tftp_disk.specs.Given.{examined, given};
+ghost use Rattle.tftp_disk.specs.Given.{examined, is_at_start};
 ghost use Rattle.tftp_disk.specs.Measuring.{calls_on, StaysOpen};
-ghost use Rattle.tftp_folder.specs.Inside.{AreInside, StaysInside};
-ghost use Rattle.tftp_folder.specs.Opened.{IsRootOf};
+ghost use Rattle.tftp_folder.specs.Inside.{StaysInside};
+ghost use Rattle.tftp_folder.specs.Opened.{IsRootOf, follows};
+ghost use Rattle.tftp_folder.specs.Placed.{StaysThere};
 ghost use Rattle.tftp_folder.specs.Commit.{LooksThenRenames};
 ghost use Rattle.tftp_folder.specs.Draft.{bytes_of, GivesName, IsDraftBelow, IsWhole};
-ghost use Rattle.tftp_folder.specs.Draft.{IsWrittenOut, NamesNothing, SameNames};
+ghost use Rattle.tftp_folder.specs.Draft.{IsThere, IsWrittenOut, NamesNothing, SameNames};
 ghost use Rattle.tftp_folder.specs.Settings.{AsksNothing, SameSettings};
 ghost use Rattle.tftp_folder.specs.Source.{StatesLength, counted_by};
 ghost use Rattle.tftp_folder.specs.Uploads.{IsBelow, path_below, path_of_folder, without_last_slash};
@@ -28,8 +29,7 @@ use crate::wire_lengths::{WireLengths, check_empty};
 use std::alloc::Global;
 use std::cell::Cell;
 use std::io::{self, ErrorKind};
-use std::rt::Files;
-use tftp_disk::{DiskFile, DiskJournal, Existing, Found, Kind};
+use tftp_disk::{Disk, DiskFile, Existing, Found, Kind, Looks, View};
 use tftp_file::{Path, PathFault, StoreFault, path_of};
 use tftp_lines::{Reason, reason_of};
 use tftp_store::{Opening, ServedStore, Store};
@@ -49,14 +49,14 @@ const ENOTDIR: i32 = 20;
 /// takes all uploads. At the commit it gets its name by a hard link, or by a rename if it replaces
 /// a file.
 #[derive(Drop)]
-pub struct FolderStore<R: Files + Drop> {
-    folder: ServedFolder<R>,
+pub struct FolderStore<D: Disk> {
+    /// The disk, of whose calls those of an opening are the source's.
+    disk: D,
+    folder: ServedFolder,
     /// Every write is refused.
     is_read_only: bool,
     /// The folder below the root that takes all writes, if not every folder does.
     uploads: Option<Path>,
-    /// The calls on paths for settings and for drafts. Those of an opening are the source's.
-    journal: DiskJournal,
     port: u16,
     lengths: WireLengths,
     /// The port of a transfer whose draft is to be synced.
@@ -65,33 +65,33 @@ pub struct FolderStore<R: Files + Drop> {
     may_sync: Cell<bool>,
 }
 
-impl<R: Files + Drop> FolderStore<R> {
+impl<D: Disk> FolderStore<D> {
     /// The store over a folder. It fails with `NotADirectory` if `root` is no folder, with the
     /// system's error if `root` cannot be resolved, or when out of memory.
-    pub fn new(files: R, alloc: Global, root: &str) -> io::Result<FolderStore<R>>
+    pub fn new(mut disk: D, alloc: Global, root: &str) -> io::Result<FolderStore<D>>
         ensures settings { IfOk result (λ store. (store.is_read_only ≡ false)
             × (store.uploads ≡ None)) }
         ensures root { IfOk result (λ store. IsRootOf root.now (string_bytes store.folder.root)
-            store.journal.events) }
+            (D.log disk) (D.log store.disk)) }
         ensures drafts { IfOk result (λ store. string_bytes store.folder.drafts
             ≡ string_bytes store.folder.root) }
-        ensures inside { IfOk result (λ store. AreInside (string_bytes store.folder.root)
-            store.journal.events) }
+        ensures looks { IfOk result (λ store. changes (D.log store.disk)
+            ≡ changes (D.log disk)) }
+        ensures inside { IfOk result (λ store. StaysInside (string_bytes store.folder.root)
+            (D.log disk) (D.log store.disk)) }
     {
-        let mut journal = DiskJournal::new();
-        let root = resolve_root(&files, &mut journal, alloc, root)?;
+        let root = resolve_root(&mut disk, alloc, root)?;
         let drafts = root.clone()?;
         let reason = SharedReason::new(alloc)?;
         Ok(FolderStore {
+            disk,
             folder: ServedFolder {
-                files,
                 root,
                 drafts,
                 reason,
             },
             is_read_only: false,
             uploads: None,
-            journal,
             port: 0,
             lengths: WireLengths::new(alloc)?,
             unsynced: Cell::new(None),
@@ -119,21 +119,22 @@ impl<R: Files + Drop> FolderStore<R> {
         ensures rest { self.new ≡ record self.old {
           uploads = self.new.uploads;
           folder = record self.old.folder { drafts = self.new.folder.drafts };
-          journal = self.new.journal;
+          disk = self.new.disk;
         } }
         ensures err { OnErr result (self.new ≡ record self.old {
-          journal = self.new.journal;
+          disk = self.new.disk;
         }) }
-        ensures looks { changes self.new.journal.events ≡ changes self.old.journal.events }
-        ensures inside { StaysInside (string_bytes self.old.folder.root) self.old.journal.events
-            self.new.journal.events }
+        ensures looks { changes (D.log self.new.disk) ≡ changes (D.log self.old.disk) }
+        ensures follows { follows (D.log self.new.disk) ≡ follows (D.log self.old.disk) }
+        ensures inside { StaysInside (string_bytes self.old.folder.root) (D.log self.old.disk)
+            (D.log self.new.disk) }
     {
         let path = match path_of(alloc, without_last_slash(folder.as_bytes())) {
             Ok(path) => path,
             Err(PathFault::Memory) => return Err(io::Error::from(ErrorKind::OutOfMemory)),
             Err(_) => return Err(io::Error::from_raw_os_error(ENOENT)),
         };
-        match folder_below(&self.folder, &mut self.journal, alloc, path.as_bytes()) {
+        match folder_below(&self.folder, &mut self.disk, alloc, path.as_bytes()) {
             Ok(drafts) => {
                 self.folder.drafts = drafts;
                 self.uploads = Some(path);
@@ -147,16 +148,16 @@ impl<R: Files + Drop> FolderStore<R> {
     /// though its length is 0.
     fn measure(
         &self,
-        file: &mut DiskFile<R::File>,
+        file: &mut DiskFile<<D::View as View>::File>,
         found: &Found,
         mode: Mode,
     ) -> Result<StatedLength, StoreFault>
-        requires start { given (calls_on file.old) ≡ [] }
+        requires start { is_at_start (calls_on file.old) ≡ true }
         requires told { examined (calls_on file.old) ≡ Some found.now }
         ensures fault { IfErr result MayNotOpen }
         ensures stated { IfOk result (λ stated. StatesLength self.now.lengths.longest mode found.now
             (counted_by stated) stated.bytes) }
-        ensures start { OnOk result (given (calls_on file.new) ≡ []) }
+        ensures start { OnOk result (is_at_start (calls_on file.new) ≡ true) }
         ensures stays { StaysOpen file.old file.new }
     {
         if let Err(error) = check_empty(file, found) {
@@ -200,35 +201,32 @@ impl<R: Files + Drop> FolderStore<R> {
     /// Writes and syncs a draft, and gives it its name.
     fn name_draft(
         &mut self,
-        draft: &mut FolderDraft<R::File>,
+        draft: &mut FolderDraft<D::File>,
         replace: bool,
     ) -> Result<(), StoreFault>
         ensures refused { IfErr result (MayNotName replace) }
         ensures settings { SameSettings self.old self.new }
         ensures not_memory { result ≢ Err StoreFault.Memory }
-        ensures named { OnOk result (GivesName draft.new (changes self.old.journal.events) replace
-            (changes self.new.journal.events)) }
+        ensures named { OnOk result (GivesName draft.new (changes (D.log self.old.disk)) replace
+            (changes (D.log self.new.disk))) }
         ensures whole { OnOk result (IsWhole draft.new (bytes_of draft.old)) }
         ensures names { SameNames draft.old draft.new }
-        ensures not_named { OnErr result (NamesNothing draft.new (changes self.old.journal.events)
-            replace (changes self.new.journal.events)) }
+        ensures not_named { OnErr result (NamesNothing draft.new (changes (D.log self.old.disk))
+            replace (changes (D.log self.new.disk))) }
         ensures over { LooksThenRenames replace (string_bytes draft.old.target)
-            self.old.journal.events self.new.journal.events }
+            (D.log self.old.disk) (D.log self.new.disk) }
+        ensures there { IsThere draft.old (D.log self.old.disk)
+            → StaysThere (D.log self.old.disk) (D.log self.new.disk) }
+        ensures follows { follows (D.log self.new.disk) ≡ follows (D.log self.old.disk) }
         ensures inside { IsDraftBelow (string_bytes self.old.folder.root) draft.old
-            → StaysInside (string_bytes self.old.folder.root) self.old.journal.events
-            self.new.journal.events }
+            → StaysInside (string_bytes self.old.folder.root) (D.log self.old.disk)
+            (D.log self.new.disk) }
     {
         if let Err(error) = draft.finish() {
             return Err(self.folder.write_refused(&error));
         }
         let existing = Existing::of(replace);
-        match give_name(
-            &self.folder.files,
-            &mut self.journal,
-            self.folder.root.as_str(),
-            draft,
-            existing,
-        ) {
+        match give_name(&mut self.disk, self.folder.root.as_str(), draft, existing) {
             Ok(()) => Ok(()),
             Err(NameFault::System(error)) => Err(self.folder.name_refused(&error, existing)),
             Err(NameFault::Rule(reason)) => Err(self.folder.rule_refused(reason, existing)),
@@ -237,18 +235,16 @@ impl<R: Files + Drop> FolderStore<R> {
 }
 
 /// The canonical path of a folder, without a trailing slash.
-fn resolve_root<R: Files>(
-    files: &R,
-    journal: &mut DiskJournal,
-    alloc: Global,
-    root: &str,
-) -> io::Result<String>
-    requires { journal.old.events ≡ [] }
-    ensures { IfOk result (λ path. IsRootOf root.now (string_bytes path) journal.new.events) }
+fn resolve_root<L: Looks>(looks: &mut L, alloc: Global, root: &str) -> io::Result<String>
+    ensures root { IfOk result (λ path. IsRootOf root.now (string_bytes path) (L.log looks.old)
+        (L.log looks.new)) }
+    ensures looks { changes (L.log looks.new) ≡ changes (L.log looks.old) }
+    ensures inside { IfOk result (λ path. StaysInside (string_bytes path) (L.log looks.old)
+        (L.log looks.new)) }
 {
-    let canonical = tftp_disk::resolve(files, journal, alloc, root)?;
+    let canonical = looks.resolve(alloc, root)?;
     let text = canonical.as_str();
-    if tftp_disk::follow(files, journal, text)?.kind != Kind::Folder {
+    if looks.follow(text)?.kind != Kind::Folder {
         return Err(io::Error::from_raw_os_error(ENOTDIR));
     }
     Ok(String::from_str(alloc, as_folder(text))?)
@@ -281,42 +277,44 @@ fn without_last_slash(name: &[u8]) -> &[u8]
 }
 
 /// The path of a folder below the root, which no link leads to.
-fn folder_below<R: Files + Drop>(
-    served: &ServedFolder<R>,
-    journal: &mut DiskJournal,
+fn folder_below<L: Looks>(
+    served: &ServedFolder,
+    looks: &mut L,
     alloc: Global,
     name: &[u8],
 ) -> io::Result<String>
     ensures ok { IfOk result (λ folder.
         string_bytes folder ≡ path_below (string_bytes served.now.root) name.now) }
-    ensures looks { changes journal.new.events ≡ changes journal.old.events }
-    ensures inside { StaysInside (string_bytes served.now.root) journal.old.events
-        journal.new.events }
+    ensures looks { changes (L.log looks.new) ≡ changes (L.log looks.old) }
+    ensures follows { follows (L.log looks.new) ≡ follows (L.log looks.old) }
+    ensures inside { StaysInside (string_bytes served.now.root) (L.log looks.old)
+        (L.log looks.new) }
 {
     let Ok(name) = str::from_utf8(name) else {
         return Err(io::Error::from_raw_os_error(ENOENT));
     };
     let root = served.root.as_str();
     let folder = format!(in alloc; "{root}/{name}")?;
-    let is_folder = tftp_disk::look(&served.files, journal, folder.as_str())?.kind == Kind::Folder;
-    if is_folder && has_no_link(&served.files, journal, root, folder.as_str()) {
+    let is_folder = looks.look(folder.as_str())?.kind == Kind::Folder;
+    if is_folder && has_no_link(looks, root, folder.as_str()) {
         Ok(folder)
     } else {
         Err(io::Error::from_raw_os_error(ENOTDIR))
     }
 }
 
-impl<R: Files + Drop> ServedStore<Reason> for FolderStore<R> {
+impl<D: Disk> ServedStore<Reason> for FolderStore<D> {
     ghost written_out = { IsWrittenOut };
 
     fn set_port(&mut self, port: u16)
-        ensures { AsksNothing self.old self.new }
+        ensures settings { AsksNothing D.log self.old self.new }
+        ensures port { self.new.port ≡ port }
     {
         self.port = port;
     }
 
     fn set_longest(&mut self, bytes: u64)
-        ensures { AsksNothing self.old self.new }
+        ensures { AsksNothing D.log self.old self.new }
     {
         self.lengths.set_longest(bytes);
     }
@@ -335,12 +333,12 @@ impl<R: Files + Drop> ServedStore<Reason> for FolderStore<R> {
         self.may_sync.set(true);
     }
 
-    fn write_out(&self, draft: &mut FolderDraft<R::File>) {
+    fn write_out(&self, draft: &mut FolderDraft<D::File>) {
         draft.write_out();
     }
 }
 
-impl<R: Files + Drop> Store for FolderStore<R> {
+impl<D: Disk> Store for FolderStore<D> {
     ghost use Rattle.std.specs.Prelude.{◌≡◌, ◌≢◌, refl, None, true, IfOk, IfErr, IsErrOf};
     ghost use Rattle.std.specs.Result.{result_err};
     ghost use Rattle.std.specs.String.{string_bytes};
@@ -349,11 +347,11 @@ impl<R: Files + Drop> Store for FolderStore<R> {
     ghost use Rattle.tftp_folder.specs.Effects.{HasCommitted};
     ghost use Rattle.tftp_folder.specs.Source.{OpensSource, StatesOpened};
 
-    type Source = FolderSource<R::File>;
+    type Source = FolderSource<D::View>;
 
-    type Draft = FolderDraft<R::File>;
+    type Draft = FolderDraft<D::File>;
 
-    ghost meaning = { folder_meaning };
+    ghost meaning = { folder_meaning D.log };
 
     ghost unmoved = { λ _. record {
       settings = record { read_only = refl; uploads = refl; root = refl; drafts = refl };
@@ -361,7 +359,7 @@ impl<R: Files + Drop> Store for FolderStore<R> {
     } };
 
     ghost unwritten = { λ _. record {
-      names = record { draft = refl; target = refl; folder = refl; port = refl };
+      names = record { draft = refl; target = refl; folder = refl; port = refl; making = refl };
       handed = refl;
     } };
 
@@ -370,19 +368,19 @@ impl<R: Files + Drop> Store for FolderStore<R> {
         alloc: Global,
         path: &Path,
         mode: Mode,
-    ) -> Result<Opening<FolderSource<R::File>>, StoreFault>
+    ) -> Result<Opening<FolderSource<D::View>>, StoreFault>
         ensures refused { IfErr result MayNotOpen }
-        ensures opened { IfOk result (λ opening. OpensSource (string_bytes self.now.folder.root)
-            path.now mode opening.source) }
+        ensures opened { IfOk result (λ opening. OpensSource D.View.log
+            (string_bytes self.now.folder.root) path.now mode opening.source) }
         ensures stated { IfOk result (StatesOpened self.now.lengths.longest mode) }
     {
         self.folder.reason.clear();
-        let mut journal = DiskJournal::new();
-        let opened = self.folder.open_file(&mut journal, alloc, path)?;
+        let mut view = self.disk.view();
+        let opened = self.folder.open_file(&mut view, alloc, path)?;
         let mut file = opened.file;
         let stated = self.measure(&mut file, &opened.found, mode)?;
         let reason = self.folder.reason.share()?;
-        match FolderSource::new(alloc, file, journal, mode, &stated, reason) {
+        match FolderSource::new(alloc, file, view, mode, &stated, reason) {
             Ok(source) => Ok(Opening {
                 source,
                 length: stated.bytes,
@@ -399,9 +397,9 @@ impl<R: Files + Drop> Store for FolderStore<R> {
         alloc: Global,
         path: &Path,
         replace: bool,
-    ) -> Result<FolderDraft<R::File>, StoreFault>
+    ) -> Result<FolderDraft<D::File>, StoreFault>
         ensures refused { IfErr result (MayNotBegin replace) }
-        ensures begun { HasBegun path.now self.old self.new result }
+        ensures begun { HasBegun D.log path.now self.old self.new result }
         ensures memory { IsErrOf result StoreFault.Memory → self.new ≡ self.old }
         ensures untouched { self.old.is_read_only ≡ true → self.new ≡ self.old }
     {
@@ -412,7 +410,7 @@ impl<R: Files + Drop> Store for FolderStore<R> {
         let existing = Existing::of(replace);
         begin_draft(
             &self.folder,
-            &mut self.journal,
+            &mut self.disk,
             path,
             self.port,
             memory,
@@ -420,9 +418,9 @@ impl<R: Files + Drop> Store for FolderStore<R> {
         )
     }
 
-    fn append(&mut self, draft: &mut FolderDraft<R::File>, bytes: &[u8]) -> Result<(), StoreFault>
+    fn append(&mut self, draft: &mut FolderDraft<D::File>, bytes: &[u8]) -> Result<(), StoreFault>
         ensures refused { IfErr result MayNotStore }
-        ensures after { HasAppended self.old draft.old bytes.now self.new draft.new
+        ensures after { HasAppended D.log self.old draft.old bytes.now self.new draft.new
             (result_err result) }
         ensures memory { IsErrOf result StoreFault.Memory → (self.new ≡ self.old)
             × (draft.new ≡ draft.old) }
@@ -444,11 +442,11 @@ impl<R: Files + Drop> Store for FolderStore<R> {
     fn commit(
         &mut self,
         _path: &Path,
-        draft: &mut FolderDraft<R::File>,
+        draft: &mut FolderDraft<D::File>,
         replace: bool,
     ) -> Result<(), StoreFault>
         ensures refused { IfErr result (MayNotName replace) }
-        ensures after { HasCommitted self.old draft.old replace self.new draft.new
+        ensures after { HasCommitted D.log self.old draft.old replace self.new draft.new
             (result_err result) }
         ensures not_memory { result ≢ Err StoreFault.Memory }
     {
@@ -458,7 +456,7 @@ impl<R: Files + Drop> Store for FolderStore<R> {
         }
     }
 
-    fn write_behind(&mut self, draft: &mut FolderDraft<R::File>) {
+    fn write_behind(&mut self, draft: &mut FolderDraft<D::File>) {
         if self.may_sync.replace(false) {
             draft.sync();
             return;

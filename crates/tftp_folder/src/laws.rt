@@ -1,24 +1,23 @@
 //! Laws of what is served of a folder, and of what changes in it.
 
 ghost use Rattle.tftp_folder.specs.Changing.{BeginStaysWithin, BeginsOwn, CommitStaysWithin};
-ghost use Rattle.tftp_folder.specs.Changing.{KeepsWithin, ReadOnlyChangesNothing};
+ghost use Rattle.tftp_folder.specs.Changing.{KeepsRoot, KeepsWithin, ReadOnlyChangesNothing};
 ghost use Rattle.tftp_folder.specs.Source.{GivesFile};
 ghost use Rattle.tftp_folder.specs.Stored.{StoresWhatItTook};
 
 use crate::{FolderDraft, FolderSource, FolderStore};
-use std::io::Read;
-use std::rt::Files;
 use tftp_disk::laws::gives_in_order;
+use tftp_disk::{Disk, View};
 use tftp_file::Source;
 use tftp_store::Store;
 
 /// What the calls of a source have given since a store opened it is a beginning of the wire text of
 /// what reads of the file at that path returned, in order and each byte once; and it is all of it
 /// but what the source still has, unless a read failed.
-pub fn gives_its_file<F: Read + Drop>()
-    ensures { GivesFile ⟦<FolderSource<F> as Source>⟧.meaning }
+pub fn gives_its_file<V: View>()
+    ensures { GivesFile V.log ⟦<FolderSource<V> as Source>⟧.meaning }
 {
-    gives_in_order::<F>();
+    gives_in_order::<V::File>();
 }
 
 /// The calls that begin a draft change nothing but it, and nothing in a store that refuses writes
@@ -41,14 +40,20 @@ pub fn draft_stays_within<F>(draft: &FolderDraft<F>)
 /// once its commit succeeds: a file was made at the path of the draft, these bytes alone were
 /// written to it, in order and each once, and synced; then it got its name, by a call that replaces
 /// no file, unless it may, and the folder was synced.
-pub fn stores_what_it_took<R: Files + Drop>()
-    ensures { StoresWhatItTook ⟦<FolderStore<R> as Store>⟧.meaning }
+pub fn stores_what_it_took<D: Disk>()
+    ensures { StoresWhatItTook D.log ⟦<FolderStore<D> as Store>⟧.meaning }
 {}
 
 /// Each call of a store that has changed nothing beyond its limits, and has passed no path outside
 /// its root to the system, keeps it so, and its drafts its own.
-pub fn keeps_within_its_limits<R: Files + Drop>()
-    ensures { KeepsWithin ⟦<FolderStore<R> as Store>⟧.meaning }
+pub fn keeps_within_its_limits<D: Disk>()
+    ensures { KeepsWithin D.log ⟦<FolderStore<D> as Store>⟧.meaning }
+{}
+
+/// Each call of a store keeps that its root is the folder that the operator's path was resolved to,
+/// by the oldest calls of the store.
+pub fn keeps_its_root<D: Disk>()
+    ensures { KeepsRoot D.log ⟦<FolderStore<D> as Store>⟧.meaning }
 {}
 
 /// A store that refuses writes, and is within its limits, has changed nothing on the disk.

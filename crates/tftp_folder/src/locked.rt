@@ -9,15 +9,16 @@ ghost use Rattle.tftp_disk.specs.Changes.{changes, renames};
 ghost use Rattle.tftp_disk.specs.DiskJournal.{DiskEvent};
 ghost use Rattle.tftp_disk.specs.DiskJournal.DiskEvent.{Looked, Made};
 ghost use Rattle.tftp_folder.specs.Commit.{LooksThenRenames, lock_of};
-ghost use Rattle.tftp_folder.specs.Draft.{IsDraftBelow, RefusesDraftLocked, RenamesDraft};
+ghost use Rattle.tftp_folder.specs.Draft.{IsDraftBelow, IsThere, RefusesDraftLocked, RenamesDraft};
 ghost use Rattle.tftp_folder.specs.Draft.{RenamesDraftLocked, RenamesNoDraft};
 ghost use Rattle.tftp_folder.specs.Inside.{IsInside, StaysInside};
+ghost use Rattle.tftp_folder.specs.Opened.{follows};
+ghost use Rattle.tftp_folder.specs.Placed.{StaysThere, placed};
 
 use crate::folder_draft::FolderDraft;
 use crate::naming::NameFault;
 use std::io::{self, ErrorKind};
-use std::rt::Files;
-use tftp_disk::DiskJournal;
+use tftp_disk::{Disk, Looks};
 use tftp_lines::Reason;
 
 /// Renames a draft to a name that no file has, under the lock of the name: a file beside it that is
@@ -25,36 +26,38 @@ use tftp_lines::Reason;
 ///
 /// `Rule` if the lock is there. It is removed by the server that made it; one that is killed
 /// meanwhile leaves it.
-pub(crate) fn rename_locked<R: Files>(
-    files: &R,
-    journal: &mut DiskJournal,
-    draft: &FolderDraft<R::File>,
+pub(crate) fn rename_locked<D: Disk>(
+    disk: &mut D,
+    draft: &FolderDraft<D::File>,
 ) -> Result<(), NameFault>
-    ensures ok { OnOk result (RenamesDraftLocked draft.now (changes journal.old.events)
-        (changes journal.new.events)) }
-    ensures err { OnErr result (RefusesDraftLocked draft.now (changes journal.old.events)
-        (changes journal.new.events)) }
-    ensures over { LooksThenRenames false (string_bytes draft.now.target) journal.old.events
-        journal.new.events }
+    ensures ok { OnOk result (RenamesDraftLocked draft.now (changes (D.log disk.old))
+        (changes (D.log disk.new))) }
+    ensures err { OnErr result (RefusesDraftLocked draft.now (changes (D.log disk.old))
+        (changes (D.log disk.new))) }
+    ensures over { LooksThenRenames false (string_bytes draft.now.target) (D.log disk.old)
+        (D.log disk.new) }
+    ensures there { IsThere draft.now (D.log disk.old)
+        → StaysThere (D.log disk.old) (D.log disk.new) }
+    ensures follows { follows (D.log disk.new) ≡ follows (D.log disk.old) }
     ensures inside { (root : List ℕ) → IsDraftBelow root draft.now
-        → StaysInside root journal.old.events journal.new.events }
+        → StaysInside root (D.log disk.old) (D.log disk.new) }
 {
     let lock = match draft.lock() {
         Ok(lock) => lock,
         Err(_) => return Err(NameFault::System(io::Error::from(ErrorKind::OutOfMemory))),
     };
     let path = lock.as_str();
-    match tftp_disk::make(files, journal, path) {
+    match disk.make(path) {
         Ok(_) => {}
         Err(error) => return Err(lock_fault(error)),
     }
-    match rename_new(files, journal, draft) {
+    match rename_new(disk, draft) {
         Ok(()) => {
-            let _ = tftp_disk::remove(files, journal, path);
+            let _ = disk.remove(path);
             Ok(())
         }
         Err(error) => {
-            let _ = tftp_disk::remove(files, journal, path);
+            let _ = disk.remove(path);
             Err(NameFault::System(error))
         }
     }
@@ -70,43 +73,44 @@ fn lock_fault(error: io::Error) -> NameFault {
 }
 
 /// Renames a draft if no file has the name, whose lock was made just before.
-fn rename_new<R: Files>(
-    files: &R,
-    journal: &mut DiskJournal,
-    draft: &FolderDraft<R::File>,
-) -> io::Result<()>
-    requires locked { (before : List DiskEvent) × (journal.old.events
+fn rename_new<D: Disk>(disk: &mut D, draft: &FolderDraft<D::File>) -> io::Result<()>
+    requires locked { (before : List DiskEvent) × (D.log disk.old
         ≡ Made (lock_of (string_bytes draft.now.target)) (Ok tt) ∷ before) }
-    ensures ok { OnOk result (RenamesDraft draft.now (changes journal.old.events) (Ok tt)
-        (changes journal.new.events)) }
-    ensures err { OnErr result (RenamesNoDraft draft.now (changes journal.old.events)
-        (changes journal.new.events)) }
-    ensures over { LooksThenRenames false (string_bytes draft.now.target) journal.old.events
-        journal.new.events }
+    ensures ok { OnOk result (RenamesDraft draft.now (changes (D.log disk.old)) (Ok tt)
+        (changes (D.log disk.new))) }
+    ensures err { OnErr result (RenamesNoDraft draft.now (changes (D.log disk.old))
+        (changes (D.log disk.new))) }
+    ensures over { LooksThenRenames false (string_bytes draft.now.target) (D.log disk.old)
+        (D.log disk.new) }
+    ensures there { IsThere draft.now (D.log disk.old)
+        → StaysThere (D.log disk.old) (D.log disk.new) }
+    ensures follows { follows (D.log disk.new) ≡ follows (D.log disk.old) }
     ensures inside { (root : List ℕ) → IsDraftBelow root draft.now
-        → StaysInside root journal.old.events journal.new.events }
+        → StaysInside root (D.log disk.old) (D.log disk.new) }
 {
     let (path, target) = (draft.draft.as_str(), draft.target.as_str());
-    match check_free(files, journal, target) {
+    match check_free(disk, target) {
         Ok(()) => {}
         Err(error) => return Err(error),
     }
-    match tftp_disk::rename(files, journal, draft.file(), path, target) {
+    match disk.rename(draft.file(), path, target) {
         Ok(()) => Ok(()),
         Err(error) => Err(error),
     }
 }
 
 /// Looks whether no file has the name.
-fn check_free<R: Files>(files: &R, journal: &mut DiskJournal, name: &str) -> io::Result<()>
-    ensures looks { changes journal.new.events ≡ changes journal.old.events }
-    ensures renames { renames journal.new.events ≡ renames journal.old.events }
+fn check_free<L: Looks>(looks: &mut L, name: &str) -> io::Result<()>
+    ensures looks { changes (L.log looks.new) ≡ changes (L.log looks.old) }
+    ensures renames { renames (L.log looks.new) ≡ renames (L.log looks.old) }
     ensures free { OnOk result ((error : Error) × (error_kind error ≡ ErrorKind.NotFound)
-        × (journal.new.events ≡ Looked name.now (Err error) ∷ journal.old.events)) }
+        × (L.log looks.new ≡ Looked name.now (Err error) ∷ L.log looks.old)) }
+    ensures placed { placed (L.log looks.new) ≡ placed (L.log looks.old) }
+    ensures follows { follows (L.log looks.new) ≡ follows (L.log looks.old) }
     ensures inside { (root : List ℕ) → IsInside root name.now
-        → StaysInside root journal.old.events journal.new.events }
+        → StaysInside root (L.log looks.old) (L.log looks.new) }
 {
-    match tftp_disk::look(files, journal, name) {
+    match looks.look(name) {
         Ok(_) => Err(io::Error::from(ErrorKind::AlreadyExists)),
         Err(error) => {
             if error.kind() == ErrorKind::NotFound {

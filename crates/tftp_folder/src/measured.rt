@@ -63,7 +63,7 @@ impl Measured {
             Ok(text) => Ok(Measured {
                 found: *found,
                 bytes: bytes_of(text),
-                calls: Snapshot::of(&file.journal),
+                calls: Snapshot::of(file.journal()),
             }),
             Err(error) => Err(error),
         }

@@ -6,15 +6,16 @@ ghost use Rattle.tftp_disk.specs.Changes.{changes, renames};
 ghost use Rattle.tftp_disk.specs.DiskJournal.DiskEvent.{Tried};
 ghost use Rattle.tftp_folder.specs.Commit.{MayBeReplaced, LooksThenRenames};
 ghost use Rattle.tftp_folder.specs.Draft.{IsDone, IsDraftBelow, KeepsDone, NamesDraft, RefusesDraft};
-ghost use Rattle.tftp_folder.specs.Draft.{SameNames};
+ghost use Rattle.tftp_folder.specs.Draft.{IsThere, SameNames};
 ghost use Rattle.tftp_folder.specs.Inside.{IsInside, StaysInside};
+ghost use Rattle.tftp_folder.specs.Opened.{follows};
+ghost use Rattle.tftp_folder.specs.Placed.{StaysThere, placed};
 ghost use Rattle.tftp_folder.specs.Uploads.{IsBelow};
 
 use crate::folder_draft::FolderDraft;
 use crate::naming::NameFault;
 use std::io::ErrorKind;
-use std::rt::Files;
-use tftp_disk::{DiskJournal, Found, Kind};
+use tftp_disk::{Disk, Found, Kind};
 use tftp_lines::Reason;
 
 /// The bits of a file's mode that say who may read, write and run it.
@@ -27,22 +28,23 @@ pub(crate) fn permissions_of(found: &Found) -> u32 {
 
 /// Refuses to replace what is no regular file, or what the server's user may not write. `found` is
 /// what was found at the path itself.
-pub(crate) fn check_replaced<R: Files>(
-    files: &R,
-    journal: &mut DiskJournal,
+pub(crate) fn check_replaced<D: Disk>(
+    disk: &mut D,
     path: &str,
     found: &Found,
 ) -> Result<(), NameFault>
-    ensures looks { changes journal.new.events ≡ changes journal.old.events }
-    ensures renames { renames journal.new.events ≡ renames journal.old.events }
+    ensures looks { changes (D.log disk.new) ≡ changes (D.log disk.old) }
+    ensures renames { renames (D.log disk.new) ≡ renames (D.log disk.old) }
     ensures regular { OnOk result (found.now.kind ≡ Kind.Regular) }
-    ensures tried { OnOk result (journal.new.events ≡ Tried path.now (Ok tt)
-        ∷ journal.old.events) }
+    ensures tried { OnOk result (D.log disk.new ≡ Tried path.now (Ok tt)
+        ∷ D.log disk.old) }
+    ensures placed { placed (D.log disk.new) ≡ placed (D.log disk.old) }
+    ensures follows { follows (D.log disk.new) ≡ follows (D.log disk.old) }
     ensures inside { (root : List ℕ) → IsInside root path.now
-        → StaysInside root journal.old.events journal.new.events }
+        → StaysInside root (D.log disk.old) (D.log disk.new) }
 {
     match found.kind {
-        Kind::Regular => match tftp_disk::try_to_write(files, journal, path) {
+        Kind::Regular => match disk.try_to_write(path) {
             Ok(()) => Ok(()),
             Err(error) => Err(NameFault::System(error)),
         },
@@ -54,29 +56,31 @@ pub(crate) fn check_replaced<R: Files>(
 /// Renames a draft over the file that has its name by now, if there is one. That is looked at once
 /// more, since the request may be long ago: it may be replaced as at the request, and the draft
 /// gets its permissions.
-pub(crate) fn rename_over<R: Files>(
-    files: &R,
-    journal: &mut DiskJournal,
-    draft: &mut FolderDraft<R::File>,
+pub(crate) fn rename_over<D: Disk>(
+    disk: &mut D,
+    draft: &mut FolderDraft<D::File>,
 ) -> Result<(), NameFault>
     requires { IsDone draft.old }
     ensures stays { OnOk result (KeepsDone draft.old draft.new) }
     ensures names { SameNames draft.old draft.new }
-    ensures ok { OnOk result (NamesDraft draft.new (changes journal.old.events) true
-        (changes journal.new.events)) }
-    ensures err { OnErr result (RefusesDraft draft.new (changes journal.old.events) true
-        (changes journal.new.events)) }
-    ensures over { LooksThenRenames true (string_bytes draft.old.target) journal.old.events
-        journal.new.events }
+    ensures ok { OnOk result (NamesDraft draft.new (changes (D.log disk.old)) true
+        (changes (D.log disk.new))) }
+    ensures err { OnErr result (RefusesDraft draft.new (changes (D.log disk.old)) true
+        (changes (D.log disk.new))) }
+    ensures over { LooksThenRenames true (string_bytes draft.old.target) (D.log disk.old)
+        (D.log disk.new) }
+    ensures there { IsThere draft.old (D.log disk.old)
+        → StaysThere (D.log disk.old) (D.log disk.new) }
+    ensures follows { follows (D.log disk.new) ≡ follows (D.log disk.old) }
     ensures inside { (root : List ℕ) → IsDraftBelow root draft.old
-        → StaysInside root journal.old.events journal.new.events }
+        → StaysInside root (D.log disk.old) (D.log disk.new) }
 {
-    match check_named(files, journal, draft) {
+    match check_named(disk, draft) {
         Ok(()) => {}
         Err(fault) => return Err(fault),
     }
     let (path, target) = (draft.draft.as_str(), draft.target.as_str());
-    match tftp_disk::rename(files, journal, draft.file(), path, target) {
+    match disk.rename(draft.file(), path, target) {
         Ok(()) => Ok(()),
         Err(error) => Err(NameFault::System(error)),
     }
@@ -84,23 +88,21 @@ pub(crate) fn rename_over<R: Files>(
 
 /// Looks at what has the name of a draft by now. If there is a file, it may be replaced as at the
 /// request, and the draft gets its permissions.
-fn check_named<R: Files>(
-    files: &R,
-    journal: &mut DiskJournal,
-    draft: &mut FolderDraft<R::File>,
-) -> Result<(), NameFault>
+fn check_named<D: Disk>(disk: &mut D, draft: &mut FolderDraft<D::File>) -> Result<(), NameFault>
     requires { IsDone draft.old }
     ensures stays { OnOk result (KeepsDone draft.old draft.new) }
     ensures names { SameNames draft.old draft.new }
-    ensures looks { changes journal.new.events ≡ changes journal.old.events }
-    ensures renames { renames journal.new.events ≡ renames journal.old.events }
-    ensures over { OnOk result (MayBeReplaced (string_bytes draft.old.target) journal.new.events) }
+    ensures looks { changes (D.log disk.new) ≡ changes (D.log disk.old) }
+    ensures renames { renames (D.log disk.new) ≡ renames (D.log disk.old) }
+    ensures over { OnOk result (MayBeReplaced (string_bytes draft.old.target) (D.log disk.new)) }
+    ensures placed { placed (D.log disk.new) ≡ placed (D.log disk.old) }
+    ensures follows { follows (D.log disk.new) ≡ follows (D.log disk.old) }
     ensures inside { (root : List ℕ) → IsBelow root (string_bytes draft.old.target)
-        → StaysInside root journal.old.events journal.new.events }
+        → StaysInside root (D.log disk.old) (D.log disk.new) }
 {
-    match tftp_disk::look(files, journal, draft.target.as_str()) {
+    match disk.look(draft.target.as_str()) {
         Ok(found) => {
-            check_replaced(files, journal, draft.target.as_str(), &found)?;
+            check_replaced(disk, draft.target.as_str(), &found)?;
             if draft.take_permissions(&found)? {
                 draft.sync_all()?;
             }

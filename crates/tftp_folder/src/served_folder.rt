@@ -5,15 +5,13 @@ ghost use Rattle.tftp_disk.specs.DiskFault.{MayNotOpen, MayNotStore, MayNotName,
 
 use crate::folder_source::SharedReason;
 use std::io::{self, ErrorKind};
-use std::rt::Files;
 use tftp_disk::{Existing, name_fault, open_fault, write_fault};
 use tftp_file::StoreFault;
 use tftp_lines::{Reason, reason_of};
 
 /// The folder that a store serves, on the system.
 #[derive(Drop)]
-pub(crate) struct ServedFolder<R: Files + Drop> {
-    pub(crate) files: R,
+pub(crate) struct ServedFolder {
     /// The canonical path, without a trailing slash.
     pub(crate) root: String,
     /// The path of the folder of the drafts, without a trailing slash.
@@ -22,7 +20,7 @@ pub(crate) struct ServedFolder<R: Files + Drop> {
     pub(crate) reason: SharedReason,
 }
 
-impl<R: Files + Drop> ServedFolder<R> {
+impl ServedFolder {
     /// Keeps the reason for a refusal by a rule of the folder.
     pub(crate) fn refused(&self, reason: Reason) -> StoreFault
         ensures { result ≡ StoreFault.Io }

@@ -1,8 +1,8 @@
 //! The lengths of files in netascii, each measured once.
 
-ghost use Rattle.std.specs.Prelude.{◌≡◌, ◌≤◌, min, [], Some, IfErr, IfOk, IfSome, OnOk};
+ghost use Rattle.std.specs.Prelude.{◌≡◌, ◌≤◌, min, true, Some, IfErr, IfOk, IfSome, OnOk};
 ghost use Rattle.tftp_wire.specs.declared.mode.Mode.TheVariants.{Netascii};
-ghost use Rattle.tftp_disk.specs.Given.{examined, given};
+ghost use Rattle.tftp_disk.specs.Given.{examined, is_at_start};
 ghost use Rattle.tftp_disk.specs.Measuring.{calls_on, StaysOpen};
 ghost use Rattle.tftp_folder.specs.Counted.{IsCounted};
 ghost use Rattle.tftp_folder.specs.Source.{StatesLength, counted_by};
@@ -54,13 +54,13 @@ impl WireLengths {
         found: &Found,
         mode: Mode,
     ) -> io::Result<StatedLength>
-        requires start { given (calls_on file.old) ≡ [] }
+        requires start { is_at_start (calls_on file.old) ≡ true }
         requires told { examined (calls_on file.old) ≡ Some found.now }
         ensures stated { IfOk result (λ stated. StatesLength self.now.longest mode found.now
             (counted_by stated) stated.bytes) }
         ensures unread { IfErr result (λ _. (mode ≡ Netascii)
             × (found.now.bytes ≤ min self.now.longest MAX_WIRE)) }
-        ensures start { OnOk result (given (calls_on file.new) ≡ []) }
+        ensures start { OnOk result (is_at_start (calls_on file.new) ≡ true) }
         ensures stays { StaysOpen file.old file.new }
     {
         if found.bytes > self.longest.min(MAX_WIRE) {
@@ -78,11 +78,11 @@ impl WireLengths {
         file: &mut DiskFile<F>,
         found: &Found,
     ) -> io::Result<StatedLength>
-        requires start { given (calls_on file.old) ≡ [] }
+        requires start { is_at_start (calls_on file.old) ≡ true }
         requires told { examined (calls_on file.old) ≡ Some found.now }
         ensures counted { IfOk result (λ stated. IsCounted found.now (counted_by stated)
             stated.bytes) }
-        ensures start { OnOk result (given (calls_on file.new) ≡ []) }
+        ensures start { OnOk result (is_at_start (calls_on file.new) ≡ true) }
         ensures stays { StaysOpen file.old file.new }
     {
         if let Some(stated) = self.recall(found) {
@@ -126,8 +126,8 @@ impl WireLengths {
 ///
 /// `InvalidData` if it has a byte, else the error of the read.
 pub(crate) fn check_empty<F: Read + Drop>(file: &mut DiskFile<F>, found: &Found) -> io::Result<()>
-    requires { given (calls_on file.old) ≡ [] }
-    ensures start { OnOk result (given (calls_on file.new) ≡ []) }
+    requires { is_at_start (calls_on file.old) ≡ true }
+    ensures start { OnOk result (is_at_start (calls_on file.new) ≡ true) }
     ensures stays { StaysOpen file.old file.new }
 {
     if found.bytes > 0 {

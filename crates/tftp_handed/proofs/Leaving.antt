@@ -1,7 +1,7 @@
 -- For a part of its time a server leaves requests to the others.
 use Rattle.std.proofs.Common.{arith, ◌≤◌, ◌<◌, ◌+◌, ◌*◌, ◌-◌, ℕ}
 use Rattle.std.specs.Prelude.{max, min}
-use Rattle.tftp_loop.specs.declared.server_udp.Load.{Load}
+use Rattle.tftp_sockets.specs.declared.load.Load.{Load}
 use Rattle.tftp_handed.specs.declared.share.Debt.{Debt}
 use Rattle.tftp_handed.specs.declared.share.TheConstants.{PART, SAVED}
 use Rattle.tftp_handed.specs.Looks.{Looks, MayLeave}

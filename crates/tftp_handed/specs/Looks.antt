@@ -1,7 +1,7 @@
 -- For how much of its time a server leaves requests to the others (ours).
 use Rattle.std.specs.Prelude.{ℕ, ◌≡◌, ◌<◌, ◌≤◌, ◌+◌, ◌*◌, ◌-◌, Bool, true, Some, None}
 use Rattle.std.specs.Prelude.{if◌then◌else◌}
-use Rattle.tftp_loop.specs.declared.server_udp.Load.{Load}
+use Rattle.tftp_sockets.specs.declared.load.Load.{Load}
 use Rattle.tftp_handed.specs.declared.share.Debt.{Debt}
 use Rattle.tftp_handed.specs.declared.share.TheConstants.{PART, SAVED}
 use Rattle.tftp_handed.specs.Share.{debt_at, last_time, left_since}

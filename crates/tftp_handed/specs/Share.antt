@@ -1,7 +1,7 @@
 -- Which of several servers takes a request (ours).
 use Rattle.std.specs.Prelude.{ℕ, ◌+◌, ◌*◌, ◌-◌, ◌==◌, nat_le, max, min, if◌then◌else◌}
 use Rattle.std.specs.Prelude.{Option, None, Some}
-use Rattle.tftp_loop.specs.declared.server_udp.Load.{Load}
+use Rattle.tftp_sockets.specs.declared.load.Load.{Load}
 use Rattle.tftp_handed.specs.declared.share.Debt.{Debt}
 use Rattle.tftp_handed.specs.declared.share.TheConstants.{FULL_PAUSE, MOST_COUNTED, PART, PAUSE}
 use Rattle.tftp_handed.specs.declared.share.TheConstants.{SAVED}

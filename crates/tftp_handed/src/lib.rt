@@ -1,19 +1,17 @@
 //! The request port of a server as a socket that another program bound, and handed over as standard
 //! input: systemd and inetd do so (RFC 1350, section 4).
 //!
-//! It receives and sends nothing.
+//! It receives and sends by the device that it wraps.
 //!
 //! Begin with [`HandedSocket::new`], and serve by [`HandedUdp`].
 #![tactic(auto)]
 
 mod fault;
 pub mod laws;
-mod reader;
 mod share;
 mod socket;
 mod udp;
 
 pub use fault::HandedFault;
-pub use reader::OutputReader;
 pub use socket::{HandedSocket, Input, standard_input};
 pub use udp::HandedUdp;

@@ -5,10 +5,8 @@ ghost use Rattle.tftp_handed.specs.Looks.{MayLeave, noted_at, settled_at};
 ghost use Rattle.tftp_handed.specs.Share.{debt_at, left_since, owed_after, pause_of, used_after};
 
 use std::cell::Cell;
-use std::time::Clock;
 use tftp_ends::Endpoint;
-use tftp_loop::Load;
-use tftp_sockets::ServerSocket;
+use tftp_sockets::{Load, ServerSocket, ServerUdp};
 
 /// How long a server that has opened a transfer leaves requests to the others, in microseconds for
 /// each that it has open.
@@ -76,34 +74,40 @@ impl Share {
 
     /// Whether a server with this load leaves what waits at the request port to the others. If the
     /// clock cannot be read it leaves nothing.
-    pub(crate) fn leaves<C: Clock>(&self, clock: &C, requests: &ServerSocket, load: Load) -> bool
+    pub(crate) fn leaves<N: ServerUdp>(&self, net: &N, requests: &ServerSocket, load: Load) -> bool
         ensures { IsTrue result → 1 ≤ load.open }
     {
         if load.open == 0 {
             self.debt.set(self.debt.get().settled(load));
             return false;
         }
-        let Some(now) = micros(clock) else {
+        let Some(now) = net.micros() else {
             return false;
         };
         if is_full(load) {
             self.debt.set(self.debt.get().settled(load));
-            return self.leaves_when_full(requests, load, now);
+            return self.leaves_when_full(net.first_sender(requests), load, now);
         }
-        self.leaves_when_owed(requests, load, now)
+        self.leaves_when_owed(net, requests, load, now)
     }
 
     /// Whether a server that owes the others time leaves what waits to them.
-    fn leaves_when_owed(&self, requests: &ServerSocket, load: Load, now: u64) -> bool {
+    fn leaves_when_owed<N: ServerUdp>(
+        &self,
+        net: &N,
+        requests: &ServerSocket,
+        load: Load,
+        now: u64,
+    ) -> bool {
         let debt = self.debt.get().at(load, now);
-        let leaves = debt.is_due(now) && requests.first_sender().is_some();
+        let leaves = debt.is_due(now) && net.first_sender(requests).is_some();
         self.debt.set(debt.noted(leaves, now));
         leaves
     }
 
-    /// Whether a server that may open no more leaves what waits to the others.
-    fn leaves_when_full(&self, requests: &ServerSocket, load: Load, now: u64) -> bool {
-        let left = left_by(requests.first_sender(), self.left.get(), load, now);
+    /// Whether a server that may open no more leaves what waits, from this sender, to the others.
+    fn leaves_when_full(&self, sender: Option<Endpoint>, load: Load, now: u64) -> bool {
+        let left = left_by(sender, self.left.get(), load, now);
         self.left.set(left);
         left.is_some()
     }
@@ -242,12 +246,4 @@ fn is_over(found: u64, now: u64, pause: u64) -> bool
     ensures { IsTrue result ↔ (pause ≤ now - found) }
 {
     pause <= now.saturating_sub(found)
-}
-
-/// The time of the monotonic clock in microseconds, if it can be read.
-fn micros<C: Clock>(clock: &C) -> Option<u64> {
-    match clock.monotonic() {
-        Ok(time) => u64::try_from(time.as_micros()).ok(),
-        Err(_) => None,
-    }
 }

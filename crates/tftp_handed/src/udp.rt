@@ -1,30 +1,30 @@
-//! The UDP sockets of a server whose request port was handed over.
+//! A device whose request port may be a socket that was handed over.
 
-ghost use Rattle.std.specs.Prelude.{◌≡◌, ◌≤◌, IfOk, IsSome, IsSomeAnd, IsTrue, None};
+ghost use Rattle.std.specs.Prelude.{◌≡◌, ◌≤◌, IfOk, IsSome, IsSomeAnd, IsTrue, None, OnOk, Some};
 
-use crate::reader::{OutputReader, watch_output};
 use crate::share::Share;
 use crate::socket::HandedSocket;
-use mio::Poll;
+use rand::rngs::StdRng;
 use std::alloc::Global;
 use std::fmt::Display;
-use std::io::{self, ErrorKind};
-use std::net::{Net, SocketAddr, TcpListener, TcpStream, UdpSocket};
-use std::time::{Clock, Duration};
+use std::io;
+use std::net::UdpSocket;
 use tftp_ends::Endpoint;
-use tftp_loop::{Load, PortOrder, PortRange, ServerUdp};
-use tftp_sockets::{Journal, Receipt, ServerSocket};
+use tftp_lines::{Printed, Reason};
+use tftp_sockets::{
+    DrainSignal, Load, PortPoll, Receipt, Reports, ServerSocket, ServerUdp, Udp, Watch,
+};
 
 /// The priority of a warning, for a standard error that is systemd's journal.
 const WARNING: &str = "<4>";
 
-/// A runtime whose request port, bound where the socket is that was handed over, is this socket. All
-/// else is the runtime's own; but as one of several servers it has no reader any more once its
-/// standard output, a pipe or the socket of a stream, has none.
+/// A device of a server that may have been handed its request port, and may be one of several. Its
+/// history is that of the device that it wraps.
 #[derive(Drop)]
-pub struct HandedUdp<'a, N> {
-    rt: &'a N,
-    socket: HandedSocket,
+pub struct HandedUdp<N> {
+    net: N,
+    /// The socket that was handed over, if one was.
+    socket: Option<HandedSocket>,
     /// Which server this is, if it is one of several.
     several: Option<OneOfSeveral>,
 }
@@ -34,87 +34,123 @@ pub struct HandedUdp<'a, N> {
 struct OneOfSeveral {
     /// Which of them it is, counted from 1.
     server: u8,
-    /// The reader of what it prints.
-    reader: OutputReader,
     /// When it takes a request.
     share: Share,
     alloc: Global,
 }
 
-impl<'a, N> HandedUdp<'a, N> {
-    /// This runtime, with this socket.
-    pub fn new(rt: &'a N, socket: HandedSocket) -> HandedUdp<'a, N>
-        ensures socket { result.socket ≡ socket }
+impl<N: ServerUdp> HandedUdp<N> {
+    /// This device, of a server alone to which nothing was handed over.
+    pub fn new(net: N) -> HandedUdp<N>
+        ensures net { result.net ≡ net }
+        ensures socket { result.socket ≡ None }
         ensures alone { result.several ≡ None }
     {
         HandedUdp {
-            rt,
-            socket,
+            net,
+            socket: None,
             several: None,
         }
     }
 
-    /// This runtime, with this socket, as one of several servers. Its lines on standard error say
-    /// which one it is, and it ends once nobody reads its standard output: its supervisor does.
-    pub fn one_of_several(
-        rt: &'a N,
-        alloc: Global,
-        socket: HandedSocket,
-        server: u8,
-    ) -> io::Result<HandedUdp<'a, N>>
-    where
-        N: ServerUdp,
-        ensures socket { IfOk result (λ udp. udp.socket ≡ socket) }
-        ensures server { IfOk result (λ udp.
-            IsSomeAnd udp.several (λ several. several.server ≡ server)) }
+    /// From now on the request port, if it is bound where this socket is, is this socket.
+    pub fn hand_over(&mut self, socket: HandedSocket)
+        ensures socket { self.new.socket ≡ Some socket }
+        ensures net { self.new.net ≡ self.old.net }
+        ensures several { self.new.several ≡ self.old.several }
     {
-        let several = OneOfSeveral {
+        self.socket = Some(socket);
+    }
+
+    /// From now on the server is one of several. Its lines on standard error say which one it is, and
+    /// it ends once nobody reads its standard output: its supervisor does.
+    pub fn join_several(&mut self, alloc: Global, server: u8) -> io::Result<()>
+        ensures server { OnOk result (IsSomeAnd self.new.several
+            (λ several. several.server ≡ server)) }
+        ensures log { N.log self.new.net ≡ N.log self.old.net }
+        ensures socket { self.new.socket ≡ self.old.socket }
+    {
+        self.net.watch_reader(alloc)?;
+        self.several = Some(OneOfSeveral {
             server,
-            reader: OutputReader::new(rt, alloc)?,
             share: Share::new(),
             alloc,
-        };
-        Ok(HandedUdp {
-            rt,
-            socket,
-            several: Some(several),
-        })
+        });
+        Ok(())
     }
 
     /// Whether what waits at the request port is left to other servers. One alone leaves nothing.
     fn leaves(&self, requests: &ServerSocket, load: Load) -> bool
-    where
-        N: Clock,
         ensures several { IsTrue result → IsSome self.now.several }
         ensures open { IsTrue result → 1 ≤ load.open }
     {
         match &self.several {
-            Some(several) => several.share.leaves(self.rt, requests, load),
+            Some(several) => several.share.leaves(&self.net, requests, load),
             None => false,
         }
     }
 }
 
-impl<N: ServerUdp + Clock> ServerUdp for HandedUdp<'_, N> {
+impl<N: ServerUdp> Udp for HandedUdp<N> {
+    ghost log = { λ handed. N.log handed.net };
+
+    fn start_watch(&self) -> Watch {
+        self.net.start_watch()
+    }
+
+    fn elapsed(&mut self, port: u16, time: u64) {
+        self.net.elapsed(port, time)
+    }
+}
+
+impl<N: ServerUdp> ServerUdp for HandedUdp<N> {
     /// The request port: the socket that was handed over, if it is bound to the endpoint.
     fn bind(&self, at: Endpoint) -> io::Result<ServerSocket> {
-        if at == self.socket.endpoint {
-            return ServerSocket::bind(&OneSocket(&self.socket.udp), at);
+        match &self.socket {
+            Some(socket) if socket.endpoint == at => self.net.adopt(&socket.udp, at),
+            _ => self.net.bind(at),
         }
-        self.rt.bind(at)
     }
 
-    fn bind_noted(&self, journal: &mut Journal, at: Endpoint) -> io::Result<ServerSocket> {
-        self.rt.bind_noted(journal, at)
+    fn adopt(&self, handed: &UdpSocket, at: Endpoint) -> io::Result<ServerSocket> {
+        self.net.adopt(handed, at)
     }
 
-    /// A poll that the loss of the reader of standard output wakes, too.
-    fn poll(&self) -> io::Result<Poll> {
-        let poll = self.rt.poll()?;
-        if self.several.is_some() {
-            watch_output(poll.registry())?;
+    fn bind_noted(&mut self, at: Endpoint) -> io::Result<ServerSocket> {
+        self.net.bind_noted(at)
+    }
+
+    fn receive(&mut self, socket: &ServerSocket, buffer: &mut [u8]) -> Receipt {
+        self.net.receive(socket, buffer)
+    }
+
+    /// Of several servers one that owes the others no time takes a datagram, which all of them find.
+    fn receive_request(
+        &mut self,
+        requests: &ServerSocket,
+        load: Load,
+        buffer: &mut [u8],
+    ) -> Receipt {
+        if self.leaves(requests, load) {
+            return self.net.leave(requests, load);
         }
-        Ok(poll)
+        self.net.receive_request(requests, load, buffer)
+    }
+
+    fn first_sender(&self, socket: &ServerSocket) -> Option<Endpoint> {
+        self.net.first_sender(socket)
+    }
+
+    fn leave(&mut self, requests: &ServerSocket, load: Load) -> Receipt {
+        self.net.leave(requests, load)
+    }
+
+    fn send(&mut self, socket: &ServerSocket, peer: Endpoint, bytes: &[u8]) -> Result<(), Reason> {
+        self.net.send(socket, peer, bytes)
+    }
+
+    fn poll(&self) -> io::Result<PortPoll> {
+        self.net.poll()
     }
 
     /// One of several servers makes none: the others, and the clients, need the processor.
@@ -123,99 +159,64 @@ impl<N: ServerUdp + Clock> ServerUdp for HandedUdp<'_, N> {
     {
         match &self.several {
             Some(_) => 0,
-            None => self.rt.polls(),
+            None => self.net.polls(),
         }
     }
 
-    /// Of several servers one that owes the others no time takes a datagram, which all of them find.
-    fn receive(
-        &self,
-        requests: &ServerSocket,
-        journal: &mut Journal,
-        load: Load,
-        buffer: &mut [u8],
-    ) -> Receipt {
-        if self.leaves(requests, load) {
-            return requests.leave(journal, load.open);
-        }
-        self.rt.receive(requests, journal, load, buffer)
+    fn wait(&mut self, poll: &mut PortPoll, reports: &mut Reports, millis: u64, polls: u32) {
+        self.net.wait(poll, reports, millis, polls)
     }
 
-    fn order(&self, alloc: Global, range: PortRange) -> io::Result<PortOrder> {
-        self.rt.order(alloc, range)
+    fn poll_now(&self, poll: &mut PortPoll, reports: &mut Reports) -> bool {
+        self.net.poll_now(poll, reports)
     }
 
-    fn has_no_reader(&self) -> bool {
-        match &self.several {
-            Some(several) => several.reader.has_gone(),
-            None => self.rt.has_no_reader(),
-        }
-    }
-}
-
-/// A network that has one UDP socket, whatever the address, and nothing else.
-#[derive(Clone, Copy)]
-struct OneSocket<'a>(&'a UdpSocket);
-
-impl Net for OneSocket<'_> {
-    type Stream = TcpStream;
-
-    type Listener = TcpListener;
-
-    fn bind(&self, _addr: SocketAddr) -> io::Result<TcpListener> {
-        Err(io::Error::from(ErrorKind::Unsupported))
+    fn note_poll(&mut self, reports: &mut Reports) {
+        self.net.note_poll(reports)
     }
 
-    fn connect(&self, _addr: SocketAddr) -> io::Result<TcpStream> {
-        Err(io::Error::from(ErrorKind::Unsupported))
+    fn read_watch_within(&mut self, watch: &mut Watch, limit: u64) -> u64 {
+        self.net.read_watch_within(watch, limit)
     }
 
-    fn bind_udp(&self, _addr: SocketAddr) -> io::Result<UdpSocket> {
-        self.0.try_clone()
+    fn micros(&self) -> Option<u64> {
+        self.net.micros()
+    }
+
+    fn out_of_memory(&mut self) {
+        self.net.out_of_memory()
+    }
+
+    fn print_line(&mut self, line: Printed) -> io::Result<()> {
+        self.net.print_line(line)
+    }
+
+    fn watch_reader(&mut self, alloc: Global) -> io::Result<()> {
+        self.net.watch_reader(alloc)
+    }
+
+    fn has_no_reader(&mut self) -> bool {
+        self.net.has_no_reader()
+    }
+
+    fn is_signalled<D: DrainSignal>(&mut self, signal: &D) -> bool {
+        self.net.is_signalled(signal)
+    }
+
+    fn rng(&self) -> io::Result<StdRng> {
+        self.net.rng()
     }
 }
 
-impl<N: Clock> Clock for HandedUdp<'_, N> {
-    fn monotonic(&self) -> io::Result<Duration> {
-        self.rt.monotonic()
-    }
-
-    fn since_1970(&self) -> io::Result<Duration> {
-        self.rt.since_1970()
-    }
-
-    fn sleep(&self, duration: Duration) {
-        self.rt.sleep(duration)
-    }
-}
-
-impl<N: Print> Print for HandedUdp<'_, N> {
-    fn print<D: Display + Drop>(&self, value: D) -> io::Result<()> {
-        self.rt.print(value)
-    }
-
-    fn println<D: Display + Drop>(&self, value: D) -> io::Result<()> {
-        self.rt.println(value)
-    }
-
-    fn write_all(&self, bytes: &[u8]) -> io::Result<()> {
-        self.rt.write_all(bytes)
-    }
-
-    fn write_some(&self, bytes: &[u8]) -> io::Result<usize> {
-        self.rt.write_some(bytes)
-    }
-}
-
-impl<N: Eprint> Eprint for HandedUdp<'_, N> {
+impl<N: Eprint> Eprint for HandedUdp<N> {
     fn eprint<D: Display + Drop>(&self, value: D) -> io::Result<()> {
-        self.rt.eprint(value)
+        self.net.eprint(value)
     }
 
     fn eprintln<D: Display + Drop>(&self, value: D) -> io::Result<()> {
         match &self.several {
-            Some(several) => several.eprintln(self.rt, value),
-            None => self.rt.eprintln(value),
+            Some(several) => several.eprintln(&self.net, value),
+            None => self.net.eprintln(value),
         }
     }
 }

@@ -83,7 +83,7 @@ module _ {S F D : Type 0} (meaning : StoreMeaning S D) (sources : SourceMeaning 
       (ap (λ (u : LoopState S F D). u.events) d.is)
   step_adds s t (Store_set d) = adds_none s.events t.events (ap (λ (u : LoopState S F D). u.events) d.is)
   step_adds s t (Transfer_closed d) = adds_one _ s.events t.events (ap (λ (u : LoopState S F D). u.events) d.is)
-  step_adds s t (Drain_begun d) = adds_none s.events t.events (ap (λ (u : LoopState S F D). u.events) d.is)
+  step_adds s t (Drain_begun d) = adds_one _ s.events t.events (ap (λ (u : LoopState S F D). u.events) d.is)
 
   same_now : (now : ℕ) (t u : LoopState S F D) → t ≡ u → now ≤ u.now → now ≤ t.now
   same_now now t u e h = subst (λ (v : LoopState S F D). now ≤ v.now) (sym e) h

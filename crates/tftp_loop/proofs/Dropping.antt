@@ -34,7 +34,7 @@ module _ {S F D : Type 0} (meaning : StoreMeaning S D) (sources : SourceMeaning 
   why_dropped old from bytes (No_request only begins) dropped = (only, begins)
   why_dropped old from bytes (No_answer none) dropped = absurd dropped
   why_dropped old from bytes (No_memory_to_open lacks last) dropped = absurd dropped
-  why_dropped old from bytes (No_port opens port last) dropped = absurd dropped
+  why_dropped old from bytes (No_port opens port last missed) dropped = absurd dropped
   why_dropped old from bytes (Same_port opens port last taken) dropped = absurd dropped
 
   pub drops_no_request : (old new : LoopState S F D) (loses : LosesRequest meaning sources old new)

@@ -19,8 +19,7 @@ use Rattle.tftp_loop.specs.Run.Run.{Start, Then}
 use Rattle.tftp_loop.specs.Steps.{Timer, PortState, LoopState, PortStep, LoopStep, Closes, WorksAtPort, port_state}
 use Rattle.tftp_loop.specs.Steps.PortStep.{Work}
 use Rattle.tftp_loop.specs.Steps.LoopStep.{At_port}
-use Rattle.tftp_loop.specs.declared.server_loop.ServerLoop.{ServerLoop}
-use Rattle.tftp_loop.specs.LoopStates.{timer_of, close_printed, close_reported, loop_state, Works, Work_by}
+use Rattle.tftp_loop.specs.LoopStates.{timer_of, close_printed, close_reported, Works, Work_by}
 use Rattle.tftp_loop.proofs.RunLemmas.{once, idle}
 use Rattle.tftp_loop.proofs.PortRuns.{here}
 use Rattle.tftp_loop.proofs.ListLemmas.{map_is, map_within, map_set, set_itself, set_again, set_is, set_within}
@@ -47,22 +46,6 @@ same_state {S} {F} {D} s t a r o v b c d e l w f q n g h k = λ i. record {
   rounds = h i;
   events = k i;
 }
-
--- the state of a server whose journal alone changed
-pub noted_state : {S F D : Type 0} (old new : ServerLoop S F D) (events : List SocketEvent)
-    → new ≡ record old { journal = new.journal } → new.journal.events ≡ events
-    → loop_state None new ≡ record (loop_state None old) { events = events }
-noted_state {S} {F} {D} old new events is noted =
-    same_state (loop_state None new) (record (loop_state None old) { events = events })
-    (ap (λ (d : ServerLoop S F D). d.sockets.requests.port) is)
-    (ap (λ (d : ServerLoop S F D). d.sockets.pool.range) is) (ap (λ (d : ServerLoop S F D). d.longest) is)
-    (ap (λ (d : ServerLoop S F D). d.requests_only) is)
-    (ap (λ (d : ServerLoop S F D). d.server) is) refl
-    (ap (λ (d : ServerLoop S F D). (loop_state None d).timers) is)
-    (ap (λ (d : ServerLoop S F D). d.sockets.watch.now) is) (ap (λ (d : ServerLoop S F D). d.sockets.limit) is) refl
-    (ap (λ (d : ServerLoop S F D). d.sockets.is_ready) is)
-    (ap (λ (d : ServerLoop S F D). d.sockets.has_received) is) (ap (λ (d : ServerLoop S F D). d.drain) is)
-    (ap (λ (d : ServerLoop S F D). d.left) is) (ap (λ (d : ServerLoop S F D). d.rounds) is) noted
 
 -- a transfer that was taken has an outcome
 outcome_taken : {F D : Type 0} (o : Option (TransferState F D)) (t : Record × Option D) → taken_of o ≡ Some t →

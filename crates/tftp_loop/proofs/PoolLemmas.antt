@@ -1,18 +1,24 @@
 -- Which ports an order has.
-use Rattle.std.proofs.Common.{arith, ◌≡◌, ◌≤◌, ◌<◌, ◌+◌, ◌-◌, ℕ, zero, suc, List, [], ◌∷◌, ◌++◌, length, Option, Some}
-use Rattle.std.proofs.Common.{None, ap, refl, sym, subst}
-use Rattle.std.specs.Prelude.{All, IfSome, IsSome, MatchOption}
+use Rattle.std.proofs.Common.{arith, ◌≡◌, ◌≤◌, ◌<◌, ◌+◌, ◌-◌, ◌==◌, ◌||◌, ℕ, zero, suc, Bool, true, false, List, [], ◌∷◌, ◌++◌}
+use Rattle.std.proofs.Common.{length, take, drop, eq-eqb, Option, Some, None, ap, refl, sym, subst, ◌∙◌}
+use Rattle.std.specs.Prelude.{All, IfSome, IsPermutation, IsSome, MatchOption}
 use Rattle.std.specs.List.{range_with_len}
+use Rattle.std.proofs.lemmas.List.{append-nil, length-drop, length-take}
 use Rattle.std.proofs.lemmas.List.Elements.{All-nil, All-cons, All-head, All-tail, All-same, All-append, All-push}
-use Rattle.std.proofs.lemmas.List.Sorted.{All-permutation, length_permutation}
+use Rattle.std.proofs.lemmas.List.Sorted.{All-permutation, IsPermutation-append_comm, IsPermutation-sym}
+use Rattle.std.proofs.lemmas.List.Sorted.{IsPermutation-trans, length_permutation}
 use Rattle.tftp_sockets.specs.Journal.{SocketEvent}
 use Rattle.tftp_sockets.specs.Journal.SocketEvent.{Quiet}
 use Rattle.tftp_sockets.specs.Journal.QuietEvent.{New_socket, No_socket}
-use Rattle.tftp_loop.specs.Run.Run.{Then}
+use Rattle.tftp_sockets.specs.Quiet.{is_among}
+use Rattle.tftp_sockets.specs.declared.sockets.ServerSocket.{ServerSocket}
+use Rattle.tftp_loop.specs.Run.Run.{Start, Then}
 use Rattle.tftp_loop.specs.PortOrder.{HasPorts, IsOneOf, IsOrderOf, UsesNext, coming, ports_of}
-use Rattle.tftp_loop.specs.PortPool.{Binds, TriesInVain, TriesPorts}
+use Rattle.tftp_loop.specs.PortPool.{AreAllMissed, Binds, Tries, TriesInVain, TriesPorts, after_bind, missed_last}
+use Rattle.tftp_loop.specs.PortsInTurn.{UsesPorts}
 use Rattle.tftp_loop.specs.declared.port_order.PortOrder.{PortOrder}
 use Rattle.tftp_loop.specs.declared.port_order.PortRange.{PortRange}
+use Rattle.tftp_loop.proofs.PortUses.{come_last, long}
 
 all_counted : (P : ℕ → Type 0) (a n : ℕ) → ((x : ℕ) → a ≤ x → x < a + n → P x) → All P (range_with_len a n)
 all_counted P a zero f = All-nil P
@@ -38,6 +44,7 @@ order_within range order is =
     let long = length_permutation (ports_of range) (coming order) is.all in
     let some = pushed_some (range_with_len range.first (range.last - range.first)) range.last in
     record {
+      all = subst (λ (r : PortRange). IsPermutation (ports_of r) (coming order)) (sym is.same) is.all;
       some = omega (arith, long, some);
       each =
           subst (λ (r : PortRange). All (IsOneOf (Some r)) (coming order)) (sym is.same)
@@ -55,6 +62,13 @@ module _ (old new : PortOrder) (port : ℕ) (has : HasPorts old) (uses : UsesNex
   -- and those that come then
   pub next_has_ports : HasPorts new
   next_has_ports = record {
+    all =
+        let was : IsPermutation (ports_of old.range) (port ∷ uses.others) =
+        subst (λ (xs : List ℕ). IsPermutation (ports_of old.range) xs) uses.was has.all in
+        let moved = IsPermutation-trans (ports_of old.range) (port ∷ uses.others) (uses.others ++ port ∷ []) was
+        (IsPermutation-append_comm (port ∷ []) uses.others) in
+        subst (λ (r : PortRange). IsPermutation (ports_of r) (coming new)) (sym uses.range)
+        (subst (λ (xs : List ℕ). IsPermutation (ports_of old.range) xs) (sym uses.is) moved);
     some = subst (λ (xs : List ℕ). 1 ≤ length xs) (sym uses.is) (pushed_some uses.others port);
     each =
         subst (λ (r : PortRange). All (IsOneOf (Some r)) (coming new)) (sym uses.range)
@@ -102,6 +116,63 @@ pub tried_more : {range : Option PortRange} (port : ℕ) (es fs gs : List Socket
 tried_more port es fs gs within is tries = Then tries (record { port = port; within = within; is = is })
 
 pub in_vain : {range : Option PortRange} (port : ℕ) (es fs gs : List SocketEvent) → IsOneOf range port
-    → gs ≡ Quiet (No_socket port) ∷ fs → TriesPorts range es fs → TriesInVain range es gs
-in_vain port es fs gs within is tries =
-    record { between = fs; earlier = tries; last = record { port = port; within = within; is = is } }
+    → gs ≡ Quiet (No_socket port) ∷ fs → TriesPorts range es fs → AreAllMissed range gs → TriesInVain range es gs
+in_vain port es fs gs within is tries missed =
+    record { between = fs; earlier = tries; last = record { port = port; within = within; is = is }; missed = missed }
+
+-- without an order one port is tried
+pub tries_any : (es fs : List SocketEvent) (made : Option ServerSocket) → fs ≡ after_bind 0 made es
+    → Tries None es fs made
+tries_any es fs None is = in_vain 0 es es fs tt is Start tt
+tries_any es fs (Some socket) is = binds socket.port es es fs is Start
+
+-- ---- each port of the range was tried
+abbrev pub IsMissed : List SocketEvent → ℕ → Type 0
+IsMissed events port = is_among port (missed_last events) ≡ true
+
+either_true : (b : Bool) → (b || true) ≡ true
+either_true true = refl
+either_true false = refl
+
+module _ (port : ℕ) (es fs : List SocketEvent) (is : fs ≡ Quiet (No_socket port) ∷ es) where
+  missed_still : (p : ℕ) → IsMissed es p → IsMissed fs p
+  missed_still p h =
+      subst (λ (gs : List SocketEvent). IsMissed gs p) (sym is)
+      (ap (λ (b : Bool). (port == p) || b) h ∙ either_true (port == p))
+
+  missed_now : IsMissed fs port
+  missed_now =
+      subst (λ (gs : List SocketEvent). IsMissed gs port) (sym is)
+      (ap (λ (b : Bool). b || is_among port (missed_last es)) (eq-eqb port port refl))
+
+  -- all that were missed, and this one
+  pub missed_more : (ports : List ℕ) → All (IsMissed es) ports → All (IsMissed fs) (ports ++ port ∷ [])
+  missed_more ports all = All-push (IsMissed fs) ports port (λ k d h. missed_still _ (all k d h)) missed_now
+
+all_come : (P : ℕ → Type 0) (ports rest coming : List ℕ) → coming ≡ ports ++ rest → length ports ≡ length coming
+    → All P ports → All P coming
+all_come P ports [] coming was same all = All-same P coming (ports ++ []) was
+    (subst (All P) (sym (append-nil ports)) all)
+all_come P ports (next ∷ rest) coming was same all =
+    let e : length coming ≡ length ports + length (next ∷ rest) =
+    ap (λ (xs : List ℕ). length xs) was ∙ long ports (next ∷ rest) in
+    absurd (omega (arith, e, same))
+
+-- as many ports as come were used and missed: these are all of the range
+pub all_missed : (range : PortRange) (first last : PortOrder) (ports : List ℕ) (es : List SocketEvent) → HasPorts first
+    → first.range ≡ range → UsesPorts first ports last → length ports ≡ length (coming first)
+    → All (IsMissed es) ports → AreAllMissed (Some range) es
+all_missed range first last ports es has same uses whole all =
+    let before = come_last first last ports uses (omega (arith, whole)) in
+    let came = all_come (IsMissed es) ports before.rest (coming first) before.was whole all in
+    subst (λ (r : PortRange). All (IsMissed es) (ports_of r)) same
+    (All-permutation (IsMissed es) (coming first) (ports_of first.range)
+    (IsPermutation-sym (ports_of first.range) (coming first) has.all) came)
+
+-- as many come as there are
+pub coming_long : (order : PortOrder) → length (coming order) ≡ length order.ports.items
+coming_long order =
+    let cut = long (drop order.next order.ports.items) (take order.next order.ports.items) in
+    let dropped = length-drop order.next order.ports.items in
+    let taken = length-take order.next order.ports.items in
+    omega (arith, cut, dropped, taken)

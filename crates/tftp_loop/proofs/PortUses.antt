@@ -24,7 +24,7 @@ nothing_after : (xs : List ℕ) → xs ++ [] ≡ xs
 nothing_after [] = refl
 nothing_after (x ∷ xs) = ap (λ (ys : List ℕ). x ∷ ys) (nothing_after xs)
 
-long : (xs ys : List ℕ) → length (xs ++ ys) ≡ length xs + length ys
+pub long : (xs ys : List ℕ) → length (xs ++ ys) ≡ length xs + length ys
 long [] ys = let e : length ys ≡ 0 + length ys = omega arith in e
 long (x ∷ xs) ys = let e = long xs ys in omega (arith, e)
 
@@ -78,7 +78,7 @@ begins_distinct (x ∷ xs) ys h = (all_before (λ (y : ℕ). nat_eq x y ≡ fals
 
 -- ---- used
 -- those that are used are the first that were to come, and then come last
-record ComesLast (before used after : List ℕ) : Type 0 where
+pub record ComesLast (before used after : List ℕ) : Type 0 where
   pub rest : List ℕ
   pub was : before ≡ used ++ rest
   pub is : after ≡ rest ++ used
@@ -99,7 +99,7 @@ one_comes_last before used (next ∷ rest) others middle after port was is fewer
       is = last ∙ (ap (λ (xs : List ℕ). xs ++ port ∷ []) (sym tail) ∙ append_assoc rest used (port ∷ []));
     }
 
-come_last : (first last : PortOrder) (ports : List ℕ) → UsesPorts first ports last → length ports ≤ length (coming first)
+pub come_last : (first last : PortOrder) (ports : List ℕ) → UsesPorts first ports last → length ports ≤ length (coming first)
     → ComesLast (coming first) ports (coming last)
 come_last first last ports Unused fewer = record {
   rest = coming first;

@@ -1,13 +1,14 @@
 -- What is received at the request port, and what becomes of it.
 use Rattle.std.proofs.Common.{arith, ◌≡◌, ◌||◌, ◌&&◌, not, ℕ, zero, suc, Bool, true, false, List, [], ◌∷◌, length, map, take, min}
 use Rattle.std.proofs.Common.{Option, Some, None, refl, sym, ap, subst, ◌∙◌, ◌⊎◌, inl, inr}
-use Rattle.std.specs.Prelude.{All, Result, Ok, Err, IfErr, OnOk}
+use Rattle.std.specs.Prelude.{All, Result, Ok, Err, IfErr, IsErrAnd, OnOk}
+use Rattle.std.proofs.lemmas.Result.{err_from_is_err_and}
 use Rattle.tftp_file.specs.Source.{SourceMeaning}
 use Rattle.tftp_ends.specs.declared.endpoint.Endpoint.{Endpoint}
 use Rattle.tftp_store.specs.Store.{StoreMeaning}
-use Rattle.tftp_sockets.specs.Journal.{SocketEvent}
+use Rattle.tftp_sockets.specs.Journal.{SocketEvent, QuietEvent, looked}
 use Rattle.tftp_sockets.specs.Journal.SocketEvent.{Received, Quiet}
-use Rattle.tftp_sockets.specs.Journal.QuietEvent.{Empty, Failed}
+use Rattle.tftp_sockets.specs.Journal.QuietEvent.{Empty, Failed, Drain_signalled}
 use Rattle.tftp_sockets.specs.Quiet.{was_tried}
 use Rattle.tftp_loop.specs.declared.server_loop.ServerLoop.{ServerLoop}
 use Rattle.tftp_loop.specs.declared.serving.LoopFault.{LoopFault}
@@ -15,7 +16,8 @@ use Rattle.tftp_loop.specs.WholeRun.{EndsBy, IsOver}
 use Rattle.tftp_loop.specs.Steps.{LoopState, Timer, is_draining}
 use Rattle.tftp_loop.specs.Steps.LoopStep.{No_request_found, Request_not_received, Drain_begun}
 use Rattle.tftp_loop.specs.declared.drain.Drain.TheVariants.{Awaited, Begun}
-use Rattle.tftp_loop.specs.LoopStates.{StopsRunning, IsEmptied, WorksRound, Work_by, loop_state, pending_in, state_of, timer_of}
+use Rattle.tftp_loop.specs.LoopStates.{FailsToPrint, StopsRunning, noted_at_end}
+use Rattle.tftp_loop.specs.LoopStates.{IsEmptied, WorksRound, Work_by, loop_state, pending_in, state_of, timer_of}
 use Rattle.tftp_loop.specs.MayWait.{AnswersPending, AreSettled, AreTried, HandlesReceived, Concluded, Kept}
 use Rattle.tftp_loop.specs.MayWait.{HasFew, HasTriedRequests, IsSettled, ReceivedFew, reads_of}
 use Rattle.tftp_loop.proofs.LoopRuns.{Runs, same_state}
@@ -45,6 +47,15 @@ take_least {X = X} (suc n) [] = ap (λ (m : ℕ). take {A = X} m []) (least_none
 take_least {X = X} (suc n) (x ∷ xs) =
     ap (λ (m : ℕ). take m (x ∷ xs)) (more_least n (length xs)) ∙ ap (λ (ys : List X). x ∷ ys) (take_least n xs)
 
+-- a look that found nothing, or what it is for
+pub found_nothing : (b : Bool) (event : QuietEvent) (es ns : List SocketEvent) → b ≡ false → ns ≡ looked b event es
+    → ns ≡ es
+found_nothing b event es ns none is = is ∙ ap (λ (c : Bool). looked c event es) none
+
+pub found_it : (b : Bool) (event : QuietEvent) (es ns : List SocketEvent) → b ≡ true → ns ≡ looked b event es
+    → ns ≡ Quiet event ∷ es
+found_it b event es ns found is = is ∙ ap (λ (c : Bool). looked c event es) found
+
 -- when the request port is read
 pub reads_when : (drains ready : Bool) → (not drains && ready) ≡ true → (drains ≡ false) × (ready ≡ true)
 reads_when true ready e = absurd (let f : false ≡ true = e in cc)
@@ -52,73 +63,80 @@ reads_when false ready e = (refl, e)
 
 module _ {S F D : Type 0} where
   -- whether the datagram is pending does not depend on the buffer
-  pub to_state : (buffer : List ℕ) (d : ServerLoop S F D) → HasTriedRequests d → AreTried (state_of buffer d)
-  to_state buffer d h m = h (ap (λ (b : Bool). reads_of d || b) (sym (pending_same d.pending buffer)) ∙ m)
+  pub to_state : (buffer : List ℕ) (d : ServerLoop S F D) (events : List SocketEvent) → HasTriedRequests d events →
+      AreTried (state_of buffer d events)
+  to_state buffer d events h m = h (ap (λ (b : Bool). reads_of d || b) (sym (pending_same d.pending buffer)) ∙ m)
 
-  pub from_state : (buffer : List ℕ) (d : ServerLoop S F D) → AreTried (state_of buffer d) → HasTriedRequests d
-  from_state buffer d h m = h (ap (λ (b : Bool). reads_of d || b) (pending_same d.pending buffer) ∙ m)
+  pub from_state : (buffer : List ℕ) (d : ServerLoop S F D) (events : List SocketEvent) →
+      AreTried (state_of buffer d events) → HasTriedRequests d events
+  from_state buffer d events h m = h (ap (λ (b : Bool). reads_of d || b) (pending_same d.pending buffer) ∙ m)
 
   -- no datagram is pending
-  none_pending : (buffer : List ℕ) (d : ServerLoop S F D) → d.pending ≡ None → state_of buffer d ≡ loop_state None d
-  none_pending buffer d e = ap (λ (p : Option (Endpoint × ℕ)). loop_state (pending_in p buffer) d) e
+  none_pending : (buffer : List ℕ) (d : ServerLoop S F D) (events : List SocketEvent) → d.pending ≡ None →
+      state_of buffer d events ≡ loop_state None d events
+  none_pending buffer d events e =
+      ap (λ (p : Option (Endpoint × ℕ)). loop_state (pending_in p buffer) d events) e
 
 module _ {S F D : Type 0} (meaning : StoreMeaning S D) (sources : SourceMeaning F) where
   -- the pending datagram was answered or lost
-  pub answered_run : (buffer bytes : List ℕ) (old middle : ServerLoop S F D) (from : Endpoint) (count : ℕ) →
+  pub answered_run : (buffer bytes : List ℕ) (old middle : ServerLoop S F D) (es ms : List SocketEvent)
+      (from : Endpoint) (count : ℕ) →
       old.pending ≡ Some (from, count) → bytes ≡ take (min count (length buffer)) buffer
-      → AnswersPending meaning sources from bytes old middle →
-      Runs meaning sources (state_of buffer old) (loop_state None middle)
-  answered_run buffer bytes old middle from count pending same answers =
+      → AnswersPending meaning sources from bytes old es middle ms →
+      Runs meaning sources (state_of buffer old es) (loop_state None middle ms)
+  answered_run buffer bytes old middle es ms from count pending same answers =
       let whole : bytes ≡ take count buffer = same ∙ take_least count buffer in
-      let begins : state_of buffer old ≡ loop_state (Some (from, bytes)) old =
-      ap (λ (p : Option (Endpoint × ℕ)). loop_state (pending_in p buffer) old) pending
-      ∙ ap (λ (bs : List ℕ). loop_state (Some (from, bs)) old) (sym whole) in
-      subst (λ (s : LoopState S F D). Runs meaning sources s (loop_state None middle)) (sym begins)
-      (concludes_run meaning sources (loop_state (Some (from, bytes)) old) (loop_state None middle) answers)
+      let begins : state_of buffer old es ≡ loop_state (Some (from, bytes)) old es =
+      ap (λ (p : Option (Endpoint × ℕ)). loop_state (pending_in p buffer) old es) pending
+      ∙ ap (λ (bs : List ℕ). loop_state (Some (from, bs)) old es) (sym whole) in
+      subst (λ (s : LoopState S F D). Runs meaning sources s (loop_state None middle ms)) (sym begins)
+      (concludes_run meaning sources (loop_state (Some (from, bytes)) old es) (loop_state None middle ms) answers)
 
-  pub answered_settled : (bytes : List ℕ) (old middle : ServerLoop S F D) (from : Endpoint) →
-      AnswersPending meaning sources from bytes old middle → IsSettled old → IsSettled middle
-  answered_settled bytes old middle from answers settled =
-      concludes_settled meaning sources (loop_state (Some (from, bytes)) old) (loop_state None middle) answers settled
+  pub answered_settled : (bytes : List ℕ) (old middle : ServerLoop S F D) (es ms : List SocketEvent)
+      (from : Endpoint) → AnswersPending meaning sources from bytes old es middle ms → IsSettled old → IsSettled middle
+  answered_settled bytes old middle es ms from answers settled =
+      concludes_settled meaning sources (loop_state (Some (from, bytes)) old es) (loop_state None middle ms) answers
+      settled
 
   -- what was received is counted so
-  pub answered_asked : (bytes : List ℕ) (old middle : ServerLoop S F D) (from : Endpoint) →
-      AnswersPending meaning sources from bytes old middle
+  pub answered_asked : (bytes : List ℕ) (old middle : ServerLoop S F D) (es ms : List SocketEvent)
+      (from : Endpoint) → AnswersPending meaning sources from bytes old es middle ms
       → middle.sockets.has_received ≡ old.sockets.has_received
-  answered_asked bytes old middle from answers =
-      concludes_asked meaning sources (loop_state (Some (from, bytes)) old) (loop_state None middle) answers
+  answered_asked bytes old middle es ms from answers =
+      concludes_asked meaning sources (loop_state (Some (from, bytes)) old es) (loop_state None middle ms) answers
 
-  pub answered_few : (most : ℕ) (bytes : List ℕ) (old middle : ServerLoop S F D) (from : Endpoint) →
-      AnswersPending meaning sources from bytes old middle → HasFew most old → HasFew most middle
-  answered_few most bytes old middle from answers few =
-      concludes_few meaning sources most (loop_state (Some (from, bytes)) old) (loop_state None middle) answers few
+  pub answered_few : (most : ℕ) (bytes : List ℕ) (old middle : ServerLoop S F D) (es ms : List SocketEvent)
+      (from : Endpoint) → AnswersPending meaning sources from bytes old es middle ms → HasFew most old
+      → HasFew most middle
+  answered_few most bytes old middle es ms from answers few =
+      concludes_few meaning sources most (loop_state (Some (from, bytes)) old es) (loop_state None middle ms) answers few
 
   -- ---- a datagram was received
-  module _ (before buffer : List ℕ) (old noted new : ServerLoop S F D) (from : Endpoint) (count : ℕ)
+  module _ (before buffer : List ℕ) (old noted new : ServerLoop S F D) (es ms ns : List SocketEvent)
+      (from : Endpoint) (count : ℕ)
       (none : old.pending ≡ None) (reads : reads_of old ≡ true)
       (first : old.sockets.has_received ≡ false)
-      (is : noted ≡ record old { sockets = record old.sockets { has_received = true }; journal = noted.journal })
-      (events : noted.journal.events ≡ Received old.sockets.requests.port from
-      (take count buffer) ∷ old.journal.events) where
+      (is : noted ≡ record old { sockets = record old.sockets { has_received = true } })
+      (events : ms ≡ Received old.sockets.requests.port from (take count buffer) ∷ es) where
     abbrev received : LoopState S F D
-    received = loop_state (Some (from, take count buffer)) noted
+    received = loop_state (Some (from, take count buffer)) noted ms
 
-    received_run : Runs meaning sources (state_of before old) received
+    received_run : Runs meaning sources (state_of before old es) received
     received_run =
-        subst (λ (s : LoopState S F D). Runs meaning sources s received) (sym (none_pending before old none))
-        (receives_as meaning sources (loop_state None old) received from (take count buffer) refl first
+        subst (λ (s : LoopState S F D). Runs meaning sources s received) (sym (none_pending before old es none))
+        (receives_as meaning sources (loop_state None old es) received from (take count buffer) refl first
         (reads_when (is_draining old.drain) old.sockets.is_ready reads).0
         (same_state received
-        (record (loop_state None old) {
+        (record (loop_state None old es) {
           pending = Some (from, take count buffer);
           marked = true;
           asked = true;
-          events = Received old.sockets.requests.port from (take count buffer) ∷ old.journal.events;
+          events = Received old.sockets.requests.port from (take count buffer) ∷ es;
         })
         (ap (λ (d : ServerLoop S F D). d.sockets.requests.port) is)
         (ap (λ (d : ServerLoop S F D). d.sockets.pool.range) is) (ap (λ (d : ServerLoop S F D). d.longest) is)
         (ap (λ (d : ServerLoop S F D). d.requests_only) is)
-        (ap (λ (d : ServerLoop S F D). d.server) is) refl (ap (λ (d : ServerLoop S F D). (loop_state None d).timers) is)
+        (ap (λ (d : ServerLoop S F D). d.server) is) refl (ap (λ (d : ServerLoop S F D). (loop_state None d es).timers) is)
         (ap (λ (d : ServerLoop S F D). d.sockets.watch.now) is)
         (ap (λ (d : ServerLoop S F D). d.sockets.limit) is) refl
         (ap (λ (d : ServerLoop S F D). d.sockets.is_ready) is
@@ -128,58 +146,58 @@ module _ {S F D : Type 0} (meaning : StoreMeaning S D) (sources : SourceMeaning 
 
     received_is_tried : AreTried received
     received_is_tried m =
-        subst (λ (p : ℕ). was_tried p noted.journal.events ≡ true)
+        subst (λ (p : ℕ). was_tried p ms ≡ true)
         (sym (ap (λ (d : ServerLoop S F D). d.sockets.requests.port) is))
-        (received_tried old.sockets.requests.port from (take count buffer) old.journal.events noted.journal.events
-        noted.journal.events events (λ q h. h))
+        (received_tried old.sockets.requests.port from (take count buffer) es ms ms events (λ q h. h))
 
-    then_run : HandlesReceived meaning sources from count buffer noted new →
-        Runs meaning sources received (state_of buffer new)
+    then_run : HandlesReceived meaning sources from count buffer noted ms new ns →
+        Runs meaning sources received (state_of buffer new ns)
     then_run (Concluded answers pending) =
-        subst (λ (s : LoopState S F D). Runs meaning sources received s) (sym (none_pending buffer new pending))
-        (concludes_run meaning sources received (loop_state None new) answers)
-    then_run (Kept e) = idle (ap (λ (d : ServerLoop S F D). state_of buffer d) e)
+        subst (λ (s : LoopState S F D). Runs meaning sources received s) (sym (none_pending buffer new ns pending))
+        (concludes_run meaning sources received (loop_state None new ns) answers)
+    then_run (Kept e same) =
+        idle (ap (λ (d : ServerLoop S F D). state_of buffer d ns) e
+        ∙ ap (loop_state (Some (from, take count buffer)) noted) same)
 
-    pub handled_run : HandlesReceived meaning sources from count buffer noted new →
-        WorksRound meaning sources before old buffer new
+    pub handled_run : HandlesReceived meaning sources from count buffer noted ms new ns →
+        WorksRound meaning sources before old es buffer new ns
     handled_run handles = onward received_run (then_run handles)
 
-    pub handled_tried : HandlesReceived meaning sources from count buffer noted new → HasTriedRequests new
+    pub handled_tried : HandlesReceived meaning sources from count buffer noted ms new ns → HasTriedRequests new ns
     handled_tried handles =
-        from_state buffer new ((work_keeps meaning sources received (state_of buffer new) (then_run handles)).tried
+        from_state buffer new ns ((work_keeps meaning sources received (state_of buffer new ns) (then_run handles)).tried
         received_is_tried)
 
     noted_settled : IsSettled old → IsSettled noted
     noted_settled settled = subst (λ (d : ServerLoop S F D). IsSettled d) (sym is) settled
 
-    then_settled : HandlesReceived meaning sources from count buffer noted new → IsSettled noted → IsSettled new
+    then_settled : HandlesReceived meaning sources from count buffer noted ms new ns → IsSettled noted → IsSettled new
     then_settled (Concluded answers pending) settled =
-        answered_settled (take count buffer) noted new from answers settled
-    then_settled (Kept e) settled = subst (λ (d : ServerLoop S F D). IsSettled d) (sym e) settled
+        answered_settled (take count buffer) noted new ms ns from answers settled
+    then_settled (Kept e same) settled = subst (λ (d : ServerLoop S F D). IsSettled d) (sym e) settled
 
-    pub handled_settled : HandlesReceived meaning sources from count buffer noted new → IsSettled old → IsSettled new
+    pub handled_settled : HandlesReceived meaning sources from count buffer noted ms new ns → IsSettled old → IsSettled new
     handled_settled handles settled = then_settled handles (noted_settled settled)
 
-    then_few : (most : ℕ) → HandlesReceived meaning sources from count buffer noted new → HasFew most noted
+    then_few : (most : ℕ) → HandlesReceived meaning sources from count buffer noted ms new ns → HasFew most noted
         → HasFew most new
     then_few most (Concluded answers pending) few =
-        concludes_few meaning sources most received (loop_state None new) answers few
-    then_few most (Kept e) few = subst (λ (d : ServerLoop S F D). HasFew most d) (sym e) few
+        concludes_few meaning sources most received (loop_state None new ns) answers few
+    then_few most (Kept e same) few = subst (λ (d : ServerLoop S F D). HasFew most d) (sym e) few
 
-    pub handled_few : (most : ℕ) → HandlesReceived meaning sources from count buffer noted new → HasFew most old
+    pub handled_few : (most : ℕ) → HandlesReceived meaning sources from count buffer noted ms new ns → HasFew most old
         → HasFew most new
     handled_few most handles few =
         then_few most handles (subst (λ (d : ServerLoop S F D). HasFew most d) (sym is) few)
 
   -- ---- a receive found nothing, or failed
-  looked_state : (before after : List ℕ) (old new : ServerLoop S F D) (ready : Bool) (event : SocketEvent) →
-      old.pending ≡ None
-      → new ≡ record old { sockets = record old.sockets { is_ready = ready }; journal = new.journal }
-      → new.journal.events ≡ event ∷ old.journal.events →
-      state_of after new ≡ record (state_of before old) { marked = ready; events = event ∷ old.journal.events }
-  looked_state before after old new ready event none is events =
-      same_state (state_of after new)
-      (record (state_of before old) { marked = ready; events = event ∷ old.journal.events })
+  looked_state : (before after : List ℕ) (old new : ServerLoop S F D) (es ns : List SocketEvent) (ready : Bool)
+      (event : SocketEvent) → old.pending ≡ None
+      → new ≡ record old { sockets = record old.sockets { is_ready = ready } } → ns ≡ event ∷ es →
+      state_of after new ns ≡ record (state_of before old es) { marked = ready; events = event ∷ es }
+  looked_state before after old new es ns ready event none is events =
+      same_state (state_of after new ns)
+      (record (state_of before old es) { marked = ready; events = event ∷ es })
       (ap (λ (d : ServerLoop S F D). d.sockets.requests.port) is)
       (ap (λ (d : ServerLoop S F D). d.sockets.pool.range) is) (ap (λ (d : ServerLoop S F D). d.longest) is)
       (ap (λ (d : ServerLoop S F D). d.requests_only) is)
@@ -187,7 +205,7 @@ module _ {S F D : Type 0} (meaning : StoreMeaning S D) (sources : SourceMeaning 
       (ap (λ (d : ServerLoop S F D). pending_in d.pending after) is
       ∙ (ap (λ (p : Option (Endpoint × ℕ)). pending_in p after) none
       ∙ sym (ap (λ (p : Option (Endpoint × ℕ)). pending_in p before) none)))
-      (ap (λ (d : ServerLoop S F D). (loop_state None d).timers) is)
+      (ap (λ (d : ServerLoop S F D). (loop_state None d es).timers) is)
       (ap (λ (d : ServerLoop S F D). d.sockets.watch.now) is)
       (ap (λ (d : ServerLoop S F D). d.sockets.limit) is) refl
       (ap (λ (d : ServerLoop S F D). d.sockets.is_ready) is)
@@ -195,55 +213,69 @@ module _ {S F D : Type 0} (meaning : StoreMeaning S D) (sources : SourceMeaning 
       (ap (λ (d : ServerLoop S F D). d.left) is) (ap (λ (d : ServerLoop S F D). d.rounds) is) events
 
   -- it begins to drain
-  pub drains_as : (buffer : List ℕ) (old new : ServerLoop S F D) → old.drain ≡ Awaited
-      → new ≡ record old { drain = Begun } → Runs meaning sources (state_of buffer old) (state_of buffer new)
-  drains_as buffer old new awaited is =
+  pub drains_as : (buffer : List ℕ) (old new : ServerLoop S F D) (es ns : List SocketEvent) → old.drain ≡ Awaited
+      → new ≡ record old { drain = Begun } → ns ≡ Quiet Drain_signalled ∷ es
+      → Runs meaning sources (state_of buffer old es) (state_of buffer new ns)
+  drains_as buffer old new es ns awaited is signalled =
       once (Work_by (Drain_begun (record {
         awaited = awaited;
-        is = ap (λ (d : ServerLoop S F D). state_of buffer d) is;
+        is =
+            ap (λ (d : ServerLoop S F D). state_of buffer d ns) is
+            ∙ ap (state_of buffer (record old { drain = Begun })) signalled;
       })) tt)
 
-  pub finds_none : (before after : List ℕ) (old new : ServerLoop S F D) → old.pending ≡ None → reads_of old ≡ true →
-      new ≡ record old { sockets = record old.sockets { is_ready = false }; journal = new.journal }
-      → new.journal.events ≡ Quiet (Empty old.sockets.requests.port) ∷ old.journal.events →
-      WorksRound meaning sources before old after new
-  finds_none before after old new none reads is events =
+  pub finds_none : (before after : List ℕ) (old new : ServerLoop S F D) (es ns : List SocketEvent) →
+      old.pending ≡ None → reads_of old ≡ true →
+      new ≡ record old { sockets = record old.sockets { is_ready = false } }
+      → ns ≡ Quiet (Empty old.sockets.requests.port) ∷ es → WorksRound meaning sources before old es after new ns
+  finds_none before after old new es ns none reads is events =
       once (Work_by (No_request_found (record {
         none = ap (λ (p : Option (Endpoint × ℕ)). pending_in p before) none;
         goes_on = (reads_when (is_draining old.drain) old.sockets.is_ready reads).0;
-        is = looked_state before after old new false _ none is events;
+        is = looked_state before after old new es ns false _ none is events;
       })) tt)
 
-  pub fails_to_find : (before after : List ℕ) (old new : ServerLoop S F D) → old.pending ≡ None →
-      reads_of old ≡ true → new ≡ record old { journal = new.journal }
-      → new.journal.events ≡ Quiet (Failed old.sockets.requests.port) ∷ old.journal.events →
-      WorksRound meaning sources before old after new
-  fails_to_find before after old new none reads is events =
-      let looked = λ (ready : Bool).
-      record old { sockets = record old.sockets { is_ready = ready }; journal = new.journal } in
+  pub fails_to_find : (before after : List ℕ) (old new : ServerLoop S F D) (es ns : List SocketEvent) →
+      old.pending ≡ None → reads_of old ≡ true → new ≡ old
+      → ns ≡ Quiet (Failed old.sockets.requests.port) ∷ es → WorksRound meaning sources before old es after new ns
+  fails_to_find before after old new es ns none reads is events =
+      let looked = λ (ready : Bool). record old { sockets = record old.sockets { is_ready = ready } } in
       let when = reads_when (is_draining old.drain) old.sockets.is_ready reads in
       once (Work_by (Request_not_received (record {
         none = ap (λ (p : Option (Endpoint × ℕ)). pending_in p before) none;
         goes_on = when.0;
-        is = looked_state before after old new true _ none (is ∙ ap looked when.1) events;
+        is = looked_state before after old new es ns true _ none (is ∙ ap looked when.1) events;
       })) tt)
 
 -- how the rounds ended
-is_over : {S F D : Type 0} (buffer : List ℕ) (d : ServerLoop S F D)
-    → (d.left ≡ 0) ⊎ ((d.rounds ≡ 0) ⊎ IsEmptied d) → IsOver (state_of buffer d)
-is_over buffer d (inl left) = inl left
-is_over buffer d (inr (inl rounds)) = inr (inl rounds)
-is_over buffer d (inr (inr emptied)) = inr (inr (record {
+is_over : {S F D : Type 0} (buffer : List ℕ) (d : ServerLoop S F D) (events : List SocketEvent)
+    → (d.left ≡ 0) ⊎ ((d.rounds ≡ 0) ⊎ IsEmptied d) → IsOver (state_of buffer d events)
+is_over buffer d events (inl left) = inl left
+is_over buffer d events (inr (inl rounds)) = inr (inl rounds)
+is_over buffer d events (inr (inr emptied)) = inr (inr (record {
   begun = emptied.begun;
   none = ap (λ (p : Option (Endpoint × ℕ)). pending_in p buffer) emptied.none;
   closed = ap (map timer_of) emptied.closed;
 }))
 
 pub ends_by : {S F D A : Type 0} (result : Result A LoopFault) (buffer : List ℕ) (d : ServerLoop S F D)
-    → OnOk result ((d.left ≡ 0) ⊎ ((d.rounds ≡ 0) ⊎ IsEmptied d))
-    → IfErr result (λ fault. StopsRunning fault d.journal.events) → EndsBy result (state_of buffer d)
-ends_by (Ok done) buffer d ends fails = is_over buffer d ends
-ends_by (Err fault) buffer d ends fails = inr fails
+    (before events : List SocketEvent) → OnOk result ((d.left ≡ 0) ⊎ ((d.rounds ≡ 0) ⊎ IsEmptied d))
+    → IfErr result (λ fault. StopsRunning fault events) → EndsBy before result (state_of buffer d events)
+ends_by (Ok done) buffer d before events ends fails = is_over buffer d events ends
+ends_by (Err fault) buffer d before events ends fails = inr fails
+
+-- what the exit of a `?` returns
+pub returned : {T E : Type 0} (r : Result T E) (fault : E) → IsErrAnd r (λ e. e ≡ fault) → r ≡ Err fault
+returned r fault h = let p = err_from_is_err_and r h in p.1 ∙ ap Err p.2
+
+-- a line that could not be printed is the last event
+module _ {A : Type 0} (r : Result A LoopFault) (fault : LoopFault) (es : List SocketEvent) (is : r ≡ Err fault)
+    (fails : FailsToPrint fault es) where
+  pub printed_last : es ≡ noted_at_end r es
+  printed_last = ap (λ (q : Result A LoopFault). noted_at_end q es) (sym (is ∙ ap Err fails.is_output))
+
+  pub stops_printing : IfErr r (λ f. StopsRunning f es)
+  stops_printing = subst (λ (q : Result A LoopFault). IfErr q (λ f. StopsRunning f es)) (sym is) (inr fails)
 
 -- a server without transfers
 pub starts_settled : {S F D : Type 0} (d : ServerLoop S F D) → d.ports.items ≡ [] → IsSettled d

@@ -194,7 +194,7 @@ module _ {S F D : Type 0} (meaning : StoreMeaning S D) (sources : SourceMeaning 
       prepares_first s (record s { events = fs }) t
       (tried_as s from bytes pending opens (Then vain.earlier vain.last))
       (loses_as (record s { events = fs }) t from bytes pending
-      (No_port opens vain.last.port (record { earlier = vain.between; is = vain.last.is })) is)
+      (No_port opens vain.last.port (record { earlier = vain.between; is = vain.last.is }) vain.missed) is)
 
   -- a new socket is at a port that is taken, and the datagram was lost
   pub binds_in_vain : (s t : LoopState S F D) (from : Endpoint) (bytes : List ℕ) (fs : List SocketEvent) (port : ℕ) →

@@ -19,6 +19,7 @@ use Rattle.tftp_loop.specs.declared.port_visit.PortStatus.TheVariants as statuse
 use Rattle.tftp_sockets.specs.declared.port.Port.{Port}
 use Rattle.tftp_loop.specs.declared.port_visit.Pass.{Pass}
 use Rattle.tftp_loop.specs.declared.port_visit.Pass.TheVariants as passes
+use Rattle.tftp_sockets.specs.Journal.{SocketEvent}
 use Rattle.tftp_loop.specs.declared.server_loop.ServerLoop.{ServerLoop}
 use Rattle.tftp_loop.specs.declared.transfer_port.TransferSocket.{TransferSocket}
 use Rattle.tftp_loop.specs.LoopStates.{timer_of}
@@ -141,18 +142,20 @@ module _ {S F D : Type 0} where
       subst (IsOpen held) (sym own)
       (stays (subst (IsOpen old.server.held) (sym was) (settled.none_closed index (timer_of port) within)))
 
-  own_visited : (pass : Pass) (d : ServerLoop S F D) (timer : Timer) → IsNotVisited pass d.sockets.watch.now timer →
-      ReceivedFew (before_visit pass) timer → timer.look_at ≤ timer.deadline → WasVisited pass d timer
-  own_visited passes.Ready d timer none few look =
+  own_visited : (pass : Pass) (d : ServerLoop S F D) (events : List SocketEvent) (timer : Timer) →
+      IsNotVisited pass d.sockets.watch.now timer →
+      ReceivedFew (before_visit pass) timer → timer.look_at ≤ timer.deadline → WasVisited pass d events timer
+  own_visited passes.Ready d events timer none few look =
       ((λ marked. absurd (let e : false ≡ true = sym none ∙ marked in cc)), omega (arith, few))
-  own_visited passes.Due d timer none few look = record { due = inl (omega (arith, none, look)); look = inl none }
+  own_visited passes.Due d events timer none few look = record { due = inl (omega (arith, none, look)); look = inl none }
 
   -- a port that a pass is not for was visited
-  pub idle_visited : (pass : Pass) (index : ℕ) (d : ServerLoop S F D) (port : Port TransferSocket) →
+  pub idle_visited : (pass : Pass) (index : ℕ) (d : ServerLoop S F D) (events : List SocketEvent)
+      (port : Port TransferSocket) →
       index < length d.ports.items → port ≡ slice_index_or d.ports.items index port →
       IsNotVisited pass d.sockets.watch.now (timer_of port) → IsSettled d → AwaitVisit pass (index + 1) d →
-      WereVisited pass (index + 1) d → WereVisited pass index d
-  idle_visited pass index d port inside is_port none settled waiting visited k t l h =
+      WereVisited pass (index + 1) d events → WereVisited pass index d events
+  idle_visited pass index d events port inside is_port none settled waiting visited k t l h =
       let within = map_within timer_of d.ports.items index inside in
       let was : timer_of port ≡ slice_index_or (timers_of d) index (timer_of port) =
       map_is timer_of d.ports.items index port is_port in
@@ -161,8 +164,8 @@ module _ {S F D : Type 0} where
             let own : timer_of port ≡ slice_index_or (timers_of d) k t =
             was ∙ (any_default (timers_of d) index (timer_of port) t within
             ∙ ap (λ (j : ℕ). slice_index_or (timers_of d) j t) (sym same)) in
-            subst (WasVisited pass d) own
-            (own_visited pass d (timer_of port) none
+            subst (WasVisited pass d events) own
+            (own_visited pass d events (timer_of port) none
             (subst (ReceivedFew (before_visit pass)) (sym was)
             (waiting index (timer_of port) (omega arith) within))
             (subst (IsHeld d.server.held) (sym was) (settled.kept.each index (timer_of port) within)).look)

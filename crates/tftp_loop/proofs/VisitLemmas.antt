@@ -2,7 +2,6 @@
 use Rattle.std.proofs.Common.{arith, ◌≡◌, ◌≤◌, ◌+◌, ℕ, true, List, ◌∷◌, MutBor, refl, sym, ap, subst, ◌∙◌}
 use Rattle.tftp_file.specs.Source.{SourceMeaning}
 use Rattle.tftp_store.specs.Store.{StoreMeaning}
-use Rattle.tftp_sockets.specs.declared.journal.Journal.{Journal}
 use Rattle.tftp_sockets.specs.Journal.{SocketEvent, QuietEvent}
 use Rattle.tftp_sockets.specs.Journal.SocketEvent.{Elapsed, Received, Quiet}
 use Rattle.tftp_sockets.specs.Quiet.{was_tried}
@@ -27,29 +26,29 @@ pub elapses_none : (port time : ℕ) (es before es' : List SocketEvent) → befo
 elapses_none port time es before es' noted none =
     let same : received_in before ≡ received_in es = ap received_in noted in omega (arith, same, none)
 
-module _ {S F D : Type 0} where
-  pub same_onward : {a b c : PortVisit S F D} → IsSameVisit a b → IsSameVisit b c → IsSameVisit a c
+module _ {N S F D : Type 0} where
+  pub same_onward : {a b c : PortVisit N S F D} → IsSameVisit a b → IsSameVisit b c → IsSameVisit a c
   same_onward x y = record {
     server = y.server ∙ x.server;
     port = y.port ∙ x.port;
-    journal = y.journal ∙ x.journal;
+    net = y.net ∙ x.net;
     now = y.now ∙ x.now;
     active = y.active ∙ x.active;
   }
 
-  module _ (meaning : StoreMeaning S D) (sources : SourceMeaning F) where
+  module _ (log : N → List SocketEvent) (meaning : StoreMeaning S D) (sources : SourceMeaning F) where
     -- nothing was done
-    pub idles : (most : ℕ) (visit : PortVisit S F D) → ServesVisit meaning sources most visit visit
+    pub idles : (most : ℕ) (visit : PortVisit N S F D) → ServesVisit log meaning sources most visit visit
     idles most visit = record {
-      same = record { server = refl; port = refl; journal = refl; now = refl; active = refl };
+      same = record { server = refl; port = refl; net = refl; now = refl; active = refl };
       serves = Start;
       received = omega arith;
     }
 
-    pub serves_onward : (m n most : ℕ) (a b c : PortVisit S F D) → m + n ≤ most → ServesVisit meaning sources m a b →
-        ServesVisit meaning sources n b c → ServesVisit meaning sources most a c
+    pub serves_onward : (m n most : ℕ) (a b c : PortVisit N S F D) → m + n ≤ most → ServesVisit log meaning sources m a b →
+        ServesVisit log meaning sources n b c → ServesVisit log meaning sources most a c
     serves_onward m n most a b c fits x y =
-        let At : ℕ → Type 0 = λ now. Run (PortStep meaning sources now) (at_visit b) (at_visit c) in
+        let At : ℕ → Type 0 = λ now. Run (PortStep meaning sources now) (at_visit log b) (at_visit log c) in
         let before = x.received in
         let after = y.received in
         record {
@@ -59,33 +58,33 @@ module _ {S F D : Type 0} where
         }
 
     -- a datagram was received, and then answered
-    pub serves_received : (datagram : Datagram) (old new : PortVisit S F D) (journal : MutBor Journal) →
-        journal.ghost_name ≡ old.journal.ghost_name → journal.now.events
-        ≡ Received old.port.now.socket.udp.port datagram.from datagram.bytes.now ∷ old.journal.now.events →
-        AnswersReceived meaning sources datagram (record old { journal = journal }) new →
-        ServesVisit meaning sources 1 old new
-    serves_received datagram old new journal name noted answers =
-        let one : received_in journal.now.events ≡ 1 + received_in old.journal.now.events = ap received_in noted in
+    pub serves_received : (datagram : Datagram) (old new : PortVisit N S F D) (net : MutBor N) →
+        net.ghost_name ≡ old.net.ghost_name → (log net.now)
+        ≡ Received old.port.now.socket.udp.port datagram.from datagram.bytes.now ∷ (log old.net.now) →
+        AnswersReceived log meaning sources datagram (record old { net = net }) new →
+        ServesVisit log meaning sources 1 old new
+    serves_received datagram old new net name noted answers =
+        let one : received_in (log net.now) ≡ 1 + received_in (log old.net.now) = ap received_in noted in
         let none = answers.received in
         record {
           same =
               record {
                 server = answers.same.server;
                 port = answers.same.port;
-                journal = answers.same.journal ∙ name;
+                net = answers.same.net ∙ name;
                 now = answers.same.now;
                 active = answers.same.active;
               };
-          serves = answers.serves old.journal.now.events noted;
+          serves = answers.serves (log old.net.now) noted;
           received = omega (arith, one, none);
         }
 
     -- and so the port was read
-    pub tried_received : (datagram : Datagram) (old new : PortVisit S F D) (journal : MutBor Journal) →
-        journal.now.events ≡ Received old.port.now.socket.udp.port datagram.from datagram.bytes.now ∷ old.journal.now.events
-        → AnswersReceived meaning sources datagram (record old { journal = journal }) new → IsTried new
-    tried_received datagram old new journal noted answers =
-        let same = (stays_along meaning sources old.now _ _ (answers.serves old.journal.now.events noted)).port in
-        subst (λ (p : ℕ). was_tried p new.journal.now.events ≡ true) (sym same)
-        (received_tried old.port.now.socket.udp.port datagram.from datagram.bytes.now old.journal.now.events
-        journal.now.events new.journal.now.events noted answers.tries)
+    pub tried_received : (datagram : Datagram) (old new : PortVisit N S F D) (net : MutBor N) →
+        (log net.now) ≡ Received old.port.now.socket.udp.port datagram.from datagram.bytes.now ∷ (log old.net.now)
+        → AnswersReceived log meaning sources datagram (record old { net = net }) new → IsTried log new
+    tried_received datagram old new net noted answers =
+        let same = (stays_along meaning sources old.now _ _ (answers.serves (log old.net.now) noted)).port in
+        subst (λ (p : ℕ). was_tried p (log new.net.now) ≡ true) (sym same)
+        (received_tried old.port.now.socket.udp.port datagram.from datagram.bytes.now (log old.net.now)
+        (log net.now) (log new.net.now) noted answers.tries)

@@ -13,6 +13,7 @@ use Rattle.tftp_ends.specs.declared.record.Record.{Record}
 use Rattle.tftp_ends.specs.End.{record_of}
 use Rattle.tftp_server.specs.State.{TransferState, ServerState, at, draft_of, is_closed, taken_of, without}
 use Rattle.tftp_server.specs.Work.{WorksAt}
+use Rattle.tftp_sockets.specs.Journal.{SocketEvent}
 use Rattle.tftp_sockets.specs.declared.port.Port.{Port}
 use Rattle.tftp_loop.specs.declared.transfer_port.TransferSocket.{TransferSocket}
 use Rattle.tftp_loop.specs.Steps.{Timer, PortState, LoopState, Closes, WorksAtPort}
@@ -42,8 +43,9 @@ few_before passes.Due timer few = few
 
 module _ {S F D : Type 0} (meaning : StoreMeaning S D) (sources : SourceMeaning F)
     {leaves : PortState S F D → ℕ → Type 0} {index : ℕ} {old middle new : ServerLoop S F D}
-    (visits : VisitsPort meaning sources leaves index old middle)
-    (finishes : Finishes meaning sources index middle new) where
+    {es ms ns : List SocketEvent}
+    (visits : VisitsPort meaning sources leaves index old es middle ms)
+    (finishes : Finishes meaning sources index middle ms new ns) where
   abbrev next : Timer
   next = timer_of visits.next
 
@@ -51,10 +53,10 @@ module _ {S F D : Type 0} (meaning : StoreMeaning S D) (sources : SourceMeaning 
   was = timer_of visits.port
 
   abbrev start : PortState S F D
-  start = record { server = old.server; timer = was; events = old.journal.events }
+  start = record { server = old.server; timer = was; events = es }
 
   abbrev end : PortState S F D
-  end = record { server = middle.server; timer = next; events = middle.journal.events }
+  end = record { server = middle.server; timer = next; events = ms }
 
   abbrev put : List Timer
   put = slice_set (timers_of old) index next
@@ -75,7 +77,7 @@ module _ {S F D : Type 0} (meaning : StoreMeaning S D) (sources : SourceMeaning 
   now_same = ap (λ (d : ServerLoop S F D). d.sockets.watch.now) visits.rest
 
   kept_middle : AreKept old.server.held (timers_of old) → AreKept middle.server.held put
-  kept_middle = set_kept meaning sources (state_of [] old) index was end within is_timer stays
+  kept_middle = set_kept meaning sources (state_of [] old es) index was end within is_timer stays
 
   -- the transfers of other ports stay
   others_open : AreSettled old.server.held (timers_of old) → (k : ℕ) (d : Timer) → k < length (timers_of old) →
@@ -94,14 +96,14 @@ module _ {S F D : Type 0} (meaning : StoreMeaning S D) (sources : SourceMeaning 
   after_stay P low rest own =
       subst (AllFrom P low) (sym timers) (all_set P (timers_of old) low index next within rest own)
 
-  closed_timers : (closes : Closes meaning sources (state_of [] middle) (state_of [] new)) →
+  closed_timers : (closes : Closes meaning sources (state_of [] middle ms) (state_of [] new ns)) →
       timers_of new ≡ swap_remove (timers_of middle) closes.index closes.timer
   closed_timers closes = ap (λ (s : LoopState S F D). s.timers) closes.is
 
   after_close : (P : Timer → Type 0) (low : ℕ) → low ≤ index →
       ((k : ℕ) (d : Timer) → low ≤ k → k < length (timers_of old) → (k ≡ index → ⊥) →
       P (slice_index_or (timers_of old) k d))
-      → (closes : Closes meaning sources (state_of [] middle) (state_of [] new)) → closes.index ≡ index →
+      → (closes : Closes meaning sources (state_of [] middle ms) (state_of [] new ns)) → closes.index ≡ index →
       AllFrom P low (timers_of new)
   after_close P low first rest closes same =
       let long : length (timers_of middle) ≡ length (timers_of old) =
@@ -122,7 +124,7 @@ module _ {S F D : Type 0} (meaning : StoreMeaning S D) (sources : SourceMeaning 
       ∙ set_own (timers_of old) index next next within) (unclosed next)
 
   -- the others stay unclosed when it is removed
-  removed_open : (closes : Closes meaning sources (state_of [] middle) (state_of [] new)) → closes.index ≡ index →
+  removed_open : (closes : Closes meaning sources (state_of [] middle ms) (state_of [] new ns)) → closes.index ≡ index →
       IsSettled old → (k : ℕ) (d : Timer) → k < length (timers_of new)
       → IsOpen (without closes.timer.port middle.server.held) (slice_index_or (timers_of new) k d)
   removed_open closes same settled k d h =
@@ -146,7 +148,7 @@ module _ {S F D : Type 0} (meaning : StoreMeaning S D) (sources : SourceMeaning 
 
   pub visit_settled : IsSettled old → IsSettled new
   visit_settled settled = elim finishes [
-    | Stays e unclosed ↦
+    | Stays e noted unclosed ↦
         settled_by middle e (record {
           kept = subst (AreKept middle.server.held) (sym timers) (kept_middle settled.kept);
           none_closed = λ k d h.
@@ -172,17 +174,15 @@ module _ {S F D : Type 0} (meaning : StoreMeaning S D) (sources : SourceMeaning 
         }
   ]
 
-  pub tries_after : KeepsTries middle.journal.events new.journal.events
+  pub tries_after : KeepsTries ms ns
   tries_after = elim finishes [
-    | Stays e unclosed ↦
-        subst (λ (n : ServerLoop S F D). KeepsTries middle.journal.events n.journal.events) (sym e) (λ q h. h)
-    | Goes each ↦
-        subst (λ (s : LoopState S F D). KeepsTries middle.journal.events s.events) (sym (each []).0.is) (λ q h. h)
+    | Stays e noted unclosed ↦ subst (KeepsTries ms) (sym noted) (λ q h. h)
+    | Goes each ↦ subst (λ (s : LoopState S F D). KeepsTries ms s.events) (sym (each []).0.is) (λ q h. h)
   ]
 
   now_after : new.sockets.watch.now ≡ old.sockets.watch.now
   now_after = elim finishes [
-    | Stays e unclosed ↦ ap (λ (n : ServerLoop S F D). n.sockets.watch.now) e ∙ now_same
+    | Stays e noted unclosed ↦ ap (λ (n : ServerLoop S F D). n.sockets.watch.now) e ∙ now_same
     | Goes each ↦ ap (λ (s : LoopState S F D). s.now) (each []).0.is ∙ now_same
   ]
 
@@ -195,7 +195,7 @@ module _ {S F D : Type 0} (meaning : StoreMeaning S D) (sources : SourceMeaning 
       let rest : (k : ℕ) (d : Timer) → index ≤ k → k < length (timers_of old) → (k ≡ index → ⊥) →
       P (slice_index_or (timers_of old) k d) = λ k d l h apart. later k d (omega (arith, l, apart)) h in
       elim finishes [
-        | Stays e unclosed ↦
+        | Stays e noted unclosed ↦
             subst (λ (n : ServerLoop S F D). AllFrom P index (timers_of n)) (sym e)
             (after_stay P index rest (own (own_open unclosed)))
         | Goes each ↦ after_close P index (omega arith) rest (each []).0 (each []).1
@@ -212,7 +212,7 @@ module _ {S F D : Type 0} (meaning : StoreMeaning S D) (sources : SourceMeaning 
       let in_middle : (k < length (timers_of middle)) → P (slice_index_or (timers_of middle) k d) =
       λ h'. subst (λ (ts : List Timer). P (slice_index_or ts k d)) (sym timers) (rest (omega (arith, long, h'))) in
       elim finishes [
-        | Stays e unclosed ↦
+        | Stays e noted unclosed ↦
             let same = ap (λ (n : ServerLoop S F D). timers_of n) e in
             let longer = ap (λ (ts : List Timer). length ts) same in
             subst (λ (ts : List Timer). P (slice_index_or ts k d)) (sym same) (in_middle (omega (arith, h, longer)))
@@ -230,33 +230,35 @@ module _ {S F D : Type 0} (meaning : StoreMeaning S D) (sources : SourceMeaning 
             ])
       ]
 
-  visit_runs : (buffer : List ℕ) → Runs meaning sources (state_of buffer old) (state_of buffer middle)
+  visit_runs : (buffer : List ℕ) → Runs meaning sources (state_of buffer old es) (state_of buffer middle ms)
   visit_runs buffer =
       let At : List (Port TransferSocket) → Type 0 =
-      λ ps. Runs meaning sources (state_of buffer old)
-      (record (state_of buffer old) {
+      λ ps. Runs meaning sources (state_of buffer old es)
+      (record (state_of buffer old es) {
         server = middle.server;
         timers = map timer_of ps;
-        events = middle.journal.events;
+        events = ms;
       }) in
-      subst (λ (d : ServerLoop S F D). Runs meaning sources (state_of buffer old) (state_of buffer d)) (sym visits.rest)
+      subst (λ (d : ServerLoop S F D). Runs meaning sources (state_of buffer old es) (state_of buffer d ms))
+      (sym visits.rest)
       (subst At (sym visits.items)
-      (at_index meaning sources (state_of buffer old) old.ports.items index visits.port visits.next middle.server
-      middle.journal.events refl visits.within visits.is_port visits.serves))
+      (at_index meaning sources (state_of buffer old es) old.ports.items index visits.port visits.next middle.server
+      ms refl visits.within visits.is_port visits.serves))
 
-  finish_runs : (buffer : List ℕ) → Runs meaning sources (state_of buffer middle) (state_of buffer new)
+  finish_runs : (buffer : List ℕ) → Runs meaning sources (state_of buffer middle ms) (state_of buffer new ns)
   finish_runs buffer = elim finishes [
-    | Stays e unclosed ↦ idle (ap (λ (d : ServerLoop S F D). state_of buffer d) e)
+    | Stays e noted unclosed ↦
+        idle (ap (λ (d : ServerLoop S F D). state_of buffer d ns) e ∙ ap (state_of buffer middle) noted)
     | Goes each ↦ once (Work_by (Transfer_closed (each buffer).0) tt)
   ]
 
-  pub works_after : OnlyWorks meaning sources old new
+  pub works_after : OnlyWorks meaning sources old es new ns
   works_after buffer = onward (visit_runs buffer) (finish_runs buffer)
 
 module _ {S F D : Type 0} (meaning : StoreMeaning S D) (sources : SourceMeaning F) where
   -- how many were received in a visit
-  few_next : (most index : ℕ) (old middle : ServerLoop S F D) (leaves : PortState S F D → ℕ → Type 0)
-      (takes : VisitsPort meaning sources leaves index old middle)
+  few_next : (most index : ℕ) (old middle : ServerLoop S F D) {es ms : List SocketEvent}
+      (leaves : PortState S F D → ℕ → Type 0) (takes : VisitsPort meaning sources leaves index old es middle ms)
       → (timer_of takes.port).received ≤ most → (timer_of takes.next).received ≤ most + MOST_AT_ONCE
   few_next most index old middle leaves takes began =
       let all = counted_along meaning sources old.sockets.watch.now _ _ takes.serves in
@@ -264,21 +266,21 @@ module _ {S F D : Type 0} (meaning : StoreMeaning S D) (sources : SourceMeaning 
       omega (arith, all, few, began)
 
 module _ {S F D : Type 0} (meaning : StoreMeaning S D) (sources : SourceMeaning F) {index : ℕ}
-    {old middle new : ServerLoop S F D} where
+    {old middle new : ServerLoop S F D} {es ms ns : List SocketEvent} where
   -- the ports from this one on were read
-  pub read_after : VisitsPort meaning sources leaves_read index old middle → Finishes meaning sources index middle new →
-      AreRead (index + 1) old → AreRead index new
+  pub read_after : VisitsPort meaning sources leaves_read index old es middle ms →
+      Finishes meaning sources index middle ms new ns → AreRead (index + 1) old es → AreRead index new ns
   read_after visits finishes read =
-      let tries : KeepsTries middle.journal.events new.journal.events = tries_after meaning sources visits finishes in
+      let tries : KeepsTries ms ns = tries_after meaning sources visits finishes in
       let held = stays meaning sources visits finishes in
-      after meaning sources visits finishes (IsRead new.journal.events)
+      after meaning sources visits finishes (IsRead ns)
       (λ k d l h marked. tries (slice_index_or (timers_of old) k d).port
       (held.tries (slice_index_or (timers_of old) k d).port (read k d l h marked)))
       (λ unclosed marked. tries (timer_of visits.next).port (visits.leaves_it marked))
 
   -- the ports from this one on are not due
-  pub timed_after : VisitsPort meaning sources leaves_timed index old middle →
-      Finishes meaning sources index middle new → AreTimed (index + 1) old → AreTimed index new
+  pub timed_after : VisitsPort meaning sources leaves_timed index old es middle ms →
+      Finishes meaning sources index middle ms new ns → AreTimed (index + 1) old → AreTimed index new
   timed_after visits finishes timed =
       let now = now_after meaning sources visits finishes in
       subst (λ (n : ℕ). AllFrom (IsTimed n) index (timers_of new)) (sym now)
@@ -286,9 +288,9 @@ module _ {S F D : Type 0} (meaning : StoreMeaning S D) (sources : SourceMeaning 
       (λ unclosed. visits.leaves_it unclosed))
 
   -- the ports from this one on were visited
-  pub visited_after : (pass : Pass) → VisitsPort meaning sources (leaves_by pass) index old middle →
-      Finishes meaning sources index middle new → AwaitVisit pass (index + 1) old → WereVisited pass (index + 1) old
-      → WereVisited pass index new
+  pub visited_after : (pass : Pass) → VisitsPort meaning sources (leaves_by pass) index old es middle ms →
+      Finishes meaning sources index middle ms new ns → AwaitVisit pass (index + 1) old
+      → WereVisited pass (index + 1) old es → WereVisited pass index new ns
   visited_after passes.Ready takes finishes waiting visited =
       let read = read_after takes finishes (λ k d l h. (visited k d l h).0) in
       let own : (timer_of takes.port).received ≤ 0 =
@@ -373,34 +375,35 @@ module _ {S F D : Type 0} (meaning : StoreMeaning S D) (sources : SourceMeaning 
       ∙ sym (map_is timer_of old.ports.items index port is_port)
 
   -- nothing was taken
-  pub stays_by : is_some closed ≡ false → new ≡ record old { server = new.server } →
-      Finishes meaning sources index old new
-  stays_by none is =
+  pub stays_by : (es : List SocketEvent) → is_some closed ≡ false → new ≡ record old { server = new.server } →
+      Finishes meaning sources index old es new es
+  stays_by es none is =
       let kept : new.server.held ≡ old.server.held =
       held ∙ ap (λ (b : Bool). if b then without tid old.server.held else old.server.held) none in
       let server : new.server ≡ old.server =
       rest ∙ ap (λ (h : List (ℕ × TransferState F D)). record old.server { held = h }) kept in
-      Stays (is ∙ ap (λ (s : ServerState S F D). record old { server = s }) server)
+      Stays (is ∙ ap (λ (s : ServerState S F D). record old { server = s }) server) refl
       (λ d.
       ap (λ (t : Timer). taken_of (at t.port old.server.held)) (timer_is d)
       ∙ (ap (λ (p : ℕ). taken_of (at p old.server.held)) (sym same)
       ∙ none_taken closed (taken_of (at tid old.server.held)) found none))
 
   -- a transfer was taken
-  pub goes_by : IsSome closed → 1 ≤ old.left → new.ports.items ≡ swap_remove old.ports.items index port
-      → new.journal.events ≡ close_reported port.socket.udp.port port.socket.peer closed old.journal.events
-      → new ≡ record old { server = new.server; ports = new.ports; journal = new.journal; left = old.left - 1 } →
-      Finishes meaning sources index old new
-  goes_by some left items events is =
+  pub goes_by : (es ns : List SocketEvent) → IsSome closed → 1 ≤ old.left
+      → new.ports.items ≡ swap_remove old.ports.items index port
+      → ns ≡ close_reported port.socket.udp.port port.socket.peer closed es
+      → new ≡ record old { server = new.server; ports = new.ports; left = old.left - 1 } →
+      Finishes meaning sources index old es new ns
+  goes_by es ns some left items events is =
       let timers : timers_of new ≡ swap_remove (timers_of old) index (timer_of port) =
       ap (map timer_of) items ∙ map_removed timer_of old.ports.items index port in
       Goes (λ buffer.
-      let s = state_of buffer old in
+      let s = state_of buffer old es in
       let At : LoopState S F D → Type 0 = λ t. (closes : Closes meaning sources s t) × (closes.index ≡ index) in
       let AtTimers : List Timer → Type 0 =
-      λ ts. At (record s { server = new.server; timers = ts; left = s.left - 1; events = new.journal.events }) in
-      subst At (sym (ap (λ (d : ServerLoop S F D). state_of buffer d) is))
+      λ ts. At (record s { server = new.server; timers = ts; left = s.left - 1; events = ns }) in
+      subst At (sym (ap (λ (d : ServerLoop S F D). state_of buffer d ns) is))
       (subst AtTimers (sym timers)
-      (closes meaning sources s index (timer_of port) tid closed new.server new.journal.events left
+      (closes meaning sources s index (timer_of port) tid closed new.server ns left
       (map_within timer_of old.ports.items index inside)
       (map_is timer_of old.ports.items index port is_port) same found some held rest events)))

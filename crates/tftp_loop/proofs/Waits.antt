@@ -70,8 +70,9 @@ shortest_by m n e (inl h) = inl (e ∙ h)
 shortest_by m n e (inr h) = inr h
 
 module _ {S F D : Type 0} where
-  pub millis_same : (buffer : List ℕ) (d : ServerLoop S F D) → most_millis (state_of buffer d) ≡ millis_of d
-  millis_same buffer d =
+  pub millis_same : (buffer : List ℕ) (d : ServerLoop S F D) (events : List SocketEvent) →
+      most_millis (state_of buffer d events) ≡ millis_of d
+  millis_same buffer d events =
       ap (λ (p : Bool). cond (reads_of d || (p || list_any (λ (timer : Timer). timer.marked) (timers_of d))) 0
       (until_look d.sockets.watch.now (timers_of d))) (pending_same d.pending buffer)
       ∙ (ap (λ (a : Bool). cond (reads_of d || (is_some d.pending || a)) 0
@@ -81,8 +82,9 @@ module _ {S F D : Type 0} where
       (looks_mapped d.sockets.watch.now d.ports.items))
 
   -- all is done that is to be done
-  served : (buffer : List ℕ) (d : ServerLoop S F D) → IsTended d → All (IsServed (state_of buffer d)) (timers_of d)
-  served buffer d tended k t h =
+  served : (buffer : List ℕ) (d : ServerLoop S F D) (events : List SocketEvent) → IsTended d events →
+      All (IsServed (state_of buffer d events)) (timers_of d)
+  served buffer d events tended k t h =
       let timed = tended.timed k t (omega arith) h in
       record {
         read = tended.read k t (omega arith) h;
@@ -92,9 +94,10 @@ module _ {S F D : Type 0} where
       }
 
   -- a reading of the clock changes no wait but by its time
-  read_millis : (buffer : List ℕ) (d read : ServerLoop S F D) → HasRead d read →
-      most_millis (read_at read.sockets.watch.now (state_of buffer d)) ≡ millis_of read
-  read_millis buffer d read r =
+  read_millis : (buffer : List ℕ) (d read : ServerLoop S F D) (before after : List SocketEvent) →
+      HasRead d before read after →
+      most_millis (read_at read.sockets.watch.now (state_of buffer d before)) ≡ millis_of read
+  read_millis buffer d read before after r =
       let time = read.sockets.watch.now in
       let Millis : Bool → Option (Endpoint × ℕ) → Bool → ℕ → ℕ =
       λ requests pending marked n. cond (requests || (is_some (pending_in pending buffer) || marked)) 0 n in
@@ -111,24 +114,26 @@ module _ {S F D : Type 0} where
       ∙ (ap (λ (p : Option (Endpoint × ℕ)). Millis (reads_of read) p (any d.ports.items) (until d.ports.items))
       (sym r.pending)
       ∙ (ap (λ (ps : List (Port TransferSocket)). Millis (reads_of read) read.pending (any ps) (until ps))
-      (sym r.ports) ∙ millis_same buffer read))))
+      (sym r.ports) ∙ millis_same buffer read after))))
 
-  pub may_wait : (buffer : List ℕ) (d read : ServerLoop S F D) (millis : ℕ) (ports : List ℕ) → HasRead d read →
-      IsTended d → 1 ≤ d.left → 1 ≤ d.rounds → millis ≤ millis_of read
+  pub may_wait : (buffer : List ℕ) (d read : ServerLoop S F D) (before after : List SocketEvent) (millis : ℕ)
+      (ports : List ℕ) → HasRead d before read after →
+      IsTended d before → 1 ≤ d.left → 1 ≤ d.rounds → millis ≤ millis_of read
       → (millis ≡ 0 → (millis_of read ≡ 0) ⊎ (ports ≢ []))
-      → MayWait (state_of buffer d) read.sockets.watch.now millis ports
-  may_wait buffer d read millis ports r tended left rounds longest shortest =
+      → MayWait (state_of buffer d before) read.sockets.watch.now millis ports
+  may_wait buffer d read before after millis ports r tended left rounds longest shortest =
       let time = read.sockets.watch.now in
-      let same : most_millis (read_at time (state_of buffer d)) ≡ millis_of read = read_millis buffer d read r in
+      let same : most_millis (read_at time (state_of buffer d before)) ≡ millis_of read =
+      read_millis buffer d read before after r in
       record {
         read = refl;
         left = left;
         rounds = rounds;
         requests =
             λ h. tended.requests (ap (λ (b : Bool). reads_of d || b) (sym (pending_same d.pending buffer)) ∙ h);
-        transfers = served buffer d tended;
+        transfers = served buffer d before tended;
         longest = omega (arith, longest, same);
-        shortest = λ h. shortest_by (millis_of read) (most_millis (read_at time (state_of buffer d))) same (shortest h);
+        shortest = λ h. shortest_by (millis_of read) (most_millis (read_at time (state_of buffer d before))) same (shortest h);
       }
 
 -- ---- marks, one by one
@@ -233,16 +238,17 @@ module _ {F D : Type 0} (held : List (ℕ × TransferState F D)) (time : ℕ) wh
 
 module _ {S F D : Type 0} (meaning : StoreMeaning S D) (sources : SourceMeaning F) where
   -- the clock before a wait that was allowed, the wait, its marks, and the clock after it
-  pub waits_as : (buffer : List ℕ) (old read noted new : ServerLoop S F D) (millis : ℕ) (ports : List ℕ) →
-      HasRead old read → MayWait (state_of buffer old) read.sockets.watch.now millis ports
-      → HasSlept millis ports read noted → HasWoken ports noted new →
-      Run (LoopStep meaning sources) (state_of buffer old) (state_of buffer new)
-  waits_as buffer old read noted new millis ports reads may slept woken =
+  pub waits_as : (buffer : List ℕ) (old read noted new : ServerLoop S F D) (millis : ℕ) (ports : List ℕ)
+      {before timed noted_events after : List SocketEvent} →
+      HasRead old before read timed → MayWait (state_of buffer old before) read.sockets.watch.now millis ports
+      → HasSlept millis ports read timed noted noted_events → HasWoken ports noted noted_events new after →
+      Run (LoopStep meaning sources) (state_of buffer old before) (state_of buffer new after)
+  waits_as buffer old read noted new millis ports {before} {timed} {noted_events} {after} reads may slept woken =
       let requests = slept.requests ∙ reads.requests in
       let now = slept.now in
       let limit = slept.limit ∙ reads.limit in
       let time = read.sockets.watch.now in
-      let s = state_of buffer old in
+      let s = state_of buffer old before in
       let waited : LoopState S F D = record s {
         marked = s.marked || is_among s.requests ports;
         asked = false;
@@ -274,7 +280,7 @@ module _ {S F D : Type 0} (meaning : StoreMeaning S D) (sources : SourceMeaning 
         forward = forward;
         soon = soon;
         is =
-            same_state (state_of buffer new)
+            same_state (state_of buffer new after)
             (record waited {
               now = new.sockets.watch.now;
               limit = round_end time waited.limit;
@@ -301,19 +307,22 @@ module _ {S F D : Type 0} (meaning : StoreMeaning S D) (sources : SourceMeaning 
       }))
 
   -- the clock leaves what is settled
-  pub read_settled : (old read : ServerLoop S F D) → HasRead old read → IsSettled old → IsSettled read
+  pub read_settled : (old read : ServerLoop S F D) {before after : List SocketEvent} → HasRead old before read after →
+      IsSettled old → IsSettled read
   read_settled old read reads settled =
       subst (λ (ps : List (Port TransferSocket)). AreSettled read.server.held (map timer_of ps)) (sym reads.ports)
       (subst (λ (s : ServerState S F D). AreSettled s.held (timers_of old)) (sym reads.server) settled)
 
   -- a wait leaves what is settled
-  pub slept_settled : (old noted : ServerLoop S F D) (millis : ℕ) (ports : List ℕ) → HasSlept millis ports old noted →
+  pub slept_settled : (old noted : ServerLoop S F D) (millis : ℕ) (ports : List ℕ) {before after : List SocketEvent} →
+      HasSlept millis ports old before noted after →
       IsSettled old → IsSettled noted
   slept_settled old noted millis ports slept settled =
       subst (λ (ts : List Timer). AreSettled noted.server.held ts) (sym slept.timers)
       (subst (λ (s : ServerState S F D). AreSettled s.held (timers_of old)) (sym slept.server) settled)
 
-  pub woken_settled : (noted new : ServerLoop S F D) (ports : List ℕ) → HasWoken ports noted new → IsSettled noted →
+  pub woken_settled : (noted new : ServerLoop S F D) (ports : List ℕ) {before after : List SocketEvent} →
+      HasWoken ports noted before new after → IsSettled noted →
       IsSettled new
   woken_settled noted new ports woken settled =
       let time = noted.sockets.watch.now in
@@ -324,7 +333,8 @@ module _ {S F D : Type 0} (meaning : StoreMeaning S D) (sources : SourceMeaning 
       (set_held noted.server.held time (timers_of noted) settled)))
 
   -- and counts anew
-  pub woken_few : (noted new : ServerLoop S F D) (ports : List ℕ) → HasWoken ports noted new → HasFew 0 new
+  pub woken_few : (noted new : ServerLoop S F D) (ports : List ℕ) {before after : List SocketEvent} →
+      HasWoken ports noted before new after → HasFew 0 new
   woken_few noted new ports woken =
       let set = map (set_by noted.sockets.watch.now) (timers_of noted) in
       subst (λ (ts : List Timer). All (ReceivedFew 0) ts) (sym woken.timers)

@@ -6,7 +6,7 @@ use Rattle.tftp_store.specs.Store.{StoreMeaning}
 use Rattle.tftp_sockets.specs.Journal.{SocketEvent, QuietEvent}
 use Rattle.tftp_sockets.specs.Journal.SocketEvent.{Received, Sent, Watched, Elapsed, Printed, Quiet}
 use Rattle.tftp_sockets.specs.Journal.QuietEvent.{Empty, Failed, New_socket, No_socket}
-use Rattle.tftp_sockets.specs.Journal.QuietEvent.{Out_of_memory}
+use Rattle.tftp_sockets.specs.Journal.QuietEvent.{Out_of_memory, No_reader, Drain_signalled}
 use Rattle.tftp_sockets.specs.Journal.QuietEvent.{Slept, Woke}
 use Rattle.tftp_loop.specs.Run.{Run}
 use Rattle.tftp_loop.specs.Steps.{Timer, PortState, LoopState, PortStep, LoopStep, most_in_round}
@@ -34,6 +34,8 @@ since_by (Woke ports) before = 0
 since_by (No_socket port) before = before
 since_by (New_socket port) before = before
 since_by Out_of_memory before = before
+since_by No_reader before = before
+since_by Drain_signalled before = before
 
 -- how many datagrams were received at the port since the newest wait
 abbrev pub received_since : ℕ → List SocketEvent → ℕ

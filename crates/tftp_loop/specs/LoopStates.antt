@@ -1,6 +1,6 @@
 -- The loop's own values as states of its run.
 use Rattle.std.specs.Prelude.{ℕ, ◌≡◌, ◌≢◌, ◌≤◌, ◌⊎◌, ⊤, false, List, [], ◌∷◌, map, take, Option}
-use Rattle.std.specs.Prelude.{Some, None, IfSome, vec_capacity}
+use Rattle.std.specs.Prelude.{Some, None, IfSome, IfErr, Result, Ok, Err, vec_capacity}
 use Rattle.tftp_file.specs.Source.{SourceMeaning}
 use Rattle.tftp_ends.specs.declared.endpoint.Endpoint.{Endpoint}
 use Rattle.tftp_store.specs.Store.{StoreMeaning}
@@ -9,9 +9,9 @@ use Rattle.tftp_server.specs.State.{ServerState}
 use Rattle.tftp_server.specs.Request.{Admits, AdmissionState}
 use Rattle.tftp_server.specs.declared.opened.Opened.{Opened}
 use Rattle.tftp_sockets.specs.declared.port.Port.{Port}
-use Rattle.tftp_sockets.specs.declared.journal.Journal.{Journal}
 use Rattle.tftp_sockets.specs.Journal.{SocketEvent, replied}
-use Rattle.tftp_sockets.specs.Journal.SocketEvent.{Printed}
+use Rattle.tftp_sockets.specs.Journal.SocketEvent.{Printed, Quiet}
+use Rattle.tftp_sockets.specs.Journal.QuietEvent.{No_reader, Out_of_memory}
 use Rattle.tftp_ends.specs.declared.outcome.Outcome.{Outcome}
 use Rattle.tftp_lines.specs.Printed.{line_text}
 use Rattle.tftp_lines.specs.declared.printed.Printed.TheVariants.{Closed}
@@ -45,14 +45,14 @@ timer_of port =
 
 module _ {S F D : Type 0} where
   -- a server at the port of a transfer
-  abbrev pub at_port : ServerState S F D → Port TransferSocket → Journal → PortState S F D
-  at_port server port journal =
-      record { server = server; timer = timer_of port; events = journal.events }
+  abbrev pub at_port : ServerState S F D → Port TransferSocket → List SocketEvent → PortState S F D
+  at_port server port events =
+      record { server = server; timer = timer_of port; events = events }
 
   -- from one state of a port to another, at one time of the watch
   abbrev pub OnlyServesPort : StoreMeaning S D → SourceMeaning F → ℕ
-      → ServerState S F D → Port TransferSocket → Journal
-      → ServerState S F D → Port TransferSocket → Journal → Type 0
+      → ServerState S F D → Port TransferSocket → List SocketEvent
+      → ServerState S F D → Port TransferSocket → List SocketEvent → Type 0
   OnlyServesPort meaning sources now old port before new port' after =
       Run (PortStep meaning sources now) (at_port old port before) (at_port new port' after)
 
@@ -83,9 +83,20 @@ FailsToBind _ before after = ⊥
 abbrev pub StopsRunning : LoopFault → List SocketEvent → Type 0
 StopsRunning fault events = (fault ≡ faults.NoReader) ⊎ FailsToPrint fault events
 
--- why a server whose port is bound stops: no memory for its buffers, or as a running one
-abbrev pub StopsServing : LoopFault → List SocketEvent → Type 0
-StopsServing fault events = (fault ≡ faults.Memory) ⊎ StopsRunning fault events
+-- why a server whose port is bound stops: no memory for its buffers, before it did anything, or as
+-- a running one
+abbrev pub StopsServing : List SocketEvent → LoopFault → List SocketEvent → Type 0
+StopsServing before fault events =
+    ((fault ≡ faults.Memory) × (events ≡ before)) ⊎ StopsRunning fault events
+
+-- the journal at the end of a run with this result: that memory was refused, or that a look found
+-- no reader, is noted last
+abbrev pub noted_at_end : {A : Type 0} → Result A LoopFault → List SocketEvent → List SocketEvent
+noted_at_end (Ok done) events = events
+noted_at_end (Err (faults.Socket reason)) events = events
+noted_at_end (Err faults.Output) events = events
+noted_at_end (Err faults.NoReader) events = Quiet No_reader ∷ events
+noted_at_end (Err faults.Memory) events = Quiet Out_of_memory ∷ events
 
 -- the pending datagram, from its length and the buffer that it is in
 abbrev pub pending_in : Option (Endpoint × ℕ) → List ℕ → Option (Endpoint × List ℕ)
@@ -99,9 +110,10 @@ pub record RoomFor (cap ports answer : ℕ) : Type 0 where
   pub longest : LONGEST_ANSWER ≤ answer
 
 module _ {S F D : Type 0} where
-  -- the state of a server with this datagram pending, if there is one
-  abbrev pub loop_state : Option (Endpoint × List ℕ) → ServerLoop S F D → LoopState S F D
-  loop_state pending d =
+  -- the state of a server with this datagram pending, if there is one, and this history
+  abbrev pub loop_state : Option (Endpoint × List ℕ) → ServerLoop S F D → List SocketEvent
+      → LoopState S F D
+  loop_state pending d events =
       record {
         requests = d.sockets.requests.port;
         range = d.sockets.pool.range;
@@ -118,7 +130,7 @@ module _ {S F D : Type 0} where
         drain = d.drain;
         left = d.left;
         rounds = d.rounds;
-        events = d.journal.events;
+        events = events;
       }
 
   -- a server that drains has nothing left to do
@@ -128,8 +140,8 @@ module _ {S F D : Type 0} where
     pub closed : d.ports.items ≡ []
 
   -- the state of a server whose pending datagram is in this buffer
-  abbrev pub state_of : List ℕ → ServerLoop S F D → LoopState S F D
-  state_of buffer d = loop_state (pending_in d.pending buffer) d
+  abbrev pub state_of : List ℕ → ServerLoop S F D → List SocketEvent → LoopState S F D
+  state_of buffer d events = loop_state (pending_in d.pending buffer) d events
 
   module _ (meaning : StoreMeaning S D) (sources : SourceMeaning F) where
     -- a step that is no wait and does not read the clock
@@ -142,23 +154,38 @@ module _ {S F D : Type 0} where
       Work_by : (does : LoopStep meaning sources old new) → IsWork does → Works old new
 
     -- from one state of a server to another, whatever its buffer has
-    abbrev pub OnlyServes : ServerLoop S F D → ServerLoop S F D → Type 0
-    OnlyServes old new =
+    abbrev pub OnlyServes : ServerLoop S F D → List SocketEvent → ServerLoop S F D
+        → List SocketEvent → Type 0
+    OnlyServes old before new after =
         (buffer : List ℕ)
-        → Run (LoopStep meaning sources) (state_of buffer old) (state_of buffer new)
+        → Run (LoopStep meaning sources) (state_of buffer old before) (state_of buffer new after)
 
     -- the same, without a wait
-    abbrev pub OnlyWorks : ServerLoop S F D → ServerLoop S F D → Type 0
-    OnlyWorks old new = (buffer : List ℕ) → Run Works (state_of buffer old) (state_of buffer new)
+    abbrev pub OnlyWorks : ServerLoop S F D → List SocketEvent → ServerLoop S F D
+        → List SocketEvent → Type 0
+    OnlyWorks old before new after =
+        (buffer : List ℕ) → Run Works (state_of buffer old before) (state_of buffer new after)
 
     -- from one state of a server and its buffer to another
-    abbrev pub ServesRounds : List ℕ → ServerLoop S F D → List ℕ → ServerLoop S F D → Type 0
-    ServesRounds before old after new =
-        Run (LoopStep meaning sources) (state_of before old) (state_of after new)
+    abbrev pub ServesRounds : List ℕ → ServerLoop S F D → List SocketEvent → List ℕ
+        → ServerLoop S F D → List SocketEvent → Type 0
+    ServesRounds buffer old before buffer' new after =
+        Run (LoopStep meaning sources) (state_of buffer old before) (state_of buffer' new after)
+
+    -- a server serves to the end with this result, and what stopped it is noted
+    pub record EndsRounds {A : Type 0} (result : Result A LoopFault) (buffer : List ℕ)
+        (old : ServerLoop S F D) (before : List SocketEvent) (buffer' : List ℕ)
+        (new : ServerLoop S F D) (after : List SocketEvent) : Type 0 where
+      pub served : List SocketEvent
+      pub serves : ServesRounds buffer old before buffer' new served
+      pub noted : after ≡ noted_at_end result served
+      pub fault : IfErr result (λ fault. StopsRunning fault served)
 
     -- the same, without a wait
-    abbrev pub WorksRound : List ℕ → ServerLoop S F D → List ℕ → ServerLoop S F D → Type 0
-    WorksRound before old after new = Run Works (state_of before old) (state_of after new)
+    abbrev pub WorksRound : List ℕ → ServerLoop S F D → List SocketEvent → List ℕ
+        → ServerLoop S F D → List SocketEvent → Type 0
+    WorksRound buffer old before buffer' new after =
+        Run Works (state_of buffer old before) (state_of buffer' new after)
 
   -- there is room for the ports of as many transfers as the server may hold, and for its answers
   abbrev pub HasRoom : ServerLoop S F D → Type 0
@@ -167,7 +194,8 @@ module _ {S F D : Type 0} where
   -- the answer to a datagram of the request port was sent, and a transfer that opened has its port,
   -- one of the range, if there is one, and not the request port
   pub record HasAnswered (from : Endpoint) (opened : Opened) (sent : List ℕ)
-      (old new : ServerLoop S F D) : Type 0 where
+      (old : ServerLoop S F D) (before : List SocketEvent) (new : ServerLoop S F D)
+      (after : List SocketEvent) : Type 0 where
     pub requests : new.sockets.requests.port ≡ old.sockets.requests.port
     pub range : new.sockets.pool.range ≡ old.sockets.pool.range
     pub longest : new.longest ≡ old.longest
@@ -186,9 +214,8 @@ module _ {S F D : Type 0} where
     pub left_to_close : new.left ≡ old.left
     pub rounds : new.rounds ≡ old.rounds
     pub room : HasRoom old → HasRoom new
-    pub events : new.journal.events
-        ≡ replied (answering_port old.sockets.requests.port opened.tid) opened.to sent
-        old.journal.events
+    pub events : after
+        ≡ replied (answering_port old.sockets.requests.port opened.tid) opened.to sent before
 
   -- the admission is of this datagram by this server
   pub record IsAdmission (server : ServerState S F D) (from : Endpoint) (bytes : List ℕ)

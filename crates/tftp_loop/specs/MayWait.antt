@@ -152,8 +152,8 @@ module _ {S F D : Type 0} where
   IsSettled d = AreSettled d.server.held (timers_of d)
 
   -- the ports from this index on were read
-  abbrev pub AreRead : ℕ → ServerLoop S F D → Type 0
-  AreRead from d = AllFrom (IsRead d.journal.events) from (timers_of d)
+  abbrev pub AreRead : ℕ → ServerLoop S F D → List SocketEvent → Type 0
+  AreRead from d events = AllFrom (IsRead events) from (timers_of d)
 
   -- the ports from this index on are not due
   abbrev pub AreTimed : ℕ → ServerLoop S F D → Type 0
@@ -168,26 +168,26 @@ module _ {S F D : Type 0} where
   AwaitVisit pass below d = AllBelow (ReceivedFew (before_visit pass)) below (timers_of d)
 
   -- the port of a timer was visited
-  abbrev pub WasVisited : Pass → ServerLoop S F D → Timer → Type 0
-  WasVisited passes.Ready d timer = IsRead d.journal.events timer × ReceivedFew MOST_AT_ONCE timer
-  WasVisited passes.Due d timer = IsTimed d.sockets.watch.now timer
+  abbrev pub WasVisited : Pass → ServerLoop S F D → List SocketEvent → Timer → Type 0
+  WasVisited passes.Ready d events timer = IsRead events timer × ReceivedFew MOST_AT_ONCE timer
+  WasVisited passes.Due d events timer = IsTimed d.sockets.watch.now timer
 
   -- the ports from this index on were visited
-  abbrev pub WereVisited : Pass → ℕ → ServerLoop S F D → Type 0
-  WereVisited pass from d = AllFrom (WasVisited pass d) from (timers_of d)
+  abbrev pub WereVisited : Pass → ℕ → ServerLoop S F D → List SocketEvent → Type 0
+  WereVisited pass from d events = AllFrom (WasVisited pass d events) from (timers_of d)
 
   -- the request port was read
-  abbrev pub HasTriedRequests : ServerLoop S F D → Type 0
-  HasTriedRequests d =
+  abbrev pub HasTriedRequests : ServerLoop S F D → List SocketEvent → Type 0
+  HasTriedRequests d events =
       (reads_of d || is_some d.pending) ≡ true
-      → was_tried d.sockets.requests.port d.journal.events ≡ true
+      → was_tried d.sockets.requests.port events ≡ true
 
   -- all is done that is to be done before a wait
-  pub record IsTended (d : ServerLoop S F D) : Type 0 where
+  pub record IsTended (d : ServerLoop S F D) (events : List SocketEvent) : Type 0 where
     pub settled : IsSettled d
-    pub read : AreRead 0 d
+    pub read : AreRead 0 d events
     pub timed : AreTimed 0 d
-    pub requests : HasTriedRequests d
+    pub requests : HasTriedRequests d events
 
   -- the longest wait of a server, in milliseconds
   abbrev pub millis_of : ServerLoop S F D → ℕ
@@ -240,7 +240,8 @@ woken_if time reported port = marked_if reported (set_if time port)
 
 module _ {S F D : Type 0} where
   -- the clock was read before a wait
-  pub record HasRead (old new : ServerLoop S F D) : Type 0 where
+  pub record HasRead (old : ServerLoop S F D) (before : List SocketEvent) (new : ServerLoop S F D)
+      (after : List SocketEvent) : Type 0 where
     pub requests : new.sockets.requests.port ≡ old.sockets.requests.port
     pub range : new.sockets.pool.range ≡ old.sockets.pool.range
     pub longest : new.longest ≡ old.longest
@@ -258,10 +259,12 @@ module _ {S F D : Type 0} where
     pub left : new.left ≡ old.left
     pub rounds : new.rounds ≡ old.rounds
     pub room : HasRoom old → HasRoom new
-    pub events : new.journal.events ≡ Watched new.sockets.watch.now ∷ old.journal.events
+    pub events : after ≡ Watched new.sockets.watch.now ∷ before
 
   -- a wait of so long was noted, which reported these ports
-  pub record HasSlept (millis : ℕ) (ports : List ℕ) (old new : ServerLoop S F D) : Type 0 where
+  pub record HasSlept (millis : ℕ) (ports : List ℕ) (old : ServerLoop S F D)
+      (before : List SocketEvent) (new : ServerLoop S F D) (after : List SocketEvent)
+      : Type 0 where
     pub requests : new.sockets.requests.port ≡ old.sockets.requests.port
     pub range : new.sockets.pool.range ≡ old.sockets.pool.range
     pub longest : new.longest ≡ old.longest
@@ -277,12 +280,12 @@ module _ {S F D : Type 0} where
     pub left : new.left ≡ old.left
     pub rounds : new.rounds ≡ old.rounds
     pub room : HasRoom old → HasRoom new
-    pub events : new.journal.events
-        ≡ Quiet (Woke ports) ∷ Quiet (Slept millis) ∷ old.journal.events
+    pub events : after ≡ Quiet (Woke ports) ∷ Quiet (Slept millis) ∷ before
 
   -- each provisional deadline is set by the time that was read before a wait, the ports that it
   -- reported are marked, it is counted, and the clock is read
-  pub record HasWoken (ports : List ℕ) (old new : ServerLoop S F D) : Type 0 where
+  pub record HasWoken (ports : List ℕ) (old : ServerLoop S F D) (before : List SocketEvent)
+      (new : ServerLoop S F D) (after : List SocketEvent) : Type 0 where
     pub requests : new.sockets.requests.port ≡ old.sockets.requests.port
     pub range : new.sockets.pool.range ≡ old.sockets.pool.range
     pub longest : new.longest ≡ old.longest
@@ -302,7 +305,7 @@ module _ {S F D : Type 0} where
     pub left : new.left ≡ old.left
     pub rounds : new.rounds ≡ old.rounds - 1
     pub room : HasRoom old → HasRoom new
-    pub events : new.journal.events ≡ Watched new.sockets.watch.now ∷ old.journal.events
+    pub events : after ≡ Watched new.sockets.watch.now ∷ before
 
   -- what a visit leaves of a port at this time: it was read, or it is not due unless it has closed
   abbrev pub leaves_read : PortState S F D → ℕ → Type 0
@@ -321,40 +324,43 @@ module _ {S F D : Type 0} where
   IsOpenAt index d = (t : Timer) → IsOpen d.server.held (slice_index_or (timers_of d) index t)
 
   -- the port at this index is removed, and the outcome of its transfer is printed
-  pub record ClosesPort (index : ℕ) (closed : Option Record) (old new : ServerLoop S F D)
+  pub record ClosesPort (index : ℕ) (closed : Option Record) (old : ServerLoop S F D)
+      (before : List SocketEvent) (new : ServerLoop S F D) (after : List SocketEvent)
       : Type 0 where
     pub port : Port TransferSocket
     pub is_port : port ≡ slice_index_or old.ports.items index port
     pub items : new.ports.items ≡ swap_remove old.ports.items index port
-    pub events : new.journal.events
-        ≡ close_reported port.socket.udp.port port.socket.peer closed old.journal.events
-    pub rest : new
-        ≡ record old { ports = new.ports; journal = new.journal; left = old.left - 1 }
+    pub events : after ≡ close_reported port.socket.udp.port port.socket.peer closed before
+    pub rest : new ≡ record old { ports = new.ports; left = old.left - 1 }
     pub room : HasRoom old → HasRoom new
 
   module _ (meaning : StoreMeaning S D) (sources : SourceMeaning F) where
     -- a visit of the port at this index
     pub record VisitsPort (leaves : PortState S F D → ℕ → Type 0) (index : ℕ)
-        (old new : ServerLoop S F D) : Type 0 where
+        (old : ServerLoop S F D) (before : List SocketEvent) (new : ServerLoop S F D)
+        (after : List SocketEvent) : Type 0 where
       pub port : Port TransferSocket
       pub next : Port TransferSocket
       pub within : index < length old.ports.items
       pub is_port : port ≡ slice_index_or old.ports.items index port
-      pub serves : OnlyServesPort meaning sources old.sockets.watch.now old.server port old.journal
-          new.server next new.journal
+      pub serves : OnlyServesPort meaning sources old.sockets.watch.now old.server port before
+          new.server next after
       pub leaves_it : leaves
-          (record { server = new.server; timer = timer_of next; events = new.journal.events })
+          (record { server = new.server; timer = timer_of next; events = after })
           old.sockets.watch.now
-      pub few : ReceivesAtMost MOST_AT_ONCE old.journal.events new.journal.events
+      pub few : ReceivesAtMost MOST_AT_ONCE before after
       pub items : new.ports.items ≡ slice_set old.ports.items index next
-      pub rest : new ≡ record old { server = new.server; ports = new.ports; journal = new.journal }
+      pub rest : new ≡ record old { server = new.server; ports = new.ports }
 
     -- the transfer at this index is removed if it has closed
-    pub data Finishes (index : ℕ) (old new : ServerLoop S F D) : Type 0 where
-      Stays : new ≡ old → IsOpenAt index old → Finishes index old new
+    pub data Finishes (index : ℕ) (old : ServerLoop S F D) (before : List SocketEvent)
+        (new : ServerLoop S F D) (after : List SocketEvent) : Type 0 where
+      Stays : new ≡ old → after ≡ before → IsOpenAt index old
+          → Finishes index old before new after
       Goes : ((buffer : List ℕ)
-          → (closes : Closes meaning sources (state_of buffer old) (state_of buffer new))
-          × (closes.index ≡ index)) → Finishes index old new
+          → (closes : Closes meaning sources (state_of buffer old before)
+          (state_of buffer new after)) × (closes.index ≡ index))
+          → Finishes index old before new after
 
     -- what is done for a pending datagram before it is answered or lost: a note, or the store is
     -- set
@@ -370,14 +376,16 @@ module _ {S F D : Type 0} where
           ⊎ LosesRequest meaning sources middle new
 
     -- the same, from one state of a server with this datagram pending to one without
-    abbrev pub AnswersPending : Endpoint → List ℕ → ServerLoop S F D → ServerLoop S F D → Type 0
-    AnswersPending from bytes old new =
-        Concludes (loop_state (Some (from, bytes)) old) (loop_state None new)
+    abbrev pub AnswersPending : Endpoint → List ℕ → ServerLoop S F D → List SocketEvent
+        → ServerLoop S F D → List SocketEvent → Type 0
+    AnswersPending from bytes old before new after =
+        Concludes (loop_state (Some (from, bytes)) old before) (loop_state None new after)
 
     -- a received datagram is answered or lost, or stays pending
     pub data HandlesReceived (from : Endpoint) (count : ℕ) (buffer : List ℕ)
-        (old new : ServerLoop S F D) : Type 0 where
-      Concluded : AnswersPending from (take count buffer) old new → new.pending ≡ None
-          → HandlesReceived from count buffer old new
-      Kept : new ≡ record old { pending = Some (from, count) }
-          → HandlesReceived from count buffer old new
+        (old : ServerLoop S F D) (before : List SocketEvent) (new : ServerLoop S F D)
+        (after : List SocketEvent) : Type 0 where
+      Concluded : AnswersPending from (take count buffer) old before new after → new.pending ≡ None
+          → HandlesReceived from count buffer old before new after
+      Kept : new ≡ record old { pending = Some (from, count) } → after ≡ before
+          → HandlesReceived from count buffer old before new after

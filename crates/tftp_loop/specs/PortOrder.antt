@@ -35,8 +35,10 @@ pub record IsOrderOf (range : PortRange) (order : PortOrder) : Type 0 where
   pub same : order.range ≡ range
   pub all : IsPermutation (ports_of range) (coming order)
 
--- some port comes, and each that comes is one of the range
+-- some port comes, each that comes is one of the range, and each of the range comes once before any
+-- again
 pub record HasPorts (order : PortOrder) : Type 0 where
+  pub all : IsPermutation (ports_of order.range) (coming order)
   pub some : 1 ≤ length (coming order)
   pub each : All (IsOneOf (Some order.range)) (coming order)
 

@@ -1,11 +1,12 @@
 -- The ports that transfers are bound to (RFC 1350, section 4).
-use Rattle.std.specs.Prelude.{ℕ, ◌≡◌, List, ◌∷◌, Option, Some, None, IfSome, Result, Ok, Err}
+use Rattle.std.specs.Prelude.{ℕ, ◌≡◌, ⊤, true, List, [], ◌∷◌, All, Option, Some, None, IfSome}
 use Rattle.std.specs.Prelude.{option_map, min}
 use Rattle.tftp_sockets.specs.Journal.{SocketEvent}
 use Rattle.tftp_sockets.specs.Journal.SocketEvent.{Quiet}
 use Rattle.tftp_sockets.specs.Journal.QuietEvent.{New_socket, No_socket}
+use Rattle.tftp_sockets.specs.Quiet.{is_among}
 use Rattle.tftp_sockets.specs.declared.sockets.ServerSocket.{ServerSocket}
-use Rattle.tftp_loop.specs.PortOrder.{HasPorts, IsOneOf, count_of}
+use Rattle.tftp_loop.specs.PortOrder.{HasPorts, IsOneOf, count_of, ports_of}
 use Rattle.tftp_loop.specs.declared.port_order.PortOrder.{PortOrder}
 use Rattle.tftp_loop.specs.Run.{Run}
 use Rattle.tftp_loop.specs.declared.port_order.PortRange.{PortRange}
@@ -45,11 +46,23 @@ pub record TriesPort (range : Option PortRange) (before after : List SocketEvent
 abbrev pub TriesPorts : Option PortRange → List SocketEvent → List SocketEvent → Type 0
 TriesPorts range = Run (TriesPort range)
 
--- and of one at least
+-- the ports to which no socket could be bound by the newest events, one after the other
+abbrev pub missed_last : List SocketEvent → List ℕ
+missed_last (Quiet (No_socket port) ∷ events) = port ∷ missed_last events
+missed_last events = []
+
+-- no socket could be bound to any port of the range, if there is one, by the newest events
+abbrev pub AreAllMissed : Option PortRange → List SocketEvent → Type 0
+AreAllMissed None events = ⊤
+AreAllMissed (Some range) events =
+    All (λ port. is_among port (missed_last events) ≡ true) (ports_of range)
+
+-- and of one at least, or of each of the range, if there is one
 pub record TriesInVain (range : Option PortRange) (before after : List SocketEvent) : Type 0 where
   pub between : List SocketEvent
   pub earlier : TriesPorts range before between
   pub last : TriesPort range between after
+  pub missed : AreAllMissed range after
 
 -- from one journal to the other a new socket is bound to this port, after others were tried
 pub record Binds (range : Option PortRange) (before after : List SocketEvent) (port : ℕ)
@@ -64,9 +77,7 @@ abbrev pub Tries : Option PortRange → List SocketEvent → List SocketEvent �
 Tries range before after None = TriesInVain range before after
 Tries range before after (Some socket) = Binds range before after socket.port
 
--- the journal after a bind to the port, which may be in use
-abbrev pub after_bind : {E : Type 0} → ℕ → Result (Option ServerSocket) E → List SocketEvent
-    → List SocketEvent
-after_bind port (Ok (Some socket)) events = Quiet (New_socket socket.port) ∷ events
-after_bind port (Ok None) events = Quiet (No_socket port) ∷ events
-after_bind port (Err error) events = Quiet (No_socket port) ∷ events
+-- the journal after a bind to the port, which made this socket, or none
+abbrev pub after_bind : ℕ → Option ServerSocket → List SocketEvent → List SocketEvent
+after_bind port (Some socket) events = Quiet (New_socket socket.port) ∷ events
+after_bind port None events = Quiet (No_socket port) ∷ events

@@ -30,12 +30,13 @@ use Rattle.tftp_lines.specs.declared.printed.Printed.TheVariants.{Closed}
 use Rattle.tftp_sockets.specs.Journal.{SocketEvent, QuietEvent, replied, answered}
 use Rattle.tftp_sockets.specs.Journal.SocketEvent.{Received, Watched, Elapsed, Printed, Quiet}
 use Rattle.tftp_sockets.specs.Journal.QuietEvent.{Empty, Failed, New_socket, No_socket}
-use Rattle.tftp_sockets.specs.Journal.QuietEvent.{Out_of_memory}
+use Rattle.tftp_sockets.specs.Journal.QuietEvent.{Out_of_memory, Drain_signalled}
 use Rattle.tftp_sockets.specs.Journal.QuietEvent.{Slept, Woke}
 use Rattle.tftp_sockets.specs.Quiet.{has_woken, is_among, was_tried}
 use Rattle.tftp_loop.specs.MayOpen.{LacksMemoryToOpen, MayOpen}
 use Rattle.tftp_loop.specs.OnlyRequests.{IsHandledBy, begins_as_request}
 use Rattle.tftp_loop.specs.PortOrder.{IsOneOf}
+use Rattle.tftp_loop.specs.PortPool.{AreAllMissed}
 use Rattle.tftp_loop.specs.declared.drain.Drain.{Drain}
 use Rattle.tftp_loop.specs.declared.drain.Drain.TheVariants.{Never, Awaited, Begun}
 use Rattle.tftp_loop.specs.declared.port_order.PortRange.{PortRange}
@@ -394,9 +395,10 @@ module _ {S F D : Type 0} (meaning : StoreMeaning S D) (sources : SourceMeaning 
     -- that it was
     No_memory_to_open : LacksMemoryToOpen meaning sources old.server from bytes
         → IsLast Out_of_memory old.events → RequestLoss
-    -- it may open a transfer, and the last event is that no socket could be bound to a port
+    -- it may open a transfer, and the last event is that no socket could be bound to a port; if
+    -- there is a range, none could be bound to any port of it by the newest events
     No_port : MayOpen old.server from bytes → (port : ℕ) → IsLast (No_socket port) old.events
-        → RequestLoss
+        → AreAllMissed old.range old.events → RequestLoss
     -- it may open a transfer, and the last event is that the system bound a new socket to the port
     -- of another, or to the request port
     Same_port : MayOpen old.server from bytes → (port : ℕ) → IsLast (New_socket port) old.events
@@ -620,10 +622,13 @@ module _ {S F D : Type 0} (meaning : StoreMeaning S D) (sources : SourceMeaning 
       events = Printed (line_text (Closed timer.port timer.peer.port outcome)) ∷ old.events;
     }
 
-  -- the signal to drain was given: from now on no new request is taken
+  -- a look found that the signal to drain was given: from now on no new request is taken
   pub record BeginsDrain : Type 0 where
     pub awaited : old.drain ≡ Awaited
-    pub is : new ≡ record old { drain = Begun }
+    pub is : new ≡ record old {
+      drain = Begun;
+      events = Quiet Drain_signalled ∷ old.events;
+    }
 
   -- the steps of the loop
   pub data LoopStep : Type 0 where

@@ -10,7 +10,7 @@ use Rattle.tftp_sockets.specs.Journal.{SocketEvent}
 use Rattle.tftp_sockets.specs.Journal.SocketEvent.{Printed}
 use Rattle.tftp_loop.specs.Run.{Run}
 use Rattle.tftp_loop.specs.Steps.{LoopStep, LoopState, at_start}
-use Rattle.tftp_loop.specs.LoopStates.{FailsToBind, StopsServing}
+use Rattle.tftp_loop.specs.LoopStates.{FailsToBind, StopsServing, noted_at_end}
 use Rattle.tftp_loop.specs.declared.drain.Drain.TheVariants.{Begun}
 use Rattle.tftp_loop.specs.declared.serving.LoopConfig.{LoopConfig}
 use Rattle.tftp_loop.specs.declared.serving.LoopFault.{LoopFault}
@@ -31,10 +31,12 @@ module _ {S F D : Type 0} where
   abbrev pub IsOver : LoopState S F D → Type 0
   IsOver last = (last.left ≡ 0) ⊎ ((last.rounds ≡ 0) ⊎ HasDrained last)
 
-  -- how a run with this result ended: without a fault it is over, and with one it stopped for it
-  abbrev pub EndsBy : {A : Type 0} → Result A LoopFault → LoopState S F D → Type 0
-  EndsBy (Ok done) last = IsOver last
-  EndsBy (Err fault) last = StopsServing fault last.events
+  -- how a run with this result ended, from this journal on: without a fault it is over, and with
+  -- one it stopped for it
+  abbrev pub EndsBy : {A : Type 0} → List SocketEvent → Result A LoopFault → LoopState S F D
+      → Type 0
+  EndsBy before (Ok done) last = IsOver last
+  EndsBy before (Err fault) last = StopsServing before fault last.events
 
 -- only a port that could not be bound ended it
 abbrev pub EndsUnbound : {A : Type 0} → Result A LoopFault → List SocketEvent → List SocketEvent
@@ -50,8 +52,8 @@ module _ {S F D A : Type 0} (meaning : StoreMeaning S D) (sources : SourceMeanin
       (before after : List SocketEvent) : Type 0 where
     pub last : LoopState S F D
     pub run : Run (LoopStep meaning sources) (at_start config port server before) last
-    pub noted : after ≡ last.events
-    pub ends : EndsBy result last
+    pub noted : after ≡ noted_at_end result last.events
+    pub ends : EndsBy before result last
 
   -- a whole run of this configuration, from one journal to the other: the request port could not be
   -- bound; or it is at the address and the port that it was to listen at, any port for 0, its line

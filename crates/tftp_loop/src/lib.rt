@@ -2,16 +2,16 @@
 //! and 4).
 //!
 //! It has no packet format, no protocol rule and no files of its own. All that it sends and prints
-//! is a step of its server: the clause of [`serve`] states this of the [`Journal`].
+//! is a step of its server: the clause of [`serve`] states this of the history of its device, a
+//! [`ServerUdp`].
 //!
 //! Begin with [`serve`].
 //!
-//! [`Journal`]: tftp_sockets::Journal
+//! [`ServerUdp`]: tftp_sockets::ServerUdp
 #![tactic(auto)]
 
 mod datagram;
 mod drain;
-mod error_lines;
 pub mod laws;
 mod log;
 mod log_entry;
@@ -22,13 +22,9 @@ mod report;
 mod requests;
 mod reserved;
 mod server_loop;
-mod server_udp;
 mod serving;
 mod sockets;
 mod transfer_port;
 
-pub use drain::{DrainSignal, NoSignal};
-pub use error_lines::{ErrorLines, WholeLines};
 pub use port_order::{PortOrder, PortRange};
-pub use server_udp::{Load, ServerUdp};
 pub use serving::{Ending, LoopConfig, LoopFault, serve};

@@ -4,12 +4,10 @@ ghost use Rattle.std.specs.Prelude.{◌≡◌, ◌≤◌, [], length, IfOk, Matc
 ghost use Rattle.tftp_loop.specs.PortOrder.{IsOrderOf, UsesNext, coming, coming_from};
 ghost use Rattle.tftp_loop.specs.PortOrder.{count_of, ports_of};
 
-use rand::make_rng;
-use rand::rngs::StdRng;
 use rand::seq::SliceRandom;
 use std::alloc::{AllocError, Global};
 use std::io;
-use std::random::RandomSource;
+use tftp_sockets::ServerUdp;
 
 /// A range of ports, from the first to the last.
 #[derive(Clone, Copy)]
@@ -39,10 +37,10 @@ pub struct PortOrder {
 impl PortOrder {
     /// The ports of the range in a random order. It fails if the system gives no random bytes, or
     /// when out of memory.
-    pub fn new<R: RandomSource>(rt: &R, alloc: Global, range: PortRange) -> io::Result<PortOrder>
+    pub fn new<N: ServerUdp>(net: &N, alloc: Global, range: PortRange) -> io::Result<PortOrder>
         ensures { IfOk result (IsOrderOf range) }
     {
-        let mut rng: StdRng = make_rng(rt)?;
+        let mut rng = net.rng()?;
         let mut ports = listed(alloc, range)?;
         ports.as_mut_slice().shuffle(&mut rng);
         Ok(PortOrder {

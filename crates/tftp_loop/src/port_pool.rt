@@ -7,13 +7,12 @@ ghost use Rattle.tftp_loop.specs.PortPool.{IsOfPool, Tries, after_bind, most_of}
 ghost use Rattle.tftp_loop.specs.PortsInTurn.{TriesInTurn};
 
 use crate::port_order::{PortOrder, PortRange};
-use crate::server_udp::ServerUdp;
 use std::alloc::Global;
-use std::io::{self, ErrorKind};
+use std::io;
 use std::marker::Model;
 use tftp_ends::Endpoint;
 use tftp_lines::{Reason, reason_of};
-use tftp_sockets::{Journal, ServerSocket};
+use tftp_sockets::{ServerSocket, ServerUdp};
 
 /// The ports of transfers. Contracts see their address and their range.
 #[derive(Drop)]
@@ -65,22 +64,18 @@ impl PortPool {
         }
     }
 
-    /// Binds a port: the next of the order that is not in use, if there is an order. `None` if that
-    /// fails: at least one port was tried, and each failure is noted. If no transfer opens there the
+    /// Binds a port: the next of the order to which the system binds a socket, if there is an order.
+    /// `None` if that fails: each port of the order was tried, and each failure is noted. If no transfer opens there the
     /// port comes again after all others, as one that was used.
-    pub(crate) fn bind_port<N: ServerUdp>(
-        &mut self,
-        net: &N,
-        journal: &mut Journal,
-    ) -> Option<ServerSocket>
+    pub(crate) fn bind_port<N: ServerUdp>(&mut self, net: &mut N) -> Option<ServerSocket>
         ensures same { self.new ≡ self.old }
         ensures port { IfSome result (IsOfPool self.old) }
-        ensures tries { Tries self.old.range journal.old.events journal.new.events result }
+        ensures tries { Tries self.old.range (N.log net.old) (N.log net.new) result }
     {
         let ip = self.ip;
         match &mut self.order {
-            Some(order) => bind_next(net, journal, ip, order, &mut self.bind_error),
-            None => bind_any(net, journal, ip, &mut self.bind_error),
+            Some(order) => bind_next(net, ip, order, &mut self.bind_error),
+            None => bind_any(net, ip, &mut self.bind_error),
         }
     }
 
@@ -113,33 +108,24 @@ fn ordered<N: ServerUdp>(net: &N, alloc: Global, range: PortRange) -> io::Result
     ensures range { IfOk result (λ order. order.range ≡ range) }
     ensures ports { IfOk result HasPorts }
 {
-    net.order(alloc, range)
+    PortOrder::new(net, alloc, range)
 }
 
 /// Binds a port of the system's choice. `None` if the system refuses.
 fn bind_any<N: ServerUdp>(
-    net: &N,
-    journal: &mut Journal,
+    net: &mut N,
     ip: [u8; 4],
     bind_error: &mut Option<Reason>,
 ) -> Option<ServerSocket>
     ensures ip { IfSome result (λ socket. socket.ip ≡ ip) }
-    ensures tries { Tries None journal.old.events journal.new.events result }
+    ensures tries { Tries None (N.log net.old) (N.log net.new) result }
 {
-    match net.bind_noted(journal, Endpoint { ip, port: 0 }) {
-        Ok(socket) => Some(socket),
-        Err(error) => {
-            *bind_error = Some(reason_of(&error));
-            None
-        }
-    }
+    bind_at(net, ip, 0, bind_error)
 }
 
-/// Binds the next port of the order that is not in use. `None` if all are, or if the system refuses
-/// for another reason.
+/// Binds the next port of the order to which the system binds a socket. `None` if it does to none.
 fn bind_next<N: ServerUdp>(
-    net: &N,
-    journal: &mut Journal,
+    net: &mut N,
     ip: [u8; 4],
     order: &mut PortOrder,
     bind_error: &mut Option<Reason>,
@@ -148,16 +134,13 @@ fn bind_next<N: ServerUdp>(
     ensures range { order.new.range ≡ order.old.range }
     ensures ports { HasPorts order.new }
     ensures bound { IfSome result (IsOfPool (record { ip = ip; range = Some order.old.range })) }
-    ensures tries { Tries (Some order.old.range) journal.old.events journal.new.events result }
+    ensures tries { Tries (Some order.old.range) (N.log net.old) (N.log net.new) result }
     ensures turns { TriesInTurn ip order.old order.new result }
 {
     let mut left = order.len();
     loop {
         let port = next_port(order)?;
-        let Ok(bound) = bind_unused(net, journal, ip, port, bind_error) else {
-            return None;
-        };
-        if let Some(socket) = bound {
+        if let Some(socket) = bind_at(net, ip, port, bind_error) {
             return Some(socket);
         }
         if left <= 1 {
@@ -179,27 +162,22 @@ fn next_port(order: &mut PortOrder) -> Option<u16>
     order.next()
 }
 
-/// Binds a port. `None` if it is in use.
-fn bind_unused<N: ServerUdp>(
-    net: &N,
-    journal: &mut Journal,
+/// Binds a socket to the port; the system chooses one for 0. `None` if the system refuses.
+fn bind_at<N: ServerUdp>(
+    net: &mut N,
     ip: [u8; 4],
     port: u16,
     bind_error: &mut Option<Reason>,
-) -> io::Result<Option<ServerSocket>>
-    ensures bound { IfOk result (λ bound. IfSome bound (λ socket.
-        IsBoundTo (record { ip = ip; port = port }) socket.ip socket.port)) }
-    ensures noted { journal.new.events ≡ after_bind port result journal.old.events }
+) -> Option<ServerSocket>
+    ensures bound { IfSome result (λ socket.
+        IsBoundTo (record { ip = ip; port = port }) socket.ip socket.port) }
+    ensures noted { N.log net.new ≡ after_bind port result (N.log net.old) }
 {
-    match net.bind_noted(journal, Endpoint { ip, port }) {
-        Ok(socket) => Ok(Some(socket)),
+    match net.bind_noted(Endpoint { ip, port }) {
+        Ok(socket) => Some(socket),
         Err(error) => {
             *bind_error = Some(reason_of(&error));
-            if error.kind() == ErrorKind::AddrInUse {
-                Ok(None)
-            } else {
-                Err(error)
-            }
+            None
         }
     }
 }

@@ -1,7 +1,8 @@
 //! A visit of the port of a transfer: its datagrams, and its timeout.
 
 ghost use Rattle.std.specs.Prelude.{◌≡◌, ◌≤◌, ◌⊎◌, IsSome, MatchOption, IfSome};
-ghost use Rattle.std.specs.Prelude.{◌≢◌, ◌<◌, ◌+◌, false, ℕ, None};
+ghost use Rattle.std.specs.Prelude.{◌≢◌, ◌<◌, ◌+◌, false, length, ℕ, None};
+ghost use Rattle.tftp_sockets.specs.declared.address.TheConstants.{DATAGRAM_BUFFER};
 ghost use Rattle.tftp_server.specs.State.{at, is_open, taken_of};
 ghost use Rattle.tftp_loop.specs.Fair.{ReceivesAtMost};
 ghost use Rattle.tftp_loop.specs.PortVisit.{AnswersReceived, HasStatus, IsTried, ServesVisit};
@@ -21,7 +22,7 @@ use crate::transfer_port::{
 use tftp_ends::Step;
 use tftp_lines::Reason;
 use tftp_server::{Server, Store};
-use tftp_sockets::{Journal, Receipt, ServerSocket, is_due};
+use tftp_sockets::{Receipt, ServerSocket, ServerUdp, is_due};
 
 /// The most datagrams received from one socket in a visit, so that a flood at one port does not
 /// starve the others.
@@ -86,27 +87,28 @@ pub(crate) fn is_visited(pass: Pass, now: u64, port: &TransferPort) -> bool
 }
 
 /// Visits the port of a transfer.
-pub(crate) fn visit_port<S: Store>(
+pub(crate) fn visit_port<N: ServerUdp, S: Store>(
     server: &mut Server<S>,
     port: &mut TransferPort,
-    journal: &mut Journal,
+    net: &mut N,
     moment: Moment,
     pass: Pass,
     buffer: &mut [u8],
 ) -> PortStatus
+    requires long { DATAGRAM_BUFFER ≤ length buffer.old }
     requires due { port.old.look_at ≤ port.old.socket.deadline }
     requires few { port.old.socket.received ≤ MOST_AT_ONCE }
     ensures serves { OnlyServesPort S.meaning S.Source.meaning moment.now server.old port.old
-        journal.old server.new port.new journal.new }
-    ensures leaves { leaves_by pass (at_port server.new port.new journal.new) moment.now }
-    ensures received { ReceivesAtMost MOST_AT_ONCE journal.old.events journal.new.events }
-    ensures open { UnlessClosed result (StaysOpen (at_port server.old port.old journal.old)
-        (at_port server.new port.new journal.new)) }
+        (N.log net.old) server.new port.new (N.log net.new) }
+    ensures leaves { leaves_by pass (at_port server.new port.new (N.log net.new)) moment.now }
+    ensures received { ReceivesAtMost MOST_AT_ONCE (N.log net.old) (N.log net.new) }
+    ensures open { UnlessClosed result (StaysOpen (at_port server.old port.old (N.log net.old))
+        (at_port server.new port.new (N.log net.new))) }
 {
     let mut visit = PortVisit {
         server,
         port,
-        journal,
+        net,
         now: moment.now,
         active: moment.active,
     };
@@ -118,23 +120,26 @@ pub(crate) fn visit_port<S: Store>(
 
 /// A visit of the port of a transfer: what its steps read and change.
 #[derive(Drop)]
-struct PortVisit<'a, S: Store> {
+struct PortVisit<'a, N, S: Store> {
     server: &'a mut Server<S>,
     port: &'a mut TransferPort,
-    journal: &'a mut Journal,
+    net: &'a mut N,
     /// The time of the watch, in milliseconds.
     now: u64,
     /// The number of active transfers.
     active: usize,
 }
 
-impl<S: Store> PortVisit<'_, S> {
+impl<N: ServerUdp, S: Store> PortVisit<'_, N, S> {
     /// Handles the datagrams at the port. Without progress, delivers the timeout if that is due.
     fn take_due(&mut self, buffer: &mut [u8]) -> PortStatus
-        requires { self.old.port.now.socket.received ≤ MOST_AT_ONCE }
-        ensures serves { ServesVisit S.meaning S.Source.meaning MOST_AT_ONCE self.old self.new }
-        ensures timed { leaves_timed (at_visit self.new) self.new.now }
-        ensures open { UnlessClosed result (StaysOpen (at_visit self.old) (at_visit self.new)) }
+        requires few { self.old.port.now.socket.received ≤ MOST_AT_ONCE }
+        requires long { DATAGRAM_BUFFER ≤ length buffer.old }
+        ensures serves { ServesVisit N.log S.meaning S.Source.meaning MOST_AT_ONCE self.old
+            self.new }
+        ensures timed { leaves_timed (at_visit N.log self.new) self.new.now }
+        ensures open { UnlessClosed result (StaysOpen (at_visit N.log self.old)
+            (at_visit N.log self.new)) }
     {
         let status = self.take_datagrams(buffer);
         if status == PortStatus::Closed {
@@ -148,14 +153,17 @@ impl<S: Store> PortVisit<'_, S> {
 
     /// Receives datagrams and handles them, until the transfer advances or closes, or none is left.
     fn take_datagrams(&mut self, buffer: &mut [u8]) -> PortStatus
-        requires { self.old.port.now.socket.received ≤ MOST_AT_ONCE }
-        ensures serves { ServesVisit S.meaning S.Source.meaning MOST_AT_ONCE self.old self.new }
+        requires few { self.old.port.now.socket.received ≤ MOST_AT_ONCE }
+        requires long { DATAGRAM_BUFFER ≤ length buffer.old }
+        ensures serves { ServesVisit N.log S.meaning S.Source.meaning MOST_AT_ONCE self.old
+            self.new }
         ensures status { HasStatus result self.new }
-        ensures tried { IsTried self.new }
-        ensures open { UnlessClosed result (StaysOpen (at_visit self.old) (at_visit self.new)) }
+        ensures tried { IsTried N.log self.new }
+        ensures open { UnlessClosed result (StaysOpen (at_visit N.log self.old)
+            (at_visit N.log self.new)) }
     {
         for count in 0..MOST_AT_ONCE {
-            match self.port.socket.udp.receive(self.journal, buffer) {
+            match self.net.receive(&self.port.socket.udp, buffer) {
                 Receipt::Datagram(from, length) => {
                     let bytes = &buffer[..length];
                     match self.answer(Datagram { from, bytes }) {
@@ -181,12 +189,13 @@ impl<S: Store> PortVisit<'_, S> {
     /// its timeouts run out. It is lost when out of memory, or if no transfer is open.
     fn answer(&mut self, datagram: Datagram<'_>) -> PortStatus
         requires { self.old.port.now.socket.received < most_in_round }
-        ensures answers { AnswersReceived S.meaning S.Source.meaning datagram.entry self.old
+        ensures answers { AnswersReceived N.log S.meaning S.Source.meaning datagram.entry self.old
             self.new }
         ensures status { HasStatus result self.new }
         ensures counted { self.new.port.now.socket.received
             ≡ self.old.port.now.socket.received + 1 }
-        ensures open { UnlessClosed result (StaysOpen (at_visit self.old) (at_visit self.new)) }
+        ensures open { UnlessClosed result (StaysOpen (at_visit N.log self.old)
+            (at_visit N.log self.new)) }
     {
         if self.port.socket.age_limit < self.now {
             note_received(self.port);
@@ -200,7 +209,7 @@ impl<S: Store> PortVisit<'_, S> {
             return PortStatus::Unfinished;
         };
         let answer = self.server.bytes_of(tid, outgoing).unwrap_or_default();
-        let sent = reply(&socket.udp, self.journal, step.to, answer);
+        let sent = reply(self.net, &socket.udp, step.to, answer);
         keep_unsent(&socket.log_entry, sent);
         add_step(&mut socket.log_entry, bytes, &step, answer);
         note_step(self.port, self.now, &step);
@@ -210,11 +219,12 @@ impl<S: Store> PortVisit<'_, S> {
 
     /// Delivers the timeout, if it is due.
     fn time_out_if_due(&mut self) -> PortStatus
-        requires tried { IsTried self.old }
+        requires tried { IsTried N.log self.old }
         requires look { self.old.port.now.look_at ≡ self.old.port.now.socket.deadline }
-        ensures serves { ServesVisit S.meaning S.Source.meaning 0 self.old self.new }
+        ensures serves { ServesVisit N.log S.meaning S.Source.meaning 0 self.old self.new }
         ensures timed { IsTimed self.new.now (timer_of self.new.port.now) }
-        ensures open { UnlessClosed result (StaysOpen (at_visit self.old) (at_visit self.new)) }
+        ensures open { UnlessClosed result (StaysOpen (at_visit N.log self.old)
+            (at_visit N.log self.new)) }
     {
         if is_due(self.now, self.port.socket.deadline) {
             self.take_timeout()
@@ -226,18 +236,19 @@ impl<S: Store> PortVisit<'_, S> {
     /// Delivers the timeout, and sends the datagram of its step.
     fn take_timeout(&mut self) -> PortStatus
         requires due { self.old.port.now.socket.deadline ≤ self.old.now }
-        requires tried { IsTried self.old }
+        requires tried { IsTried N.log self.old }
         requires look { self.old.port.now.look_at ≡ self.old.port.now.socket.deadline }
-        ensures serves { ServesVisit S.meaning S.Source.meaning 0 self.old self.new }
+        ensures serves { ServesVisit N.log S.meaning S.Source.meaning 0 self.old self.new }
         ensures timer { timer_of self.new.port.now
             ≡ restarted self.new.now (timer_of self.old.port.now) }
-        ensures open { UnlessClosed result (StaysOpen (at_visit self.old) (at_visit self.new)) }
+        ensures open { UnlessClosed result (StaysOpen (at_visit N.log self.old)
+            (at_visit N.log self.new)) }
     {
         restart(self.port, self.now);
         let number = self.port.socket.udp.port();
-        self.journal.elapsed(number, self.now);
+        self.net.elapsed(number, self.now);
         let socket = &self.port.socket;
-        let step = time_out(self.server, &socket.udp, &socket.log_entry, self.journal);
+        let step = time_out(self.server, &socket.udp, &socket.log_entry, self.net);
         status_of_timeout(step)
     }
 }
@@ -314,26 +325,26 @@ fn status_of(step: &Step) -> PortStatus
 
 /// Makes the timeout step of the transfer at the socket's port, and sends its datagram. `None` if
 /// no transfer is open.
-fn time_out<S: Store>(
+fn time_out<N: ServerUdp, S: Store>(
     server: &mut Server<S>,
     udp: &ServerSocket,
     log_entry: &Option<LogEntry>,
-    journal: &mut Journal,
+    net: &mut N,
 ) -> Option<Step>
     ensures steps { MatchOption result
         ((is_open (at udp.now.port server.old.held) ≡ false) × (server.new ≡ server.old)
-        × (journal.new.events ≡ journal.old.events))
-        (λ step. AnswersTimeout udp.now.port server.old server.new journal.old.events
-        journal.new.events step) }
+        × (N.log net.new ≡ N.log net.old))
+        (λ step. AnswersTimeout udp.now.port server.old server.new (N.log net.old)
+        (N.log net.new) step) }
     ensures open { IsUnclosedBy result udp.now.port server.old.held server.new.held }
-    ensures received { ReceivesAtMost 0 journal.old.events journal.new.events }
+    ensures received { ReceivesAtMost 0 (N.log net.old) (N.log net.new) }
 {
     let tid = udp.port();
     let Ok((step, outgoing)) = server.handle_timeout(tid) else {
         return None;
     };
     let answer = server.bytes_of(tid, outgoing).unwrap_or_default();
-    let sent = reply(udp, journal, step.to, answer);
+    let sent = reply(net, udp, step.to, answer);
     keep_unsent(log_entry, sent);
     count_again(log_entry, &step);
     Some(step)

@@ -13,7 +13,7 @@ use std::alloc::Global;
 use tftp_ends::{Outcome, Record};
 use tftp_lines::{LogLine, Lost, Printed, Reason, RequestLine};
 use tftp_server::Server;
-use tftp_sockets::{Journal, print_line};
+use tftp_sockets::ServerUdp;
 use tftp_store::ServedStore;
 
 /// Logs the line of the request port, if there is a log: what standard output has may go nowhere.
@@ -168,18 +168,17 @@ fn let_go<S: ServedStore<Reason>>(store: &S, closed: &Record, mut draft: S::Draf
 
 /// Prints the outcome of a transfer, and logs its close. `reading` is the newest reading of the
 /// clock, and `reason` the system's reason for refusing the last file call.
-pub(crate) fn report_close<P: Print + Eprint>(
-    rt: &P,
-    journal: &mut Journal,
+pub(crate) fn report_close<N: ServerUdp + Eprint>(
+    net: &mut N,
     port: &TransferPort,
     closed: Option<Record>,
     reading: u64,
     reason: Option<Reason>,
 ) -> Result<(), LoopFault>
-    ensures events { journal.new.events
+    ensures events { N.log net.new
         ≡ close_reported port.now.socket.udp.port port.now.socket.peer closed
-        journal.old.events }
-    ensures fault { IfErr result (λ fault. FailsToPrint fault journal.new.events) }
+        (N.log net.old) }
+    ensures fault { IfErr result (λ fault. FailsToPrint fault (N.log net.new)) }
 {
     let Some(record) = closed else {
         return Ok(());
@@ -187,13 +186,13 @@ pub(crate) fn report_close<P: Print + Eprint>(
     let Some(outcome) = record.outcome else {
         return Ok(());
     };
-    log_closed(rt, port, reading, outcome, reason);
+    log_closed(&*net, port, reading, outcome, reason);
     let line = Printed::Closed {
         port: port.socket.udp.port(),
         peer: port.socket.peer.port,
         outcome,
     };
-    match print_line(rt, journal, line) {
+    match net.print_line(line) {
         Ok(()) => Ok(()),
         Err(_) => Err(LoopFault::Output),
     }

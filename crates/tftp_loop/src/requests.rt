@@ -7,6 +7,7 @@ ghost use Rattle.std.specs.Prelude.{◌+◌, ◌*◌, if◌then◌else◌};
 ghost use Rattle.tftp_server.specs.Port.{asks_store};
 ghost use Rattle.tftp_server.specs.Request.{Admits};
 ghost use Rattle.tftp_server.specs.State.{at};
+ghost use Rattle.tftp_sockets.specs.declared.address.TheConstants.{DATAGRAM_BUFFER};
 ghost use Rattle.tftp_sockets.specs.Journal.SocketEvent.{Quiet};
 ghost use Rattle.tftp_sockets.specs.Journal.QuietEvent.{Out_of_memory};
 ghost use Rattle.tftp_loop.specs.PortOrder.{IsOneOf};
@@ -22,13 +23,12 @@ use crate::datagram::Datagram;
 use crate::log_entry::{LogEntry, reason_unasked};
 use crate::report::{Refusal, log_lost, log_refused, log_unopened, log_unsent_answer};
 use crate::server_loop::ServerLoop;
-use crate::server_udp::{Load, ServerUdp};
 use crate::sockets::Sockets;
 use crate::transfer_port::{TransferPort, TransferSocket, age_limit, next_look, reply};
 use tftp_ends::{DEFAULT_INTERVAL, Endpoint};
 use tftp_lines::{Lost, Reason};
 use tftp_server::{Admission, Opened, Server, Store};
-use tftp_sockets::{Port, Receipt, ServerSocket, deadline};
+use tftp_sockets::{Load, Port, Receipt, ServerSocket, ServerUdp, deadline};
 use tftp_store::ServedStore;
 
 /// The port of a datagram whose sender has none, and gets no answer (RFC 768).
@@ -42,31 +42,32 @@ impl<S: ServedStore<Reason> + Drop> ServerLoop<S> {
     /// Handles the pending datagram of the request port, and then the next one, if there is one and
     /// the server does not drain. It is the only one of its round, since an opening asks the store
     /// while transfers wait.
-    pub(crate) fn take_request<N: ServerUdp + Eprint>(&mut self, rt: &N, request: &mut [u8])
+    pub(crate) fn take_request<N: ServerUdp + Eprint>(&mut self, net: &mut N, request: &mut [u8])
+        requires long { DATAGRAM_BUFFER ≤ length request.old }
         requires settled { IsSettled self.old }
         requires room { HasRoom self.old }
         requires first { self.old.sockets.has_received ≡ false }
-        ensures works { WorksRound S.meaning S.Source.meaning request.old self.old request.new
-            self.new }
+        ensures works { WorksRound S.meaning S.Source.meaning request.old self.old
+            (N.log net.old) request.new self.new (N.log net.new) }
         ensures settled { IsSettled self.old → IsSettled self.new }
-        ensures tried { HasTriedRequests self.new }
+        ensures tried { HasTriedRequests self.new (N.log net.new) }
         ensures few { HasFew MOST_AT_ONCE self.old → HasFew MOST_AT_ONCE self.new }
         ensures rounds { self.new.rounds ≡ self.old.rounds }
         ensures room { HasRoom self.new }
     {
-        self.take_pending(rt, request);
+        self.take_pending(net, request);
         if !self.reads_requests() {
             return;
         }
-        self.receive_request(rt, request);
+        self.receive_request(net, request);
     }
 
     /// Handles the pending datagram of the request port, if there is one.
-    fn take_pending<N: ServerUdp + Eprint>(&mut self, rt: &N, request: &[u8])
+    fn take_pending<N: ServerUdp + Eprint>(&mut self, net: &mut N, request: &[u8])
         requires settled { IsSettled self.old }
         requires room { HasRoom self.old }
-        ensures works { WorksRound S.meaning S.Source.meaning request.now self.old request.now
-            self.new }
+        ensures works { WorksRound S.meaning S.Source.meaning request.now self.old
+            (N.log net.old) request.now self.new (N.log net.new) }
         ensures settled { IsSettled self.old → IsSettled self.new }
         ensures pending { self.new.pending ≡ None }
         ensures few { HasFew MOST_AT_ONCE self.old → HasFew MOST_AT_ONCE self.new }
@@ -78,54 +79,55 @@ impl<S: ServedStore<Reason> + Drop> ServerLoop<S> {
             return;
         };
         let bytes = &request[..count.min(request.len())];
-        self.answer_pending(rt, Datagram { from, bytes });
+        self.answer_pending(net, Datagram { from, bytes });
         self.pending = None;
     }
 
     /// Answers the pending datagram of the request port.
-    fn answer_pending<N: ServerUdp + Eprint>(&mut self, rt: &N, datagram: Datagram<'_>)
+    fn answer_pending<N: ServerUdp + Eprint>(&mut self, net: &mut N, datagram: Datagram<'_>)
         requires settled { IsSettled self.old }
         requires room { HasRoom self.old }
         ensures answers { AnswersPending S.meaning S.Source.meaning datagram.entry.from
-            datagram.entry.bytes.now self.old self.new }
+            datagram.entry.bytes.now self.old (N.log net.old) self.new (N.log net.new) }
         ensures rounds { self.new.rounds ≡ self.old.rounds }
         ensures room { HasRoom self.new }
     {
         if self.drops(datagram.bytes) {
-            self.ignore(rt, datagram);
+            self.ignore(&*net, datagram);
             return;
         }
         let Ok(admission) = self.server.admit(datagram.from, datagram.bytes) else {
-            self.lose_for_memory(rt, datagram);
+            self.lose_for_memory(net, datagram);
             return;
         };
         if admission.may_open() {
-            self.open_request(rt, datagram, admission);
+            self.open_request(net, datagram, admission);
             return;
         }
-        self.refuse_request(rt, datagram, admission);
+        self.refuse_request(net, datagram, admission);
     }
 
     /// Receives a datagram at the request port, and handles it.
-    fn receive_request<N: ServerUdp + Eprint>(&mut self, rt: &N, request: &mut [u8])
+    fn receive_request<N: ServerUdp + Eprint>(&mut self, net: &mut N, request: &mut [u8])
+        requires long { DATAGRAM_BUFFER ≤ length request.old }
         requires settled { IsSettled self.old }
         requires room { HasRoom self.old }
         requires pending { self.old.pending ≡ None }
         requires reads { reads_of self.old ≡ true }
         requires first { self.old.sockets.has_received ≡ false }
-        ensures works { WorksRound S.meaning S.Source.meaning request.old self.old request.new
-            self.new }
+        ensures works { WorksRound S.meaning S.Source.meaning request.old self.old
+            (N.log net.old) request.new self.new (N.log net.new) }
         ensures settled { IsSettled self.old → IsSettled self.new }
-        ensures tried { HasTriedRequests self.new }
+        ensures tried { HasTriedRequests self.new (N.log net.new) }
         ensures few { HasFew MOST_AT_ONCE self.old → HasFew MOST_AT_ONCE self.new }
         ensures rounds { self.new.rounds ≡ self.old.rounds }
         ensures room { HasRoom self.new }
     {
         let load = self.load();
-        match rt.receive(&self.sockets.requests, &mut self.journal, load, request) {
+        match net.receive_request(&self.sockets.requests, load, request) {
             Receipt::Datagram(from, count) => {
                 self.sockets.has_received = true;
-                self.take_received(rt, from, count, request);
+                self.take_received(net, from, count, request);
             }
             Receipt::Nothing => self.sockets.is_ready = false,
             // A datagram may be there, or is left to another server: the port stays marked.
@@ -152,7 +154,7 @@ impl<S: ServedStore<Reason> + Drop> ServerLoop<S> {
     /// before may free a slot.
     fn take_received<N: ServerUdp + Eprint>(
         &mut self,
-        rt: &N,
+        net: &mut N,
         from: Endpoint,
         count: usize,
         request: &[u8],
@@ -162,25 +164,25 @@ impl<S: ServedStore<Reason> + Drop> ServerLoop<S> {
         requires count { count ≤ length request.now }
         requires pending { self.old.pending ≡ None }
         ensures handles { HandlesReceived S.meaning S.Source.meaning from count request.now
-            self.old self.new }
+            self.old (N.log net.old) self.new (N.log net.new) }
         ensures rounds { self.new.rounds ≡ self.old.rounds }
         ensures room { HasRoom self.new }
     {
         let bytes = &request[..count];
         if from.port == NO_PORT {
-            self.ignore(rt, Datagram { from, bytes });
+            self.ignore(&*net, Datagram { from, bytes });
             return;
         }
         if self.drops(bytes) {
-            self.ignore(rt, Datagram { from, bytes });
+            self.ignore(&*net, Datagram { from, bytes });
             return;
         }
         let Ok(admission) = self.server.admit(from, bytes) else {
-            self.lose_for_memory(rt, Datagram { from, bytes });
+            self.lose_for_memory(net, Datagram { from, bytes });
             return;
         };
         if admission.may_open() {
-            self.open_request(rt, Datagram { from, bytes }, admission);
+            self.open_request(net, Datagram { from, bytes }, admission);
             self.pending = None;
             return;
         }
@@ -209,7 +211,7 @@ impl<S: ServedStore<Reason> + Drop> ServerLoop<S> {
     /// memory.
     fn open_request<N: ServerUdp + Eprint>(
         &mut self,
-        rt: &N,
+        net: &mut N,
         datagram: Datagram<'_>,
         admission: Admission<'_>,
     )
@@ -219,27 +221,27 @@ impl<S: ServedStore<Reason> + Drop> ServerLoop<S> {
         requires room { HasRoom self.old }
         requires reserved { vec_len self.old.ports < vec_capacity self.old.ports }
         ensures answers { AnswersPending S.meaning S.Source.meaning datagram.entry.from
-            datagram.entry.bytes.now self.old self.new }
+            datagram.entry.bytes.now self.old (N.log net.old) self.new (N.log net.new) }
         ensures rounds { self.new.rounds ≡ self.old.rounds }
         ensures room { HasRoom self.new }
     {
-        let Some(bound) = self.sockets.port_for(rt, &mut self.journal, &admission) else {
-            self.lose(rt, datagram, Lost::Port(self.sockets.bind_error()));
+        let Some(bound) = self.sockets.port_for(net, &admission) else {
+            self.lose(&*net, datagram, Lost::Port(self.sockets.bind_error()));
             return;
         };
         if is_taken(&self.sockets, &self.server, bound.port()) {
-            self.lose(rt, datagram, Lost::Port(None));
+            self.lose(&*net, datagram, Lost::Port(None));
             return;
         }
-        self.open_at(rt, datagram, admission, bound);
+        self.open_at(net, datagram, admission, bound);
     }
 
     /// Carries out the admission of a datagram that may open a transfer at this port. If none opens
     /// there the port is free again, for whoever binds it next: a server binds its other ports first,
     /// since what refused a transfer here may be the port's own draft.
-    fn open_at<E: Eprint>(
+    fn open_at<N: ServerUdp + Eprint>(
         &mut self,
-        rt: &E,
+        net: &mut N,
         datagram: Datagram<'_>,
         admission: Admission<'_>,
         bound: ServerSocket,
@@ -253,7 +255,7 @@ impl<S: ServedStore<Reason> + Drop> ServerLoop<S> {
         requires room { HasRoom self.old }
         requires reserved { vec_len self.old.ports < vec_capacity self.old.ports }
         ensures answers { AnswersPending S.meaning S.Source.meaning datagram.entry.from
-            datagram.entry.bytes.now self.old self.new }
+            datagram.entry.bytes.now self.old (N.log net.old) self.new (N.log net.new) }
         ensures rounds { self.new.rounds ≡ self.old.rounds }
         ensures room { HasRoom self.new }
     {
@@ -263,16 +265,16 @@ impl<S: ServedStore<Reason> + Drop> ServerLoop<S> {
         let opened = self.server.open(admission, tid, &mut self.out);
         let reason = self.server.store().take_reason();
         match opened {
-            Ok(opened) => self.answer_opened(rt, datagram, bound, opened, reason),
-            Err(_) => self.lose_for_memory(rt, datagram),
+            Ok(opened) => self.answer_opened(net, datagram, bound, opened, reason),
+            Err(_) => self.lose_for_memory(net, datagram),
         }
     }
 
     /// Sends the answer to a datagram: from this port if it opened a transfer there, else from the
     /// request port.
-    fn answer_opened<E: Eprint>(
+    fn answer_opened<N: ServerUdp + Eprint>(
         &mut self,
-        rt: &E,
+        net: &mut N,
         datagram: Datagram<'_>,
         bound: ServerSocket,
         opened: Opened,
@@ -282,18 +284,19 @@ impl<S: ServedStore<Reason> + Drop> ServerLoop<S> {
         requires port { IsOfPool self.old.sockets.pool bound }
         requires own { bound.port ≢ self.old.sockets.requests.port }
         requires tid { IfSome opened.tid (λ tid. tid ≡ bound.port) }
-        ensures { HasAnswered datagram.entry.from opened self.old.out.items self.old self.new }
+        ensures { HasAnswered datagram.entry.from opened self.old.out.items self.old
+            (N.log net.old) self.new (N.log net.new) }
     {
         match opened.tid {
-            Some(_) => self.begin(rt, datagram, bound, opened.to),
-            None => self.refuse(rt, datagram, opened.to, reason),
+            Some(_) => self.begin(net, datagram, bound, opened.to),
+            None => self.refuse(net, datagram, opened.to, reason),
         }
     }
 
     /// Carries out the admission of a datagram that opens no transfer.
-    fn refuse_request<E: Eprint>(
+    fn refuse_request<N: ServerUdp + Eprint>(
         &mut self,
-        rt: &E,
+        net: &mut N,
         datagram: Datagram<'_>,
         admission: Admission<'_>,
     )
@@ -301,29 +304,29 @@ impl<S: ServedStore<Reason> + Drop> ServerLoop<S> {
         requires opens_none { asks_store admission.ask ≡ false }
         requires handled { IsHandledBy self.old.requests_only datagram.bytes.now }
         ensures answers { AnswersPending S.meaning S.Source.meaning datagram.entry.from
-            datagram.entry.bytes.now self.old self.new }
+            datagram.entry.bytes.now self.old (N.log net.old) self.new (N.log net.new) }
         ensures rounds { self.new.rounds ≡ self.old.rounds }
         ensures room { HasRoom self.old → HasRoom self.new }
     {
         match admission.refusal() {
-            Some(reply) => self.answer(rt, datagram, Some(datagram.from), reply.datagram()),
-            None => self.answer(rt, datagram, None, &[]),
+            Some(reply) => self.answer(net, datagram, Some(datagram.from), reply.datagram()),
+            None => self.answer(net, datagram, None, &[]),
         }
     }
 
     /// Sends the answer, if there is one, to a datagram for which no store was asked, from the
     /// request port.
-    fn answer<E: Eprint>(
+    fn answer<N: ServerUdp + Eprint>(
         &mut self,
-        rt: &E,
+        net: &mut N,
         datagram: Datagram<'_>,
         to: Option<Endpoint>,
         answer: &[u8],
     )
         ensures { HasAnswered datagram.entry.from (record { tid = None; to = to })
-            answer.now self.old self.new }
+            answer.now self.old (N.log net.old) self.new (N.log net.new) }
     {
-        let sent = reply(&self.sockets.requests, &mut self.journal, to, answer);
+        let sent = reply(net, &self.sockets.requests, to, answer);
         if self.log.is_written {
             let reason = reason_unasked(answer);
             let port = self.sockets.requests.port();
@@ -332,19 +335,16 @@ impl<S: ServedStore<Reason> + Drop> ServerLoop<S> {
                 reason,
                 sent,
             };
-            log_refused(rt, self.alloc, self.log, port, datagram, refusal);
+            log_refused(&*net, self.alloc, self.log, port, datagram, refusal);
         }
     }
 
     /// Notes that memory was refused for a datagram, which is lost by that.
-    fn lose_for_memory<E: Eprint>(&mut self, rt: &E, datagram: Datagram<'_>)
-        ensures rest { self.new ≡ record self.old { journal = self.new.journal } }
-        ensures noted { self.new.journal.events ≡ Quiet Out_of_memory
-            ∷ self.old.journal.events }
-        ensures room { HasRoom self.old → HasRoom self.new }
+    fn lose_for_memory<N: ServerUdp + Eprint>(&self, net: &mut N, datagram: Datagram<'_>)
+        ensures { N.log net.new ≡ Quiet Out_of_memory ∷ N.log net.old }
     {
-        self.journal.out_of_memory();
-        self.lose(rt, datagram, Lost::Memory);
+        net.out_of_memory();
+        self.lose(&*net, datagram, Lost::Memory);
     }
 
     /// Logs a lost request, if there is a log.
@@ -356,18 +356,18 @@ impl<S: ServedStore<Reason> + Drop> ServerLoop<S> {
 
     /// Sends the answer, if there is one, to a datagram that opened no transfer, from the request
     /// port.
-    fn refuse<E: Eprint>(
+    fn refuse<N: ServerUdp + Eprint>(
         &mut self,
-        rt: &E,
+        net: &mut N,
         datagram: Datagram<'_>,
         to: Option<Endpoint>,
         reason: Option<Reason>,
     )
         ensures { HasAnswered datagram.entry.from (record { tid = None; to = to })
-            self.old.out.items self.old self.new }
+            self.old.out.items self.old (N.log net.old) self.new (N.log net.new) }
     {
         let answer = self.out.as_slice();
-        let sent = reply(&self.sockets.requests, &mut self.journal, to, answer);
+        let sent = reply(net, &self.sockets.requests, to, answer);
         if self.log.is_written {
             let port = self.sockets.requests.port();
             let refusal = Refusal {
@@ -375,14 +375,14 @@ impl<S: ServedStore<Reason> + Drop> ServerLoop<S> {
                 reason,
                 sent,
             };
-            log_refused(rt, self.alloc, self.log, port, datagram, refusal);
+            log_refused(&*net, self.alloc, self.log, port, datagram, refusal);
         }
     }
 
     /// Sends the first datagram of an opened transfer from its port, and adds the port.
-    fn begin<E: Eprint>(
+    fn begin<N: ServerUdp + Eprint>(
         &mut self,
-        rt: &E,
+        net: &mut N,
         datagram: Datagram<'_>,
         bound: ServerSocket,
         to: Option<Endpoint>,
@@ -391,10 +391,10 @@ impl<S: ServedStore<Reason> + Drop> ServerLoop<S> {
         requires own { bound.port ≢ self.old.sockets.requests.port }
         requires reserved { vec_len self.old.ports < vec_capacity self.old.ports }
         ensures { HasAnswered datagram.entry.from (record { tid = Some bound.port; to = to })
-            self.old.out.items self.old self.new }
+            self.old.out.items self.old (N.log net.old) self.new (N.log net.new) }
     {
-        let sent = reply(&bound, &mut self.journal, to, self.out.as_slice());
-        let log_entry = self.log_opened(rt, bound.port(), datagram, sent);
+        let sent = reply(net, &bound, to, self.out.as_slice());
+        let log_entry = self.log_opened(&*net, bound.port(), datagram, sent);
         let port = self.port_of(bound, datagram.from, log_entry);
         self.ports.push_reserved(port);
     }

@@ -1,12 +1,14 @@
 //! The loop over the ports of a server, in one thread.
 
 ghost use Rattle.std.specs.Prelude.{◌≡◌, ◌≤◌, ◌<◌, ◌+◌, ◌⊎◌, ◌||◌, IfErr, OnOk, None, is_some, []};
-ghost use Rattle.std.specs.Prelude.{IfOk, IsTrue, length, map, false, if◌then◌else◌};
+ghost use Rattle.std.specs.Prelude.{IfOk, IsTrue, List, length, map, false, if◌then◌else◌};
 ghost use Rattle.std.specs.List.{list_any};
+ghost use Rattle.tftp_sockets.specs.declared.address.TheConstants.{DATAGRAM_BUFFER};
+ghost use Rattle.tftp_sockets.specs.Journal.{SocketEvent};
 ghost use Rattle.tftp_sockets.specs.Quiet.{is_among};
 ghost use Rattle.tftp_loop.specs.Steps.{drain_of, marked_by, set_by};
 ghost use Rattle.tftp_loop.specs.LoopStates.{FailsToPrint, HasRoom, IsEmptied, IsReserved};
-ghost use Rattle.tftp_loop.specs.LoopStates.{OnlyServes, OnlyWorks, ServesRounds, StopsRunning};
+ghost use Rattle.tftp_loop.specs.LoopStates.{EndsRounds, OnlyServes, OnlyWorks};
 ghost use Rattle.tftp_loop.specs.LoopStates.{WorksRound};
 ghost use Rattle.tftp_loop.specs.MayWait.{ClosesPort, Finishes, HasRead, HasSlept, HasWoken};
 ghost use Rattle.tftp_loop.specs.MayWait.{AwaitVisit, HasFew, WereVisited, before_visit};
@@ -14,24 +16,19 @@ ghost use Rattle.tftp_loop.specs.MayWait.{IsSurveyOf};
 ghost use Rattle.tftp_loop.specs.MayWait.{IsSettled, IsTended};
 ghost use Rattle.tftp_loop.specs.MayWait.{millis_of, reads_of, timers_of};
 
-use crate::drain::{Drain, DrainSignal};
+use crate::drain::Drain;
 use crate::log::Log;
 use crate::port_visit::{Moment, Pass, is_visited, visit_port};
 use crate::report::{log_drain, log_unsent, record_of_closed, report_close};
 use crate::reserved::Reserved;
-use crate::server_udp::ServerUdp;
 use crate::serving::{LoopConfig, LoopFault};
 use crate::sockets::Sockets;
 use crate::transfer_port::{Survey, TransferPort, wake_all, work_at};
 use std::alloc::{AllocError, Global};
-use std::time::Clock;
 use tftp_ends::{Endpoint, Record};
 use tftp_lines::Reason;
 use tftp_server::{Server, Store};
-use tftp_sockets::{
-    DATAGRAM_BUFFER, Journal, LONGEST_WAIT, Reports, index_of, note_poll, poll_now,
-    read_watch_within, wait,
-};
+use tftp_sockets::{DATAGRAM_BUFFER, DrainSignal, LONGEST_WAIT, Reports, ServerUdp, index_of};
 use tftp_store::ServedStore;
 
 /// The most ports that one wait reports.
@@ -43,7 +40,6 @@ pub(crate) struct ServerLoop<S: Store + Drop> {
     pub(crate) server: Server<S>,
     pub(crate) sockets: Sockets,
     pub(crate) ports: Vec<TransferPort>,
-    pub(crate) journal: Journal,
     /// The answer to a datagram of the request port.
     pub(crate) out: Vec<u8>,
     /// A datagram of the request port that is to be admitted again: its sender, and its length in
@@ -107,14 +103,12 @@ impl<S: ServedStore<Reason> + Drop> ServerLoop<S> {
         server: Server<S>,
         sockets: Sockets,
         config: &LoopConfig,
-        journal: Journal,
         reserved: Reserved,
     ) -> ServerLoop<S>
         requires { IsReserved server.config.cap reserved }
         ensures server { result.server ≡ server }
         ensures sockets { result.sockets ≡ sockets }
         ensures ports { result.ports.items ≡ [] }
-        ensures journal { result.journal ≡ journal }
         ensures pending { result.pending ≡ None }
         ensures left { result.left ≡ config.now.ending.transfers }
         ensures rounds { result.rounds ≡ config.now.ending.rounds }
@@ -128,7 +122,6 @@ impl<S: ServedStore<Reason> + Drop> ServerLoop<S> {
             server,
             sockets,
             ports,
-            journal,
             out: answer,
             pending: None,
             active: 0,
@@ -148,25 +141,26 @@ impl<S: ServedStore<Reason> + Drop> ServerLoop<S> {
 
     /// Serves, wait by wait, until no transfer is yet to close or no wait may begin, or until it
     /// has drained.
-    pub(crate) fn take_rounds<N: ServerUdp + Clock + Print + Eprint, D: DrainSignal>(
+    pub(crate) fn take_rounds<N: ServerUdp + Eprint, D: DrainSignal>(
         &mut self,
-        rt: &N,
+        net: &mut N,
         signal: &D,
         reports: &mut Reports,
         request: &mut [u8],
         datagram: &mut [u8],
     ) -> Result<(), LoopFault>
+        requires long_request { DATAGRAM_BUFFER ≤ length request.old }
+        requires long_datagram { DATAGRAM_BUFFER ≤ length datagram.old }
         requires room { HasRoom self.old }
         requires settled { IsSettled self.old }
         requires few { HasFew 0 self.old }
         requires first { self.old.sockets.has_received ≡ false }
-        ensures serves { ServesRounds S.meaning S.Source.meaning request.old self.old
-            request.new self.new }
+        ensures serves { EndsRounds S.meaning S.Source.meaning result request.old self.old
+            (N.log net.old) request.new self.new (N.log net.new) }
         ensures end { OnOk result ((self.new.left ≡ 0) ⊎ ((self.new.rounds ≡ 0)
             ⊎ IsEmptied self.new)) }
-        ensures fault { IfErr result (λ fault. StopsRunning fault self.new.journal.events) }
     {
-        self.take_round(rt, signal, request, datagram)?;
+        self.take_round(net, signal, request, datagram)?;
         while self.rounds > 0 {
             if self.left == 0 {
                 return Ok(());
@@ -174,11 +168,11 @@ impl<S: ServedStore<Reason> + Drop> ServerLoop<S> {
             if self.is_emptied() {
                 return Ok(());
             }
-            self.wait(rt, reports);
-            if rt.has_no_reader() {
+            self.wait(net, reports);
+            if net.has_no_reader() {
                 return Err(LoopFault::NoReader);
             }
-            self.take_round(rt, signal, request, datagram)?;
+            self.take_round(net, signal, request, datagram)?;
         }
         Ok(())
     }
@@ -186,36 +180,39 @@ impl<S: ServedStore<Reason> + Drop> ServerLoop<S> {
     /// Begins to drain if that is signalled, and then handles datagrams and due timeouts, until no
     /// transfer is yet to close. Transfers precede a request, because an acknowledgement may free
     /// the slot that its client's next request needs.
-    fn take_round<N: ServerUdp + Print + Eprint, D: DrainSignal>(
+    fn take_round<N: ServerUdp + Eprint, D: DrainSignal>(
         &mut self,
-        rt: &N,
+        net: &mut N,
         signal: &D,
         request: &mut [u8],
         datagram: &mut [u8],
     ) -> Result<(), LoopFault>
+        requires long_request { DATAGRAM_BUFFER ≤ length request.old }
+        requires long_datagram { DATAGRAM_BUFFER ≤ length datagram.old }
         requires room { HasRoom self.old }
         requires settled { IsSettled self.old }
         requires few { HasFew 0 self.old }
         requires first { self.old.sockets.has_received ≡ false }
-        ensures works { WorksRound S.meaning S.Source.meaning request.old self.old request.new
-            self.new }
-        ensures tended { OnOk result (1 ≤ self.new.left → IsTended self.new) }
+        ensures works { WorksRound S.meaning S.Source.meaning request.old self.old
+            (N.log net.old) request.new self.new (N.log net.new) }
+        ensures tended { OnOk result (1 ≤ self.new.left → IsTended self.new (N.log net.new)) }
         ensures rounds { self.new.rounds ≡ self.old.rounds }
-        ensures fault { IfErr result (λ fault. FailsToPrint fault self.new.journal.events) }
+        ensures fault { IfErr result (λ fault. FailsToPrint fault (N.log net.new)) }
         ensures room { HasRoom self.new }
     {
-        self.look_at_signal(rt, signal);
-        self.pass_over(rt, Pass::Ready, datagram)?;
+        self.look_at_signal(net, signal);
+        self.pass_over(net, Pass::Ready, datagram)?;
         if self.left == 0 {
             return Ok(());
         }
-        self.take_request(rt, request);
-        self.pass_over(rt, Pass::Due, datagram)
+        self.take_request(net, request);
+        self.pass_over(net, Pass::Due, datagram)
     }
 
     /// Begins to drain if that is signalled. The signal is looked at once a second at most.
-    fn look_at_signal<E: Eprint, D: DrainSignal>(&mut self, rt: &E, signal: &D)
-        ensures works { OnlyWorks S.meaning S.Source.meaning self.old self.new }
+    fn look_at_signal<N: ServerUdp + Eprint, D: DrainSignal>(&mut self, net: &mut N, signal: &D)
+        ensures works { OnlyWorks S.meaning S.Source.meaning self.old (N.log net.old) self.new
+            (N.log net.new) }
         ensures rest { self.new ≡ record self.old {
           drain = self.new.drain;
           signal_look = self.new.signal_look;
@@ -230,10 +227,10 @@ impl<S: ServedStore<Reason> + Drop> ServerLoop<S> {
             return;
         }
         self.signal_look = now.saturating_add(LONGEST_WAIT);
-        if !signal.is_given() {
+        if !net.is_signalled(signal) {
             return;
         }
-        self.begin_drain(rt);
+        self.begin_drain(&*net);
     }
 
     /// Takes no new request from now on, and logs that.
@@ -270,11 +267,12 @@ impl<S: ServedStore<Reason> + Drop> ServerLoop<S> {
     /// Waits once, until a datagram has arrived or a port is to be read, for at most a second. A
     /// draft that is to be synced is synced before, if no datagram has arrived: all other transfers
     /// wait for it.
-    fn wait<C: Clock>(&mut self, clock: &C, reports: &mut Reports)
-        requires tended { IsTended self.old }
+    fn wait<N: ServerUdp>(&mut self, net: &mut N, reports: &mut Reports)
+        requires tended { IsTended self.old (N.log net.old) }
         requires left { 1 ≤ self.old.left }
         requires rounds { 1 ≤ self.old.rounds }
-        ensures serves { OnlyServes S.meaning S.Source.meaning self.old self.new }
+        ensures serves { OnlyServes S.meaning S.Source.meaning self.old (N.log net.old) self.new
+            (N.log net.new) }
         ensures settled { IsSettled self.new }
         ensures few { HasFew 0 self.new }
         ensures first { self.new.sockets.has_received ≡ false }
@@ -284,45 +282,47 @@ impl<S: ServedStore<Reason> + Drop> ServerLoop<S> {
         let survey = Survey::of(self.sockets.watch.now, self.ports.as_slice());
         if self.millis_to_wait(survey) > 0 {
             if let Some(tid) = self.server.store().take_unsynced() {
-                self.sync_and_wait(clock, reports, survey, tid);
+                self.sync_and_wait(net, reports, survey, tid);
                 return;
             }
         }
-        self.sleep(clock, reports, survey);
+        self.sleep(net, reports, survey);
     }
 
     /// Polls, and syncs the draft of a transfer and waits if no datagram has arrived.
-    fn sync_and_wait<C: Clock>(
+    fn sync_and_wait<N: ServerUdp>(
         &mut self,
-        clock: &C,
+        net: &mut N,
         reports: &mut Reports,
         survey: Survey,
         tid: u16,
     )
         requires surveyed { IsSurveyOf self.old.ports.items survey }
-        requires tended { IsTended self.old }
+        requires tended { IsTended self.old (N.log net.old) }
         requires left { 1 ≤ self.old.left }
         requires rounds { 1 ≤ self.old.rounds }
-        ensures serves { OnlyServes S.meaning S.Source.meaning self.old self.new }
+        ensures serves { OnlyServes S.meaning S.Source.meaning self.old (N.log net.old) self.new
+            (N.log net.new) }
         ensures settled { IsSettled self.new }
         ensures few { HasFew 0 self.new }
         ensures first { self.new.sockets.has_received ≡ false }
         ensures rounds { self.new.rounds + 1 ≡ self.old.rounds }
         ensures room { HasRoom self.old → HasRoom self.new }
     {
-        if poll_now(&mut self.sockets.poll, reports) {
-            self.read_clock(clock);
-            note_poll(reports, &mut self.journal);
-            self.wake(clock, reports);
+        if net.poll_now(&mut self.sockets.poll, reports) {
+            self.read_clock(net);
+            net.note_poll(reports);
+            self.wake(net, reports);
             return;
         }
         self.sync(tid);
-        self.sleep(clock, reports, survey);
+        self.sleep(net, reports, survey);
     }
 
     /// Syncs the draft of a transfer.
     fn sync(&mut self, tid: u16)
-        ensures works { OnlyWorks S.meaning S.Source.meaning self.old self.new }
+        ensures works { (events : List SocketEvent)
+            → OnlyWorks S.meaning S.Source.meaning self.old events self.new events }
         ensures settled { IsSettled self.old → IsSettled self.new }
         ensures rest { self.new ≡ record self.old { server = self.new.server } }
         ensures room { HasRoom self.old → HasRoom self.new }
@@ -339,12 +339,13 @@ impl<S: ServedStore<Reason> + Drop> ServerLoop<S> {
     }
 
     /// Waits until a datagram has arrived or a port is to be read, for at most a second.
-    fn sleep<C: Clock>(&mut self, clock: &C, reports: &mut Reports, survey: Survey)
+    fn sleep<N: ServerUdp>(&mut self, net: &mut N, reports: &mut Reports, survey: Survey)
         requires surveyed { IsSurveyOf self.old.ports.items survey }
-        requires tended { IsTended self.old }
+        requires tended { IsTended self.old (N.log net.old) }
         requires left { 1 ≤ self.old.left }
         requires rounds { 1 ≤ self.old.rounds }
-        ensures serves { OnlyServes S.meaning S.Source.meaning self.old self.new }
+        ensures serves { OnlyServes S.meaning S.Source.meaning self.old (N.log net.old) self.new
+            (N.log net.new) }
         ensures settled { IsSettled self.new }
         ensures few { HasFew 0 self.new }
         ensures first { self.new.sockets.has_received ≡ false }
@@ -352,46 +353,42 @@ impl<S: ServedStore<Reason> + Drop> ServerLoop<S> {
         ensures room { HasRoom self.old → HasRoom self.new }
     {
         self.active = survey.active;
-        self.read_clock(clock);
-        self.wait_for_ports(reports, survey);
-        self.wake(clock, reports);
+        self.read_clock(net);
+        self.wait_for_ports(net, reports, survey);
+        self.wake(net, reports);
     }
 
     /// Reads the clock before a wait: the store or a file may have taken long.
-    fn read_clock<C: Clock>(&mut self, clock: &C)
-        ensures { HasRead self.old self.new }
+    fn read_clock<N: ServerUdp>(&mut self, net: &mut N)
+        ensures { HasRead self.old (N.log net.old) self.new (N.log net.new) }
     {
         let began = self.sockets.watch.now;
         let end = self.sockets.round_end();
-        read_watch_within(clock, &mut self.journal, &mut self.sockets.watch, end);
+        net.read_watch_within(&mut self.sockets.watch, end);
         self.sockets.limit = began.saturating_add(LONGEST_WAIT);
     }
 
     /// Waits until a datagram has arrived, as long as is allowed.
-    fn wait_for_ports(&mut self, reports: &mut Reports, survey: Survey)
+    fn wait_for_ports<N: ServerUdp>(&mut self, net: &mut N, reports: &mut Reports, survey: Survey)
         requires { IsSurveyOf self.old.ports.items survey }
-        ensures { HasSlept (millis_of self.old) reports.new.ports.items self.old self.new }
+        ensures { HasSlept (millis_of self.old) reports.new.ports.items self.old
+            (N.log net.old) self.new (N.log net.new) }
     {
         let millis = self.millis_to_wait(survey);
         let polls = polls_before(millis, self.active, self.sockets.polls);
-        wait(
-            &mut self.sockets.poll,
-            reports,
-            &mut self.journal,
-            millis,
-            polls,
-        );
+        net.wait(&mut self.sockets.poll, reports, millis, polls);
     }
 
     /// Sets the deadlines of the transfers that opened, advanced or timed out before the clock was
     /// read, marks the ports that a wait reported, counts the wait, and reads the clock.
-    fn wake<C: Clock>(&mut self, clock: &C, reports: &Reports)
-        ensures { HasWoken reports.now.ports.items self.old self.new }
+    fn wake<N: ServerUdp>(&mut self, net: &mut N, reports: &Reports)
+        ensures { HasWoken reports.now.ports.items self.old (N.log net.old) self.new
+            (N.log net.new) }
     {
         self.mark(reports.ports());
         self.rounds = self.rounds.saturating_sub(1);
         let end = self.sockets.round_end();
-        read_watch_within(clock, &mut self.journal, &mut self.sockets.watch, end);
+        net.read_watch_within(&mut self.sockets.watch, end);
         self.sockets.limit = end;
     }
 
@@ -442,20 +439,23 @@ impl<S: ServedStore<Reason> + Drop> ServerLoop<S> {
     }
 
     /// Visits the port of each transfer that this pass is for.
-    fn pass_over<P: Print + Eprint>(
+    fn pass_over<N: ServerUdp + Eprint>(
         &mut self,
-        rt: &P,
+        net: &mut N,
         pass: Pass,
         buffer: &mut [u8],
     ) -> Result<(), LoopFault>
+        requires long { DATAGRAM_BUFFER ≤ length buffer.old }
         requires settled { IsSettled self.old }
         requires few { HasFew (before_visit pass) self.old }
-        ensures works { OnlyWorks S.meaning S.Source.meaning self.old self.new }
+        ensures works { OnlyWorks S.meaning S.Source.meaning self.old (N.log net.old) self.new
+            (N.log net.new) }
         ensures settled { IsSettled self.new }
-        ensures visited { OnOk result (1 ≤ self.new.left → WereVisited pass 0 self.new) }
+        ensures visited { OnOk result (1 ≤ self.new.left → WereVisited pass 0 self.new
+            (N.log net.new)) }
         ensures asked { self.new.sockets.has_received ≡ self.old.sockets.has_received }
         ensures rounds { self.new.rounds ≡ self.old.rounds }
-        ensures fault { IfErr result (λ fault. FailsToPrint fault self.new.journal.events) }
+        ensures fault { IfErr result (λ fault. FailsToPrint fault (N.log net.new)) }
         ensures room { HasRoom self.old → HasRoom self.new }
     {
         // In reverse order, because a close moves the last port to the freed index.
@@ -465,30 +465,33 @@ impl<S: ServedStore<Reason> + Drop> ServerLoop<S> {
                 return Ok(());
             }
             index -= 1;
-            self.visit(rt, pass, index, buffer)?;
+            self.visit(net, pass, index, buffer)?;
         }
         Ok(())
     }
 
     /// Visits the port at this index, if there is one and the pass is for it, logs what could not
     /// be sent, and removes the transfer if that closes.
-    fn visit<P: Print + Eprint>(
+    fn visit<N: ServerUdp + Eprint>(
         &mut self,
-        rt: &P,
+        net: &mut N,
         pass: Pass,
         index: usize,
         buffer: &mut [u8],
     ) -> Result<(), LoopFault>
+        requires long { DATAGRAM_BUFFER ≤ length buffer.old }
         requires left { 1 ≤ self.old.left }
         requires settled { IsSettled self.old }
         requires waiting { AwaitVisit pass (index + 1) self.old }
-        ensures works { OnlyWorks S.meaning S.Source.meaning self.old self.new }
+        ensures works { OnlyWorks S.meaning S.Source.meaning self.old (N.log net.old) self.new
+            (N.log net.new) }
         ensures settled { IsSettled self.new }
-        ensures visited { WereVisited pass (index + 1) self.old → WereVisited pass index self.new }
+        ensures visited { WereVisited pass (index + 1) self.old (N.log net.old)
+            → WereVisited pass index self.new (N.log net.new) }
         ensures waiting { AwaitVisit pass index self.new }
         ensures asked { self.new.sockets.has_received ≡ self.old.sockets.has_received }
         ensures rounds { self.new.rounds ≡ self.old.rounds }
-        ensures fault { IfErr result (λ fault. FailsToPrint fault self.new.journal.events) }
+        ensures fault { IfErr result (λ fault. FailsToPrint fault (N.log net.new)) }
         ensures room { HasRoom self.old → HasRoom self.new }
     {
         if index >= self.ports.len() {
@@ -502,30 +505,24 @@ impl<S: ServedStore<Reason> + Drop> ServerLoop<S> {
             active: self.active,
         };
         let port = &mut self.ports[index];
-        let status = visit_port(
-            &mut self.server,
-            port,
-            &mut self.journal,
-            moment,
-            pass,
-            buffer,
-        );
-        log_unsent(rt, &self.ports[index]);
+        let status = visit_port(&mut self.server, port, net, moment, pass, buffer);
+        log_unsent(&*net, &self.ports[index]);
         if !status.is_closed() {
             return Ok(());
         }
-        self.finish(rt, index)
+        self.finish(net, index)
     }
 
     /// Removes the transfer at this index with its port, if it has closed, and prints its outcome:
     /// it is one less to close.
-    fn finish<P: Print + Eprint>(&mut self, rt: &P, index: usize) -> Result<(), LoopFault>
+    fn finish<N: ServerUdp + Eprint>(&mut self, net: &mut N, index: usize) -> Result<(), LoopFault>
         requires left { 1 ≤ self.old.left }
         requires within { index < length self.old.ports.items }
-        ensures finishes { Finishes S.meaning S.Source.meaning index self.old self.new }
+        ensures finishes { Finishes S.meaning S.Source.meaning index self.old (N.log net.old)
+            self.new (N.log net.new) }
         ensures asked { self.new.sockets.has_received ≡ self.old.sockets.has_received }
         ensures rounds { self.new.rounds ≡ self.old.rounds }
-        ensures fault { IfErr result (λ fault. FailsToPrint fault self.new.journal.events) }
+        ensures fault { IfErr result (λ fault. FailsToPrint fault (N.log net.new)) }
         ensures room { HasRoom self.old → HasRoom self.new }
     {
         let port = &self.ports[index];
@@ -533,27 +530,28 @@ impl<S: ServedStore<Reason> + Drop> ServerLoop<S> {
         if closed.is_none() {
             return Ok(());
         }
-        self.close_port(rt, index, closed)
+        self.close_port(net, index, closed)
     }
 
     /// Removes the port at this index, and prints the outcome of its transfer: it is one less to
     /// close.
-    fn close_port<P: Print + Eprint>(
+    fn close_port<N: ServerUdp + Eprint>(
         &mut self,
-        rt: &P,
+        net: &mut N,
         index: usize,
         closed: Option<Record>,
     ) -> Result<(), LoopFault>
         requires left { 1 ≤ self.old.left }
         requires within { index < length self.old.ports.items }
-        ensures closes { ClosesPort index closed self.old self.new }
-        ensures fault { IfErr result (λ fault. FailsToPrint fault self.new.journal.events) }
+        ensures closes { ClosesPort index closed self.old (N.log net.old) self.new
+            (N.log net.new) }
+        ensures fault { IfErr result (λ fault. FailsToPrint fault (N.log net.new)) }
     {
         self.left -= 1;
         let port = self.ports.swap_remove(index);
         let reason = self.server.store().take_reason();
         let reading = self.sockets.watch.reading;
-        report_close(rt, &mut self.journal, &port, closed, reading, reason)
+        report_close(net, &port, closed, reading, reason)
     }
 }
 

@@ -3,19 +3,16 @@
 ghost use Rattle.std.specs.Prelude.{◌≡◌, true, false};
 ghost use Rattle.tftp_loop.specs.WholeRun.{RunsServer, RunsServerFrom, listening};
 
-use crate::drain::DrainSignal;
 use crate::port_order::PortRange;
 use crate::report::log_listening;
 use crate::reserved::Reserved;
 use crate::server_loop::{Buffers, ServerLoop};
-use crate::server_udp::ServerUdp;
 use crate::sockets::Sockets;
 use std::alloc::Global;
-use std::time::Clock;
 use tftp_ends::Endpoint;
 use tftp_lines::{Printed, Reason, reason_of};
 use tftp_server::Server;
-use tftp_sockets::{Journal, LONGEST_WAIT, print_line};
+use tftp_sockets::{DrainSignal, LONGEST_WAIT, ServerUdp};
 use tftp_store::ServedStore;
 
 /// The configuration of a server's loop.
@@ -73,91 +70,89 @@ pub enum LoopFault {
     Memory,
 }
 
-/// Serves until the end of `config`. Adds its events to the journal, and returns it.
+/// Serves until the end of `config`.
 ///
 /// It returns `Ok` only at that end: so many transfers closed, or so many waits are over; or, if the
 /// configuration has it drain, once the signal was given and what was open then has closed.
 /// `Socket` is returned only if no port was bound and nothing done, `Output` only if the last event
-/// is the line that could not be printed, `NoReader` only by a `rt` with such an output. If the
+/// is the line that could not be printed, `NoReader` and `Memory` only if it is that no reader was
+/// found, or that memory was refused, before anything was received. If the
 /// configuration has a range of ports, each transfer that opens has one of them.
-pub fn serve<N: ServerUdp + Clock + Print + Eprint, S: ServedStore<Reason> + Drop, D: DrainSignal>(
-    rt: &N,
+pub fn serve<N: ServerUdp + Eprint, S: ServedStore<Reason> + Drop, D: DrainSignal>(
+    net: &mut N,
     alloc: Global,
     server: Server<S>,
     config: &LoopConfig,
     signal: &D,
-    journal: Journal,
-) -> (Result<(), LoopFault>, Journal)
-    ensures { RunsServer S.meaning S.Source.meaning config.now server result.0 journal.events
-        result.1.events }
+) -> Result<(), LoopFault>
+    ensures { RunsServer S.meaning S.Source.meaning config.now server result (N.log net.old)
+        (N.log net.new) }
 {
-    match Sockets::bind(rt, alloc, config) {
-        Ok(sockets) => listen(rt, alloc, server, sockets, config, signal, journal),
-        Err(error) => (Err(LoopFault::Socket(reason_of(&error))), journal),
+    match Sockets::bind(&*net, alloc, config) {
+        Ok(sockets) => listen(net, alloc, server, sockets, config, signal),
+        Err(error) => Err(LoopFault::Socket(reason_of(&error))),
     }
 }
 
 /// Prints the endpoint of the request port, and serves it.
-fn listen<N: ServerUdp + Clock + Print + Eprint, S: ServedStore<Reason> + Drop, D: DrainSignal>(
-    rt: &N,
+fn listen<N: ServerUdp + Eprint, S: ServedStore<Reason> + Drop, D: DrainSignal>(
+    net: &mut N,
     alloc: Global,
     server: Server<S>,
     sockets: Sockets,
     config: &LoopConfig,
     signal: &D,
-    journal: Journal,
-) -> (Result<(), LoopFault>, Journal)
+) -> Result<(), LoopFault>
     requires time { sockets.watch.now ≡ 0 }
     requires limit { sockets.limit ≡ LONGEST_WAIT }
     requires marked { sockets.is_ready ≡ true }
     requires asked { sockets.has_received ≡ false }
     requires range { sockets.pool.range ≡ config.now.ports }
     ensures { RunsServerFrom S.meaning S.Source.meaning config.now sockets.requests.port server
-        result.0 (listening sockets.requests.ip sockets.requests.port journal.events)
-        result.1.events }
+        result (listening sockets.requests.ip sockets.requests.port (N.log net.old))
+        (N.log net.new) }
 {
-    let mut journal = journal;
     let line = Printed::Listening(sockets.listening());
-    match print_line(rt, &mut journal, line) {
+    match net.print_line(line) {
         Ok(()) => {
-            log_listening(rt, config, line);
-            run(rt, alloc, server, sockets, config, signal, journal)
+            log_listening(&*net, config, line);
+            run(net, alloc, server, sockets, config, signal)
         }
-        Err(_) => (Err(LoopFault::Output), journal),
+        Err(_) => Err(LoopFault::Output),
     }
 }
 
 /// Serves the request port.
-fn run<N: ServerUdp + Clock + Print + Eprint, S: ServedStore<Reason> + Drop, D: DrainSignal>(
-    rt: &N,
+fn run<N: ServerUdp + Eprint, S: ServedStore<Reason> + Drop, D: DrainSignal>(
+    net: &mut N,
     alloc: Global,
     server: Server<S>,
     sockets: Sockets,
     config: &LoopConfig,
     signal: &D,
-    journal: Journal,
-) -> (Result<(), LoopFault>, Journal)
+) -> Result<(), LoopFault>
     requires time { sockets.watch.now ≡ 0 }
     requires limit { sockets.limit ≡ LONGEST_WAIT }
     requires marked { sockets.is_ready ≡ true }
     requires asked { sockets.has_received ≡ false }
     requires range { sockets.pool.range ≡ config.now.ports }
     ensures { RunsServerFrom S.meaning S.Source.meaning config.now sockets.requests.port server
-        result.0 journal.events result.1.events }
+        result (N.log net.old) (N.log net.new) }
 {
     let Ok(mut buffers) = Buffers::new(alloc) else {
-        return (Err(LoopFault::Memory), journal);
+        net.out_of_memory();
+        return Err(LoopFault::Memory);
     };
     let Ok(reserved) = Reserved::new(alloc, server.cap()) else {
-        return (Err(LoopFault::Memory), journal);
+        net.out_of_memory();
+        return Err(LoopFault::Memory);
     };
-    let mut running = ServerLoop::new(alloc, server, sockets, config, journal, reserved);
-    let result = running.take_rounds(
-        rt,
+    let mut running = ServerLoop::new(alloc, server, sockets, config, reserved);
+    running.take_rounds(
+        net,
         signal,
         &mut buffers.reports,
         buffers.request.as_mut_slice(),
         buffers.datagram.as_mut_slice(),
-    );
-    (result, running.journal)
+    )
 }

@@ -8,21 +8,18 @@ ghost use Rattle.tftp_loop.specs.PortPool.{IsOfPool, Tries, most_of};
 ghost use Rattle.tftp_loop.specs.Steps.{round_end};
 
 use crate::port_pool::PortPool;
-use crate::server_udp::ServerUdp;
 use crate::serving::LoopConfig;
-use mio::Poll;
 use std::alloc::Global;
 use std::io;
-use std::time::Clock;
 use tftp_ends::Endpoint;
 use tftp_lines::Reason;
 use tftp_server::Admission;
-use tftp_sockets::{Journal, LONGEST_WAIT, ServerSocket, Watch, read_clock};
+use tftp_sockets::{LONGEST_WAIT, PortPoll, ServerSocket, ServerUdp, Watch};
 
 /// The request port, the poll of all ports, and the time.
 #[derive(Drop)]
 pub(crate) struct Sockets {
-    pub(crate) poll: Poll,
+    pub(crate) poll: PortPoll,
     pub(crate) requests: ServerSocket,
     /// The number of polls before a wait that may sleep, while several transfers are active.
     pub(crate) polls: u32,
@@ -40,7 +37,7 @@ pub(crate) struct Sockets {
 
 impl Sockets {
     /// Binds the request port, and orders the ports of transfers, which are at the same address.
-    pub(crate) fn bind<N: ServerUdp + Clock>(
+    pub(crate) fn bind<N: ServerUdp>(
         net: &N,
         alloc: Global,
         config: &LoopConfig,
@@ -64,7 +61,7 @@ impl Sockets {
             is_ready: true,
             has_received: false,
             pool,
-            watch: Watch::new(read_clock(net, 0)),
+            watch: net.start_watch(),
             limit: LONGEST_WAIT,
         })
     }
@@ -105,20 +102,20 @@ impl Sockets {
         self.pool.most(cap)
     }
 
-    /// Binds a port for a transfer that may open: the next of the order that is not in use, if there
-    /// is an order. `None` if that fails: at least one port was tried, and each failure is noted.
+    /// Binds a port for a transfer that may open: the next of the order to which the system binds a
+    /// socket, if there is an order. `None` if that fails: each port of the order was tried, and each
+    /// failure is noted.
     pub(crate) fn port_for<N: ServerUdp>(
         &mut self,
-        net: &N,
-        journal: &mut Journal,
+        net: &mut N,
         _admission: &Admission<'_>,
     ) -> Option<ServerSocket>
         requires { asks_store _admission.now.ask ≡ true }
         ensures same { self.new ≡ self.old }
         ensures port { IfSome result (IsOfPool self.old.pool) }
-        ensures tries { Tries self.old.pool.range journal.old.events journal.new.events result }
+        ensures tries { Tries self.old.pool.range (N.log net.old) (N.log net.new) result }
     {
-        self.pool.bind_port(net, journal)
+        self.pool.bind_port(net)
     }
 
     /// Why the newest bind of a transfer's port failed, if one did.
@@ -131,16 +128,16 @@ impl Sockets {
         ensures { bound.new.port ≡ bound.old.port }
     {
         // If this fails, the transfer's datagrams are received when its port is due.
-        let _ = bound.register(self.poll.registry());
+        let _ = bound.register(&self.poll);
     }
 }
 
 /// A poll of the request port.
-fn poll_for<N: ServerUdp>(net: &N, requests: &mut ServerSocket) -> io::Result<Poll>
+fn poll_for<N: ServerUdp>(net: &N, requests: &mut ServerSocket) -> io::Result<PortPoll>
     ensures port { requests.new.port ≡ requests.old.port }
     ensures ip { requests.new.ip ≡ requests.old.ip }
 {
     let poll = net.poll()?;
-    requests.register(poll.registry())?;
+    requests.register(&poll)?;
     Ok(poll)
 }

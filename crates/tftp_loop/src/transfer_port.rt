@@ -14,7 +14,7 @@ use crate::log_entry::LogEntry;
 use tftp_ends::{Endpoint, Step};
 use tftp_lines::Reason;
 use tftp_server::{Server, Store};
-use tftp_sockets::{Journal, LONGEST_WAIT, Port, ServerSocket, deadline};
+use tftp_sockets::{LONGEST_WAIT, Port, ServerSocket, ServerUdp, deadline};
 
 /// The time after an opening or progress at which a port is read again though no wait reported it,
 /// in milliseconds. A second datagram that arrived with the first is reported only once.
@@ -125,18 +125,17 @@ fn is_active(now: u64, port: &TransferPort) -> bool {
 
 /// Sends the answer of a step, if it has one. If the system refuses it, it is lost, and its reason
 /// returned.
-pub(crate) fn reply(
+pub(crate) fn reply<N: ServerUdp>(
+    net: &mut N,
     socket: &ServerSocket,
-    journal: &mut Journal,
     to: Option<Endpoint>,
     bytes: &[u8],
 ) -> Result<(), Reason>
-    ensures events { journal.new.events ≡ replied socket.now.port to bytes.now
-        journal.old.events }
-    ensures received { ReceivesAtMost 0 journal.old.events journal.new.events }
+    ensures events { N.log net.new ≡ replied socket.now.port to bytes.now (N.log net.old) }
+    ensures received { ReceivesAtMost 0 (N.log net.old) (N.log net.new) }
 {
     match to {
-        Some(to) => socket.send(journal, to, bytes),
+        Some(to) => net.send(socket, to, bytes),
         None => Ok(()),
     }
 }

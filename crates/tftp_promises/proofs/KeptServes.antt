@@ -14,7 +14,7 @@ use Rattle.tftp_store.specs.Store.{StoreMeaning, files_of as stored_files}
 use Rattle.tftp_server.specs.State.{TransferState, ServerState}
 use Rattle.tftp_sockets.specs.Journal.{SocketEvent}
 use Rattle.tftp_sockets.specs.Journal.SocketEvent.{Received, Watched, Elapsed, Printed, Quiet}
-use Rattle.tftp_sockets.specs.Journal.QuietEvent.{Empty, Failed, Slept, Woke}
+use Rattle.tftp_sockets.specs.Journal.QuietEvent.{Drain_signalled, Empty, Failed, Slept, Woke}
 use Rattle.tftp_loop.specs.Steps.{LoopState, LoopStep, port_state, Waited, At_port, Request_received, No_request_found}
 use Rattle.tftp_loop.specs.Steps.{Request_not_received, Request_noted, Request_answered, Request_lost, Clock_read}
 use Rattle.tftp_loop.specs.Steps.{Store_set, BeginsDrain, Drain_begun, Transfer_closed}
@@ -204,7 +204,7 @@ module _ {S F D G K : Type 0} {stores : StoreMeaning S D} {sources : SourceMeani
     draining_keeps h =
         same_keeps (Drain_begun h) refl (λ port. refl) (λ port transfer r. r)
         (λ a. record { opens = refl; moves = λ moved. refl }) h.is refl refl (λ from bytes e. e)
-        [] refl tt
+        (Quiet Drain_signalled ∷ []) refl (tt, tt)
 
     -- ---- the store is set
     store_keeps : (h : SetsStore stores sources old.state new) →

@@ -9,7 +9,7 @@ use Rattle.tftp_rules.specs.Machine.{Endpoint}
 use Rattle.tftp_store.specs.Store.{StoreMeaning}
 use Rattle.tftp_sockets.specs.Journal.{SocketEvent, answered, replied}
 use Rattle.tftp_sockets.specs.Journal.SocketEvent.{Received, Sent, Watched, Elapsed, Printed, Quiet}
-use Rattle.tftp_sockets.specs.Journal.QuietEvent.{Empty, Failed, Slept, Woke}
+use Rattle.tftp_sockets.specs.Journal.QuietEvent.{Drain_signalled, Empty, Failed, Slept, Woke}
 use Rattle.tftp_loop.specs.Steps.{LoopState, PortState, LoopStep, PortStep, A_datagram, A_lost_datagram}
 use Rattle.tftp_loop.specs.Steps.{A_late_datagram, Nothing_found, A_failed_receive, A_timeout, A_missed_timeout, Work, Waited, At_port}
 use Rattle.tftp_loop.specs.Steps.{Request_received, No_request_found, Request_not_received, Request_noted}
@@ -111,7 +111,8 @@ module _ {S F D : Type 0} {stores : StoreMeaning S D} {sources : SourceMeaning F
   server_adds (Clock_read r) = Notes (Watched r.time) [] tt (ap (λ (s : LoopState S F D). s.events) r.is)
   server_adds (Store_set r) = Silent (ap (λ (s : LoopState S F D). s.events) r.is)
   server_adds {old = old} {new = new} (Transfer_closed r) = Notes _ [] tt (ap (λ (s : LoopState S F D). s.events) r.is)
-  server_adds (Drain_begun r) = Silent (ap (λ (s : LoopState S F D). s.events) r.is)
+  server_adds (Drain_begun r) =
+      Notes (Quiet Drain_signalled) [] tt (ap (λ (s : LoopState S F D). s.events) r.is)
 
 elapse_adds : {port : ℕ} {s next : State} → MayElapse port s next → Adds s.events next.events
 elapse_adds (Stays why) = Silent refl

@@ -7,11 +7,11 @@ use Rattle.tftp_rules.specs.Machine.{Endpoint}
 use Rattle.tftp_sockets.specs.Journal.{SocketEvent, QuietEvent}
 use Rattle.tftp_sockets.specs.Journal.SocketEvent.{Received, Sent, Watched, Elapsed, Printed, Quiet}
 use Rattle.tftp_sockets.specs.Journal.QuietEvent.{Empty, Failed, New_socket, No_socket, Out_of_memory}
-use Rattle.tftp_sockets.specs.Journal.QuietEvent.{Slept, Woke}
+use Rattle.tftp_sockets.specs.Journal.QuietEvent.{No_reader, Drain_signalled, Slept, Woke}
 use Rattle.tftp_promises.specs.Programs.{ClientProgram}
 
 -- a receive at this port without a datagram, or the begin of a wait; a client's waits report none,
--- and it notes no bind and no refused memory
+-- and it notes no bind, no refused memory, and no look at a reader or a signal
 abbrev pub IsQuietAt : ℕ → QuietEvent → Type 0
 IsQuietAt port (Empty at) = at ≡ port
 IsQuietAt port (Failed at) = at ≡ port
@@ -20,6 +20,8 @@ IsQuietAt port (Woke ports) = ⊥
 IsQuietAt port (No_socket at) = ⊥
 IsQuietAt port (New_socket at) = ⊥
 IsQuietAt port Out_of_memory = ⊥
+IsQuietAt port No_reader = ⊥
+IsQuietAt port Drain_signalled = ⊥
 
 -- a datagram, a receive or a timeout of this port, a wait, a reading of the clock, or a line
 abbrev pub IsOfPort : ℕ → SocketEvent → Type 0

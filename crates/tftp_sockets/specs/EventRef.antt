@@ -4,7 +4,7 @@ use Rattle.tftp_lines.specs.Printed.{line_text}
 use Rattle.tftp_sockets.specs.Journal.{SocketEvent}
 use Rattle.tftp_sockets.specs.Journal.SocketEvent.{Received, Sent, Watched, Elapsed, Printed, Quiet}
 use Rattle.tftp_sockets.specs.Journal.QuietEvent.{Empty, Failed, New_socket, No_socket, Out_of_memory}
-use Rattle.tftp_sockets.specs.Journal.QuietEvent.{Slept, Woke}
+use Rattle.tftp_sockets.specs.Journal.QuietEvent.{Slept, Woke, No_reader, Drain_signalled}
 use Rattle.tftp_sockets.specs.declared.event_ref.EventRef.{EventRef}
 use Rattle.tftp_sockets.specs.declared.event_ref.EventRef.TheVariants as refs
 
@@ -23,3 +23,5 @@ event_of (refs.Woke ports) = Quiet (Woke ports.now)
 event_of (refs.NoSocket port) = Quiet (No_socket port)
 event_of (refs.NewSocket port) = Quiet (New_socket port)
 event_of refs.OutOfMemory = Quiet Out_of_memory
+event_of refs.NoReader = Quiet No_reader
+event_of refs.DrainSignalled = Quiet Drain_signalled

@@ -1,5 +1,5 @@
 -- What a program did over UDP: its datagrams, its time and its lines, the newest first (own).
-use Rattle.std.specs.Prelude.{ℕ, List, ◌∷◌, Option, Some, None}
+use Rattle.std.specs.Prelude.{ℕ, Bool, true, false, List, ◌∷◌, Option, Some, None}
 use Rattle.tftp_ends.specs.Step.{Reply}
 use Rattle.tftp_ends.specs.declared.endpoint.Endpoint.{Endpoint}
 
@@ -20,6 +20,10 @@ pub data QuietEvent : Type 0 where
   New_socket : (port : ℕ) → QuietEvent
   -- memory was refused
   Out_of_memory : QuietEvent
+  -- a look found that nobody reads any more what the program prints
+  No_reader : QuietEvent
+  -- a look found that the signal to drain was given
+  Drain_signalled : QuietEvent
 
 pub data SocketEvent : Type 0 where
   -- a datagram was received at the port, from this endpoint, with these bytes (RFC 1350, section 4)
@@ -33,7 +37,8 @@ pub data SocketEvent : Type 0 where
   Elapsed : (port : ℕ) (time : ℕ) → SocketEvent
   -- a line was printed on standard output, without its end
   Printed : (line : List ℕ) → SocketEvent
-  -- nothing was received, a socket was bound or none, memory was refused, or the program waited
+  -- nothing was received, a socket was bound or none, memory was refused, the program waited, or a
+  -- look found what it is for
   Quiet : QuietEvent → SocketEvent
 
 -- the journal after these bytes were sent from the port, if they go somewhere
@@ -45,3 +50,13 @@ replied port (Some to) bytes events = Sent port to bytes ∷ events
 abbrev pub answered : ℕ → Option Reply → List SocketEvent → List SocketEvent
 answered port None events = events
 answered port (Some reply) events = Sent port reply.to reply.bytes ∷ events
+
+-- the journal after a look for what this event is of, which found it or not
+abbrev pub looked : Bool → QuietEvent → List SocketEvent → List SocketEvent
+looked true event events = Quiet event ∷ events
+looked false event events = events
+
+-- the journal after a poll that took no time and reported these ports is noted, if it was not yet
+abbrev pub polled : Bool → List ℕ → List SocketEvent → List SocketEvent
+polled true ports events = Quiet (Woke ports) ∷ Quiet (Slept 0) ∷ events
+polled false ports events = events

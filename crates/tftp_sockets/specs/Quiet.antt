@@ -4,7 +4,7 @@ use Rattle.std.specs.List.{list_any}
 use Rattle.tftp_sockets.specs.Journal.{SocketEvent, QuietEvent}
 use Rattle.tftp_sockets.specs.Journal.SocketEvent.{Received, Sent, Watched, Elapsed, Printed, Quiet}
 use Rattle.tftp_sockets.specs.Journal.QuietEvent.{Empty, Failed, New_socket, No_socket, Out_of_memory}
-use Rattle.tftp_sockets.specs.Journal.QuietEvent.{Slept, Woke}
+use Rattle.tftp_sockets.specs.Journal.QuietEvent.{Slept, Woke, No_reader, Drain_signalled}
 
 -- whether the port is one of these
 abbrev pub is_among : ℕ → List ℕ → Bool
@@ -19,6 +19,8 @@ drained_by port (Woke ports) before = not (is_among port ports) && before
 drained_by port (No_socket p) before = before
 drained_by port (New_socket p) before = before
 drained_by port Out_of_memory before = before
+drained_by port No_reader before = before
+drained_by port Drain_signalled before = before
 
 -- whether the last event of the port is that a receive found nothing there
 abbrev pub is_drained : ℕ → List SocketEvent → Bool
@@ -39,6 +41,8 @@ tried_by port (Woke ports) before = false
 tried_by port (No_socket p) before = before
 tried_by port (New_socket p) before = before
 tried_by port Out_of_memory before = before
+tried_by port No_reader before = before
+tried_by port Drain_signalled before = before
 
 -- whether a receive was tried at the port since the newest wait
 abbrev pub was_tried : ℕ → List SocketEvent → Bool
@@ -59,6 +63,8 @@ waits_in (Woke ports) = 0
 waits_in (No_socket port) = 0
 waits_in (New_socket port) = 0
 waits_in Out_of_memory = 0
+waits_in No_reader = 0
+waits_in Drain_signalled = 0
 
 -- how many waits there were
 abbrev pub waits : List SocketEvent → ℕ
@@ -79,6 +85,8 @@ ends_wait (Woke ports) = true
 ends_wait (No_socket port) = false
 ends_wait (New_socket port) = false
 ends_wait Out_of_memory = false
+ends_wait No_reader = false
+ends_wait Drain_signalled = false
 
 -- whether the newest event is the end of a wait
 abbrev pub has_woken : List SocketEvent → Bool

@@ -8,7 +8,7 @@ use std::io;
 use std::time::{Clock, Duration};
 
 /// A reading of the monotonic clock in milliseconds, or `last` if it cannot be read.
-pub fn read_clock(clock: &impl Clock, last: u64) -> u64 {
+pub(crate) fn read_clock<C: Clock>(clock: &C, last: u64) -> u64 {
     reading_of(clock.monotonic(), last)
 }
 
@@ -19,5 +19,13 @@ fn reading_of(time: io::Result<Duration>, last: u64) -> u64
     match time {
         Ok(time) => millis_of(time),
         Err(_) => last,
+    }
+}
+
+/// The time of the monotonic clock in microseconds, if it can be read.
+pub(crate) fn micros<C: Clock>(clock: &C) -> Option<u64> {
+    match clock.monotonic() {
+        Ok(time) => u64::try_from(time.as_micros()).ok(),
+        Err(_) => None,
     }
 }

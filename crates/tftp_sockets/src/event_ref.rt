@@ -33,4 +33,8 @@ pub(crate) enum EventRef<'a> {
     NewSocket(u16),
     /// Memory was refused.
     OutOfMemory,
+    /// Nobody reads any more what the program prints.
+    NoReader,
+    /// The signal to drain was given.
+    DrainSignalled,
 }

@@ -1,19 +1,22 @@
 -- What is printed follows what the outputs of the servers gave.
 use Rattle.std.proofs.Common.{◌≡◌, ◌≢◌, ◌||◌, ◌==◌, ◌∙◌, ◌<◌, ◌+◌, ℕ, Bool, true, false, List, [], ◌∷◌, ◌++◌}
-use Rattle.std.proofs.Common.{if◌then◌else◌, append_assoc, subst, arith, refl, sym, ap, length}
-use Rattle.std.specs.Prelude.{slice_index_or, slice_set, All, OnOk, Result, Ok, Err}
+use Rattle.std.proofs.Common.{if◌then◌else◌, append_assoc, subst, suc, arith, refl, sym, ap, length}
+use Rattle.std.specs.Prelude.{slice_index_or, slice_set, All, Contains, OnOk, Result, Ok, Err, Some, pos}
+use Rattle.std.specs.Process.{exit_code}
+use Rattle.std.specs.declared.process.status.ExitStatus.{ExitStatus}
 use Rattle.std.proofs.lemmas.Bool.{eqb-true, eq-eqb}
 use Rattle.std.proofs.lemmas.Bool.Decides.{nat_tests}
 use Rattle.std.proofs.lemmas.List.{append-nil, length-set, get_or-set_same, get_or-set_other}
 use Rattle.std.proofs.lemmas.List.Elements.{All-append, All-nil}
 use Rattle.tftp_supervisor.specs.Lines.{HasNoEnd, all_marked, ended, has_any, line_passed, marked, passed, text_of}
-use Rattle.tftp_supervisor.specs.OutputJournal.{OutputEvent, after_print, given_by, has_ended_in, printed_in}
-use Rattle.tftp_supervisor.specs.OutputJournal.OutputEvent.{Gave, Ended}
-use Rattle.tftp_supervisor.specs.PassedOn.{AllEnded, AlwaysPassedOn, PassedOn, ServerLine, has_line, lines_of, print_of}
-use Rattle.tftp_supervisor.specs.Watching.{EachServer, IsKnown, IsStarting, IsWatching, Reads}
-use Rattle.tftp_supervisor.specs.Watching.Reads.{Given, Closed}
+use Rattle.tftp_supervisor.specs.ProcessEvent.{AllSucceeded, HasSucceeded, ProcessEvent}
+use Rattle.tftp_supervisor.specs.ProcessEvent.{after_print, given_by, printed_in, started_in}
+use Rattle.tftp_supervisor.specs.ProcessEvent.ProcessEvent.{Started, Gave, Closed, Ended, Printed}
+use Rattle.tftp_supervisor.specs.PassedOn.{AlwaysPassedOn, PassedOn, ServerLine, has_line, lines_of, print_of}
+use Rattle.tftp_supervisor.specs.Watching.{EachServer, GoesOn, IsCounted, IsKnown, IsStarting, IsWatching, OnlyStarts, Reads}
+use Rattle.tftp_supervisor.specs.Watching.Reads.{Given, Finished}
 use Rattle.tftp_supervisor.specs.declared.output.Output.{Output}
-use Rattle.tftp_supervisor.specs.declared.server.ServerProcess.{ServerProcess}
+use Rattle.tftp_supervisor.specs.declared.supervisor.WatchedServer.{WatchedServer}
 use Rattle.tftp_supervisor.specs.declared.supervisor.Supervisor.{Supervisor}
 use Rattle.tftp_supervisor.proofs.Passing.{any_more, same_printed}
 
@@ -95,23 +98,44 @@ printed_with server lines before = by (has_any (lines_of server before)) refl li
         ∙ ap (λ (b : Bool). (print_of before ++ line_passed (has_line before) b server line) ++ all_marked server ls) is
         ∙ append_assoc (print_of before) (if has_line before then [] else ended line) (all_marked server ls)
 
--- ---- the journal
-given_print : (server : ℕ) (out : List ℕ) (events : List OutputEvent)
+-- ---- the history
+given_print : (server : ℕ) (out : List ℕ) (events : List ProcessEvent)
     → given_by server (after_print out events) ≡ given_by server events
 given_print server [] events = refl
 given_print server (byte ∷ out) events = refl
 
-ended_print : (server : ℕ) (out : List ℕ) (events : List OutputEvent)
-    → has_ended_in server (after_print out events) ≡ has_ended_in server events
-ended_print server [] events = refl
-ended_print server (byte ∷ out) events = refl
+pub started_print : (out : List ℕ) (events : List ProcessEvent) → started_in (after_print out events) ≡ started_in events
+started_print [] events = refl
+started_print (byte ∷ out) events = refl
 
-printed_print : (out : List ℕ) (events : List OutputEvent)
+printed_print : (out : List ℕ) (events : List ProcessEvent)
     → printed_in (after_print out events) ≡ printed_in events ++ out
 printed_print [] events = sym (append-nil (printed_in events))
 printed_print (byte ∷ out) events = refl
 
-always_print : (out : List ℕ) (events : List OutputEvent) → PassedOn (after_print out events) → AlwaysPassedOn events
+-- what happened has happened
+pub newest : (event : ProcessEvent) (events : List ProcessEvent) → Contains (event ∷ events) event
+newest event events = (0, omega arith, refl)
+
+pub earlier : (event other : ProcessEvent) (events : List ProcessEvent) → Contains events event
+    → Contains (other ∷ events) event
+earlier event other events (k, below, is) = (suc k, grind arith, is)
+
+still_succeeded : (server : ℕ) (event : ProcessEvent) (events : List ProcessEvent) → HasSucceeded server events
+    → HasSucceeded server (event ∷ events)
+still_succeeded server event events has = record {
+  closed = earlier (Closed server) event events has.closed;
+  status = has.status;
+  ended = earlier (Ended server (Ok has.status)) event events has.ended;
+  success = has.success;
+}
+
+succeeded_print : (server : ℕ) (out : List ℕ) (events : List ProcessEvent) → HasSucceeded server events
+    → HasSucceeded server (after_print out events)
+succeeded_print server [] events has = has
+succeeded_print server (byte ∷ out) events has = still_succeeded server (Printed (byte ∷ out)) events has
+
+always_print : (out : List ℕ) (events : List ProcessEvent) → PassedOn (after_print out events) → AlwaysPassedOn events
     → AlwaysPassedOn (after_print out events)
 always_print [] events passed always = always
 always_print (byte ∷ out) events passed always = (passed, always)
@@ -120,7 +144,7 @@ always_print (byte ∷ out) events passed always = (passed, always)
 abbrev with_start : ℕ → List ℕ → (ℕ → List ℕ) → ℕ → List ℕ
 with_start server start starts other = if server == other then start else starts other
 
-given_more : (events : List OutputEvent) (lines : List ServerLine) (starts : ℕ → List ℕ) (server : ℕ) (bytes : List ℕ)
+given_more : (events : List ProcessEvent) (lines : List ServerLine) (starts : ℕ → List ℕ) (server : ℕ) (bytes : List ℕ)
     (more : List (List ℕ)) (start : List ℕ)
     → ((j : ℕ) → given_by j events ≡ text_of (lines_of j lines) ++ starts j)
     → starts server ++ bytes ≡ text_of more ++ start
@@ -171,18 +195,42 @@ unended_more server start starts ends each j = by (server == j) refl
     by false is = rw (is) (each j)
 
 -- nothing was read
-abbrev passed_nothing : (events : List OutputEvent) → events ≡ [] → PassedOn events
-passed_nothing events none = record {
+nothing_given : (server : ℕ) (events : List ProcessEvent) → OnlyStarts events → given_by server events ≡ []
+nothing_given server [] only = refl
+nothing_given server (Started line ∷ before) only = nothing_given server before only
+nothing_given server (Gave other bytes ∷ before) only = absurd only
+nothing_given server (Closed other ∷ before) only = absurd only
+nothing_given server (Ended other answer ∷ before) only = absurd only
+nothing_given server (Printed text ∷ before) only = absurd only
+
+nothing_printed : (events : List ProcessEvent) → OnlyStarts events → printed_in events ≡ []
+nothing_printed [] only = refl
+nothing_printed (Started line ∷ before) only = nothing_printed before only
+nothing_printed (Gave server bytes ∷ before) only = absurd only
+nothing_printed (Closed server ∷ before) only = absurd only
+nothing_printed (Ended server answer ∷ before) only = absurd only
+nothing_printed (Printed text ∷ before) only = absurd only
+
+pub always_starting : (events : List ProcessEvent) → OnlyStarts events → AlwaysPassedOn events
+always_starting [] only = tt
+always_starting (Started line ∷ before) only = always_starting before only
+always_starting (Gave server bytes ∷ before) only = absurd only
+always_starting (Closed server ∷ before) only = absurd only
+always_starting (Ended server answer ∷ before) only = absurd only
+always_starting (Printed text ∷ before) only = absurd only
+
+abbrev passed_nothing : (events : List ProcessEvent) → OnlyStarts events → PassedOn events
+passed_nothing events only = record {
   lines = [];
   begun = λ _. [];
-  given = λ j. ap (given_by j) none;
+  given = λ j. nothing_given j events only;
   whole = λ _. All-nil HasNoEnd;
   unended = λ _. All-nil (λ (byte : ℕ). byte ≢ 10);
-  printed = ap printed_in none;
+  printed = nothing_printed events only;
 }
 
 -- bytes of a server were read, and passed on
-abbrev passed_gave : (events after : List OutputEvent) (w : PassedOn events) (server : ℕ) (bytes : List ℕ)
+abbrev passed_gave : (events after : List ProcessEvent) (w : PassedOn events) (server : ℕ) (bytes : List ℕ)
     (more : List (List ℕ)) (start out : List ℕ) → after ≡ after_print out (Gave server bytes ∷ events)
     → w.begun server ++ bytes ≡ text_of more ++ start → All HasNoEnd more → HasNoEnd start
     → out ≡ passed (has_line w.lines) (has_any (lines_of server w.lines)) server more → PassedOn after
@@ -198,10 +246,10 @@ passed_gave events after w server bytes more start out noted taken whole unended
       ∙ ap (λ (t : List ℕ). print_of w.lines ++ t) is ∙ sym (printed_with server more w.lines);
 }
 
--- a server ended
-abbrev passed_ended : (events after : List OutputEvent) (server : ℕ) → after ≡ Ended server ∷ events
-    → PassedOn events → PassedOn after
-passed_ended events after server noted w = record {
+-- a server closed its output, and ended
+abbrev passed_finished : (events after : List ProcessEvent) (server : ℕ) (status : ExitStatus)
+    → after ≡ Ended server (Ok status) ∷ Closed server ∷ events → PassedOn events → PassedOn after
+passed_finished events after server status noted w = record {
   lines = w.lines;
   begun = w.begun;
   given = λ j. ap (given_by j) noted ∙ w.given j;
@@ -212,9 +260,9 @@ passed_ended events after server noted w = record {
 
 -- ---- the servers
 -- one of them has changed, and the others are as they were
-each_set : (Was Is : ℕ → ServerProcess → Type 0) (servers : List ServerProcess) (index : ℕ) (next : ServerProcess)
+each_set : (Was Is : ℕ → WatchedServer → Type 0) (servers : List WatchedServer) (index : ℕ) (next : WatchedServer)
     → index < length servers → EachServer Was servers → Is (index + 1) next
-    → ((k : ℕ) (process : ServerProcess) → k ≢ index → Was (k + 1) process → Is (k + 1) process)
+    → ((k : ℕ) (process : WatchedServer) → k ≢ index → Was (k + 1) process → Is (k + 1) process)
     → EachServer Is (slice_set servers index next)
 each_set Was Is servers index next within each own other k d below = by (k == index) refl
   where
@@ -245,17 +293,19 @@ own_any server [] b = refl
 own_any server (newest ∷ before) b = refl
 
 -- the server of a number is known after bytes of its output were passed on
-module _ (events after : List OutputEvent) (lines : List ServerLine) (starts : ℕ → List ℕ) (old : Output)
+module _ (events after : List ProcessEvent) (lines : List ServerLine) (starts : ℕ → List ℕ) (old : Output)
     (bytes : List ℕ) (more : List (List ℕ)) (start out : List ℕ)
     (noted : after ≡ after_print out (Gave old.server bytes ∷ events)) where
-  abbrev Known : ℕ → ServerProcess → Type 0
+  abbrev Known : ℕ → WatchedServer → Type 0
   Known = IsKnown after (with_lines old.server more lines) (with_start old.server start starts)
 
-  ends_so : (number : ℕ) → has_ended_in number events ≡ true → has_ended_in number after ≡ true
+  ends_so : (number : ℕ) → HasSucceeded number events → HasSucceeded number after
   ends_so number was =
-      ap (has_ended_in number) noted ∙ ended_print number out (Gave old.server bytes ∷ events) ∙ was
+      subst (HasSucceeded number) (sym noted)
+      (succeeded_print number out (Gave old.server bytes ∷ events)
+      (still_succeeded number (Gave old.server bytes) events was))
 
-  gave_own : (number : ℕ) (process next : ServerProcess) → process.output ≡ old → next.output.begun.items ≡ start
+  gave_own : (number : ℕ) (process next : WatchedServer) → process.output ≡ old → next.output.begun.items ≡ start
       → next.output.has_printed ≡ (old.has_printed || has_any more) → next.output.server ≡ old.server
       → next.has_ended ≡ process.has_ended → IsKnown events lines starts number process → Known number next
   gave_own number process next is begun printed server same known =
@@ -273,7 +323,7 @@ module _ (events after : List OutputEvent) (lines : List ServerLine) (starts : �
         ended = λ now. ends_so number (known.ended (sym same ∙ now));
       }
 
-  gave_other : (number : ℕ) (process : ServerProcess) → (old.server == number) ≡ false
+  gave_other : (number : ℕ) (process : WatchedServer) → (old.server == number) ≡ false
       → IsKnown events lines starts number process → Known number process
   gave_other number process apart known =
       let there : with_start old.server start starts number ≡ starts number = rw (apart) refl in
@@ -287,42 +337,61 @@ module _ (events after : List OutputEvent) (lines : List ServerLine) (starts : �
       }
 
 -- a server is known after one has ended
-module _ (events after : List OutputEvent) (lines : List ServerLine) (starts : ℕ → List ℕ) (server : ℕ)
-    (noted : after ≡ Ended server ∷ events) where
-  ended_own : (number : ℕ) (process next : ServerProcess) → server ≡ number → next.output ≡ process.output
-      → IsKnown events lines starts number process → IsKnown after lines starts number next
-  ended_own number process next is same known =
-      let yes : (server == number) ≡ true = eq-eqb server number is in
-      let now : has_ended_in number (Ended server ∷ events) ≡ true = rw (yes) refl in
-      record {
-        server = ap (λ (o : Output). o.server) same ∙ known.server;
-        begun = ap (λ (o : Output). o.begun.items) same ∙ known.begun;
-        has_printed = ap (λ (o : Output). o.has_printed) same ∙ known.has_printed;
-        ended = λ _. ap (has_ended_in number) noted ∙ now;
-      }
+module _ (events after : List ProcessEvent) (lines : List ServerLine) (starts : ℕ → List ℕ) (server : ℕ)
+    (status : ExitStatus) (success : exit_code status ≡ Some (pos 0))
+    (noted : after ≡ Ended server (Ok status) ∷ Closed server ∷ events) where
+  succeeded_now : HasSucceeded server after
+  succeeded_now =
+      subst (HasSucceeded server) (sym noted)
+      (record {
+        closed =
+            earlier (Closed server) (Ended server (Ok status)) (Closed server ∷ events) (newest (Closed server) events);
+        status = status;
+        ended = newest (Ended server (Ok status)) (Closed server ∷ events);
+        success = success;
+      })
 
-  ended_other : (number : ℕ) (process : ServerProcess) → IsKnown events lines starts number process
+  ended_own : (number : ℕ) (process next : WatchedServer) → server ≡ number → next.output ≡ process.output
+      → IsKnown events lines starts number process → IsKnown after lines starts number next
+  ended_own number process next is same known = record {
+    server = ap (λ (o : Output). o.server) same ∙ known.server;
+    begun = ap (λ (o : Output). o.begun.items) same ∙ known.begun;
+    has_printed = ap (λ (o : Output). o.has_printed) same ∙ known.has_printed;
+    ended = λ _. subst (λ (n : ℕ). HasSucceeded n after) is succeeded_now;
+  }
+
+  ended_other : (number : ℕ) (process : WatchedServer) → IsKnown events lines starts number process
       → IsKnown after lines starts number process
   ended_other number process known = record {
     server = known.server;
     begun = known.begun;
     has_printed = known.has_printed;
-    ended = λ now. ap (has_ended_in number) noted
-        ∙ ap (λ (b : Bool). (server == number) || b) (known.ended now) ∙ or_true (server == number);
+    ended = λ now. subst (HasSucceeded number) (sym noted)
+        (still_succeeded number (Ended server (Ok status)) (Closed server ∷ events)
+        (still_succeeded number (Closed server) events (known.ended now)));
   }
 
 -- one output was read, and what is to be printed of it is
-pub watched_on : (old new : Supervisor) (index : ℕ) (process next : ServerProcess) (middle : List OutputEvent)
-    (out : List ℕ) → IsWatching old → index < length old.servers.items
+counted_on : (before after : List ProcessEvent) (old new : Supervisor) (index : ℕ) (next : WatchedServer)
+    → IsCounted before old → new.servers.items ≡ slice_set old.servers.items index next → new.count ≡ old.count
+    → started_in after ≡ started_in before → IsCounted after new
+counted_on before after old new index next counted set same started = record {
+  count = same ∙ counted.count ∙ ap (λ (lines : List (List (List ℕ))). length lines) (sym started);
+  watched =
+      ap (λ (servers : List WatchedServer). length servers) set ∙ length-set old.servers.items index next
+      ∙ counted.watched ∙ sym same;
+}
+
+pub watched_on : (before after : List ProcessEvent) (old new : Supervisor) (index : ℕ) (process next : WatchedServer)
+    (middle : List ProcessEvent) (out : List ℕ) → IsWatching before old → index < length old.servers.items
     → process ≡ slice_index_or old.servers.items index process
-    → new.servers.items ≡ slice_set old.servers.items index next
-    → Reads old.announced new.announced process next old.journal.events middle out
-    → new.journal.events ≡ after_print out middle → IsWatching new
-watched_on old new index process next middle out w within is set (Given bytes noted passes same announces) ends =
-    let known : IsKnown old.journal.events w.passed.lines w.passed.begun (index + 1) process =
-    subst (IsKnown old.journal.events w.passed.lines w.passed.begun (index + 1)) (sym is)
-    (w.each index process within) in
-    let events : new.journal.events ≡ after_print out (Gave process.output.server bytes ∷ old.journal.events) =
+    → new.servers.items ≡ slice_set old.servers.items index next → new.count ≡ old.count
+    → Reads old.announced new.announced process next before middle out
+    → after ≡ after_print out middle → IsWatching after new
+watched_on before after old new index process next middle out w within is set count (Given bytes noted passes same announces) ends =
+    let known : IsKnown before w.passed.lines w.passed.begun (index + 1) process =
+    subst (IsKnown before w.passed.lines w.passed.begun (index + 1)) (sym is) (w.each index process within) in
+    let events : after ≡ after_print out (Gave process.output.server bytes ∷ before) =
     ends ∙ ap (after_print out) noted in
     let has : process.output.has_printed ≡ has_any (lines_of process.output.server w.passed.lines) =
     known.has_printed ∙ ap (λ (n : ℕ). has_any (lines_of n w.passed.lines)) (sym known.server) in
@@ -333,57 +402,62 @@ watched_on old new index process next middle out w within is set (Given bytes no
     passes.out_is
     ∙ ap (λ (b : Bool). passed b process.output.has_printed process.output.server passes.lines) w.announced
     ∙ ap (λ (b : Bool). passed (has_line w.passed.lines) b process.output.server passes.lines) has in
-    let after : PassedOn (after_print out (Gave process.output.server bytes ∷ old.journal.events)) =
-    passed_gave old.journal.events _ w.passed process.output.server bytes passes.lines next.output.begun.items out
+    let later : PassedOn (after_print out (Gave process.output.server bytes ∷ before)) =
+    passed_gave before _ w.passed process.output.server bytes passes.lines next.output.begun.items out
     refl taken passes.whole passes.begun printed in
-    let each : EachServer (Known old.journal.events new.journal.events w.passed.lines w.passed.begun process.output bytes passes.lines next.output.begun.items out events)
+    let each : EachServer (Known before after w.passed.lines w.passed.begun process.output bytes passes.lines next.output.begun.items out events)
     (slice_set old.servers.items index next) =
-    each_set (IsKnown old.journal.events w.passed.lines w.passed.begun)
-    (Known old.journal.events new.journal.events w.passed.lines w.passed.begun process.output bytes passes.lines
+    each_set (IsKnown before w.passed.lines w.passed.begun)
+    (Known before after w.passed.lines w.passed.begun process.output bytes passes.lines
     next.output.begun.items out events) old.servers.items index next within w.each
-    (gave_own old.journal.events new.journal.events w.passed.lines w.passed.begun process.output bytes passes.lines next.output.begun.items out events (index + 1) process next refl refl
+    (gave_own before after w.passed.lines w.passed.begun process.output bytes passes.lines next.output.begun.items out events (index + 1) process next refl refl
     passes.has_printed passes.server same known)
-    (λ k other apart was. gave_other old.journal.events new.journal.events w.passed.lines w.passed.begun process.output bytes passes.lines next.output.begun.items out events (k + 1)
+    (λ k other apart was. gave_other before after w.passed.lines w.passed.begun process.output bytes passes.lines next.output.begun.items out events (k + 1)
     other (apart_numbers k index process.output.server apart known.server) was) in
     record {
-      passed = passed_gave old.journal.events new.journal.events w.passed process.output.server bytes passes.lines
+      passed = passed_gave before after w.passed process.output.server bytes passes.lines
           next.output.begun.items out events taken passes.whole passes.begun printed;
       always = subst AlwaysPassedOn (sym events)
-          (always_print out (Gave process.output.server bytes ∷ old.journal.events) after (w.passed, w.always));
+          (always_print out (Gave process.output.server bytes ∷ before) later (w.passed, w.always));
+      counted = counted_on before after old new index next w.counted set count
+          (ap started_in events ∙ started_print out (Gave process.output.server bytes ∷ before));
       announced =
           announces ∙ ap (λ (b : Bool). b || next.output.has_printed) w.announced
           ∙ ap (λ (b : Bool). has_line w.passed.lines || b) passes.has_printed
           ∙ ap (λ (b : Bool). has_line w.passed.lines || (b || has_any passes.lines)) has
           ∙ own_any process.output.server w.passed.lines (has_any passes.lines)
           ∙ sym (any_with process.output.server passes.lines w.passed.lines);
-      each = subst (EachServer (Known old.journal.events new.journal.events w.passed.lines w.passed.begun process.output bytes passes.lines next.output.begun.items out events)) (sym set)
+      each = subst (EachServer (Known before after w.passed.lines w.passed.begun process.output bytes passes.lines next.output.begun.items out events)) (sym set)
           each;
     }
-watched_on old new index process next middle out w within is set (Closed noted same none announces) ends =
-    let known : IsKnown old.journal.events w.passed.lines w.passed.begun (index + 1) process =
-    subst (IsKnown old.journal.events w.passed.lines w.passed.begun (index + 1)) (sym is)
-    (w.each index process within) in
-    let events : new.journal.events ≡ Ended process.output.server ∷ old.journal.events =
+watched_on before after old new index process next middle out w within is set count (Finished status success noted same none announces) ends =
+    let known : IsKnown before w.passed.lines w.passed.begun (index + 1) process =
+    subst (IsKnown before w.passed.lines w.passed.begun (index + 1)) (sym is) (w.each index process within) in
+    let server : ℕ = process.output.server in
+    let events : after ≡ Ended process.output.server (Ok status) ∷ Closed process.output.server ∷ before =
     ends ∙ ap (after_print out) noted
-    ∙ ap (λ (o : List ℕ). after_print o (Ended process.output.server ∷ old.journal.events)) none in
-    let each : EachServer (IsKnown new.journal.events w.passed.lines w.passed.begun)
-    (slice_set old.servers.items index next) =
-    each_set (IsKnown old.journal.events w.passed.lines w.passed.begun)
-    (IsKnown new.journal.events w.passed.lines w.passed.begun) old.servers.items index next within w.each
-    (ended_own old.journal.events new.journal.events w.passed.lines w.passed.begun process.output.server events (index + 1) process next known.server same known)
-    (λ k other apart was. ended_other old.journal.events new.journal.events w.passed.lines w.passed.begun process.output.server events (k + 1) other was) in
+    ∙ ap (λ (o : List ℕ). after_print o (Ended process.output.server (Ok status) ∷ Closed process.output.server ∷ before))
+    none in
+    let each : EachServer (IsKnown after w.passed.lines w.passed.begun) (slice_set old.servers.items index next) =
+    each_set (IsKnown before w.passed.lines w.passed.begun) (IsKnown after w.passed.lines w.passed.begun)
+    old.servers.items index next within w.each
+    (ended_own before after w.passed.lines w.passed.begun process.output.server status success events (index + 1) process next known.server same known)
+    (λ k other apart was. ended_other before after w.passed.lines w.passed.begun process.output.server status success events (k + 1) other was) in
     record {
-      passed = passed_ended old.journal.events new.journal.events process.output.server events w.passed;
+      passed = passed_finished before after process.output.server status events w.passed;
       always = subst AlwaysPassedOn (sym events) (w.passed, w.always);
+      counted = counted_on before after old new index next w.counted set count (ap started_in events);
       announced = announces ∙ w.announced;
-      each = subst (EachServer (IsKnown new.journal.events w.passed.lines w.passed.begun)) (sym set) each;
+      each = subst (EachServer (IsKnown after w.passed.lines w.passed.begun)) (sym set) each;
     }
 
 -- no output was read
-pub starts_watching : (supervisor : Supervisor) → IsStarting supervisor → IsWatching supervisor
-starts_watching supervisor s = record {
-  passed = passed_nothing supervisor.journal.events s.events;
-  always = subst AlwaysPassedOn (sym s.events) tt;
+pub starts_watching : (events : List ProcessEvent) (supervisor : Supervisor) → IsStarting events supervisor
+    → IsWatching events supervisor
+starts_watching events supervisor s = record {
+  passed = passed_nothing events s.only;
+  always = always_starting events s.only;
+  counted = s.counted;
   announced = s.announced;
   each = λ k d below. let new = s.each k d below in
       record {
@@ -395,16 +469,24 @@ starts_watching supervisor s = record {
 }
 
 -- ---- the end
-one_of : (servers : List ServerProcess) (k : ℕ) → k < length servers → ServerProcess
+one_of : (servers : List WatchedServer) (k : ℕ) → k < length servers → WatchedServer
 one_of [] k below = absurd (omega arith)
 one_of (server ∷ servers) k below = server
 
-pub all_ended : (supervisor : Supervisor) → IsWatching supervisor
-    → All (λ (process : ServerProcess). process.has_ended ≡ true) supervisor.servers.items
-    → AllEnded (length supervisor.servers.items) supervisor.journal.events
-all_ended supervisor w all k below =
-    let d : ServerProcess = one_of supervisor.servers.items k below in
-    (w.each k d below).ended (all k d below)
+pub all_succeeded : (events : List ProcessEvent) (supervisor : Supervisor) → IsWatching events supervisor
+    → All (λ (process : WatchedServer). process.has_ended ≡ true) supervisor.servers.items
+    → AllSucceeded supervisor.count events
+all_succeeded events supervisor w all k below =
+    let within : k < length supervisor.servers.items = omega (arith, below, w.counted.watched) in
+    let d : WatchedServer = one_of supervisor.servers.items k within in
+    (w.each k d within).ended (all k d within)
+
+pub goes_on_print : (before middle after : List ProcessEvent) (out : List ℕ) (new : Supervisor) → IsWatching after new
+    → GoesOn before middle → after ≡ after_print out middle → GoesOn before after
+goes_on_print before middle after out new w goes ends = record {
+  always = w.always;
+  started = ap started_in ends ∙ started_print out middle ∙ goes.started;
+}
 
 pub ok_so : {T E : Type 0} (r : Result T E) {P : Type 0} → P → OnOk r P
 ok_so (Ok value) holds = holds

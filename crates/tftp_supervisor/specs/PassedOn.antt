@@ -1,9 +1,9 @@
 -- What is printed of the lines of several servers (ours).
-use Rattle.std.specs.Prelude.{ℕ, ◌≡◌, ◌==◌, ◌<◌, ◌+◌, Bool, true, false, List, [], ◌∷◌, ◌++◌, All}
+use Rattle.std.specs.Prelude.{ℕ, ◌≡◌, ◌==◌, Bool, true, false, List, [], ◌∷◌, ◌++◌, All}
 use Rattle.std.specs.Prelude.{if◌then◌else◌}
 use Rattle.tftp_supervisor.specs.Lines.{HasNoEnd, has_any, line_passed, text_of}
-use Rattle.tftp_supervisor.specs.OutputJournal.{OutputEvent, given_by, has_ended_in, printed_in}
-use Rattle.tftp_supervisor.specs.OutputJournal.OutputEvent.{Gave, Ended, Printed}
+use Rattle.tftp_supervisor.specs.ProcessEvent.{ProcessEvent, given_by, printed_in}
+use Rattle.tftp_supervisor.specs.ProcessEvent.ProcessEvent.{Started, Gave, Closed, Ended, Printed}
 
 -- a line of a server, without its end
 pub record ServerLine : Type 0 where
@@ -33,7 +33,7 @@ print_of (newest ∷ before) =
 
 -- what was printed is what is printed of some lines; and what each server gave is its lines, whole
 -- ones, and the start of a line whose end has not come
-pub record PassedOn (events : List OutputEvent) : Type 0 where
+pub record PassedOn (events : List ProcessEvent) : Type 0 where
   pub lines : List ServerLine
   pub begun : ℕ → List ℕ
   pub given : (server : ℕ)
@@ -43,13 +43,11 @@ pub record PassedOn (events : List OutputEvent) : Type 0 where
   pub printed : printed_in events ≡ print_of lines
 
 -- so it was after each write, and before each read
-abbrev pub AlwaysPassedOn : List OutputEvent → Type 0
+abbrev pub AlwaysPassedOn : List ProcessEvent → Type 0
 AlwaysPassedOn [] = Unit {0}
+AlwaysPassedOn (Started line ∷ before) = AlwaysPassedOn before
 AlwaysPassedOn (Gave server bytes ∷ before) = PassedOn before × AlwaysPassedOn before
-AlwaysPassedOn (Ended server ∷ before) = PassedOn before × AlwaysPassedOn before
+AlwaysPassedOn (Closed server ∷ before) = PassedOn before × AlwaysPassedOn before
+AlwaysPassedOn (Ended server answer ∷ before) = AlwaysPassedOn before
 AlwaysPassedOn (Printed text ∷ before) =
     PassedOn (Printed text ∷ before) × AlwaysPassedOn before
-
--- so many servers, counted from 1, ended with the status 0
-abbrev pub AllEnded : ℕ → List OutputEvent → Type 0
-AllEnded count events = (k : ℕ) → k < count → has_ended_in (k + 1) events ≡ true

@@ -1,5 +1,8 @@
 //! Why a supervisor ended.
 
+ghost use Rattle.std.specs.Prelude.{◌≡◌};
+ghost use Rattle.tftp_supervisor.specs.declared.fault.SupervisorFault.TheVariants as faults;
+
 use std::alloc::AllocError;
 use std::io::{self, ErrorKind};
 use std::process::ExitStatus;
@@ -38,6 +41,8 @@ impl SupervisorFault {
 }
 
 impl From<AllocError> for SupervisorFault {
+    ghost from_gives = { λ _ fault. fault ≡ faults.Memory };
+
     fn from(_: AllocError) -> SupervisorFault {
         SupervisorFault::Memory
     }

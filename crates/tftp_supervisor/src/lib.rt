@@ -8,11 +8,11 @@
 
 mod fault;
 mod output;
-mod output_event_ref;
-mod output_journal;
-mod server;
+mod processes;
+mod supervise;
 mod supervisor;
+mod system;
 
 pub use fault::SupervisorFault;
-pub use output_journal::OutputJournal;
-pub use supervisor::Supervise;
+pub use supervise::Supervise;
+pub use system::History;

@@ -1,182 +1,179 @@
 //! Starts servers, and prints their lines until they have ended.
 
-ghost use Rattle.std.specs.Prelude.{◌≡◌, ◌+◌, ◌||◌, [], false, true, length, All, IfOk, IsTrue};
-ghost use Rattle.std.specs.Prelude.{OnErr, OnOk};
+ghost use Rattle.std.specs.Prelude.{◌≡◌, ◌+◌, ◌<◌, ◌||◌, ◌∷◌, [], false, true, length, map, All};
+ghost use Rattle.std.specs.Prelude.{IsTrue, IfOk, Ok, OnErr, OnOk, Some, pos, suc};
+ghost use Rattle.std.specs.Process.{exit_code};
+ghost use Rattle.std.specs.String.{string_bytes};
+ghost use Rattle.std.specs.declared.process.status.ExitStatus.{ExitStatus};
 ghost use Rattle.tftp_supervisor.specs.Lines.{HasNoEnd};
-ghost use Rattle.tftp_supervisor.specs.PassedOn.{AllEnded, AlwaysPassedOn, PassedOn};
-ghost use Rattle.tftp_supervisor.specs.Watching.{IsStarting, IsWatching, Reads};
+ghost use Rattle.tftp_supervisor.specs.PassedOn.{AlwaysPassedOn, PassedOn};
+ghost use Rattle.tftp_supervisor.specs.ProcessEvent.{AllSucceeded, EachEnded, IsStarted};
+ghost use Rattle.tftp_supervisor.specs.ProcessEvent.{StartsFirst, after_print, started_in};
+ghost use Rattle.tftp_supervisor.specs.ProcessEvent.ProcessEvent.{Closed, Ended, Started};
+ghost use Rattle.tftp_supervisor.specs.Watching.{GoesOn, IsCounted, IsStarting, IsWatching, Reads};
 
 use crate::fault::SupervisorFault;
 use crate::output::Output;
-use crate::output_journal::OutputJournal;
-use crate::server::{ServerProcess, print};
-use mio::{Events, Poll, Token};
+use crate::processes::ServerProcesses;
 use std::alloc::Global;
-use std::convert::AsStr;
-use std::io::ErrorKind;
-use std::net::{SocketAddr, UdpSocket};
-use std::os::fd::OwnedFd;
-use std::path::Path;
-use std::{env, io};
+use std::io::{self, ErrorKind};
 
 /// The most bytes that are read of an output at once.
 const MOST_READ: usize = 4096;
 
-/// The most outputs that one wait reports.
-const MOST_REPORTS: usize = 64;
-
-/// Starts servers of its own program, and supervises them.
-pub trait Supervise {
-    /// A UDP socket that is bound there, to be handed over to servers.
-    fn bind_shared(&self, at: SocketAddr) -> io::Result<OwnedFd>;
-
-    /// Starts a server for each of these command lines, whose first word is the program's name,
-    /// with this socket as its standard input, and prints what they print, each line with its server.
-    ///
-    /// It returns `Ok` once each of them has ended with the status 0, and an error once one of them
-    /// ended otherwise or could not be started, or a line could not be printed: then it has ended
-    /// all of them. The journal is of what their outputs gave, and of what was printed. A 256th
-    /// server is refused, as the system refuses one.
-    fn supervise<S: AsStr>(
-        &self,
-        socket: &OwnedFd,
-        servers: &[Vec<S>],
-    ) -> (Result<(), SupervisorFault>, OutputJournal)
-        // Whole lines are printed, each with its server, and none is left out or printed twice.
-        ensures passed { OnOk result.0 (PassedOn result.1.events) }
-        ensures always { AlwaysPassedOn result.1.events }
-        ensures ended { OnOk result.0 (AllEnded (length servers.now) result.1.events) };
+/// Starts a server for each of these command lines, and prints their lines until they have ended.
+pub(crate) fn supervise<P: ServerProcesses>(
+    processes: &mut P,
+    alloc: Global,
+    servers: &[Vec<String>],
+) -> Result<(), SupervisorFault>
+    requires { P.log processes.old ≡ [] }
+    ensures started { StartsFirst (map (λ line. map string_bytes line.items) servers.now)
+        (P.log processes.new) }
+    ensures all { OnOk result (started_in (P.log processes.new)
+        ≡ map (λ line. map string_bytes line.items) servers.now) }
+    ensures ended { EachEnded (P.log processes.new) }
+    ensures succeeded { OnOk result (AllSucceeded (length servers.now) (P.log processes.new)) }
+    ensures passed { OnOk result (PassedOn (P.log processes.new)) }
+    ensures always { AlwaysPassedOn (P.log processes.new) }
+{
+    let mut supervisor = Supervisor::new(alloc);
+    match supervisor.run(processes, servers) {
+        Ok(()) => Ok(()),
+        Err(fault) => {
+            end_all(processes, supervisor.count);
+            Err(fault)
+        }
+    }
 }
 
-impl Supervise for HostRuntime {
-    fn bind_shared(&self, at: SocketAddr) -> io::Result<OwnedFd> {
-        Ok(OwnedFd::from(UdpSocket::bind(self, at)?))
-    }
-
-    fn supervise<S: AsStr>(
-        &self,
-        socket: &OwnedFd,
-        servers: &[Vec<S>],
-    ) -> (Result<(), SupervisorFault>, OutputJournal) {
-        let mut supervisor = Supervisor::new(self.alloc());
-        let outcome = supervisor.run(self, socket, servers);
-        end_all(supervisor.servers.as_mut_slice());
-        (outcome, supervisor.journal)
-    }
+/// A server whose output is printed.
+#[derive(Drop)]
+struct WatchedServer {
+    output: Output,
+    /// Whether it has closed its output, and ended with the status 0.
+    has_ended: bool,
 }
 
 /// The servers, and what is printed of their output.
 #[derive(Drop)]
 struct Supervisor {
-    servers: Vec<ServerProcess>,
+    alloc: Global,
+    servers: Vec<WatchedServer>,
+    /// How many servers were started.
+    count: u8,
     /// Whether it was printed where they listen.
     announced: bool,
     /// What is printed next.
     out: Vec<u8>,
-    journal: OutputJournal,
 }
 
 impl Supervisor {
     /// A supervisor without servers.
     fn new(alloc: Global) -> Supervisor
-        ensures starting { IsStarting result }
-        ensures servers { result.servers.items ≡ [] }
+        ensures { IsStarting [] result }
     {
         Supervisor {
+            alloc,
             servers: Vec::new(alloc),
+            count: 0,
             announced: false,
             out: Vec::new(alloc),
-            journal: OutputJournal::new(),
         }
     }
 
     /// Starts the servers, and prints their lines until they have ended.
-    fn run<S: AsStr>(
+    fn run<P: ServerProcesses>(
         &mut self,
-        rt: &HostRuntime,
-        socket: &OwnedFd,
-        servers: &[Vec<S>],
+        processes: &mut P,
+        servers: &[Vec<String>],
     ) -> Result<(), SupervisorFault>
-        requires starting { IsStarting self.old }
-        requires servers { self.old.servers.items ≡ [] }
-        ensures passed { OnOk result (PassedOn self.new.journal.events) }
-        ensures always { AlwaysPassedOn self.new.journal.events }
-        ensures ended { OnOk result (AllEnded (length servers.now) self.new.journal.events) }
+        requires nothing { P.log processes.old ≡ [] }
+        requires starting { IsStarting (P.log processes.old) self.old }
+        ensures count { self.new.count ≡ length (started_in (P.log processes.new)) }
+        ensures started { StartsFirst (map (λ line. map string_bytes line.items) servers.now)
+            (P.log processes.new) }
+        ensures all { OnOk result (started_in (P.log processes.new)
+            ≡ map (λ line. map string_bytes line.items) servers.now) }
+        ensures succeeded { OnOk result (AllSucceeded (length servers.now)
+            (P.log processes.new)) }
+        ensures passed { OnOk result (PassedOn (P.log processes.new)) }
+        ensures always { AlwaysPassedOn (P.log processes.new) }
     {
-        let mut poll = match Poll::new(rt) {
-            Ok(poll) => poll,
-            Err(error) => return Err(SupervisorFault::of(error)),
-        };
-        match self.start_all(rt, socket, servers, &poll) {
-            Ok(()) => self.watch(rt, &mut poll),
+        match self.start_all(processes, servers) {
+            Ok(()) => self.watch(processes),
             Err(fault) => Err(fault),
         }
     }
 
     /// Starts the servers.
-    fn start_all<S: AsStr>(
+    fn start_all<P: ServerProcesses>(
         &mut self,
-        rt: &HostRuntime,
-        socket: &OwnedFd,
-        servers: &[Vec<S>],
-        poll: &Poll,
+        processes: &mut P,
+        servers: &[Vec<String>],
     ) -> Result<(), SupervisorFault>
-        requires starting { IsStarting self.old }
-        requires servers { self.old.servers.items ≡ [] }
-        ensures starting { IsStarting self.new }
-        ensures count { OnOk result (length self.new.servers.items ≡ length servers.now) }
+        requires nothing { P.log processes.old ≡ [] }
+        requires starting { IsStarting (P.log processes.old) self.old }
+        ensures starting { OnOk result (IsStarting (P.log processes.new) self.new) }
+        ensures all { OnOk result (started_in (P.log processes.new)
+            ≡ map (λ line. map string_bytes line.items) servers.now) }
+        ensures count { self.new.count ≡ length (started_in (P.log processes.new)) }
+        ensures started { StartsFirst (map (λ line. map string_bytes line.items) servers.now)
+            (P.log processes.new) }
+        ensures always { AlwaysPassedOn (P.log processes.new) }
     {
-        let program = match env::current_exe(rt) {
-            Ok(program) => program,
-            Err(error) => return Err(SupervisorFault::of_program(error)),
-        };
-        for words in servers {
-            self.start(rt, program.as_path(), socket, words.as_slice(), poll)?;
+        for line in servers {
+            self.start(processes, line.as_slice())?;
         }
         Ok(())
     }
 
     /// Starts one more server.
-    fn start<S: AsStr>(
+    fn start<P: ServerProcesses>(
         &mut self,
-        rt: &HostRuntime,
-        program: Path<'_>,
-        socket: &OwnedFd,
-        words: &[S],
-        poll: &Poll,
+        processes: &mut P,
+        line: &[String],
     ) -> Result<(), SupervisorFault>
-        requires { IsStarting self.old }
-        ensures starting { IsStarting self.new }
-        ensures count { OnOk result (length self.new.servers.items
-            ≡ length self.old.servers.items + 1) }
+        requires { IsStarting (P.log processes.old) self.old }
+        ensures starting { OnOk result (IsStarting (P.log processes.new) self.new) }
+        ensures ok { OnOk result (P.log processes.new
+            ≡ Started (map string_bytes line.now) ∷ P.log processes.old) }
+        ensures err { OnErr result (P.log processes.new ≡ P.log processes.old) }
+        ensures count { OnErr result (self.new.count ≡ self.old.count) }
     {
-        let index = self.servers.len();
-        let number = number_of(index)?;
-        let server = ServerProcess::start(rt, program, socket, number, words)?;
-        let registered = server.register(poll.registry(), Token(index));
-        if self.servers.push(server).is_err() {
+        let Some(server) = self.count.checked_add(1) else {
+            return Err(SupervisorFault::of(io::Error::from(ErrorKind::InvalidInput)));
+        };
+        let watched = WatchedServer {
+            output: Output::new(self.alloc, server),
+            has_ended: false,
+        };
+        if self.servers.push(watched).is_err() {
             return Err(SupervisorFault::Memory);
         }
-        match registered {
-            Ok(()) => Ok(()),
+        match processes.start(line) {
+            Ok(()) => {
+                self.count = server;
+                Ok(())
+            }
             Err(error) => Err(SupervisorFault::of(error)),
         }
     }
 
     /// Prints the servers' lines, until they have ended.
-    fn watch(&mut self, rt: &HostRuntime, poll: &mut Poll) -> Result<(), SupervisorFault>
-        requires { IsStarting self.old }
-        ensures passed { OnOk result (PassedOn self.new.journal.events) }
-        ensures always { AlwaysPassedOn self.new.journal.events }
-        ensures ended { OnOk result (AllEnded (length self.old.servers.items)
-            self.new.journal.events) }
+    fn watch<P: ServerProcesses>(&mut self, processes: &mut P) -> Result<(), SupervisorFault>
+        requires { IsStarting (P.log processes.old) self.old }
+        ensures passed { OnOk result (PassedOn (P.log processes.new)) }
+        ensures goes_on { GoesOn (P.log processes.old) (P.log processes.new) }
+        ensures count { self.new.count ≡ self.old.count }
+        ensures succeeded { OnOk result (AllSucceeded self.old.count (P.log processes.new)) }
     {
-        let mut events = Events::with_capacity(rt.alloc(), MOST_REPORTS)?;
+        let mut reported = Vec::new(self.alloc);
         for _ in 0..u64::MAX {
             if self.has_all_ended() {
                 return Ok(());
             }
-            self.read_reported(rt, poll, &mut events)?;
+            self.read_reported(processes, &mut reported)?;
         }
         Err(SupervisorFault::of(io::Error::from(ErrorKind::TimedOut)))
     }
@@ -189,84 +186,69 @@ impl Supervisor {
     }
 
     /// Waits, and reads of each output that is reported, once.
-    fn read_reported(
+    fn read_reported<P: ServerProcesses>(
         &mut self,
-        rt: &HostRuntime,
-        poll: &mut Poll,
-        events: &mut Events,
+        processes: &mut P,
+        reported: &mut Vec<u8>,
     ) -> Result<(), SupervisorFault>
-        requires { IsWatching self.old }
-        ensures watching { OnOk result (IsWatching self.new) }
-        ensures always { AlwaysPassedOn self.new.journal.events }
-        ensures count { length self.new.servers.items ≡ length self.old.servers.items }
+        requires { IsWatching (P.log processes.old) self.old }
+        ensures watching { OnOk result (IsWatching (P.log processes.new) self.new) }
+        ensures goes_on { GoesOn (P.log processes.old) (P.log processes.new) }
+        ensures count { self.new.count ≡ self.old.count }
     {
-        if let Err(error) = poll.poll(events, None) {
+        if let Err(error) = processes.wait(reported) {
             return Err(SupervisorFault::of(error));
         }
-        for event in events.iter() {
-            self.read_from(rt, event.token(), poll)?;
+        for server in reported.iter() {
+            self.read_from(processes, *server)?;
         }
         Ok(())
     }
 
-    /// Reads of the output that was reported, once, and prints the lines that end in it.
-    fn read_from(
+    /// Reads of the output of this server, once, and prints the lines that end in it.
+    fn read_from<P: ServerProcesses>(
         &mut self,
-        rt: &HostRuntime,
-        token: Token,
-        poll: &Poll,
+        processes: &mut P,
+        server: u8,
     ) -> Result<(), SupervisorFault>
-        requires { IsWatching self.old }
-        ensures watching { OnOk result (IsWatching self.new) }
-        ensures always { AlwaysPassedOn self.new.journal.events }
-        ensures count { length self.new.servers.items ≡ length self.old.servers.items }
+        requires { IsWatching (P.log processes.old) self.old }
+        ensures watching { OnOk result (IsWatching (P.log processes.new) self.new) }
+        ensures goes_on { GoesOn (P.log processes.old) (P.log processes.new) }
+        ensures count { self.new.count ≡ self.old.count }
     {
         self.out.clear();
-        let Some(server) = self.servers.get_mut(token.0) else {
+        let index = usize::from(server).saturating_sub(1);
+        let Some(watched) = self.servers.get_mut(index) else {
             return Ok(());
         };
-        read_of(
-            server,
-            &mut self.journal,
-            &mut self.announced,
-            &mut self.out,
-        )?;
-        if let Err(error) = server.register_again(poll.registry(), token) {
-            return Err(SupervisorFault::of(error));
-        }
-        print(rt, &mut self.journal, self.out.as_slice())
-    }
-}
-
-/// The number of the server at an index, counted from 1, of at most 255.
-fn number_of(index: usize) -> Result<u8, SupervisorFault>
-    ensures { IfOk result (λ number. number ≡ index + 1) }
-{
-    match u8::try_from(index) {
-        Ok(index) if index < u8::MAX => Ok(index + 1),
-        _ => Err(SupervisorFault::of(io::Error::from(ErrorKind::InvalidInput))),
+        read_of(processes, watched, &mut self.announced, &mut self.out)?;
+        print(processes, self.out.as_slice())
     }
 }
 
 /// Reads of a server's output, once, and adds to `out` what is printed of the lines that end in it.
-fn read_of(
-    server: &mut ServerProcess,
-    journal: &mut OutputJournal,
+fn read_of<P: ServerProcesses>(
+    processes: &mut P,
+    server: &mut WatchedServer,
     announced: &mut bool,
     out: &mut Vec<u8>,
 ) -> Result<(), SupervisorFault>
     requires out { out.old.items ≡ [] }
     requires begun { HasNoEnd server.old.output.begun.items }
-    requires passed { PassedOn journal.old.events }
-    requires always { AlwaysPassedOn journal.old.events }
+    requires is_started { IsStarted server.old.output.server (P.log processes.old) }
+    requires passed { PassedOn (P.log processes.old) }
+    requires always { AlwaysPassedOn (P.log processes.old) }
     ensures ok { OnOk result (Reads announced.old announced.new server.old server.new
-        journal.old.events journal.new.events out.new.items) }
-    ensures always { AlwaysPassedOn journal.new.events }
+        (P.log processes.old) (P.log processes.new) out.new.items) }
+    ensures goes_on { GoesOn (P.log processes.old) (P.log processes.new) }
 {
     let mut buffer = [0u8; MOST_READ];
-    let Some(bytes) = server.read(journal, &mut buffer)? else {
-        server.has_ended = true;
-        return Ok(());
+    let read = match processes.read(server.output.server, &mut buffer) {
+        Ok(read) => read,
+        Err(error) => return Err(SupervisorFault::of(error)),
+    };
+    let Some(bytes) = read else {
+        return finish(processes, server);
     };
     server.output.pass_on(*announced, bytes, out)?;
     *announced = is_announced(*announced, &server.output);
@@ -280,9 +262,51 @@ fn is_announced(announced: bool, output: &Output) -> bool
     announced || output.has_printed
 }
 
-/// Ends all servers.
-fn end_all(servers: &mut [ServerProcess]) {
-    for server in servers.iter_mut() {
-        let _ = server.end();
+/// Ends a server that has closed its output, and checks that its status is 0.
+fn finish<P: ServerProcesses>(
+    processes: &mut P,
+    server: &mut WatchedServer,
+) -> Result<(), SupervisorFault>
+    requires is_started { IsStarted server.old.output.server (P.log processes.old) }
+    requires always { AlwaysPassedOn (P.log processes.old) }
+    ensures ok { OnOk result ((status : ExitStatus) × (exit_code status ≡ Some (pos 0))
+        × (P.log processes.new
+        ≡ Ended server.old.output.server (Ok status) ∷ P.log processes.old)) }
+    ensures output { server.new.output ≡ server.old.output }
+    ensures goes_on { GoesOn (P.log processes.old) (P.log processes.new) }
+{
+    let status = match processes.end(server.output.server) {
+        Ok(status) => status,
+        Err(error) => return Err(SupervisorFault::of(error)),
+    };
+    if !status.success() {
+        return Err(SupervisorFault::Ended(server.output.server, status));
+    }
+    server.has_ended = true;
+    Ok(())
+}
+
+/// Prints a text, unless it is empty.
+fn print<P: ServerProcesses>(processes: &mut P, text: &[u8]) -> Result<(), SupervisorFault>
+    ensures { P.log processes.new ≡ after_print text.now (P.log processes.old) }
+{
+    if text.is_empty() {
+        return Ok(());
+    }
+    match processes.print(text) {
+        Ok(()) => Ok(()),
+        Err(_) => Err(SupervisorFault::Output),
+    }
+}
+
+/// Ends so many servers.
+fn end_all<P: ServerProcesses>(processes: &mut P, count: u8)
+    requires count { count ≡ length (started_in (P.log processes.old)) }
+    requires always { AlwaysPassedOn (P.log processes.old) }
+    ensures goes_on { GoesOn (P.log processes.old) (P.log processes.new) }
+    ensures ended { EachEnded (P.log processes.new) }
+{
+    for before in 0..count {
+        let _ = processes.end(before + 1);
     }
 }

@@ -15,6 +15,7 @@ use Rattle.tftp_file.specs.declared.files.Files.{Files}
 use Rattle.tftp_file.specs.declared.files.Files.TheVariants.{Source, Sink}
 use Rattle.tftp_ends.specs.End.{is_sender}
 use Rattle.tftp_ends.specs.declared.side.Side.TheVariants.{ClientRead, ClientWrite}
+use Rattle.tftp_disk.specs.DiskJournal.{DiskEvent}
 use Rattle.tftp_store.specs.Store.{StoreMeaning}
 use Rattle.tftp_sockets.specs.Journal.{SocketEvent}
 use Rattle.tftp_client.specs.Moved.{Moved}
@@ -196,10 +197,10 @@ module _ {S F D G K : Type 0} {stores : StoreMeaning S D} {sources : SourceMeani
       )
 
 -- from the words
-pub words_move : {R G H F D I K : Type 0} (stores : StoreMeaning (FolderStore R G H) D) (sources : SourceMeaning F)
-    (inputs : SourceMeaning I) (outputs : SinkMeaning K) → WordsKeepAnyFiles stores sources inputs outputs →
-    WordsMoveFiles stores sources inputs outputs
-words_move stores sources inputs outputs keep server port clients bound asks =
+pub words_move : {R G H W F D I K : Type 0} (log : R → List DiskEvent) (stores : StoreMeaning (FolderStore R G H W) D)
+    (sources : SourceMeaning F) (inputs : SourceMeaning I) (outputs : SinkMeaning K) →
+    WordsKeepAnyFiles log stores sources inputs outputs → WordsMoveFiles log stores sources inputs outputs
+words_move log stores sources inputs outputs keep server port clients bound asks =
     let made = keep server port clients bound asks in (
       made.0,
       made.1,

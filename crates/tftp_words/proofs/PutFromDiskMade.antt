@@ -7,6 +7,7 @@ use Rattle.tftp_file.specs.Source.{SourceMeaning}
 use Rattle.tftp_file.specs.declared.files.Files.{Files}
 use Rattle.tftp_file.specs.declared.files.Files.TheVariants.{Source, Sink}
 use Rattle.tftp_store.specs.Store.{StoreMeaning}
+use Rattle.tftp_disk.specs.DiskJournal.{DiskEvent}
 use Rattle.tftp_disk.specs.declared.disk_source.DiskSource.{DiskSource}
 use Rattle.tftp_loop.specs.Steps.{LoopState, LoopStep}
 use Rattle.tftp_loop.specs.Run.{Run}
@@ -26,13 +27,13 @@ use Rattle.tftp_words.specs.Ran.{Job}
 use Rattle.tftp_words.proofs.BegunAt.{BegunBy, began_there}
 
 -- what the models of a store of a folder and of its drafts say
-pub record KeepsFolder {R G H E B : Type 0} (stores : StoreMeaning (FolderStore R G H) (FolderDraft B))
-    (sources : SourceMeaning E) : Type 0 where
+pub record KeepsFolder {R G H W E B : Type 0} (log : R → List DiskEvent)
+    (stores : StoreMeaning (FolderStore R G H W) (FolderDraft B)) (sources : SourceMeaning E) : Type 0 where
   pub settings : RunKeepsSettings stores sources
-  pub drafts : StoresWhatItTook stores
+  pub drafts : StoresWhatItTook log stores
 
 -- the same settings are the same limits
-same_limits : {R G H : Type 0} (before after : FolderStore R G H) → SameSettings before after →
+same_limits : {R G H W : Type 0} (before after : FolderStore R G H W) → SameSettings before after →
     limits_of after ≡ limits_of before
 same_limits before after same =
     let a = same.read_only in
@@ -42,10 +43,11 @@ same_limits before after same =
     cc
 
 module _ {L K : Type 0} {inputs : SourceMeaning (DiskSource L)} {outputs : SinkMeaning K} where
-  module _ {R G H E B : Type 0} {stores : StoreMeaning (FolderStore R G H) (FolderDraft B)} {sources : SourceMeaning E}
-      (keeps : KeepsFolder stores sources) (programs : Programs stores sources inputs outputs) where
+  module _ {R G H W E B : Type 0} {log : R → List DiskEvent} {stores : StoreMeaning (FolderStore R G H W) (FolderDraft B)}
+      {sources : SourceMeaning E}
+      (keeps : KeepsFolder log stores sources) (programs : Programs stores sources inputs outputs) where
     -- the store that began a draft has the settings of the first
-    abbrev Set : FolderStore R G H → Type 0
+    abbrev Set : FolderStore R G H W → Type 0
     Set store = SameSettings programs.server.start.server.store store
 
     began : (job : Job) (count : ℕ) (text : List ℕ) (put : PutFile programs job count text) →
@@ -53,13 +55,13 @@ module _ {L K : Type 0} {inputs : SourceMeaning (DiskSource L)} {outputs : SinkM
     began job count text put =
         began_there Set put.path put.put.serves.transfer.request job.mode
         programs.server.start.server.config.overwrite put.began_with programs.server.run
-        (λ (state : LoopState (FolderStore R G H) E (FolderDraft B))
+        (λ (state : LoopState (FolderStore R G H W) E (FolderDraft B))
         (run : Run (LoopStep stores sources) programs.server.start state). keeps.settings programs.server.start state run)
         put.began
 
     its_file : (job : Job) (files : Files (DiskSource L) K) (count : ℕ) (bytes : List ℕ) →
         IsSentFrom job files count bytes → FileDone programs job files count bytes →
-        FileLeaves inputs outputs programs job files count bytes
+        FileLeaves inputs outputs log programs job files count bytes
     its_file job (Source source) count bytes sent done =
         let b = began job count bytes done in
         let c = done.committed in
@@ -68,7 +70,7 @@ module _ {L K : Type 0} {inputs : SourceMeaning (DiskSource L)} {outputs : SinkM
           put = done;
           stored =
               subst (λ (l : Limits). IsStoredAt l done.path done.bytes programs.server.start.server.config.overwrite
-              c.before.journal.events c.after.journal.events)
+              (log c.before.disk) (log c.after.disk))
               (same_limits programs.server.start.server.store b.before b.is_so)
               (keeps.drafts done.path done.bytes programs.server.start.server.config.overwrite
               programs.server.start.server.config.overwrite b.before b.after c.before c.after done.began_with c.draft
@@ -79,7 +81,7 @@ module _ {L K : Type 0} {inputs : SourceMeaning (DiskSource L)} {outputs : SinkM
     its_order : (job : Job) (status : ℕ) (before after : List SocketEvent)
         (h : RunsOrder inputs outputs job status before after) → OrderSent inputs outputs job status before after h →
         OrderComplete inputs outputs (FileDone programs) job status before after h →
-        OrderComplete inputs outputs (FileLeaves inputs outputs programs) job status before after h
+        OrderComplete inputs outputs (FileLeaves inputs outputs log programs) job status before after h
     its_order job status before after (inl done) sent moved = its_file job done.1.files done.1.count _ sent moved
     its_order job status before after (inr failed) sent moved = tt
 
@@ -87,13 +89,13 @@ module _ {L K : Type 0} {inputs : SourceMeaning (DiskSource L)} {outputs : SinkM
         (h : RunsWords inputs outputs words status before after) →
         WordsSent inputs outputs words status before after h →
         WordsComplete inputs outputs (FileDone programs) words status before after h →
-        WordsComplete inputs outputs (FileLeaves inputs outputs programs) words status before after h
+        WordsComplete inputs outputs (FileLeaves inputs outputs log programs) words status before after h
     its_words words status before after (inl none) sent moved = tt
     its_words words status before after (inr did) sent moved = its_order did.0 status before after did.2 sent moved
 
     all_leave : (clients : List (ClientSent inputs outputs)) →
         AllByRecursion (HasDone programs) (map (run_of inputs outputs) clients) →
-        AllByRecursion (LeavesDisk inputs outputs programs) clients
+        AllByRecursion (LeavesDisk inputs outputs log programs) clients
     all_leave [] done = tt
     all_leave (client ∷ clients) done = (
       its_words client.words client.status client.before client.after client.sent.0 client.sent.1 done.0,
@@ -101,10 +103,11 @@ module _ {L K : Type 0} {inputs : SourceMeaning (DiskSource L)} {outputs : SinkM
     )
 
   -- from the words
-  pub puts_from_disk : {R G H E B : Type 0} (stores : StoreMeaning (FolderStore R G H) (FolderDraft B))
-      (sources : SourceMeaning E) → KeepsFolder stores sources → WordsMoveFiles stores sources inputs outputs →
-      PutsFromDiskToDisk inputs outputs stores sources
-  puts_from_disk stores sources keeps move server port clients bound asks =
+  pub puts_from_disk : {R G H W E B : Type 0} (log : R → List DiskEvent)
+      (stores : StoreMeaning (FolderStore R G H W) (FolderDraft B)) (sources : SourceMeaning E) →
+      KeepsFolder log stores sources → WordsMoveFiles log stores sources inputs outputs →
+      PutsFromDiskToDisk inputs outputs log stores sources
+  puts_from_disk log stores sources keeps move server port clients bound asks =
       let made = move server port (map (run_of inputs outputs) clients) bound asks in (
         made.0,
         made.1,

@@ -11,10 +11,13 @@ use Rattle.tftp_server.specs.State.{ServerState}
 use Rattle.tftp_server.specs.declared.config.Config.{Config}
 use Rattle.tftp_sockets.specs.Bound.{IsBoundTo}
 use Rattle.tftp_loop.specs.Steps.{LoopState, at_start}
+use Rattle.tftp_loop.specs.LoopStates.{noted_at_end}
 use Rattle.tftp_loop.specs.WholeRun.{RunsServer, RunsServerFrom, Unbound, Bound, listening}
 use Rattle.tftp_loop.specs.declared.serving.LoopFault.{LoopFault}
 use Rattle.tftp_folder.specs.declared.folder_store.FolderStore.{FolderStore}
-use Rattle.tftp_daemon.specs.Configured.{IsRootAt, IsServerOf, ListensAt, ServesWords, service_at}
+use Rattle.tftp_disk.specs.DiskJournal.{DiskEvent}
+use Rattle.tftp_folder.specs.Opened.{IsRootOf}
+use Rattle.tftp_daemon.specs.Configured.{IsServerOf, ListensAt, ServesWords, service_at}
 use Rattle.tftp_daemon.specs.Words.{WordsConfigure}
 use Rattle.tftp_promises.specs.ClientPrograms.{ClientsArePrograms}
 use Rattle.tftp_promises.specs.Joined.{ProgramsKeepAnyFiles, ServersAloneAreJoined}
@@ -39,20 +42,21 @@ module _ {G K : Type 0} {inputs : SourceMeaning G} {outputs : SinkMeaning K}
       (own.0 ++ rest.0, (own.0, rest.0, refl, own.1, rest.1))
 
 -- ---- the server
-module _ {R G H F D : Type 0} {stores : StoreMeaning (FolderStore R G H) D} {sources : SourceMeaning F}
-    (are_runs : ServersAreRuns stores sources) (ran : ServerRan stores sources) (ip : List ℕ) (there : ran.ip ≡ ip)
-    (port : ℕ) where
+module _ {R G H W F D : Type 0} {log : R → List DiskEvent} {stores : StoreMeaning (FolderStore R G H W) D}
+    {sources : SourceMeaning F} (are_runs : ServersAreRuns stores sources) (ran : ServerRan log stores sources)
+    (ip : List ℕ) (there : ran.ip ≡ ip) (port : ℕ) where
   abbrev Made : Type 0
   Made = (server : ServerProgram stores sources (endpoint ip port)) × IsServerRan ran port server
 
   module _ (config : DaemonConfig) (named : WordsConfigure ran.words config) (at : Endpoint)
-      (listens : ListensAt config.listen at) (server : ServerState (FolderStore R G H) F D) (of : IsServerOf config server) where
-    from_port : {A : Type 0} {result : Result A LoopFault} (bound : ℕ) → bound ≡ port → IsBoundTo at at.ip bound →
+      (listens : ListensAt config.listen at) (server : ServerState (FolderStore R G H W) F D)
+      (of : IsServerOf log [] config server) where
+    from_port : {result : Result (Unit {0}) LoopFault} (bound : ℕ) → bound ≡ port → IsBoundTo at at.ip bound →
         RunsServerFrom stores sources (service_at config at) bound server result (listening at.ip bound ran.before)
         ran.after → Made
-    from_port bound same is_bound serves =
+    from_port {result} bound same is_bound serves =
         let before = listening at.ip bound ran.before in
-        let start : LoopState (FolderStore R G H) F D = at_start (service_at config at) bound server before in
+        let start : LoopState (FolderStore R G H W) F D = at_start (service_at config at) bound server before in
         let limits : IsBlockSize server.config.limits.max_block =
         subst (λ (c : Config). IsBlockSize c.limits.max_block) (sym of.limits) of.valid.max_block in
         let r = are_runs (endpoint ip port) start serves.last serves.run same of.empty refl limits in (
@@ -62,29 +66,31 @@ module _ {R G H F D : Type 0} {stores : StoreMeaning (FolderStore R G H) D} {sou
             requests = refl;
             config = config;
             named = named;
-            limits = ap (λ (s : LoopState (FolderStore R G H) F D). s.server.config) r.starts ∙ of.limits;
+            limits = ap (λ (s : LoopState (FolderStore R G H W) F D). s.server.config) r.starts ∙ of.limits;
             root =
-                subst (λ (s : LoopState (FolderStore R G H) F D). IsRootAt config.root.now
-                (string_bytes s.server.store.folder.root)) (sym r.starts) of.root;
+                subst (λ (s : LoopState (FolderStore R G H W) F D). IsRootOf config.root.now
+                (string_bytes s.server.store.folder.root) [] (log s.server.store.disk)) (sym r.starts) of.root;
             at = at;
             listens = listens;
             bound = subst (λ (p : ℕ). IsBoundTo at at.ip p) same is_bound;
             begins =
-                ap (λ (s : LoopState (FolderStore R G H) F D). s.events) r.starts
+                ap (λ (s : LoopState (FolderStore R G H W) F D). s.events) r.starts
                 ∙ ap (λ (p : ℕ). listening at.ip p ran.before) same;
+            result = result;
             noted =
                 serves.noted
-                ∙ (ap (λ (s : LoopState (FolderStore R G H) F D). s.events) (sym r.arrives) ∙ r.server.is_noted);
+                ∙ ap (noted_at_end result)
+                (ap (λ (s : LoopState (FolderStore R G H W) F D). s.events) (sym r.arrives) ∙ r.server.is_noted);
           },
         )
 
-    by_serving : {A : Type 0} {result : Result A LoopFault} →
+    by_serving : {result : Result (Unit {0}) LoopFault} →
         (serves : RunsServer stores sources (service_at config at) server result ran.before ran.after) →
         bound_by serves ≡ Some port → Made
     by_serving (Unbound ends) is = absurd (let f : None ≡ Some port = is in cc)
     by_serving (Bound bound is_bound serves) is = from_port bound (same_Some bound port is) is_bound serves
 
-  by_words : (did : ServesWords stores sources ran.words ran.status ran.before ran.after) →
+  by_words : (did : ServesWords log [] stores sources ran.words ran.status ran.before ran.after) →
       bound_in ran.words ran.status ran.before ran.after did ≡ Some port → Made
   by_words (inl none) is = absurd (let f : None ≡ Some port = is in cc)
   by_words (inr did) is =
@@ -94,9 +100,9 @@ module _ {R G H F D : Type 0} {stores : StoreMeaning (FolderStore R G H) D} {sou
   server_made is = by_words ran.ran is
 
 -- ---- several servers
-module _ {R G H F D : Type 0} {stores : StoreMeaning (FolderStore R G H) D} {sources : SourceMeaning F}
-    (are_runs : ServersAreRuns stores sources) (ip : List ℕ) (port : ℕ) where
-  pub servers_made : (servers : List (ServerRan stores sources)) → AllServe ip port servers →
+module _ {R G H W F D : Type 0} {log : R → List DiskEvent} {stores : StoreMeaning (FolderStore R G H W) D}
+    {sources : SourceMeaning F} (are_runs : ServersAreRuns stores sources) (ip : List ℕ) (port : ℕ) where
+  pub servers_made : (servers : List (ServerRan log stores sources)) → AllServe ip port servers →
       (programs : List (ServerProgram stores sources (endpoint ip port))) × AreServersRan port servers programs
   servers_made [] serve = ([], refl)
   servers_made (ran ∷ servers) serve =
@@ -104,11 +110,11 @@ module _ {R G H F D : Type 0} {stores : StoreMeaning (FolderStore R G H) D} {sou
       let rest = servers_made servers serve.1 in
       (own.0 ∷ rest.0, (own.0, rest.0, refl, own.1, rest.1))
 
-module _ {R G H F D I K : Type 0} (stores : StoreMeaning (FolderStore R G H) D) (sources : SourceMeaning F)
-    (inputs : SourceMeaning I) (outputs : SinkMeaning K) (are_runs : ServersAreRuns stores sources)
+module _ {R G H W F D I K : Type 0} (log : R → List DiskEvent) (stores : StoreMeaning (FolderStore R G H W) D)
+    (sources : SourceMeaning F) (inputs : SourceMeaning I) (outputs : SinkMeaning K) (are_runs : ServersAreRuns stores sources)
     (are_programs : ClientsArePrograms inputs outputs) where
   pub words_keep : ProgramsKeepAnyFiles stores sources inputs outputs →
-      ServersAloneAreJoined stores sources inputs outputs → WordsKeepAnyFiles stores sources inputs outputs
+      ServersAloneAreJoined stores sources inputs outputs → WordsKeepAnyFiles log stores sources inputs outputs
   words_keep keep join server port clients bound asks =
       let of_server = server_made are_runs server server.ip refl port bound in
       let of_clients = all_made are_programs (endpoint server.ip port) clients asks in
@@ -120,7 +126,7 @@ module _ {R G H F D I K : Type 0} (stores : StoreMeaning (FolderStore R G H) D) 
       )
 
   pub several_keep : EachKeepsAnyFiles stores sources inputs outputs →
-      OthersHaveNothing stores sources inputs outputs → SeveralKeepAnyFiles stores sources inputs outputs
+      OthersHaveNothing stores sources inputs outputs → SeveralKeepAnyFiles log stores sources inputs outputs
   several_keep keep others ip port servers clients serve asks =
       let of_servers = servers_made are_runs ip port servers serve in
       let of_clients = all_made are_programs (endpoint ip port) clients asks in

@@ -10,6 +10,7 @@ use Rattle.tftp_file.specs.Sink.{SinkMeaning}
 use Rattle.tftp_file.specs.Source.{SourceMeaning, GivesInTurn}
 use Rattle.tftp_file.specs.declared.files.Files.{Files}
 use Rattle.tftp_file.specs.declared.files.Files.TheVariants.{Source, Sink}
+use Rattle.tftp_disk.specs.DiskJournal.{DiskEvent}
 use Rattle.tftp_store.specs.Store.{StoreMeaning}
 use Rattle.tftp_store.specs.declared.store.Opening.{Opening}
 use Rattle.tftp_sockets.specs.Journal.{SocketEvent}
@@ -106,10 +107,10 @@ module _ {S F D G K : Type 0} {stores : StoreMeaning S D} {sources : SourceMeani
 -- joined them, if their ports are fresh they keep the promises; what the file of a complete get was
 -- handed is just what the server's source gave, and what that of a complete put gave is just what
 -- the server's draft took before a commit of it succeeded
-abbrev pub WordsMoveFiles : {R G H F D I K : Type 0} (stores : StoreMeaning (FolderStore R G H) D)
-    (sources : SourceMeaning F) (inputs : SourceMeaning I) (outputs : SinkMeaning K) → Type 0
-WordsMoveFiles stores sources inputs outputs =
-    (server : ServerRan stores sources) (port : ℕ) (clients : List (ClientRan inputs outputs))
+abbrev pub WordsMoveFiles : {R G H W F D I K : Type 0} (log : R → List DiskEvent)
+    (stores : StoreMeaning (FolderStore R G H W) D) (sources : SourceMeaning F) (inputs : SourceMeaning I) (outputs : SinkMeaning K) → Type 0
+WordsMoveFiles log stores sources inputs outputs =
+    (server : ServerRan log stores sources) (port : ℕ) (clients : List (ClientRan inputs outputs))
     → port_of server ≡ Some port → AllAsk (endpoint server.ip port) clients
     → (programs : Programs stores sources inputs outputs) × AreRan server port clients programs
     × ((order : List Noted) → IsOrder stores sources inputs outputs programs order

@@ -1,6 +1,6 @@
 -- From disk to disk: a complete get has named a file of just the bytes that reads of ROOT/NAME
 -- returned at its server.
-use Rattle.std.specs.Prelude.{ℕ, ◌≡◌, List, map, Some}
+use Rattle.std.specs.Prelude.{ℕ, ◌≡◌, List, [], map, Some}
 use Rattle.std.specs.List.{AllByRecursion}
 use Rattle.std.specs.declared.io.traits.Read as read
 use Rattle.std.specs.declared.io.traits.Write as write
@@ -14,6 +14,8 @@ use Rattle.tftp_store.specs.Store.{StoreMeaning}
 use Rattle.tftp_sockets.specs.Journal.{SocketEvent}
 use Rattle.tftp_client.specs.OnDisk.{IsStored, StoresWords}
 use Rattle.tftp_client.specs.declared.local.LocalFile.{LocalFile}
+use Rattle.tftp_disk.specs.DiskJournal.{DiskEvent}
+use Rattle.tftp_disk.specs.declared.disk.Looks as looks
 use Rattle.tftp_disk.specs.DiskSourceLaws.{GivenInOrder}
 use Rattle.tftp_folder.specs.Source.{OpensSource, text_of}
 use Rattle.tftp_folder.specs.declared.folder_source.FolderSource.{FolderSource}
@@ -25,17 +27,20 @@ use Rattle.tftp_promises.specs.Programs.{endpoint}
 use Rattle.tftp_words.specs.EndToEnd.{GotFile, PutFile, WordsComplete}
 use Rattle.tftp_words.specs.Ran.{AllAsk, AreRan, ClientRan, Job, ServerRan, port_of, root_of}
 
-module _ {S L F D : Type 0} {reads : read.Ghosts F} {writes : write.Ghosts F}
-    {seeks : seek.Ghosts F} {lists : read.Ghosts D} (inputs : SourceMeaning S)
-    (outputs : SinkMeaning (LocalFile L F D reads writes seeks lists)) where
-  -- a `tftp` ran these words, with its local file on the disk
+module _ {S D F U I : Type 0} {logs : looks.Ghosts D} {writes : write.Ghosts F}
+    {views : looks.Ghosts U} {reads : read.Ghosts I} {seeks : seek.Ghosts I}
+    (inputs : SourceMeaning S)
+    (outputs : SinkMeaning (LocalFile D F U I logs writes views reads seeks)) where
+  -- a `tftp` ran these words, over a disk of which it had asked nothing before, and of which these are
+  -- the calls
   pub record ClientStored : Type 0 where
     pub ip : List ℕ
     pub words : List (List ℕ)
     pub status : ℕ
     pub before : List SocketEvent
     pub after : List SocketEvent
-    pub stored : StoresWords inputs outputs words status before after
+    pub calls : List DiskEvent
+    pub stored : StoresWords inputs outputs words status before after [] calls
 
   abbrev pub ran_of : ClientStored → ClientRan inputs outputs
   ran_of client =
@@ -48,43 +53,44 @@ module _ {S L F D : Type 0} {reads : read.Ghosts F} {writes : write.Ghosts F}
         ran = client.stored.0;
       }
 
-  module _ {R G H E B : Type 0} {stores : StoreMeaning (FolderStore R G H) B}
-      {sources : SourceMeaning (FolderSource E)}
+  module _ {R G H W V E B : Type 0} (looked : V → List DiskEvent)
+      {stores : StoreMeaning (FolderStore R G H W) B} {sources : SourceMeaning (FolderSource V E)}
       (programs : Programs stores sources inputs outputs) where
     -- a complete get: a file of just these bytes was made, written, synced and then named. The
     -- server's store found a file at the path of the name in its folder, and opened it there; these
     -- bytes are, as wire text, a beginning of what reads of that file returned, in order from its
     -- first byte, and all of it but what the source still has, unless a read failed
-    pub record IsGot (job : Job) (local : LocalFile L F D reads writes seeks lists) (count : ℕ)
-        (bytes : List ℕ) : Type 0 where
-      pub stored : IsStored job local bytes
+    pub record IsGot (calls : List DiskEvent) (job : Job) (count : ℕ) (bytes : List ℕ)
+        : Type 0 where
+      pub stored : IsStored job bytes calls
       pub got : GotFile programs job count bytes
-      pub opens : OpensSource (root_of programs) got.path job.mode got.opening.source
+      pub opens : OpensSource looked (root_of programs) got.path job.mode got.opening.source
       pub read : GivenInOrder (text_of got.opening.source) (text_of got.source)
           (wire_text job.mode bytes)
 
     -- a complete job, in whose run these bytes moved
-    abbrev pub FileReaches : Job → Files S (LocalFile L F D reads writes seeks lists) → ℕ → List ℕ
-        → Type 0
-    FileReaches job (Source source) count bytes = PutFile programs job count bytes
-    FileReaches job (Sink local) count bytes = IsGot job local count bytes
+    abbrev pub FileReaches : List DiskEvent → Job
+        → Files S (LocalFile D F U I logs writes views reads seeks) → ℕ → List ℕ → Type 0
+    FileReaches calls job (Source source) count bytes = PutFile programs job count bytes
+    FileReaches calls job (Sink local) count bytes = IsGot calls job count bytes
 
     abbrev pub ReachesDisk : ClientStored → Type 0
     ReachesDisk client =
-        WordsComplete inputs outputs FileReaches client.words client.status client.before client.after
-        client.stored.0
+        WordsComplete inputs outputs (FileReaches client.calls) client.words client.status client.before
+        client.after client.stored.0
 
   -- `tftpd` ran these words, and its request port was bound; each `tftp` ran those, which name that
   -- server: then there are programs that noted just that, and in whatever order an honest network
   -- joined them, if their ports are fresh they keep the promises, and each file that a complete get
   -- named has just the bytes that reads of the file of its name in the server's folder returned
-  abbrev pub FromDiskToDisk : {R G H E B : Type 0} (stores : StoreMeaning (FolderStore R G H) B)
-      (sources : SourceMeaning (FolderSource E)) → Type 0
-  FromDiskToDisk stores sources =
-      (server : ServerRan stores sources) (port : ℕ) (clients : List ClientStored)
+  abbrev pub FromDiskToDisk : {R G H W V E B : Type 0} (log : R → List DiskEvent)
+      (looked : V → List DiskEvent) (stores : StoreMeaning (FolderStore R G H W) B)
+      (sources : SourceMeaning (FolderSource V E)) → Type 0
+  FromDiskToDisk log looked stores sources =
+      (server : ServerRan log stores sources) (port : ℕ) (clients : List ClientStored)
       → port_of server ≡ Some port → AllAsk (endpoint server.ip port) (map ran_of clients)
       → (programs : Programs stores sources inputs outputs)
       × AreRan server port (map ran_of clients) programs
       × ((order : List Noted) → IsOrder stores sources inputs outputs programs order
       → IsHonest stores sources inputs outputs programs order → ArePortsFresh programs
-      → KeepAnyFiles programs × AllByRecursion (ReachesDisk programs) clients)
+      → KeepAnyFiles programs × AllByRecursion (ReachesDisk looked programs) clients)

@@ -7,6 +7,7 @@ use Rattle.tftp_file.specs.Source.{SourceMeaning}
 use Rattle.tftp_file.specs.declared.files.Files.{Files}
 use Rattle.tftp_file.specs.declared.files.Files.TheVariants.{Source, Sink}
 use Rattle.tftp_store.specs.Store.{StoreMeaning}
+use Rattle.tftp_disk.specs.DiskJournal.{DiskEvent}
 use Rattle.tftp_disk.specs.declared.disk_source.DiskSource.{DiskSource}
 use Rattle.tftp_sockets.specs.Journal.{SocketEvent}
 use Rattle.tftp_client.specs.Sent.{IsSent, SendsWords}
@@ -42,8 +43,9 @@ module _ {L K : Type 0} (inputs : SourceMeaning (DiskSource L)) (outputs : SinkM
         ran = client.sent.0;
       }
 
-  module _ {R G H E B : Type 0} {stores : StoreMeaning (FolderStore R G H) (FolderDraft B)}
-      {sources : SourceMeaning E} (programs : Programs stores sources inputs outputs) where
+  module _ {R G H W E B : Type 0} (log : R → List DiskEvent)
+      {stores : StoreMeaning (FolderStore R G H W) (FolderDraft B)} {sources : SourceMeaning E}
+      (programs : Programs stores sources inputs outputs) where
     -- a complete put: these bytes are a beginning of the wire text of what reads of LOCAL returned,
     -- in order from its start. They are the wire text of just the bytes that the server wrote to a
     -- file that it made in the folder of its drafts, in order and each once; that was synced, and
@@ -53,8 +55,8 @@ module _ {L K : Type 0} (inputs : SourceMeaning (DiskSource L)) (outputs : SinkM
       pub sent : IsSent job source count bytes
       pub put : PutFile programs job count bytes
       pub stored : IsStoredAt (limits_of programs.server.start.server.store) put.path put.bytes
-          programs.server.start.server.config.overwrite put.committed.before.journal.events
-          put.committed.after.journal.events
+          programs.server.start.server.config.overwrite (log put.committed.before.disk)
+          (log put.committed.after.disk)
 
     -- a complete job, in whose run these bytes moved
     abbrev pub FileLeaves : Job → Files (DiskSource L) K → ℕ → List ℕ → Type 0
@@ -70,13 +72,13 @@ module _ {L K : Type 0} (inputs : SourceMeaning (DiskSource L)) (outputs : SinkM
   -- server: then there are programs that noted just that, and in whatever order an honest network
   -- joined them, if their ports are fresh they keep the promises, and what reads of LOCAL returned
   -- to each complete put is what the server wrote to the file that it made and named
-  abbrev pub PutsFromDiskToDisk : {R G H E B : Type 0}
-      (stores : StoreMeaning (FolderStore R G H) (FolderDraft B)) (sources : SourceMeaning E) → Type 0
-  PutsFromDiskToDisk stores sources =
-      (server : ServerRan stores sources) (port : ℕ) (clients : List ClientSent)
+  abbrev pub PutsFromDiskToDisk : {R G H W E B : Type 0} (log : R → List DiskEvent)
+      (stores : StoreMeaning (FolderStore R G H W) (FolderDraft B)) (sources : SourceMeaning E) → Type 0
+  PutsFromDiskToDisk log stores sources =
+      (server : ServerRan log stores sources) (port : ℕ) (clients : List ClientSent)
       → port_of server ≡ Some port → AllAsk (endpoint server.ip port) (map run_of clients)
       → (programs : Programs stores sources inputs outputs)
       × AreRan server port (map run_of clients) programs
       × ((order : List Noted) → IsOrder stores sources inputs outputs programs order
       → IsHonest stores sources inputs outputs programs order → ArePortsFresh programs
-      → KeepAnyFiles programs × AllByRecursion (LeavesDisk programs) clients)
+      → KeepAnyFiles programs × AllByRecursion (LeavesDisk log programs) clients)

@@ -14,6 +14,7 @@ use Rattle.tftp_store.specs.Store.{StoreMeaning}
 use Rattle.tftp_server.specs.State.{ServerState}
 use Rattle.tftp_sockets.specs.Bound.{IsBoundTo}
 use Rattle.tftp_sockets.specs.Journal.{SocketEvent}
+use Rattle.tftp_loop.specs.LoopStates.{noted_at_end}
 use Rattle.tftp_loop.specs.WholeRun.{RunsServer, Unbound, Bound, listening}
 use Rattle.tftp_loop.specs.declared.serving.LoopConfig.{LoopConfig}
 use Rattle.tftp_loop.specs.declared.serving.LoopFault.{LoopFault}
@@ -22,7 +23,9 @@ use Rattle.tftp_client.specs.Ordered.{RunsOrder, RunsWords}
 use Rattle.tftp_client.specs.Runs.{moved_by}
 use Rattle.tftp_client.specs.Words.{WordsName}
 use Rattle.tftp_folder.specs.declared.folder_store.FolderStore.{FolderStore}
-use Rattle.tftp_daemon.specs.Configured.{IsRootAt, ListensAt, ServesWords}
+use Rattle.tftp_disk.specs.DiskJournal.{DiskEvent}
+use Rattle.tftp_folder.specs.Opened.{IsRootOf}
+use Rattle.tftp_daemon.specs.Configured.{ListensAt, ServesWords}
 use Rattle.tftp_daemon.specs.Words.{WordsConfigure}
 use Rattle.tftp_promises.specs.ClientPrograms.{IsCounted}
 use Rattle.tftp_promises.specs.ClientRuns.{moved_in}
@@ -41,15 +44,16 @@ Job = Named WordsName
 abbrev pub DaemonConfig : Type 0
 DaemonConfig = Named WordsConfigure
 
--- `tftpd` ran these words at this address, with this status, from the one journal to the other
-pub record ServerRan {R G H F D : Type 0} (stores : StoreMeaning (FolderStore R G H) D)
-    (sources : SourceMeaning F) : Type 0 where
+-- `tftpd` ran these words at this address, over a disk of which it had asked nothing, with this
+-- status, from the one history to the other
+pub record ServerRan {R G H W F D : Type 0} (log : R → List DiskEvent)
+    (stores : StoreMeaning (FolderStore R G H W) D) (sources : SourceMeaning F) : Type 0 where
   pub ip : List ℕ
   pub words : List (List ℕ)
   pub status : ℕ
   pub before : List SocketEvent
   pub after : List SocketEvent
-  pub ran : ServesWords stores sources words status before after
+  pub ran : ServesWords log [] stores sources words status before after
 
 -- a `tftp` ran these
 pub record ClientRan {G K : Type 0} (inputs : SourceMeaning G) (outputs : SinkMeaning K)
@@ -62,21 +66,22 @@ pub record ClientRan {G K : Type 0} (inputs : SourceMeaning G) (outputs : SinkMe
   pub ran : RunsWords inputs outputs words status before after
 
 -- the port to which the server's request port was bound, if it was
-abbrev pub bound_by : {R G H F D A : Type 0} {stores : StoreMeaning (FolderStore R G H) D}
-    {sources : SourceMeaning F} {config : LoopConfig} {server : ServerState (FolderStore R G H) F D}
+abbrev pub bound_by : {R G H W F D A : Type 0} {stores : StoreMeaning (FolderStore R G H W) D}
+    {sources : SourceMeaning F} {config : LoopConfig} {server : ServerState (FolderStore R G H W) F D}
     {result : Result A LoopFault} {before after : List SocketEvent}
     → RunsServer stores sources config server result before after → Option ℕ
 bound_by (Unbound ends) = None
 bound_by (Bound port is serves) = Some port
 
-abbrev pub bound_in : {R G H F D : Type 0} {stores : StoreMeaning (FolderStore R G H) D}
-    {sources : SourceMeaning F} (words : List (List ℕ)) (status : ℕ) (before after : List SocketEvent)
-    → ServesWords stores sources words status before after → Option ℕ
+abbrev pub bound_in : {R G H W F D : Type 0} {log : R → List DiskEvent}
+    {stores : StoreMeaning (FolderStore R G H W) D} {sources : SourceMeaning F} (words : List (List ℕ)) (status : ℕ) (before after : List SocketEvent)
+    → ServesWords log [] stores sources words status before after → Option ℕ
 bound_in words status before after (inl none) = None
 bound_in words status before after (inr did) = bound_by did.2.runs.serves
 
-abbrev pub port_of : {R G H F D : Type 0} {stores : StoreMeaning (FolderStore R G H) D}
-    {sources : SourceMeaning F} → ServerRan stores sources → Option ℕ
+abbrev pub port_of : {R G H W F D : Type 0} {log : R → List DiskEvent}
+    {stores : StoreMeaning (FolderStore R G H W) D} {sources : SourceMeaning F}
+    → ServerRan log stores sources → Option ℕ
 port_of ran = bound_in ran.words ran.status ran.before ran.after ran.ran
 
 -- a job that is complete: N of the line `complete N` that was printed, and what moved in the run
@@ -167,26 +172,30 @@ module _ {G K : Type 0} {inputs : SourceMeaning G} {outputs : SinkMeaning K} whe
       × (rest : List (ClientProgram inputs outputs to))
       × (clients ≡ own ++ rest) × AreRunsOf ran own × AreAllRuns others rest
 
-module _ {R G H F D : Type 0} {stores : StoreMeaning (FolderStore R G H) D}
-    {sources : SourceMeaning F} where
+module _ {R G H W F D : Type 0} {log : R → List DiskEvent}
+    {stores : StoreMeaning (FolderStore R G H W) D} {sources : SourceMeaning F} where
   -- this program is what `tftpd` ran from its request port on, which is where the words say
-  pub record IsServerRan (ran : ServerRan stores sources) (port : ℕ) {to : Endpoint}
+  pub record IsServerRan (ran : ServerRan log stores sources) (port : ℕ) {to : Endpoint}
       (server : ServerProgram stores sources to) : Type 0 where
     pub address : to.ip ≡ ran.ip
     pub requests : to.port ≡ port
     pub config : DaemonConfig
     pub named : WordsConfigure ran.words config
     pub limits : server.start.server.config ≡ config.config
-    -- its folder is the one that the system said that the word ROOT leads to
-    pub root : IsRootAt config.root.now (string_bytes server.start.server.store.folder.root)
+    -- its folder is the one that the system said that the word ROOT leads to, by the oldest calls on
+    -- its disk
+    pub root : IsRootOf config.root.now (string_bytes server.start.server.store.folder.root) []
+        (log server.start.server.store.disk)
     pub at : Endpoint
     pub listens : ListensAt config.listen at
     pub bound : IsBoundTo at at.ip port
     pub begins : server.start.events ≡ listening at.ip port ran.before
-    pub noted : ran.after ≡ server.noted ++ server.start.events
+    -- what it noted, and last what stopped it, if memory was refused or its output has no reader
+    pub result : Result (Unit {0}) LoopFault
+    pub noted : ran.after ≡ noted_at_end result (server.noted ++ server.start.events)
 
   -- and these what each of several ran
-  abbrev pub AreServersRan : {to : Endpoint} → ℕ → List (ServerRan stores sources)
+  abbrev pub AreServersRan : {to : Endpoint} → ℕ → List (ServerRan log stores sources)
       → List (ServerProgram stores sources to) → Type 0
   AreServersRan port [] servers = servers ≡ []
   AreServersRan {to} port (ran ∷ others) servers =
@@ -194,30 +203,30 @@ module _ {R G H F D : Type 0} {stores : StoreMeaning (FolderStore R G H) D}
       × (servers ≡ server ∷ rest) × IsServerRan ran port server × AreServersRan port others rest
 
   -- all of them ran at this address, and their request ports were bound to this port
-  abbrev pub AllServe : List ℕ → ℕ → List (ServerRan stores sources) → Type 0
+  abbrev pub AllServe : List ℕ → ℕ → List (ServerRan log stores sources) → Type 0
   AllServe ip port servers =
-      AllByRecursion (λ (ran : ServerRan stores sources).
+      AllByRecursion (λ (ran : ServerRan log stores sources).
       (ran.ip ≡ ip) × (port_of ran ≡ Some port)) servers
 
 -- the path of the server's folder, which the words of `tftpd` name (`IsServerRan`)
-abbrev pub root_of : {R G H F D I K : Type 0} {stores : StoreMeaning (FolderStore R G H) D}
+abbrev pub root_of : {R G H W F D I K : Type 0} {stores : StoreMeaning (FolderStore R G H W) D}
     {sources : SourceMeaning F} {inputs : SourceMeaning I} {outputs : SinkMeaning K}
     → Programs stores sources inputs outputs → List ℕ
 root_of programs = string_bytes programs.server.start.server.store.folder.root
 
 -- these programs are what all the commands ran
-pub record AreRan {R G H F D I K : Type 0} {stores : StoreMeaning (FolderStore R G H) D}
-    {sources : SourceMeaning F} {inputs : SourceMeaning I} {outputs : SinkMeaning K}
-    (server : ServerRan stores sources) (port : ℕ) (clients : List (ClientRan inputs outputs))
+pub record AreRan {R G H W F D I K : Type 0} {log : R → List DiskEvent}
+    {stores : StoreMeaning (FolderStore R G H W) D} {sources : SourceMeaning F} {inputs : SourceMeaning I} {outputs : SinkMeaning K}
+    (server : ServerRan log stores sources) (port : ℕ) (clients : List (ClientRan inputs outputs))
     (programs : Programs stores sources inputs outputs) : Type 0 where
   pub of_server : IsServerRan server port programs.server
   pub of_clients : AreAllRuns clients programs.clients
   pub alone : programs.others ≡ []
 
 -- with several servers
-pub record AreSeveralRan {R G H F D I K : Type 0} {stores : StoreMeaning (FolderStore R G H) D}
-    {sources : SourceMeaning F} {inputs : SourceMeaning I} {outputs : SinkMeaning K}
-    (servers : List (ServerRan stores sources)) (port : ℕ)
+pub record AreSeveralRan {R G H W F D I K : Type 0} {log : R → List DiskEvent}
+    {stores : StoreMeaning (FolderStore R G H W) D} {sources : SourceMeaning F} {inputs : SourceMeaning I} {outputs : SinkMeaning K}
+    (servers : List (ServerRan log stores sources)) (port : ℕ)
     (clients : List (ClientRan inputs outputs))
     (several : Several stores sources inputs outputs) : Type 0 where
   pub of_servers : AreServersRan port servers several.servers

@@ -2,6 +2,7 @@
 use Rattle.std.specs.Prelude.{ℕ, ◌≡◌, List, slice_get, Some}
 use Rattle.tftp_file.specs.Sink.{SinkMeaning}
 use Rattle.tftp_file.specs.Source.{SourceMeaning}
+use Rattle.tftp_disk.specs.DiskJournal.{DiskEvent}
 use Rattle.tftp_store.specs.Store.{StoreMeaning}
 use Rattle.tftp_folder.specs.declared.folder_store.FolderStore.{FolderStore}
 use Rattle.tftp_promises.specs.Alone.{HasNothing, IsPassedOver, IsServed, alone, just_asking}
@@ -16,10 +17,10 @@ use Rattle.tftp_words.specs.Ran.{port_of}
 -- `tftpd` ran these words, and its request port was bound; each `tftp` ran those, which name that
 -- server: then there are programs that noted just that, which keep the promises in whatever order
 -- an honest network joined them, if their ports are fresh
-abbrev pub WordsKeepAnyFiles : {R G H F D I K : Type 0} (stores : StoreMeaning (FolderStore R G H) D)
-    (sources : SourceMeaning F) (inputs : SourceMeaning I) (outputs : SinkMeaning K) → Type 0
-WordsKeepAnyFiles stores sources inputs outputs =
-    (server : ServerRan stores sources) (port : ℕ) (clients : List (ClientRan inputs outputs))
+abbrev pub WordsKeepAnyFiles : {R G H W F D I K : Type 0} (log : R → List DiskEvent)
+    (stores : StoreMeaning (FolderStore R G H W) D) (sources : SourceMeaning F) (inputs : SourceMeaning I) (outputs : SinkMeaning K) → Type 0
+WordsKeepAnyFiles log stores sources inputs outputs =
+    (server : ServerRan log stores sources) (port : ℕ) (clients : List (ClientRan inputs outputs))
     → port_of server ≡ Some port → AllAsk (endpoint server.ip port) clients
     → (programs : Programs stores sources inputs outputs) × AreRan server port clients programs
     × ((order : List Noted) → IsOrder stores sources inputs outputs programs order
@@ -30,11 +31,11 @@ WordsKeepAnyFiles stores sources inputs outputs =
 -- `tftp` ran others, which name that: then there are programs that noted just that, and in whatever
 -- order an honest network joined them, each server and each client that it serves keep the
 -- promises, and of a client that passes it over it has nothing
-abbrev pub SeveralKeepAnyFiles : {R G H F D I K : Type 0}
-    (stores : StoreMeaning (FolderStore R G H) D) (sources : SourceMeaning F)
+abbrev pub SeveralKeepAnyFiles : {R G H W F D I K : Type 0} (log : R → List DiskEvent)
+    (stores : StoreMeaning (FolderStore R G H W) D) (sources : SourceMeaning F)
     (inputs : SourceMeaning I) (outputs : SinkMeaning K) → Type 0
-SeveralKeepAnyFiles stores sources inputs outputs =
-    (ip : List ℕ) (port : ℕ) (servers : List (ServerRan stores sources))
+SeveralKeepAnyFiles log stores sources inputs outputs =
+    (ip : List ℕ) (port : ℕ) (servers : List (ServerRan log stores sources))
     (clients : List (ClientRan inputs outputs))
     → AllServe ip port servers → AllAsk (endpoint ip port) clients
     → (several : Several stores sources inputs outputs)

@@ -6,10 +6,9 @@ ghost use Rattle.tftp_words.specs.PutFromDisk.{PutsFromDiskToDisk};
 ghost use Rattle.tftp_words.specs.WordsKept.{SeveralKeepAnyFiles, WordsKeepAnyFiles};
 
 use std::io::Read;
-use std::rt::Files;
 use tftp_client::LocalFile;
 use tftp_daemon::laws::a_run_keeps_the_settings;
-use tftp_disk::DiskSource;
+use tftp_disk::{Disk, DiskSource};
 use tftp_file::{Sink, Source};
 use tftp_folder::laws::{gives_its_file, stores_what_it_took};
 use tftp_folder::{FolderSource, FolderStore};
@@ -26,33 +25,34 @@ use tftp_server::Store;
 /// under the path of its name, before its commit. Of several `tftpd` at one address and request
 /// port, each and each client that it serves keep the promises, and of one that passes it over it
 /// has nothing (RFC 1350, sections 2, 4 and 6).
-pub fn words_keep_promises<R: Files + Drop, G: Source, K: Sink>()
-    ensures one { WordsKeepAnyFiles ⟦<FolderStore<R> as Store>⟧.meaning
-        ⟦<FolderSource<R::File> as Source>⟧.meaning G.meaning K.meaning }
-    ensures files { WordsMoveFiles ⟦<FolderStore<R> as Store>⟧.meaning
-        ⟦<FolderSource<R::File> as Source>⟧.meaning G.meaning K.meaning }
-    ensures several { SeveralKeepAnyFiles ⟦<FolderStore<R> as Store>⟧.meaning
-        ⟦<FolderSource<R::File> as Source>⟧.meaning G.meaning K.meaning }
+pub fn words_keep_promises<D: Disk, G: Source, K: Sink>()
+    ensures one { WordsKeepAnyFiles D.log ⟦<FolderStore<D> as Store>⟧.meaning
+        ⟦<FolderSource<D::View> as Source>⟧.meaning G.meaning K.meaning }
+    ensures files { WordsMoveFiles D.log ⟦<FolderStore<D> as Store>⟧.meaning
+        ⟦<FolderSource<D::View> as Source>⟧.meaning G.meaning K.meaning }
+    ensures several { SeveralKeepAnyFiles D.log ⟦<FolderStore<D> as Store>⟧.meaning
+        ⟦<FolderSource<D::View> as Source>⟧.meaning G.meaning K.meaning }
 {
     a_client_is_one_run::<G, K>();
-    a_server_is_one_run::<FolderStore<R>>();
-    programs_keep_promises::<FolderStore<R>, G, K>();
-    each_client_keeps_promises::<FolderStore<R>, G, K>();
+    a_server_is_one_run::<FolderStore<D>>();
+    programs_keep_promises::<FolderStore<D>, G, K>();
+    each_client_keeps_promises::<FolderStore<D>, G, K>();
 }
 
 /// From disk to disk: if `tftpd` ran these words, and each `tftp` those, which name that server,
 /// and an honest network joined them with fresh ports, then each `tftp get` that printed
 /// `complete N` has made, written, synced and then named a file of N bytes, which are just what
 /// reads of the file of its name in ROOT returned at the server, in order, or a beginning of that.
-/// The server found that file at the path of the name in its folder, and opened it there (RFC 1350,
+/// The server found that file at the path of the name in its folder, and opened it there. A `tftp get`
+/// is one whose clause `runs` is this, over a disk of which it had asked nothing before (RFC 1350,
 /// sections 2, 4 and 6).
-pub fn complete_gets_go_from_disk_to_disk<R: Files + Drop, L: Files + Drop, G: Source>()
-    ensures { FromDiskToDisk G.meaning ⟦<LocalFile<L> as Sink>⟧.meaning
-        ⟦<FolderStore<R> as Store>⟧.meaning ⟦<FolderSource<R::File> as Source>⟧.meaning }
+pub fn complete_gets_go_from_disk_to_disk<D: Disk, L: Disk, G: Source>()
+    ensures { FromDiskToDisk G.meaning ⟦<LocalFile<L> as Sink>⟧.meaning D.log D.View.log
+        ⟦<FolderStore<D> as Store>⟧.meaning ⟦<FolderSource<D::View> as Source>⟧.meaning }
 {
-    words_keep_promises::<R, G, LocalFile<L>>();
-    a_run_keeps_the_settings::<R>();
-    gives_its_file::<R::File>();
+    words_keep_promises::<D, G, LocalFile<L>>();
+    a_run_keeps_the_settings::<D>();
+    gives_its_file::<D::View>();
 }
 
 /// From disk to disk in the other direction: if `tftpd` ran these words, and each `tftp` those,
@@ -62,11 +62,11 @@ pub fn complete_gets_go_from_disk_to_disk<R: Files + Drop, L: Files + Drop, G: S
 /// wrote to a file that it made in the folder of its drafts, in order and each once. That was
 /// synced, and then got its name, ROOT/NAME, and the folder was synced. A `tftp put` is one whose
 /// clause `sends` is this (RFC 1350, sections 2, 4 and 6).
-pub fn complete_puts_go_from_disk_to_disk<R: Files + Drop, F: Read, K: Sink>()
-    ensures { PutsFromDiskToDisk ⟦<DiskSource<F> as Source>⟧.meaning K.meaning
-        ⟦<FolderStore<R> as Store>⟧.meaning ⟦<FolderSource<R::File> as Source>⟧.meaning }
+pub fn complete_puts_go_from_disk_to_disk<D: Disk, F: Read, K: Sink>()
+    ensures { PutsFromDiskToDisk ⟦<DiskSource<F> as Source>⟧.meaning K.meaning D.log
+        ⟦<FolderStore<D> as Store>⟧.meaning ⟦<FolderSource<D::View> as Source>⟧.meaning }
 {
-    words_keep_promises::<R, DiskSource<F>, K>();
-    a_run_keeps_the_settings::<R>();
-    stores_what_it_took::<R>();
+    words_keep_promises::<D, DiskSource<F>, K>();
+    a_run_keeps_the_settings::<D>();
+    stores_what_it_took::<D>();
 }

@@ -6,30 +6,27 @@ ghost use Rattle.tftp_lines.specs.ClientOutcome.{status_of};
 ghost use Rattle.tftp_client.specs.Conversation.{any_address, state_of};
 ghost use Rattle.tftp_client.specs.Runs.{MayOpen, begun, measured, opens, sent_from};
 
-use crate::client_udp::ClientUdp;
 use crate::transfer::conversation::Conversation;
 use crate::transfer::{Failure, Job};
 use std::alloc::Global;
-use std::time::Clock;
 use tftp_ends::End;
 use tftp_file::MAX_WIRE;
 use tftp_negotiate::Asked;
-use tftp_sockets::{ClientSocket, Journal};
+use tftp_sockets::{ClientSocket, ClientUdp};
 
 /// Sends the read request.
-pub(super) fn ask_to_get<N: ClientUdp + Clock>(
-    rt: &N,
+pub(super) fn ask_to_get<N: ClientUdp>(
+    net: &mut N,
     alloc: Global,
     job: &Job<'_>,
-    journal: &mut Journal,
 ) -> Result<Conversation, Failure>
-    ensures begins { IfOk result (λ conversation. state_of conversation journal.new.events
-        ≡ begun conversation.socket.port (opens Read job.now 0) journal.old.events) }
+    ensures begins { IfOk result (λ conversation. state_of conversation (N.log net.new)
+        ≡ begun conversation.socket.port (opens Read job.now 0) (N.log net.old)) }
     ensures may { OnOk result (MayOpen Read job.now 0) }
     ensures err { IfErr result (λ failure. (status_of failure.end ≡ 2)
-        × (journal.new.events ≡ journal.old.events)) }
+        × (N.log net.new ≡ N.log net.old)) }
 {
-    let socket = bind_socket(rt)?;
+    let socket = bind_socket(net)?;
     let mut out = Vec::new(alloc);
     let opened = End::get(
         alloc,
@@ -49,28 +46,27 @@ pub(super) fn ask_to_get<N: ClientUdp + Clock>(
                 request,
                 total: None,
             };
-            begin(rt, alloc, journal, job, opened)
+            begin(net, alloc, job, opened)
         }
         Err(fault) => Err(Failure::of_opening(fault, job.kind)),
     }
 }
 
 /// Sends the write request for a file of `length` bytes on the wire.
-pub(super) fn ask_to_put<N: ClientUdp + Clock>(
-    rt: &N,
+pub(super) fn ask_to_put<N: ClientUdp>(
+    net: &mut N,
     alloc: Global,
     job: &Job<'_>,
     length: u64,
-    journal: &mut Journal,
 ) -> Result<Conversation, Failure>
-    ensures begins { IfOk result (λ conversation. state_of conversation journal.new.events
-        ≡ begun conversation.socket.port (opens Write job.now length) journal.old.events) }
+    ensures begins { IfOk result (λ conversation. state_of conversation (N.log net.new)
+        ≡ begun conversation.socket.port (opens Write job.now length) (N.log net.old)) }
     ensures fits { OnOk result (length ≤ MAX_WIRE) }
     ensures may { OnOk result (MayOpen Write job.now length) }
     ensures err { IfErr result (λ failure. (status_of failure.end ≡ 2)
-        × (journal.new.events ≡ journal.old.events)) }
+        × (N.log net.new ≡ N.log net.old)) }
 {
-    let socket = bind_socket(rt)?;
+    let socket = bind_socket(net)?;
     let asked = measured(&job.asked, length);
     let mut out = Vec::new(alloc);
     let opened = End::put(
@@ -92,7 +88,7 @@ pub(super) fn ask_to_put<N: ClientUdp + Clock>(
                 request,
                 total: Some(length),
             };
-            begin(rt, alloc, journal, job, opened)
+            begin(net, alloc, job, opened)
         }
         Err(fault) => Err(Failure::of_opening(fault, job.kind)),
     }
@@ -130,18 +126,17 @@ struct Opened<'a> {
 }
 
 /// Sends the request of an end, and returns the conversation.
-fn begin<C: Clock>(
-    clock: &C,
+fn begin<N: ClientUdp>(
+    net: &mut N,
     alloc: Global,
-    journal: &mut Journal,
     job: &Job<'_>,
     opened: Opened<'_>,
 ) -> Result<Conversation, Failure>
-    ensures begins { IfOk result (λ conversation. state_of conversation journal.new.events
+    ensures begins { IfOk result (λ conversation. state_of conversation (N.log net.new)
         ≡ sent_from conversation.socket.port opened.entry.end job.now.server
-        opened.entry.request.now journal.old.events) }
+        opened.entry.request.now (N.log net.old)) }
     ensures err { IfErr result (λ failure. (status_of failure.end ≡ 2)
-        × (journal.new.events ≡ journal.old.events)) }
+        × (N.log net.new ≡ N.log net.old)) }
 {
     let Opened {
         socket,
@@ -149,9 +144,9 @@ fn begin<C: Clock>(
         request,
         total,
     } = opened;
-    match Conversation::new(clock, alloc, socket, end, (job.kind, job.progress), total) {
+    match Conversation::new(net, alloc, socket, end, (job.kind, job.progress), total) {
         Ok(mut conversation) => {
-            let sent = conversation.socket.send(journal, job.server, request);
+            let sent = net.send(&conversation.socket, job.server, request);
             conversation.unsent = sent.err();
             Ok(conversation)
         }

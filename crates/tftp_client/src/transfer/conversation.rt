@@ -2,8 +2,8 @@
 //! open, no longer than to its deadline and never longer than a second. A wait that ends behind the
 //! deadline without progress is followed by the timeout (RFC 1350, section 2).
 
-ghost use Rattle.std.specs.Prelude.{◌≡◌, ◌≤◌, ◌+◌, ◌-◌, ◌∷◌, max, min, true, false, length, take};
-ghost use Rattle.std.specs.Prelude.{Some, None, IfSome, IfNone, IfOk, IfErr, OnOk};
+ghost use Rattle.std.specs.Prelude.{◌≡◌, ◌≤◌, ◌+◌, ◌-◌, ◌⊎◌, ◌∷◌, max, min, true, false, length};
+ghost use Rattle.std.specs.Prelude.{take, Some, None, IsSome, IfSome, IfNone, IfOk, IfErr, OnOk};
 ghost use Rattle.tftp_ends.specs.End.{is_complete, outcome_of};
 ghost use Rattle.tftp_ends.specs.Files.{AreFilesOf};
 ghost use Rattle.tftp_sockets.specs.declared.address.TheConstants.{DATAGRAM_BUFFER};
@@ -19,14 +19,12 @@ ghost use Rattle.tftp_client.specs.Converses.{EndsBy, IsOpen, deadline_at, deadl
 use crate::cause::Cause;
 use crate::transfer::notes::{note_error, note_sent, note_total};
 use std::alloc::{AllocError, Global};
-use std::time::Clock;
 use tftp_ends::{End, Endpoint, Outcome, Step};
 use tftp_file::{Files, Sink, Source};
 use tftp_lines::{LineClock, ProgressLine, Reason};
 use tftp_negotiate::Kind;
 use tftp_sockets::{
-    ClientSocket, DATAGRAM_BUFFER, Journal, LONGEST_WAIT, Receipt, Watch, deadline, is_due,
-    read_clock, read_watch,
+    ClientSocket, ClientUdp, DATAGRAM_BUFFER, LONGEST_WAIT, Receipt, Udp, Watch, deadline, is_due,
 };
 
 /// The limit of waits of a command: in all its runs, and in its dally.
@@ -79,8 +77,8 @@ impl Conversation {
     ghost use Rattle.tftp_client.specs.Conversation.{IsReady, state_of};
 
     /// A conversation at its start. The caller sends the end's request.
-    pub(crate) fn new<C: Clock>(
-        clock: &C,
+    pub(crate) fn new<N: ClientUdp>(
+        net: &N,
         alloc: Global,
         socket: ClientSocket,
         end: End,
@@ -91,7 +89,7 @@ impl Conversation {
             × (conversation.socket.port ≡ socket.port) × (conversation.watch.now ≡ 0)
             × (conversation.deadline ≡ deadline_at 0 end)) }
     {
-        let watch = Watch::new(read_clock(clock, 0));
+        let watch = net.start_watch();
         let due = deadline(0, end.interval());
         let (kind, progress) = how;
         Ok(Conversation {
@@ -115,10 +113,10 @@ impl Conversation {
 
     /// Runs the transfer until it is complete. Fails with the outcome of a closed end, or with
     /// `TimedOut` after so many waits. Counts those that are left.
-    pub(crate) fn run<C: Clock + Eprint, S: Source, K: Sink>(
+    pub(crate) fn run<E: Eprint, N: ClientUdp, S: Source, K: Sink>(
         &mut self,
-        rt: &C,
-        journal: &mut Journal,
+        rt: &E,
+        net: &mut N,
         files: &mut Files<S, K>,
         waits: &mut u32,
     ) -> Result<(), Outcome>
@@ -126,21 +124,21 @@ impl Conversation {
         requires not_closed { IsOpen self.old.end }
         requires ready { IsReady self.old }
         ensures converses { Converses S.meaning K.meaning self.old.socket.port
-            (state_of self.old journal.old.events) files.old
-            (state_of self.new journal.new.events) files.new }
+            (state_of self.old (N.log net.old)) files.old
+            (state_of self.new (N.log net.new)) files.new }
         ensures port { self.new.socket.port ≡ self.old.socket.port }
         ensures complete { OnOk result (is_complete self.new.end.position.phase ≡ true) }
-        ensures failed { IfErr result (λ outcome. EndsBy (waits.old + waits_in journal.old.events)
-            (state_of self.new journal.new.events) outcome) }
+        ensures failed { IfErr result (λ outcome. EndsBy (waits.old + waits_in (N.log net.old))
+            (state_of self.new (N.log net.new)) outcome) }
         ensures files { AreFilesOf self.new.end.role.side files.new }
         ensures ready { OnOk result (IsReady self.new) }
-        ensures counted { waits.new + waits_in journal.new.events
-            ≡ waits.old + waits_in journal.old.events }
+        ensures counted { waits.new + waits_in (N.log net.new)
+            ≡ waits.old + waits_in (N.log net.old) }
     {
         let most = *waits;
         for made in 0..most {
             *waits = most - made - 1;
-            self.turn(rt, journal, files);
+            self.turn(net, files);
             if let Some(ended) = ended(&self.end) {
                 return ended;
             }
@@ -152,49 +150,45 @@ impl Conversation {
     /// Runs the end of a complete transfer until it closes, or for so many waits. For two timeouts
     /// a receiver acknowledges its last block again whenever that is repeated (RFC 1350,
     /// section 6).
-    pub(crate) fn dally<C: Clock, S: Source, K: Sink>(
+    pub(crate) fn dally<N: ClientUdp, S: Source, K: Sink>(
         &mut self,
-        clock: &C,
-        journal: &mut Journal,
+        net: &mut N,
         files: &mut Files<S, K>,
         waits: u32,
     )
         requires files { AreFilesOf self.old.end.role.side files.old }
         requires ready { IsReady self.old }
         ensures converses { Converses S.meaning K.meaning self.old.socket.port
-            (state_of self.old journal.old.events) files.old
-            (state_of self.new journal.new.events) files.new }
+            (state_of self.old (N.log net.old)) files.old
+            (state_of self.new (N.log net.new)) files.new }
         ensures port { self.new.socket.port ≡ self.old.socket.port }
-        ensures waits { waits_in journal.new.events ≤ waits + waits_in journal.old.events }
+        ensures waits { waits_in (N.log net.new) ≤ waits + waits_in (N.log net.old) }
+        ensures over { IsSome (outcome_of self.new.end.position.phase)
+            ⊎ (waits + waits_in (N.log net.old) ≤ waits_in (N.log net.new)) }
     {
         for _ in 0..waits {
             if self.end.outcome().is_some() {
                 return;
             }
-            self.turn(clock, journal, files);
+            self.turn(net, files);
         }
     }
 
     /// Waits once, and handles the datagram that arrived, if any. Without progress, delivers a
     /// timeout that is due: no wait begins behind the deadline.
-    fn turn<C: Clock, S: Source, K: Sink>(
-        &mut self,
-        clock: &C,
-        journal: &mut Journal,
-        files: &mut Files<S, K>,
-    )
+    fn turn<N: ClientUdp, S: Source, K: Sink>(&mut self, net: &mut N, files: &mut Files<S, K>)
         requires files { AreFilesOf self.old.end.role.side files.old }
         requires not_closed { IsOpen self.old.end }
         requires ready { IsReady self.old }
         ensures converses { Converses S.meaning K.meaning self.old.socket.port
-            (state_of self.old journal.old.events) files.old
-            (state_of self.new journal.new.events) files.new }
+            (state_of self.old (N.log net.old)) files.old
+            (state_of self.new (N.log net.new)) files.new }
         ensures port { self.new.socket.port ≡ self.old.socket.port }
         ensures files { AreFilesOf self.new.end.role.side files.new }
         ensures ready { IsReady self.new }
-        ensures waits { waits_in journal.new.events ≡ 1 + waits_in journal.old.events }
+        ensures waits { waits_in (N.log net.new) ≡ 1 + waits_in (N.log net.old) }
     {
-        let step = self.take_received(clock, journal, files);
+        let step = self.take_received(net, files);
         if self.end.outcome().is_some() {
             return;
         }
@@ -203,41 +197,38 @@ impl Conversation {
             self.work(files);
             return;
         }
-        self.take_timeout(journal);
+        self.take_timeout(net);
     }
 
     /// Waits once, until the end is due for a timeout, at most a second, and handles the datagram
     /// that arrived, if any. A failed receive counts as none.
-    fn take_received<C: Clock, S: Source, K: Sink>(
+    fn take_received<N: ClientUdp, S: Source, K: Sink>(
         &mut self,
-        clock: &C,
-        journal: &mut Journal,
+        net: &mut N,
         files: &mut Files<S, K>,
     ) -> Step
         requires files { AreFilesOf self.old.end.role.side files.old }
         requires not_closed { IsOpen self.old.end }
         requires ready { IsReady self.old }
         ensures converses { Converses S.meaning K.meaning self.old.socket.port
-            (state_of self.old journal.old.events) files.old
-            (state_of self.new journal.new.events) files.new }
+            (state_of self.old (N.log net.old)) files.old
+            (state_of self.new (N.log net.new)) files.new }
         ensures port { self.new.socket.port ≡ self.old.socket.port }
         ensures files { AreFilesOf self.new.end.role.side files.new }
         ensures advanced { result.progress ≡ true
             → self.new.deadline ≡ deadline_at self.new.watch.now self.new.end }
-        ensures waits { waits_in journal.new.events ≡ 1 + waits_in journal.old.events }
+        ensures waits { waits_in (N.log net.new) ≡ 1 + waits_in (N.log net.old) }
     {
         let received = receive_until(
             &mut self.socket,
-            journal,
+            net,
             self.watch.now,
             self.deadline,
             self.buffer.as_mut_slice(),
         );
-        read_watch(clock, journal, &mut self.watch);
+        net.read_watch(&mut self.watch);
         match received {
-            Receipt::Datagram(from, count) => {
-                self.answer_datagram(clock, journal, files, from, count)
-            }
+            Receipt::Datagram(from, count) => { self.answer_datagram(net, files, from, count) }
             Receipt::Nothing => NO_STEP,
             Receipt::Failed => NO_STEP,
         }
@@ -245,10 +236,9 @@ impl Conversation {
 
     /// Handles the datagram in the buffer, and reads the clock again: the step may have used the
     /// file. After progress the deadline counts from then.
-    fn answer_datagram<C: Clock, S: Source, K: Sink>(
+    fn answer_datagram<N: ClientUdp, S: Source, K: Sink>(
         &mut self,
-        clock: &C,
-        journal: &mut Journal,
+        net: &mut N,
         files: &mut Files<S, K>,
         from: Endpoint,
         count: usize,
@@ -257,38 +247,38 @@ impl Conversation {
         requires count { count ≤ length self.old.buffer.items }
         ensures answers { AnswersReceived S.meaning K.meaning self.old.socket.port
             from (take count self.old.buffer.items)
-            (state_of self.old journal.old.events) files.old
-            (state_of self.new journal.new.events) files.new }
+            (state_of self.old (N.log net.old)) files.old
+            (state_of self.new (N.log net.new)) files.new }
         ensures port { self.new.socket.port ≡ self.old.socket.port }
         ensures files { AreFilesOf self.new.end.role.side files.new }
         ensures advanced { result.progress ≡ true
             → self.new.deadline ≡ deadline_at self.new.watch.now self.new.end }
     {
-        let step = self.take_datagram(journal, files, from, count);
-        self.renew(clock, journal, &step);
+        let step = self.take_datagram(net, files, from, count);
+        self.renew(net, &step);
         step
     }
 
     /// Reads the clock. After a step with progress the deadline counts from then.
-    fn renew<C: Clock>(&mut self, clock: &C, journal: &mut Journal, step: &Step)
-        ensures renewed { state_of self.new journal.new.events
+    fn renew<N: ClientUdp>(&mut self, net: &mut N, step: &Step)
+        ensures renewed { state_of self.new (N.log net.new)
             ≡ renewed step.now.progress self.new.watch.now
-            (state_of self.old journal.old.events) }
+            (state_of self.old (N.log net.old)) }
         ensures forward { self.old.watch.now ≤ self.new.watch.now }
         ensures port { self.new.socket.port ≡ self.old.socket.port }
         ensures end { self.new.end ≡ self.old.end }
         ensures advanced { step.now.progress ≡ true
             → self.new.deadline ≡ deadline_at self.new.watch.now self.new.end }
     {
-        let now = read_watch(clock, journal, &mut self.watch);
+        let now = net.read_watch(&mut self.watch);
         self.deadline = deadline_after(step, now, self.end.interval(), self.deadline);
     }
 
     /// Handles the datagram in the buffer, and sends the answer. Out of memory, it loses the
     /// datagram.
-    fn take_datagram<S: Source, K: Sink>(
+    fn take_datagram<N: ClientUdp, S: Source, K: Sink>(
         &mut self,
-        journal: &mut Journal,
+        net: &mut N,
         files: &mut Files<S, K>,
         from: Endpoint,
         count: usize,
@@ -297,8 +287,8 @@ impl Conversation {
         requires count { count ≤ length self.old.buffer.items }
         ensures handles { HandlesAs S.meaning K.meaning self.old.socket.port
             from (take count self.old.buffer.items)
-            (state_of self.old journal.old.events) files.old
-            (state_of self.new journal.new.events) files.new result.progress }
+            (state_of self.old (N.log net.old)) files.old
+            (state_of self.new (N.log net.new)) files.new result.progress }
         ensures port { self.new.socket.port ≡ self.old.socket.port }
         ensures files { AreFilesOf self.new.end.role.side files.new }
     {
@@ -306,7 +296,7 @@ impl Conversation {
         let Ok((step, outgoing)) = self.end.handle_datagram(files, from, bytes) else {
             return NO_STEP;
         };
-        let sent = reply(&self.socket, journal, step.to, self.end.bytes_of(outgoing));
+        let sent = reply(&self.socket, net, step.to, self.end.bytes_of(outgoing));
         note_sent(&mut self.unsent, &step, sent);
         note_error(&mut self.said, self.alloc, &step, bytes);
         note_total(&mut self.total, &self.lines, &step, bytes);
@@ -326,9 +316,9 @@ impl Conversation {
     }
 
     /// Delivers a timeout, if it is due.
-    fn take_timeout(&mut self, journal: &mut Journal)
+    fn take_timeout<N: ClientUdp>(&mut self, net: &mut N)
         ensures elapses { MayElapse self.old.socket.port
-            (state_of self.old journal.old.events) (state_of self.new journal.new.events) }
+            (state_of self.old (N.log net.old)) (state_of self.new (N.log net.new)) }
         ensures port { self.new.socket.port ≡ self.old.socket.port }
         ensures side { self.new.end.role.side ≡ self.old.end.role.side }
         ensures ready { IsReady self.new }
@@ -336,14 +326,14 @@ impl Conversation {
         if !is_due(self.watch.now, self.deadline) {
             return;
         }
-        self.deliver_timeout(journal);
+        self.deliver_timeout(net);
     }
 
     /// Delivers a timeout, and sends the answer.
-    fn deliver_timeout(&mut self, journal: &mut Journal)
+    fn deliver_timeout<N: ClientUdp>(&mut self, net: &mut N)
         requires { self.old.deadline ≤ self.old.watch.now }
         ensures elapses { MayElapse self.old.socket.port
-            (state_of self.old journal.old.events) (state_of self.new journal.new.events) }
+            (state_of self.old (N.log net.old)) (state_of self.new (N.log net.new)) }
         ensures port { self.new.socket.port ≡ self.old.socket.port }
         ensures side { self.new.end.role.side ≡ self.old.end.role.side }
         ensures ready { IsReady self.new }
@@ -354,8 +344,8 @@ impl Conversation {
             return;
         };
         self.deadline = deadline(now, seconds);
-        journal.elapsed(self.socket.port(), now);
-        let sent = reply(&self.socket, journal, step.to, self.end.bytes_of(outgoing));
+        net.elapsed(self.socket.port(), now);
+        let sent = reply(&self.socket, net, step.to, self.end.bytes_of(outgoing));
         note_sent(&mut self.unsent, &step, sent);
     }
 
@@ -444,21 +434,21 @@ fn ended(end: &End) -> Option<Result<(), Outcome>>
 
 /// Waits for a datagram until `deadline`, at most a second. The buffer has room for the longest
 /// one, so that none is cut.
-fn receive_until(
+fn receive_until<N: ClientUdp>(
     socket: &mut ClientSocket,
-    journal: &mut Journal,
+    net: &mut N,
     now: u64,
     deadline: u64,
     buffer: &mut [u8],
 ) -> Receipt
     requires room { DATAGRAM_BUFFER ≤ length buffer.old }
     ensures port { socket.new.port ≡ socket.old.port }
-    ensures noted { journal.new.events ≡ receive_event socket.old.port buffer.new result
-        ∷ Quiet (Slept (max (min (deadline - now) LONGEST_WAIT) 1)) ∷ journal.old.events }
+    ensures noted { N.log net.new ≡ receive_event socket.old.port buffer.new result
+        ∷ Quiet (Slept (max (min (deadline - now) LONGEST_WAIT) 1)) ∷ N.log net.old }
     ensures fits { Fits buffer.new result }
 {
     let wait = deadline.saturating_sub(now).min(LONGEST_WAIT);
-    socket.receive(journal, wait, buffer)
+    net.receive(socket, wait, buffer)
 }
 
 /// The datagram of so many bytes that was received into the buffer.
@@ -471,16 +461,16 @@ fn datagram_in(buffer: &[u8], count: usize) -> &[u8]
 
 /// Sends the answer of a step, if it has one. If the system refuses it, it is lost, and its reason
 /// returned.
-fn reply(
+fn reply<N: ClientUdp>(
     socket: &ClientSocket,
-    journal: &mut Journal,
+    net: &mut N,
     to: Option<Endpoint>,
     bytes: &[u8],
 ) -> Result<(), Reason>
-    ensures { journal.new.events ≡ replied socket.now.port to bytes.now journal.old.events }
+    ensures { N.log net.new ≡ replied socket.now.port to bytes.now (N.log net.old) }
 {
     match to {
-        Some(to) => socket.send(journal, to, bytes),
+        Some(to) => net.send(socket, to, bytes),
         None => Ok(()),
     }
 }

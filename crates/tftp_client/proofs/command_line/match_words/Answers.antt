@@ -14,7 +14,7 @@ returns-in-Ok-clause-names g c =
     let At : App → Type 0 = λ a. HasMatchesOf a (map g.S.AsStr.text c.args.words.now) c.in-Ok.matches in
     let known = subst At c.requires.app_is c.in-Ok.ensures.ok.2 in
     let Names : Option (Text × List Row) → Type 0 = λ o.
-    IfOk c.read_matches.result (λ line. IfRun line (λ order. NamesBy o order.job)) in
+    IfOk c.read_matches.result (λ line. IfRun line (λ job. NamesBy o job)) in
     subst Names (known simple).1 c.read_matches.ensures.names
 
 pub returns-in-Err-clause-text : goal.returns-in-Err-clause-text

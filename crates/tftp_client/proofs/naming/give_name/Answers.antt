@@ -1,21 +1,52 @@
 -- The folder that was synced is that of the name.
-use Rattle.std.proofs.Common.{List, ℕ, subst}
+use Rattle.std.proofs.Common.{List, ℕ, ◌++◌, ◌≡◌, sym, ap, subst}
 use Rattle.std.proofs.Math.Logic.{∥∥₁_map}
-use Rattle.tftp_disk.specs.Changes.{changes}
-use Rattle.tftp_disk.specs.DiskWriter.{handed}
+use Rattle.std.specs.String.{string_bytes}
+use Rattle.tftp_disk.specs.DiskJournal.{FileState, state_of}
+use Rattle.tftp_disk.specs.DiskJournal.DiskEvent.{Looked}
+use Rattle.tftp_disk.specs.DiskWriter.{calls_of, handed}
 use Rattle.tftp_disk.specs.NamedFolder.{SyncsFolder}
-use Rattle.tftp_client.specs.Fetched.{NamesBytes}
+use Rattle.tftp_client.specs.Fetched.{Keeps, NamesBytes}
 use Rattle.tftp_client.specs.Written.{paths_of}
-use Rattle.tftp_client.proofs.NamedFile.{on_ok, was_named}
+use Rattle.tftp_client.proofs.Changing.{and_then, own_change}
+use Rattle.tftp_client.proofs.NamedFile.{folder_later, on_ok, was_named}
+use Rattle.tftp_client.proofs.StillThere.{left_there, same_there}
 use Rattle.tftp_client.proofs.naming.give_name.Goals as goal
+
+pub put_name-requires-clause-still : goal.put_name-requires-clause-still
+put_name-requires-clause-still g c =
+    let part = string_bytes c.args.names.now.part in
+    let found = g.D.Looks.log c.look.new.self in
+    let old = state_of (calls_of c.args.written.now.writer) in
+    let new = state_of (calls_of c.examine.new.self.writer) in
+    same_there part old.made_when new.made_when found
+    (ap (λ (file : FileState). file.made_when) (sym c.examine.ensures.state))
+    (left_there part old.made_when (Looked c.as_str.result.now c.look.result) (g.D.Looks.log c.args.disk.now) found tt
+    c.look.ensures c.requires.still)
+
+pub returns-clause-keeps : goal.returns-clause-keeps
+returns-clause-keeps g c =
+    let paths = paths_of c.args.names.now c.args.existing in
+    let before = g.D.Looks.log c.args.disk.now in
+    let found = g.D.Looks.log c.look.new.self in
+    and_then paths before found (g.D.Looks.log c.put_name.new.disk)
+    (own_change paths (Looked c.as_str.result.now c.look.result) before found tt c.look.ensures)
+    c.put_name.ensures.keeps
 
 pub returns-clause-ok : goal.returns-clause-ok
 returns-clause-ok g c =
     let paths = paths_of c.args.names.now c.args.existing in
-    let after = changes c.put_name.new.journal.events in
+    let before = g.D.Looks.log c.args.disk.now in
+    let found = g.D.Looks.log c.look.new.self in
+    let after = g.D.Looks.log c.put_name.new.disk in
+    let keeps : Keeps paths before after =
+    and_then paths before found after
+    (own_change paths (Looked c.as_str.result.now c.look.result) before found tt c.look.ensures)
+    c.put_name.ensures.keeps in
+    let same : handed c.examine.new.self.writer ≡ handed c.args.written.now.writer =
+    λ k. (c.examine.ensures.state k).written ++ (c.examine.ensures.buffer k).items in
     on_ok c.put_name.result
-    (λ named. ∥∥₁_map c.requires.folder (λ fits. was_named c.args.folder.now.folder paths
-    (handed c.args.written.now.writer) after fits
-    (subst (λ (bytes : List ℕ). NamesBytes (SyncsFolder c.args.folder.now.folder) paths bytes after)
-    c.check_is_open.ensures.same.content named)))
+    (λ named. ∥∥₁_map (folder_later c.args.folder.now.folder paths before after keeps c.requires.folder)
+    (λ fits. was_named c.args.folder.now.folder paths (handed c.args.written.now.writer) after fits
+    (subst (λ (bytes : List ℕ). NamesBytes (SyncsFolder c.args.folder.now.folder) paths bytes after) same named)))
     c.put_name.ensures.ok

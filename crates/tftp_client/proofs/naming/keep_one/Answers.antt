@@ -14,5 +14,5 @@ returns-in-Err-clause-err g c =
       removed.0,
       removed.1
           ∙ ap (λ (events : List DiskEvent). Removed (string_bytes c.args.names.now.local) removed.0 ∷ events)
-          c.in-Err.ensures.unsynced,
+          c.in-Err.ensures.err,
     )

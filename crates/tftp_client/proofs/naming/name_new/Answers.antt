@@ -1,6 +1,5 @@
 -- The file got its name by a link, or by a rename where the system made none.
 use Rattle.std.proofs.Common.{inr}
-use Rattle.tftp_disk.specs.Changes.{changes}
 use Rattle.tftp_disk.specs.DiskJournal.{state_of}
 use Rattle.tftp_disk.specs.DiskWriter.{calls_of, handed}
 use Rattle.tftp_disk.specs.NamedFolder.{SyncsFolder}
@@ -13,8 +12,8 @@ use Rattle.tftp_client.proofs.naming.name_new.Goals as goal
 pub returns-in-Ok-clause-keeps : goal.returns-in-Ok-clause-keeps
 returns-in-Ok-clause-keeps g c =
     link_keeps c.args.folder.now.folder (paths_of c.args.names.now Refused)
-    (state_of (calls_of c.args.written.now.writer)) (changes c.args.journal.now.events)
-    (changes c.link.new.journal.events) (changes c.keep_one.new.journal.events) c.keep_one.result c.in-Ok.ensures
+    (state_of (calls_of c.args.written.now.writer)) (g.D.Looks.log c.args.disk.now)
+    (g.D.Looks.log c.link.new.disk) (g.D.Looks.log c.keep_one.new.disk) c.keep_one.result c.in-Ok.ensures
     c.keep_one.ensures.ok c.keep_one.ensures.err
 
 pub returns-in-Ok-clause-ok : goal.returns-in-Ok-clause-ok
@@ -22,14 +21,14 @@ returns-in-Ok-clause-ok g c =
     on_ok c.keep_one.result
     (λ kept. linked_named (SyncsFolder c.args.folder.now.folder) (paths_of c.args.names.now Refused)
     (handed c.args.written.now.writer) (state_of (calls_of c.args.written.now.writer))
-    (changes c.args.journal.now.events) (changes c.link.new.journal.events) (changes c.keep_one.new.journal.events)
-    c.requires c.in-Ok.ensures kept)
+    (g.D.Looks.log c.args.disk.now) (g.D.Looks.log c.link.new.disk) (g.D.Looks.log c.keep_one.new.disk)
+    c.requires.whole c.requires.still c.in-Ok.ensures kept)
     c.keep_one.ensures.ok
 
 pub returns-else-eq-clause-keeps : goal.returns-else-eq-clause-keeps
 returns-else-eq-clause-keeps g c =
     unlinked_keeps (paths_of c.args.names.now Refused) (state_of (calls_of c.args.written.now.writer))
-    (changes c.args.journal.now.events) (changes c.link.new.journal.events) (changes c.rename_new.new.journal.events)
+    (g.D.Looks.log c.args.disk.now) (g.D.Looks.log c.link.new.disk) (g.D.Looks.log c.rename_new.new.disk)
     c.in-Err.error c.in-Err.ensures c.rename_new.ensures.keeps
 
 pub returns-else-eq-clause-ok : goal.returns-else-eq-clause-ok
@@ -37,8 +36,9 @@ returns-else-eq-clause-ok g c =
     on_ok c.rename_new.result
     (λ renames. (
       state_of (calls_of c.args.written.now.writer),
-      changes c.args.journal.now.events,
-      c.requires,
-      inr (changes c.link.new.journal.events, (c.in-Err.error, c.in-Err.ensures), renames),
+      g.D.Looks.log c.args.disk.now,
+      c.requires.whole,
+      c.requires.still,
+      inr (renames.0, (g.D.Looks.log c.link.new.disk, (c.in-Err.error, c.in-Err.ensures), renames.1), renames.2),
     ))
     c.rename_new.ensures.ok

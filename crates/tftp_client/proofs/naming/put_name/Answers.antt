@@ -1,6 +1,5 @@
 -- By what becomes of an existing file.
 use Rattle.std.proofs.Common.{OnOk, subst, sym}
-use Rattle.tftp_disk.specs.Changes.{changes}
 use Rattle.tftp_disk.specs.DiskWriter.{handed}
 use Rattle.tftp_disk.specs.NamedFolder.{SyncsFolder}
 use Rattle.tftp_disk.specs.declared.existing.Existing.{Existing}
@@ -12,12 +11,12 @@ pub returns-in-Refused-clause-ok : goal.returns-in-Refused-clause-ok
 returns-in-Refused-clause-ok g c =
     subst
     (λ (existing : Existing). OnOk c.name_new.result (NamesBytes (SyncsFolder c.args.folder.now.folder)
-    (paths_of c.args.names.now existing) (handed c.args.written.now.writer) (changes c.name_new.new.journal.events)))
+    (paths_of c.args.names.now existing) (handed c.args.written.now.writer) (g.D.Looks.log c.name_new.new.disk)))
     (sym c.in-Refused.is) c.name_new.ensures.ok
 
 pub returns-in-Replaced-clause-ok : goal.returns-in-Replaced-clause-ok
 returns-in-Replaced-clause-ok g c =
     subst
     (λ (existing : Existing). OnOk c.replace.result (NamesBytes (SyncsFolder c.args.folder.now.folder)
-    (paths_of c.args.names.now existing) (handed c.args.written.now.writer) (changes c.replace.new.journal.events)))
+    (paths_of c.args.names.now existing) (handed c.args.written.now.writer) (g.D.Looks.log c.replace.new.disk)))
     (sym c.in-Replaced.is) c.replace.ensures.ok

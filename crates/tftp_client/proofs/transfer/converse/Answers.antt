@@ -1,15 +1,47 @@
--- A run that stopped, and then its file was written.
-use Rattle.std.proofs.Common.{refl}
+-- A run that is complete, and then its line; or one that stopped, and then its file was written.
+use Rattle.std.proofs.Common.{arith, refl, ap, ℕ}
 use Rattle.tftp_client.specs.Conversation.{state_of}
+use Rattle.tftp_client.specs.Runs.{printed}
 use Rattle.tftp_client.proofs.LeftBytes.{written_out}
+use Rattle.tftp_client.proofs.NamedOnDisk.{kept, kept_then}
+use Rattle.tftp_client.proofs.Running.{goes_on}
 use Rattle.tftp_client.proofs.transfer.converse.Goals as goal
+
+pub conclude-requires-clause-ready : goal.conclude-requires-clause-ready
+conclude-requires-clause-ready g c = c.in-Ok.ensures.ready
+
+pub returns-in-Ok-clause-ok : goal.returns-in-Ok-clause-ok
+returns-in-Ok-clause-ok g c =
+    let last = state_of c.run-ended.new.self (g.N.Udp.log c.run-ended.new.net) in
+    record {
+      last = last;
+      files = c.run-ended.new.files;
+      converses = c.run-ended.ensures.converses;
+      complete = c.in-Ok.ensures.complete;
+      stays =
+          goes_on _ _ c.run-ended.ensures.counted c.run-ended.ensures.port
+          (ap (λ (n : ℕ). printed n last) c.count_of-count.ensures) c.conclude.ensures.goes;
+      kept =
+          kept _ _ (λ before after committed same. same) c.run-ended.new.files c.conclude.new.files
+          c.conclude.ensures.goes.converses;
+    }
+
+pub returns-in-Ok-clause-keeps : goal.returns-in-Ok-clause-keeps
+returns-in-Ok-clause-keeps g c =
+    kept_then c.args.files.now c.run-ended.new.files c.conclude.new.files
+    (kept _ _ (λ before after committed same. same) c.args.files.now c.run-ended.new.files c.run-ended.ensures.converses)
+    (kept _ _ (λ before after committed same. same) c.run-ended.new.files c.conclude.new.files
+    c.conclude.ensures.goes.converses)
+
+pub returns-in-Ok-clause-within : goal.returns-in-Ok-clause-within
+returns-in-Ok-clause-within g c = omega (arith, c.conclude.ensures.waits, c.run-ended.ensures.counted)
 
 pub returns-in-Err-clause-err : goal.returns-in-Err-clause-err
 returns-in-Err-clause-err g c = (
   c.in-Err.outcome,
   c.failed.ensures,
   record {
-    last = state_of c.run-ended.new.self c.run-ended.new.journal.events;
+    last = state_of c.run-ended.new.self (g.N.Udp.log c.run-ended.new.net);
     files = c.write_out.new.files;
     converses = written_out _ _ c.write_out.new.files c.write_out.ensures.works c.run-ended.ensures.converses;
     events = refl;
@@ -18,5 +50,10 @@ returns-in-Err-clause-err g c = (
   c.write_out.ensures.out,
 )
 
-pub invariant_of-result-clause-ready : goal.invariant_of-result-clause-ready
-invariant_of-result-clause-ready g c = c.in-Ok.ensures.ready
+pub returns-in-Err-clause-keeps : goal.returns-in-Err-clause-keeps
+returns-in-Err-clause-keeps g c =
+    kept _ _ (λ before after committed same. same) c.args.files.now c.write_out.new.files
+    (written_out _ _ c.write_out.new.files c.write_out.ensures.works c.run-ended.ensures.converses)
+
+pub returns-in-Err-clause-within : goal.returns-in-Err-clause-within
+returns-in-Err-clause-within g c = omega (arith, c.run-ended.ensures.counted)

@@ -1,51 +1,50 @@
 -- The run from its request on.
-use Rattle.std.proofs.Common.{Some, ap, refl}
+use Rattle.std.proofs.Common.{Some, arith, ap, refl}
 use Rattle.std.proofs.lemmas.Result.{IfOk-weaker}
 use Rattle.tftp_negotiate.specs.declared.known.Kind.TheVariants.{Read}
-use Rattle.tftp_client.specs.Conversation.{state_of}
-use Rattle.tftp_client.specs.Runs.{opens}
-use Rattle.tftp_client.proofs.Conversing.{begun_open, begun_ready, opens_open}
-use Rattle.tftp_client.proofs.Counting.{runs_as}
+use Rattle.tftp_sockets.specs.Quiet.{waits}
+use Rattle.tftp_client.specs.Converses.{State}
+use Rattle.tftp_client.specs.OnDisk.{job_paths}
+use Rattle.tftp_client.proofs.Concluding.{stores}
 use Rattle.tftp_client.proofs.LeftBytes.{leaves, leaves_none}
-use Rattle.tftp_client.proofs.NamedOnDisk.{is_for}
-use Rattle.tftp_client.proofs.Running.{if_err, runs}
+use Rattle.tftp_client.proofs.NamedOnDisk.{keeps_disk, received}
+use Rattle.tftp_client.proofs.Running.{if_err}
 use Rattle.tftp_client.proofs.transfer.get_into.Goals as goal
 
-pub returns-in-Ok-clause-ok : goal.returns-in-Ok-clause-ok
-returns-in-Ok-clause-ok g c =
-    IfOk-weaker c.converse.result _ _
-    (λ completed ran. (
-      runs_as _ _ (λ local. refl) c.args.job.now Read 0 0 c.in-Ok.ensures.may
-          (runs _ _ c.in-Ok.ensures.begins (ap Some c.requires.empty) (ran.0, ran.1)) tt (λ octet. refl) ran.2,
-      tt,
-    ))
-    c.converse.ensures.ok
+pub returns-clause-ok : goal.returns-clause-ok
+returns-clause-ok g c =
+    IfOk-weaker c.converse-ended.result _ _
+    (λ status reached. stores _ _ (λ local. refl) (λ before after committed same. same) c.args.job.now Read 0 0
+    c.args.waits.now _ _ c.disk_of.result _ c.converse-ended.new.files c.in-Ok.ensures.may c.in-Ok.ensures.begins
+    (ap Some c.requires.empty) tt (λ octet. refl) c.requires.paths c.disk_of.ensures reached tt)
+    c.converse-ended.ensures.ok
 
-pub returns-in-Ok-clause-local : goal.returns-in-Ok-clause-local
-returns-in-Ok-clause-local g c =
-    IfOk-weaker c.converse.result _ _
-    (λ completed ran. is_for _ _ (λ before after committed same. same) c.args.job.now ran.1 c.requires.paths)
-    c.converse.ensures.ok
-
-pub returns-in-Ok-clause-err : goal.returns-in-Ok-clause-err
-returns-in-Ok-clause-err g c =
-    if_err c.converse.result _ _ (λ failure stopped. leaves _ _ (λ local. refl) (λ before after committed same. same)
+pub returns-clause-err : goal.returns-clause-err
+returns-clause-err g c =
+    if_err c.converse-ended.result _ _
+    (λ failure stopped. leaves _ _ (λ local. refl) (λ before after committed same. same)
     c.args.waits.now failure.end Read c.args.job.now 0 _ _ _ c.in-Ok.ensures.may c.in-Ok.ensures.begins stopped tt
     (ap Some c.requires.empty) c.requires.paths)
-    c.converse.ensures.err
+    c.converse-ended.ensures.err
+
+pub returns-clause-keeps : goal.returns-clause-keeps
+returns-clause-keeps g c =
+    keeps_disk c.args.local c.converse-ended.new.files c.disk_of.result (job_paths c.args.job.now) c.requires.paths
+    c.converse-ended.ensures.keeps c.disk_of.ensures
+
+pub returns-clause-within : goal.returns-clause-within
+returns-clause-within g c =
+    omega (arith, c.converse-ended.ensures.within, ap (λ (s : State). waits s.events) c.in-Ok.ensures.begins)
+
+pub returns-clause-counted : goal.returns-clause-counted
+returns-clause-counted g c =
+    if_err c.converse-ended.result _ _
+    (λ failure counted. omega (arith, counted, ap (λ (s : State). waits s.events) c.in-Ok.ensures.begins))
+    c.converse-ended.ensures.counted
+
+pub disk_of-requires : goal.disk_of-requires
+disk_of-requires g c = received c.args.local c.converse-ended.new.files c.converse-ended.ensures.keeps
 
 pub returns-in-Err-clause-err : goal.returns-in-Err-clause-err
 returns-in-Err-clause-err g c =
     leaves_none _ _ _ c.in-Err.failure.end Read c.args.job.now 0 _ _ c.in-Err.ensures.err.0 c.in-Err.ensures.err.1
-
-pub converse-requires-clause-not_closed : goal.converse-requires-clause-not_closed
-converse-requires-clause-not_closed g c =
-    begun_open {s = state_of c.in-Ok.conversation c.ask_to_get.new.journal.events} c.in-Ok.conversation.socket.port
-    (opens Read c.args.job.now 0) c.args.journal.now.events
-    c.in-Ok.ensures.begins (opens_open Read c.args.job.now 0)
-
-pub converse-requires-clause-ready : goal.converse-requires-clause-ready
-converse-requires-clause-ready g c is_open due =
-    begun_ready {s = state_of c.in-Ok.conversation c.ask_to_get.new.journal.events} c.in-Ok.conversation.socket.port
-    (opens Read c.args.job.now 0) c.args.journal.now.events
-    c.in-Ok.ensures.begins

@@ -1,31 +1,28 @@
 -- The run from its request on.
-use Rattle.std.proofs.Common.{refl}
+use Rattle.std.proofs.Common.{arith, ap, refl}
 use Rattle.std.proofs.lemmas.Result.{IfOk-weaker}
 use Rattle.tftp_negotiate.specs.declared.known.Kind.TheVariants.{Write}
+use Rattle.tftp_sockets.specs.Quiet.{waits}
 use Rattle.tftp_client.specs.Conversation.{state_of}
+use Rattle.tftp_client.specs.Converses.{State}
 use Rattle.tftp_client.specs.Runs.{opens}
+use Rattle.tftp_client.proofs.Concluding.{concludes, sends_so}
 use Rattle.tftp_client.proofs.Conversing.{begun_open, begun_ready, opens_open}
 use Rattle.tftp_client.proofs.LeftBytes.{leaves, leaves_none}
-use Rattle.tftp_client.proofs.NamedOnDisk.{is_for}
-use Rattle.tftp_client.proofs.Running.{if_err, runs}
+use Rattle.tftp_client.proofs.Running.{if_err}
+use Rattle.tftp_client.proofs.SentFile.{octet_length}
 use Rattle.tftp_client.proofs.transfer.put_from.Goals as goal
 
 pub returns-in-Ok-clause-ok : goal.returns-in-Ok-clause-ok
 returns-in-Ok-clause-ok g c =
-    IfOk-weaker c.converse.result _ _ (λ completed ran. (
-      runs _ _ c.in-Ok.ensures.begins tt (ran.0, ran.1),
-      ran.2,
-      c.in-Ok.ensures.may,
-      tt,
-      c.requires.long c.in-Ok.ensures.fits,
-      (c.requires.opened, c.requires.long c.in-Ok.ensures.fits),
-    ))
-    c.converse.ensures.ok
-
-pub returns-in-Ok-clause-local : goal.returns-in-Ok-clause-local
-returns-in-Ok-clause-local g c =
+    let long = c.requires.long c.in-Ok.ensures.fits in
+    let outbound = c.args.outbound in
     IfOk-weaker c.converse.result _ _
-    (λ completed ran. is_for _ _ (λ before after committed same. same) c.args.job.now ran.1 tt)
+    (λ status reached. concludes _ _ (λ local. refl) c.args.job.now Write outbound.length.bytes outbound.length.wire_bytes
+    c.args.waits.now _ _ _ c.converse.new.files c.in-Ok.ensures.may c.in-Ok.ensures.begins tt tt
+    (octet_length c.args.job.now.mode _ _ _ long) reached
+    (sends_so _ _ (λ local. refl) c.args.job.now outbound.source outbound.length.bytes outbound.length.wire_bytes reached.files
+    reached.converses (c.requires.opened, long)))
     c.converse.ensures.ok
 
 pub returns-in-Ok-clause-err : goal.returns-in-Ok-clause-err
@@ -35,6 +32,16 @@ returns-in-Ok-clause-err g c =
     c.in-Ok.ensures.begins stopped tt tt tt)
     c.converse.ensures.err
 
+pub returns-in-Ok-clause-within : goal.returns-in-Ok-clause-within
+returns-in-Ok-clause-within g c =
+    omega (arith, c.converse.ensures.within, ap (λ (s : State). waits s.events) c.in-Ok.ensures.begins)
+
+pub returns-in-Ok-clause-counted : goal.returns-in-Ok-clause-counted
+returns-in-Ok-clause-counted g c =
+    if_err c.converse.result _ _
+    (λ failure counted. omega (arith, counted, ap (λ (s : State). waits s.events) c.in-Ok.ensures.begins))
+    c.converse.ensures.counted
+
 pub returns-in-Err-clause-err : goal.returns-in-Err-clause-err
 returns-in-Err-clause-err g c =
     leaves_none _ _ _ c.in-Err.failure.end Write c.args.job.now c.args.outbound.length.wire_bytes _ _
@@ -42,12 +49,12 @@ returns-in-Err-clause-err g c =
 
 pub converse-requires-clause-not_closed : goal.converse-requires-clause-not_closed
 converse-requires-clause-not_closed g c =
-    begun_open {s = state_of c.in-Ok.conversation c.ask_to_put.new.journal.events} c.in-Ok.conversation.socket.port
-    (opens Write c.args.job.now c.args.outbound.length.wire_bytes) c.args.journal.now.events
+    begun_open {s = state_of c.in-Ok.conversation (g.N.Udp.log c.ask_to_put.new.net)} c.in-Ok.conversation.socket.port
+    (opens Write c.args.job.now c.args.outbound.length.wire_bytes) (g.N.Udp.log c.args.net.now)
     c.in-Ok.ensures.begins (opens_open Write c.args.job.now c.args.outbound.length.wire_bytes)
 
 pub converse-requires-clause-ready : goal.converse-requires-clause-ready
 converse-requires-clause-ready g c is_open due =
-    begun_ready {s = state_of c.in-Ok.conversation c.ask_to_put.new.journal.events} c.in-Ok.conversation.socket.port
-    (opens Write c.args.job.now c.args.outbound.length.wire_bytes) c.args.journal.now.events
+    begun_ready {s = state_of c.in-Ok.conversation (g.N.Udp.log c.ask_to_put.new.net)} c.in-Ok.conversation.socket.port
+    (opens Write c.args.job.now c.args.outbound.length.wire_bytes) (g.N.Udp.log c.args.net.now)
     c.in-Ok.ensures.begins

@@ -7,14 +7,14 @@ use Rattle.tftp_daemon.proofs.daemon.serve_loop.Goals as goal
 
 pub returns-in-Ok : goal.returns-in-Ok
 returns-in-Ok g c = record {
-  result = c.serve-served.result.0;
+  result = c.serve.result;
   is_status = ap (λ (r : Result (Unit {0}) LoopFault). status_of r) (sym c.in-Ok.is);
-  serves = c.serve-served.ensures;
+  serves = c.serve.ensures;
 }
 
 pub returns-in-Err : goal.returns-in-Err
 returns-in-Err g c = record {
-  result = c.serve-served.result.0;
+  result = c.serve.result;
   is_status = ap (λ (r : Result (Unit {0}) LoopFault). status_of r) (sym c.in-Err.is);
-  serves = c.serve-served.ensures;
+  serves = c.serve.ensures;
 }

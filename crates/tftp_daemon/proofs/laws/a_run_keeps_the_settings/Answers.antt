@@ -6,7 +6,7 @@ use Rattle.tftp_folder.specs.declared.folder_store.FolderStore.{FolderStore}
 use Rattle.tftp_daemon.proofs.Keeping.{run_leaves}
 use Rattle.tftp_daemon.proofs.laws.a_run_keeps_the_settings.Goals as goal
 
-joined : {R G H : Type 0} {a b c : FolderStore R G H} → SameSettings a b → SameSettings b c → SameSettings a c
+joined : {R G H W : Type 0} {a b c : FolderStore R G H W} → SameSettings a b → SameSettings b c → SameSettings a c
 joined first second = record {
   read_only = second.read_only ∙ first.read_only;
   uploads = second.uploads ∙ first.uploads;

@@ -1,9 +1,15 @@
--- A server ran, or there is no configuration and nothing was done.
+-- A server ran, or a supervisor of several; or there is no configuration and nothing was done.
 use Rattle.std.proofs.Common.{map}
 use Rattle.tftp_daemon.proofs.ConfiguredLemmas.{serves_words}
+use Rattle.tftp_daemon.proofs.Supervising.{supervises_words}
 use Rattle.tftp_daemon.proofs.program.serve_texts.Goals as goal
 
 pub returns-in-Ok-clause-runs : goal.returns-in-Ok-clause-runs
 returns-in-Ok-clause-runs g c =
     serves_words (map g.S.AsStr.text c.args.words.now) c.in-Ok.line c.in-Ok.ensures.names c.in-Ok.ensures.text
     c.serve_command_line.ensures.runs c.serve_command_line.ensures.none c.serve_command_line.ensures.same
+
+pub returns-in-Ok-clause-several : goal.returns-in-Ok-clause-several
+returns-in-Ok-clause-several g c =
+    supervises_words (map g.S.AsStr.text c.args.words.now) c.in-Ok.line c.in-Ok.ensures.names c.in-Ok.ensures.text
+    c.serve_command_line.ensures.several c.serve_command_line.ensures.same

@@ -3,4 +3,4 @@ use Rattle.tftp_folder.proofs.ChangingLemmas.{keeps_within}
 use Rattle.tftp_folder.proofs.laws.keeps_within_its_limits.Goals as goal
 
 pub returns : goal.returns
-returns g c = keeps_within
+returns g c = keeps_within _

@@ -3,4 +3,4 @@ use Rattle.tftp_folder.proofs.StoredLemmas as stored
 use Rattle.tftp_folder.proofs.laws.stores_what_it_took.Goals as goal
 
 pub returns : goal.returns
-returns g c = stored.stores_what_it_took
+returns g c = stored.stores_what_it_took _

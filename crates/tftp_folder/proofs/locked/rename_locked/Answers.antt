@@ -3,6 +3,8 @@ use Rattle.std.proofs.Common.{◌∙◌, subst, sym}
 use Rattle.std.specs.String.{string_bytes}
 use Rattle.tftp_folder.specs.Inside.{AreInside}
 use Rattle.tftp_folder.proofs.InsideLemmas.{lock_inside}
+use Rattle.tftp_folder.proofs.PlacedLemmas.{lock_there}
+use Rattle.tftp_folder.specs.Placed.{NamesThere}
 use Rattle.tftp_folder.proofs.locked.rename_locked.Goals as goal
 
 pub returns-in-Ok-rename_new-clause-inside : goal.returns-in-Ok-rename_new-clause-inside
@@ -18,3 +20,21 @@ returns-clause-inside g c = λ root below all.
     (c.as_str-path.ensures.value ∙ c.in-Ok.ensures) below.target in
     subst (AreInside root) (sym c.remove-in-Err-rename_new.ensures)
     (lock, c.rename_new.ensures.inside root below (subst (AreInside root) (sym c.make.ensures.noted) (lock, all)))
+
+pub returns-in-Ok-rename_new-clause-there : goal.returns-in-Ok-rename_new-clause-there
+returns-in-Ok-rename_new-clause-there g c = λ there names.
+    let locked = g.D.Looks.log c.make.new.self in
+    subst NamesThere (sym c.remove.ensures)
+    (c.rename_new.ensures.there
+    (lock_there c.args.draft.now c.as_str-path.result.now _ (g.D.Looks.log c.args.disk.now) locked
+    (c.as_str-path.ensures.value ∙ c.in-Ok.ensures) c.make.ensures.noted there)
+    (subst NamesThere (sym c.make.ensures.noted) names))
+
+pub returns-clause-there : goal.returns-clause-there
+returns-clause-there g c = λ there names.
+    let locked = g.D.Looks.log c.make.new.self in
+    subst NamesThere (sym c.remove-in-Err-rename_new.ensures)
+    (c.rename_new.ensures.there
+    (lock_there c.args.draft.now c.as_str-path.result.now _ (g.D.Looks.log c.args.disk.now) locked
+    (c.as_str-path.ensures.value ∙ c.in-Ok.ensures) c.make.ensures.noted there)
+    (subst NamesThere (sym c.make.ensures.noted) names))

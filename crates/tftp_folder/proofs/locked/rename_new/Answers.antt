@@ -4,21 +4,22 @@ use Rattle.tftp_disk.specs.DiskJournal.{state_of}
 use Rattle.tftp_folder.specs.Uploads.{IsBelow}
 use Rattle.tftp_folder.proofs.InsideLemmas.{rename_inside}
 use Rattle.tftp_folder.proofs.NamingLemmas.{free_locked, renamed}
+use Rattle.tftp_folder.proofs.PlacedLemmas.{looks_there, rename_there, same_making}
 use Rattle.tftp_folder.proofs.locked.rename_new.Goals as goal
 
 pub returns-in-Ok-rename-clause-over : goal.returns-in-Ok-rename-clause-over
 returns-in-Ok-rename-clause-over g c =
-    renamed false _ c.args.journal.now.events c.check_free.new.journal.events _ (state_of c.file.result.now.journal.events)
+    renamed false _ (g.D.Looks.log c.args.disk.now) (g.D.Looks.log c.check_free.new.looks) _ (state_of c.file.result.now.journal.events)
     c.as_str-path.result.now c.as_str-target.result.now (Ok tt) c.in-Ok.ensures.renames
-    (free_locked _ c.as_str-target.result.now c.args.journal.now.events c.check_free.new.journal.events
+    (free_locked _ c.as_str-target.result.now (g.D.Looks.log c.args.disk.now) (g.D.Looks.log c.check_free.new.looks)
     c.as_str-target.ensures.value c.requires.locked c.in-Ok.ensures.free)
     c.in-Ok-rename.ensures c.as_str-target.ensures.value
 
 pub returns-in-Err-rename-clause-over : goal.returns-in-Err-rename-clause-over
 returns-in-Err-rename-clause-over g c =
-    renamed false _ c.args.journal.now.events c.check_free.new.journal.events _ (state_of c.file.result.now.journal.events)
+    renamed false _ (g.D.Looks.log c.args.disk.now) (g.D.Looks.log c.check_free.new.looks) _ (state_of c.file.result.now.journal.events)
     c.as_str-path.result.now c.as_str-target.result.now (Err c.in-Err-rename.error) c.in-Ok.ensures.renames
-    (free_locked _ c.as_str-target.result.now c.args.journal.now.events c.check_free.new.journal.events
+    (free_locked _ c.as_str-target.result.now (g.D.Looks.log c.args.disk.now) (g.D.Looks.log c.check_free.new.looks)
     c.as_str-target.ensures.value c.requires.locked c.in-Ok.ensures.free)
     c.in-Err-rename.ensures c.as_str-target.ensures.value
 
@@ -30,7 +31,7 @@ returns-in-Err-clause-inside g c = λ root below.
 pub returns-in-Ok-rename-clause-inside : goal.returns-in-Ok-rename-clause-inside
 returns-in-Ok-rename-clause-inside g c = λ root below all.
     rename_inside root c.args.draft.now (state_of c.file.result.now.journal.events) c.as_str-path.result.now
-    c.as_str-target.result.now (Ok tt) c.check_free.new.journal.events _ c.as_str-path.ensures.value
+    c.as_str-target.result.now (Ok tt) (g.D.Looks.log c.check_free.new.looks) _ c.as_str-path.ensures.value
     c.as_str-target.ensures.value c.in-Ok-rename.ensures below
     (c.check_free.ensures.inside root
     (inr (subst (IsBelow root) (sym c.as_str-target.ensures.value) below.target)) all)
@@ -38,7 +39,27 @@ returns-in-Ok-rename-clause-inside g c = λ root below all.
 pub returns-in-Err-rename-clause-inside : goal.returns-in-Err-rename-clause-inside
 returns-in-Err-rename-clause-inside g c = λ root below all.
     rename_inside root c.args.draft.now (state_of c.file.result.now.journal.events) c.as_str-path.result.now
-    c.as_str-target.result.now (Err c.in-Err-rename.error) c.check_free.new.journal.events _ c.as_str-path.ensures.value
+    c.as_str-target.result.now (Err c.in-Err-rename.error) (g.D.Looks.log c.check_free.new.looks) _ c.as_str-path.ensures.value
     c.as_str-target.ensures.value c.in-Err-rename.ensures below
     (c.check_free.ensures.inside root
     (inr (subst (IsBelow root) (sym c.as_str-target.ensures.value) below.target)) all)
+
+pub returns-in-Err-clause-there : goal.returns-in-Err-clause-there
+returns-in-Err-clause-there g c = λ there.
+    looks_there (g.D.Looks.log c.args.disk.now) (g.D.Looks.log c.check_free.new.looks) c.check_free.ensures.placed
+
+pub returns-in-Ok-rename-clause-there : goal.returns-in-Ok-rename-clause-there
+returns-in-Ok-rename-clause-there g c =
+    rename_there c.args.draft.now (state_of c.file.result.now.journal.events) c.as_str-path.result.now
+    c.as_str-target.result.now (Ok tt) (g.D.Looks.log c.args.disk.now) (g.D.Looks.log c.check_free.new.looks)
+    (g.D.Looks.log c.rename.new.self) c.check_free.ensures.placed
+    (same_making c.args.draft.now c.file.result.now c.file.ensures) c.as_str-path.ensures.value
+    c.in-Ok-rename.ensures
+
+pub returns-in-Err-rename-clause-there : goal.returns-in-Err-rename-clause-there
+returns-in-Err-rename-clause-there g c =
+    rename_there c.args.draft.now (state_of c.file.result.now.journal.events) c.as_str-path.result.now
+    c.as_str-target.result.now (Err c.in-Err-rename.error) (g.D.Looks.log c.args.disk.now)
+    (g.D.Looks.log c.check_free.new.looks) (g.D.Looks.log c.rename.new.self) c.check_free.ensures.placed
+    (same_making c.args.draft.now c.file.result.now c.file.ensures) c.as_str-path.ensures.value
+    c.in-Err-rename.ensures

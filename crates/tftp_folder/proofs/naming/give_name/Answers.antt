@@ -6,17 +6,19 @@ use Rattle.tftp_disk.specs.DiskJournal.{DiskEvent}
 use Rattle.tftp_disk.specs.NamedFolder.{OpensFolder}
 use Rattle.tftp_folder.proofs.InsideLemmas.{above_inside, folder_fits, opens_inside, stays_below}
 use Rattle.tftp_folder.proofs.NamingLemmas.{looks_as, then_renames}
+use Rattle.tftp_folder.proofs.InsideLemmas.{opens_follows}
+use Rattle.tftp_folder.proofs.PlacedLemmas.{looks_past, looks_there, opens_placed, same_there}
 use Rattle.tftp_folder.proofs.naming.give_name.Goals as goal
 
 pub returns-clause-err : goal.returns-clause-err
 returns-clause-err g c =
     let folder = c.in-Ok.folder.folder in
-    let opened = changes c.of.new.journal.events in
+    let opened = changes (g.D.Looks.log c.of.new.disk) in
     let path = c.as_str-2.result.now in
     inr (inr (
       folder,
       opened,
-      subst (λ (t : List ℕ). OpensFolder t folder (changes c.args.journal.now.events) opened)
+      subst (λ (t : List ℕ). OpensFolder t folder (changes (g.D.Looks.log c.args.disk.now)) opened)
           (c.as_str-2.ensures.value ∙ ap string_bytes (sym c.name_in.ensures.names.target))
           (subst (λ (before : List DiskEvent). OpensFolder path folder before opened)
           (c.leads_to.ensures.looks ∙ c.is_at_draft.ensures.looks) c.in-Ok.ensures.ok),
@@ -25,16 +27,16 @@ returns-clause-err g c =
 
 pub returns-in-Ok-name_in-clause-over : goal.returns-in-Ok-name_in-clause-over
 returns-in-Ok-name_in-clause-over g c =
-    then_renames _ _ c.args.journal.now.events c.of.new.journal.events c.name_in.new.journal.events
+    then_renames _ _ (g.D.Looks.log c.args.disk.now) (g.D.Looks.log c.of.new.disk) (g.D.Looks.log c.name_in.new.disk)
     (c.of.ensures.renames ∙ c.leads_to.ensures.renames ∙ c.is_at_draft.ensures.renames)
-    (looks_as _ _ _ _ c.of.new.journal.events c.name_in.new.journal.events refl
+    (looks_as _ _ _ _ (g.D.Looks.log c.of.new.disk) (g.D.Looks.log c.name_in.new.disk) refl
     (ap string_bytes c.is_at_draft.ensures.stays.names.target) c.name_in.ensures.over)
 
 pub returns-clause-over : goal.returns-clause-over
 returns-clause-over g c =
-    then_renames _ _ c.args.journal.now.events c.of.new.journal.events c.name_in.new.journal.events
+    then_renames _ _ (g.D.Looks.log c.args.disk.now) (g.D.Looks.log c.of.new.disk) (g.D.Looks.log c.name_in.new.disk)
     (c.of.ensures.renames ∙ c.leads_to.ensures.renames ∙ c.is_at_draft.ensures.renames)
-    (looks_as _ _ _ _ c.of.new.journal.events c.name_in.new.journal.events refl
+    (looks_as _ _ _ _ (g.D.Looks.log c.of.new.disk) (g.D.Looks.log c.name_in.new.disk) refl
     (ap string_bytes c.is_at_draft.ensures.stays.names.target) c.name_in.ensures.over)
 
 pub returns-then-not-is_at_draft-clause-inside : goal.returns-then-not-is_at_draft-clause-inside
@@ -53,8 +55,8 @@ pub returns-in-Err-clause-inside : goal.returns-in-Err-clause-inside
 returns-in-Err-clause-inside g c = λ below all.
     let root = c.args.root.now in
     let own = stays_below root c.args.draft.now c.is_at_draft.new.self c.is_at_draft.ensures.stays.names below in
-    opens_inside root (string_bytes c.is_at_draft.new.self.target) c.as_str-2.result.now c.leads_to.new.journal.events
-    c.of.new.journal.events c.as_str-2.ensures.value own.target c.of.ensures.calls
+    opens_inside root (string_bytes c.is_at_draft.new.self.target) c.as_str-2.result.now (g.D.Looks.log c.leads_to.new.looks)
+    (g.D.Looks.log c.of.new.disk) c.as_str-2.ensures.value own.target c.of.ensures.calls
     (c.leads_to.ensures.inside
     (above_inside root (string_bytes c.is_at_draft.new.self.target) c.as_str.result.now c.folder_of-folder.result.now
     c.as_str.ensures.value own.target c.folder_of-folder.ensures)
@@ -66,9 +68,10 @@ returns-in-Ok-name_in-clause-inside g c = λ below all.
     let own = stays_below root c.args.draft.now c.is_at_draft.new.self c.is_at_draft.ensures.stays.names below in
     c.name_in.ensures.inside
     (folder_fits root (string_bytes c.is_at_draft.new.self.target) c.as_str-2.result.now c.in-Ok.folder.folder
-    c.as_str-2.ensures.value own.target c.in-Ok.ensures.fits) own
-    (opens_inside root (string_bytes c.is_at_draft.new.self.target) c.as_str-2.result.now c.leads_to.new.journal.events
-    c.of.new.journal.events c.as_str-2.ensures.value own.target c.of.ensures.calls
+    c.as_str-2.ensures.value own.target (changes (g.D.Looks.log c.of.new.disk))
+    c.in-Ok.ensures.fits) own
+    (opens_inside root (string_bytes c.is_at_draft.new.self.target) c.as_str-2.result.now (g.D.Looks.log c.leads_to.new.looks)
+    (g.D.Looks.log c.of.new.disk) c.as_str-2.ensures.value own.target c.of.ensures.calls
     (c.leads_to.ensures.inside
     (above_inside root (string_bytes c.is_at_draft.new.self.target) c.as_str.result.now c.folder_of-folder.result.now
     c.as_str.ensures.value own.target c.folder_of-folder.ensures)
@@ -80,10 +83,61 @@ returns-clause-inside g c = λ below all.
     let own = stays_below root c.args.draft.now c.is_at_draft.new.self c.is_at_draft.ensures.stays.names below in
     c.name_in.ensures.inside
     (folder_fits root (string_bytes c.is_at_draft.new.self.target) c.as_str-2.result.now c.in-Ok.folder.folder
-    c.as_str-2.ensures.value own.target c.in-Ok.ensures.fits) own
-    (opens_inside root (string_bytes c.is_at_draft.new.self.target) c.as_str-2.result.now c.leads_to.new.journal.events
-    c.of.new.journal.events c.as_str-2.ensures.value own.target c.of.ensures.calls
+    c.as_str-2.ensures.value own.target (changes (g.D.Looks.log c.of.new.disk))
+    c.in-Ok.ensures.fits) own
+    (opens_inside root (string_bytes c.is_at_draft.new.self.target) c.as_str-2.result.now (g.D.Looks.log c.leads_to.new.looks)
+    (g.D.Looks.log c.of.new.disk) c.as_str-2.ensures.value own.target c.of.ensures.calls
     (c.leads_to.ensures.inside
     (above_inside root (string_bytes c.is_at_draft.new.self.target) c.as_str.result.now c.folder_of-folder.result.now
     c.as_str.ensures.value own.target c.folder_of-folder.ensures)
     (c.is_at_draft.ensures.inside root (inr below.path) all)))
+
+pub returns-then-not-is_at_draft-clause-there : goal.returns-then-not-is_at_draft-clause-there
+returns-then-not-is_at_draft-clause-there g c = λ there.
+    looks_there (g.D.Looks.log c.args.disk.now) (g.D.Looks.log c.is_at_draft.new.looks) c.is_at_draft.ensures.placed
+
+pub returns-then-not-leads_to-clause-there : goal.returns-then-not-leads_to-clause-there
+returns-then-not-leads_to-clause-there g c = λ there.
+    looks_there (g.D.Looks.log c.args.disk.now) (g.D.Looks.log c.leads_to.new.looks)
+    (c.leads_to.ensures.placed ∙ c.is_at_draft.ensures.placed)
+
+pub returns-in-Err-clause-there : goal.returns-in-Err-clause-there
+returns-in-Err-clause-there g c = λ there.
+    looks_there (g.D.Looks.log c.args.disk.now) (g.D.Looks.log c.of.new.disk)
+    (opens_placed c.as_str-2.result.now (g.D.Looks.log c.leads_to.new.looks) (g.D.Looks.log c.of.new.disk)
+    c.of.ensures.calls ∙ c.leads_to.ensures.placed ∙ c.is_at_draft.ensures.placed)
+
+pub returns-in-Err-clause-follows : goal.returns-in-Err-clause-follows
+returns-in-Err-clause-follows g c =
+    opens_follows c.as_str-2.result.now (g.D.Looks.log c.leads_to.new.looks) (g.D.Looks.log c.of.new.disk)
+    c.of.ensures.calls ∙ c.leads_to.ensures.follows ∙ c.is_at_draft.ensures.follows
+
+pub returns-in-Ok-name_in-clause-there : goal.returns-in-Ok-name_in-clause-there
+returns-in-Ok-name_in-clause-there g c = λ there names.
+    let before = g.D.Looks.log c.args.disk.now in
+    let opened = g.D.Looks.log c.of.new.disk in
+    let same = opens_placed c.as_str-2.result.now (g.D.Looks.log c.leads_to.new.looks) (g.D.Looks.log c.of.new.disk)
+    c.of.ensures.calls ∙ c.leads_to.ensures.placed ∙ c.is_at_draft.ensures.placed in
+    c.name_in.ensures.there
+    (same_there c.args.draft.now c.is_at_draft.new.self opened c.is_at_draft.ensures.stays.names
+    (looks_past c.args.draft.now before opened same there)) (looks_there before opened same names)
+
+pub returns-in-Ok-name_in-clause-follows : goal.returns-in-Ok-name_in-clause-follows
+returns-in-Ok-name_in-clause-follows g c =
+    c.name_in.ensures.follows ∙ opens_follows c.as_str-2.result.now (g.D.Looks.log c.leads_to.new.looks) (g.D.Looks.log c.of.new.disk)
+    c.of.ensures.calls ∙ c.leads_to.ensures.follows ∙ c.is_at_draft.ensures.follows
+
+pub returns-clause-there : goal.returns-clause-there
+returns-clause-there g c = λ there names.
+    let before = g.D.Looks.log c.args.disk.now in
+    let opened = g.D.Looks.log c.of.new.disk in
+    let same = opens_placed c.as_str-2.result.now (g.D.Looks.log c.leads_to.new.looks) (g.D.Looks.log c.of.new.disk)
+    c.of.ensures.calls ∙ c.leads_to.ensures.placed ∙ c.is_at_draft.ensures.placed in
+    c.name_in.ensures.there
+    (same_there c.args.draft.now c.is_at_draft.new.self opened c.is_at_draft.ensures.stays.names
+    (looks_past c.args.draft.now before opened same there)) (looks_there before opened same names)
+
+pub returns-clause-follows : goal.returns-clause-follows
+returns-clause-follows g c =
+    c.name_in.ensures.follows ∙ opens_follows c.as_str-2.result.now (g.D.Looks.log c.leads_to.new.looks) (g.D.Looks.log c.of.new.disk)
+    c.of.ensures.calls ∙ c.leads_to.ensures.follows ∙ c.is_at_draft.ensures.follows

@@ -8,7 +8,7 @@ use Rattle.tftp_folder.proofs.naming.has_no_link.Goals as goal
 
 pub returns-then-folder-max-clause-folders : goal.returns-then-folder-max-clause-folders
 returns-then-folder-max-clause-folders g c = λ yes.
-    c.loop.invariant.3 c.loop.journal.events
+    c.loop.invariant.3 (g.L.Looks.log c.loop.looks)
     (Above (subst (λ (n : ℕ). length c.loop.folder.now ≤ n) c.max.ensures c.if-folder-max.true))
 
 pub loop-preserved : goal.loop-preserved
@@ -28,6 +28,8 @@ loop-preserved g c =
           c.folder_of-folder.ensures,
       λ inside all. c.is_folder.ensures.inside c.args.root.now (c.loop.invariant.4 inside)
           (c.loop.invariant.5 inside all),
+      c.if-not-is_folder.ensures.follows ∙ c.loop.invariant.6,
+      c.if-not-is_folder.ensures.placed ∙ c.loop.invariant.7,
     )
 
 pub returns-then-not-is_folder-clause-inside : goal.returns-then-not-is_folder-clause-inside

@@ -6,27 +6,29 @@ use Rattle.tftp_disk.specs.Changes.{changes}
 use Rattle.tftp_disk.specs.DiskFault.{is_replaced}
 use Rattle.tftp_folder.proofs.InsideLemmas.{stays_below, syncs_inside}
 use Rattle.tftp_folder.proofs.NamingLemmas.{names_stay, renames_then, stays_done}
+use Rattle.tftp_folder.proofs.InsideLemmas.{syncs_follows}
+use Rattle.tftp_folder.proofs.PlacedLemmas.{looks_there, syncs_placed}
 use Rattle.tftp_folder.proofs.naming.name_in.Goals as goal
 
 pub returns-in-Err-look_again-clause-err : goal.returns-in-Err-look_again-clause-err
 returns-in-Err-look_again-clause-err g c =
     inr (
-      changes c.put_name.new.journal.events,
+      changes (g.D.Looks.log c.put_name.new.disk),
       names_stay c.put_name.new.draft c.look_again.new.draft c.look_again.ensures.stays
-          (changes c.args.journal.now.events) (changes c.put_name.new.journal.events)
+          (changes (g.D.Looks.log c.args.disk.now)) (changes (g.D.Looks.log c.put_name.new.disk))
           (is_replaced c.args.existing) c.in-Ok.ensures.ok,
       inl c.in-Err-look_again.ensures.err,
     )
 
 pub returns-in-Err-sync-clause-err : goal.returns-in-Err-sync-clause-err
 returns-in-Err-sync-clause-err g c =
-    let failed = changes c.sync.new.journal.events in
+    let failed = changes (g.D.Looks.log c.sync.new.disk) in
     inr (
-      changes c.put_name.new.journal.events,
+      changes (g.D.Looks.log c.put_name.new.disk),
       names_stay c.put_name.new.draft c.take_back_new.new.draft
           (stays_done c.put_name.new.draft c.look_again.new.draft c.take_back_new.new.draft c.look_again.ensures.stays
           c.take_back_new.ensures.stays)
-          (changes c.args.journal.now.events) (changes c.put_name.new.journal.events)
+          (changes (g.D.Looks.log c.args.disk.now)) (changes (g.D.Looks.log c.put_name.new.disk))
           (is_replaced c.args.existing) c.in-Ok.ensures.ok,
       inr (
         failed,
@@ -40,18 +42,18 @@ returns-in-Err-sync-clause-err g c =
 
 pub returns-in-Err-look_again-clause-over : goal.returns-in-Err-look_again-clause-over
 returns-in-Err-look_again-clause-over g c =
-    renames_then _ _ c.args.journal.now.events c.put_name.new.journal.events c.look_again.new.journal.events
+    renames_then _ _ (g.D.Looks.log c.args.disk.now) (g.D.Looks.log c.put_name.new.disk) (g.D.Looks.log c.look_again.new.disk)
     c.in-Ok.ensures.over c.look_again.ensures.renames
 
 pub returns-in-Ok-sync-clause-over : goal.returns-in-Ok-sync-clause-over
 returns-in-Ok-sync-clause-over g c =
-    renames_then _ _ c.args.journal.now.events c.put_name.new.journal.events c.sync.new.journal.events
+    renames_then _ _ (g.D.Looks.log c.args.disk.now) (g.D.Looks.log c.put_name.new.disk) (g.D.Looks.log c.sync.new.disk)
     c.in-Ok.ensures.over
     (c.sync.ensures.renames ∙ c.look_again.ensures.renames)
 
 pub returns-in-Err-sync-clause-over : goal.returns-in-Err-sync-clause-over
 returns-in-Err-sync-clause-over g c =
-    renames_then _ _ c.args.journal.now.events c.put_name.new.journal.events c.take_back_new.new.journal.events
+    renames_then _ _ (g.D.Looks.log c.args.disk.now) (g.D.Looks.log c.put_name.new.disk) (g.D.Looks.log c.take_back_new.new.disk)
     c.in-Ok.ensures.over
     (c.take_back_new.ensures.renames ∙ c.sync.ensures.renames ∙ c.look_again.ensures.renames)
 
@@ -66,7 +68,7 @@ returns-in-Err-look_again-clause-inside g c = λ fits below all.
 
 pub returns-in-Ok-sync-clause-inside : goal.returns-in-Ok-sync-clause-inside
 returns-in-Ok-sync-clause-inside g c = λ fits below all.
-    syncs_inside c.args.root.now c.args.folder.now.folder c.look_again.new.journal.events c.sync.new.journal.events fits
+    syncs_inside c.args.root.now c.args.folder.now.folder (g.D.Looks.log c.look_again.new.disk) (g.D.Looks.log c.sync.new.disk) fits
     c.sync.ensures.calls
     (c.look_again.ensures.inside
     (stays_below c.args.root.now c.args.draft.now c.put_name.new.draft c.put_name.ensures.names below)
@@ -78,8 +80,38 @@ returns-in-Err-sync-clause-inside g c = λ fits below all.
     let looked =
     stays_below c.args.root.now c.put_name.new.draft c.look_again.new.draft c.look_again.ensures.stays.names named in
     c.take_back_new.ensures.inside c.args.root.now looked
-    (syncs_inside c.args.root.now c.args.folder.now.folder c.look_again.new.journal.events c.sync.new.journal.events fits
+    (syncs_inside c.args.root.now c.args.folder.now.folder (g.D.Looks.log c.look_again.new.disk) (g.D.Looks.log c.sync.new.disk) fits
     c.sync.ensures.calls
     (c.look_again.ensures.inside
     (stays_below c.args.root.now c.args.draft.now c.put_name.new.draft c.put_name.ensures.names below)
     (c.put_name.ensures.inside c.args.root.now below all)))
+
+pub returns-in-Err-look_again-clause-there : goal.returns-in-Err-look_again-clause-there
+returns-in-Err-look_again-clause-there g c = λ there names.
+    c.look_again.ensures.there (c.put_name.ensures.there there names)
+
+pub returns-in-Ok-sync-clause-there : goal.returns-in-Ok-sync-clause-there
+returns-in-Ok-sync-clause-there g c = λ there names.
+    let looked = g.D.Looks.log c.look_again.new.disk in
+    let synced = g.D.Looks.log c.sync.new.disk in
+    looks_there looked synced (syncs_placed c.args.folder.now.folder looked synced c.sync.ensures.calls)
+    (c.look_again.ensures.there (c.put_name.ensures.there there names))
+
+pub returns-in-Err-sync-clause-there : goal.returns-in-Err-sync-clause-there
+returns-in-Err-sync-clause-there g c = λ there names.
+    let looked = g.D.Looks.log c.look_again.new.disk in
+    let synced = g.D.Looks.log c.sync.new.disk in
+    c.take_back_new.ensures.there
+    (looks_there looked synced (syncs_placed c.args.folder.now.folder looked synced c.sync.ensures.calls)
+    (c.look_again.ensures.there (c.put_name.ensures.there there names)))
+
+pub returns-in-Ok-sync-clause-follows : goal.returns-in-Ok-sync-clause-follows
+returns-in-Ok-sync-clause-follows g c =
+    syncs_follows c.args.folder.now.folder (g.D.Looks.log c.look_again.new.disk) (g.D.Looks.log c.sync.new.disk)
+    c.sync.ensures.calls ∙ c.look_again.ensures.follows ∙ c.put_name.ensures.follows
+
+pub returns-in-Err-sync-clause-follows : goal.returns-in-Err-sync-clause-follows
+returns-in-Err-sync-clause-follows g c =
+    c.take_back_new.ensures.follows
+    ∙ syncs_follows c.args.folder.now.folder (g.D.Looks.log c.look_again.new.disk) (g.D.Looks.log c.sync.new.disk)
+    c.sync.ensures.calls ∙ c.look_again.ensures.follows ∙ c.put_name.ensures.follows

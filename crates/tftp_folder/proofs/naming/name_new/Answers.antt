@@ -1,7 +1,11 @@
 -- The draft and its name are below the root.
-use Rattle.std.proofs.Common.{inr, subst, sym}
+use Rattle.std.proofs.Common.{Err, inr, subst, sym}
 use Rattle.tftp_folder.specs.Inside.{AreInside}
 use Rattle.tftp_folder.specs.Uploads.{IsBelow}
+use Rattle.tftp_folder.proofs.PlacedLemmas.{link_there, past_there, same_making}
+use Rattle.tftp_folder.specs.Placed.{NamesThere}
+use Rattle.tftp_disk.specs.DiskJournal.{state_of}
+use Rattle.tftp_disk.specs.DiskJournal.DiskEvent.{Linked}
 use Rattle.tftp_folder.proofs.naming.name_new.Goals as goal
 
 pub returns-in-Ok-rename_locked-clause-inside : goal.returns-in-Ok-rename_locked-clause-inside
@@ -25,3 +29,40 @@ returns-in-Err-rename_locked-clause-inside g c = λ root below all.
       ),
       all,
     ))
+
+pub returns-in-Ok-rename_locked-clause-there : goal.returns-in-Ok-rename_locked-clause-there
+returns-in-Ok-rename_locked-clause-there g c = λ there names.
+    c.rename_locked.ensures.there
+    (past_there c.args.draft.now (Linked (state_of c.file.result.now.journal.events) c.as_str-path.result.now
+    c.as_str-target.result.now (Err c.in-Err.error)) (g.D.Looks.log c.args.disk.now) (g.D.Looks.log c.link.new.self) tt
+    c.in-Err.ensures there)
+    (link_there c.args.draft.now (state_of c.file.result.now.journal.events) c.as_str-path.result.now
+    c.as_str-target.result.now _ (g.D.Looks.log c.args.disk.now) (g.D.Looks.log c.link.new.self)
+    (same_making c.args.draft.now c.file.result.now c.file.ensures) c.as_str-path.ensures.value
+    c.link.ensures there names)
+
+pub returns-in-Err-rename_locked-clause-there : goal.returns-in-Err-rename_locked-clause-there
+returns-in-Err-rename_locked-clause-there g c = λ there names.
+    c.rename_locked.ensures.there
+    (past_there c.args.draft.now (Linked (state_of c.file.result.now.journal.events) c.as_str-path.result.now
+    c.as_str-target.result.now (Err c.in-Err.error)) (g.D.Looks.log c.args.disk.now) (g.D.Looks.log c.link.new.self) tt
+    c.in-Err.ensures there)
+    (link_there c.args.draft.now (state_of c.file.result.now.journal.events) c.as_str-path.result.now
+    c.as_str-target.result.now _ (g.D.Looks.log c.args.disk.now) (g.D.Looks.log c.link.new.self)
+    (same_making c.args.draft.now c.file.result.now c.file.ensures) c.as_str-path.ensures.value
+    c.link.ensures there names)
+
+pub returns-in-Ok-clause-there : goal.returns-in-Ok-clause-there
+returns-in-Ok-clause-there g c = λ there names.
+    subst NamesThere (sym c.remove.ensures)
+    (link_there c.args.draft.now (state_of c.file.result.now.journal.events) c.as_str-path.result.now
+    c.as_str-target.result.now _ (g.D.Looks.log c.args.disk.now) (g.D.Looks.log c.link.new.self)
+    (same_making c.args.draft.now c.file.result.now c.file.ensures) c.as_str-path.ensures.value
+    c.link.ensures there names)
+
+pub returns-then-eq-clause-there : goal.returns-then-eq-clause-there
+returns-then-eq-clause-there g c = λ there names.
+    (link_there c.args.draft.now (state_of c.file.result.now.journal.events) c.as_str-path.result.now
+    c.as_str-target.result.now _ (g.D.Looks.log c.args.disk.now) (g.D.Looks.log c.link.new.self)
+    (same_making c.args.draft.now c.file.result.now c.file.ensures) c.as_str-path.ensures.value
+    c.link.ensures there names)

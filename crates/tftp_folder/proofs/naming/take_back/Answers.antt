@@ -4,17 +4,19 @@ use Rattle.tftp_folder.specs.Inside.{AreInside}
 use Rattle.tftp_folder.specs.Uploads.{IsBelow}
 use Rattle.tftp_folder.proofs.InsideLemmas.{stays_below}
 use Rattle.tftp_folder.proofs.NamingLemmas.{leaves_other, removes_own}
+use Rattle.tftp_folder.proofs.PlacedLemmas.{looks_there}
+use Rattle.tftp_folder.specs.Placed.{NamesThere}
 use Rattle.tftp_folder.proofs.naming.take_back.Goals as goal
 
 pub returns-then-not-is_at_target-clause-own : goal.returns-then-not-is_at_target-clause-own
 returns-then-not-is_at_target-clause-own g c =
-    leaves_other c.args.draft.now c.is_at_target.new.self c.args.journal.now.events c.args.journal.now.events
-    c.is_at_target.new.journal.events c.is_at_target.result refl c.if-not-is_at_target.true c.is_at_target.ensures.own
+    leaves_other c.args.draft.now c.is_at_target.new.self (g.D.Looks.log c.args.disk.now) (g.D.Looks.log c.args.disk.now)
+    (g.D.Looks.log c.is_at_target.new.looks) c.is_at_target.result refl c.if-not-is_at_target.true c.is_at_target.ensures.own
 
 pub returns-clause-own : goal.returns-clause-own
 returns-clause-own g c =
-    removes_own c.args.draft.now c.is_at_target.new.self c.as_str.result.now _ c.args.journal.now.events
-    c.is_at_target.new.journal.events c.remove.new.journal.events c.is_at_target.result c.as_str.ensures.value
+    removes_own c.args.draft.now c.is_at_target.new.self c.as_str.result.now _ (g.D.Looks.log c.args.disk.now)
+    (g.D.Looks.log c.is_at_target.new.looks) (g.D.Looks.log c.remove.new.self) c.is_at_target.result c.as_str.ensures.value
     c.if-not-is_at_target.false c.is_at_target.ensures.own c.remove.ensures
 
 pub returns-then-not-is_at_target-clause-inside : goal.returns-then-not-is_at_target-clause-inside
@@ -26,3 +28,13 @@ returns-clause-inside g c = λ root below all.
     let own = stays_below root c.args.draft.now c.is_at_target.new.self c.is_at_target.ensures.stays.names below in
     subst (AreInside root) (sym c.remove.ensures)
     (inr (subst (IsBelow root) (sym c.as_str.ensures.value) own.target), c.is_at_target.ensures.inside root (inr below.target) all)
+
+pub returns-then-not-is_at_target-clause-there : goal.returns-then-not-is_at_target-clause-there
+returns-then-not-is_at_target-clause-there g c =
+    looks_there (g.D.Looks.log c.args.disk.now) (g.D.Looks.log c.is_at_target.new.looks) c.is_at_target.ensures.placed
+
+pub returns-clause-there : goal.returns-clause-there
+returns-clause-there g c = λ names.
+    subst NamesThere (sym c.remove.ensures)
+    (looks_there (g.D.Looks.log c.args.disk.now) (g.D.Looks.log c.is_at_target.new.looks) c.is_at_target.ensures.placed
+    names)

@@ -15,7 +15,7 @@ returns-clause-steps g c =
     (ap (option_map (λ held. lent c.in-Ok.outgoing held.end)) found) c.unwrap_or_default-answer.ensures in
     timed_out c.port-tid.result c.args.server.now c.handle_timeout.new.self c.in-Ok.step c.in-Ok.outgoing
     c.args.udp.now.port
-    c.args.journal.now.events c.reply-sent.new.journal.events c.unwrap_or_default-answer.result.now c.port-tid.ensures t
+    (g.N.Udp.log c.args.net.now) (g.N.Udp.log c.reply-sent.new.net) c.unwrap_or_default-answer.result.now c.port-tid.ensures t
     c.in-Ok.ensures.rest sent c.reply-sent.ensures.events
 
 pub returns-clause-open : goal.returns-clause-open

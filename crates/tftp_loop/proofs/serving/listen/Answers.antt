@@ -12,23 +12,23 @@ use Rattle.tftp_loop.proofs.serving.listen.Goals as goal
 pub returns-in-Ok : goal.returns-in-Ok
 returns-in-Ok g c =
     let line =
-    c.print_line.ensures ∙ ap (λ (e : Endpoint). Printed (line_text (Listening e)) ∷ c.args.journal.events)
+    c.print_line.ensures ∙ ap (λ (e : Endpoint). Printed (line_text (Listening e)) ∷ g.N.Udp.log c.args.net.now)
     c.listening.ensures in
     let At : List SocketEvent → Type 0 = λ es. RunsServerFrom g.S.Store.meaning g.S.Source.Source.meaning
-    c.args.config.now c.args.sockets.requests.port c.args.server c.run.result.0 es c.run.result.1.events in
+    c.args.config.now c.args.sockets.requests.port c.args.server c.run.result es (g.N.Udp.log c.run.new.net) in
     subst At line c.run.ensures
 
 pub returns-in-Err : goal.returns-in-Err
 returns-in-Err g c =
     let sockets = c.args.sockets in
     let line =
-    c.print_line.ensures ∙ ap (λ (e : Endpoint). Printed (line_text (Listening e)) ∷ c.args.journal.events)
+    c.print_line.ensures ∙ ap (λ (e : Endpoint). Printed (line_text (Listening e)) ∷ g.N.Udp.log c.args.net.now)
     c.listening.ensures in
     record {
       last =
           at_start c.args.config.now sockets.requests.port c.args.server
-          (listening sockets.requests.ip sockets.requests.port c.args.journal.events);
+          (listening sockets.requests.ip sockets.requests.port (g.N.Udp.log c.args.net.now));
       run = Start;
       noted = line;
-      ends = inr (inr (record { is_output = refl; line = _; earlier = c.args.journal.events; last = refl }));
+      ends = inr (inr (record { is_output = refl; line = _; earlier = g.N.Udp.log c.args.net.now; last = refl }));
     }

@@ -1,6 +1,5 @@
 use Rattle.std.proofs.Common.{inl, map, refl, ap, ◌∙◌, Option, ℕ}
 use Rattle.tftp_ends.specs.declared.endpoint.Endpoint.{Endpoint}
-use Rattle.tftp_sockets.specs.declared.journal.Journal.{Journal}
 use Rattle.tftp_loop.specs.Run.Run.{Start}
 use Rattle.tftp_loop.specs.declared.sockets.Sockets.{Sockets}
 use Rattle.tftp_loop.specs.Steps.{at_start}
@@ -12,50 +11,53 @@ use Rattle.tftp_loop.proofs.serving.run.Goals as goal
 
 pub returns-in_default : goal.returns-in_default
 returns-in_default g c = record {
-  last = at_start c.args.config.now c.args.sockets.requests.port c.args.server c.args.journal.events;
+  last = at_start c.args.config.now c.args.sockets.requests.port c.args.server (g.N.Udp.log c.args.net.now);
   run = Start;
-  noted = refl;
-  ends = inl refl;
+  noted = c.out_of_memory.ensures;
+  ends = inl (refl, refl);
 }
 
 pub returns-in_default-new : goal.returns-in_default-new
 returns-in_default-new g c = record {
-  last = at_start c.args.config.now c.args.sockets.requests.port c.args.server c.args.journal.events;
+  last = at_start c.args.config.now c.args.sockets.requests.port c.args.server (g.N.Udp.log c.args.net.now);
   run = Start;
-  noted = refl;
-  ends = inl refl;
+  noted = c.out_of_memory-in_default-new.ensures;
+  ends = inl (refl, refl);
 }
 
-pub take_rounds-result-requires : goal.take_rounds-result-requires
-take_rounds-result-requires g c = record {
-  settled = starts_settled c.new-running.result c.new-running.ensures.ports;
-  few = starts_few c.new-running.result c.new-running.ensures.ports;
-  room = c.new-running.ensures.room;
-  first = ap (λ (s : Sockets). s.has_received) c.new-running.ensures.sockets ∙ c.requires.asked;
-}
+pub take_rounds-requires-clause-settled : goal.take_rounds-requires-clause-settled
+take_rounds-requires-clause-settled g c = starts_settled c.new-running.result c.new-running.ensures.ports
+
+pub take_rounds-requires-clause-few : goal.take_rounds-requires-clause-few
+take_rounds-requires-clause-few g c = starts_few c.new-running.result c.new-running.ensures.ports
+
+pub take_rounds-requires-clause-first : goal.take_rounds-requires-clause-first
+take_rounds-requires-clause-first g c =
+    ap (λ (s : Sockets). s.has_received) c.new-running.ensures.sockets ∙ c.requires.asked
 
 pub returns : goal.returns
 returns g c =
     let made = c.new-running.ensures in
     let request = c.as_mut_slice.result.now in
-    let begins = state_of request c.new-running.result in
-    let rounds = c.take_rounds-result in
-    let last = state_of rounds.new.request rounds.new.self in
+    let begins = state_of request c.new-running.result (g.N.Udp.log c.args.net.now) in
+    let rounds = c.take_rounds in
+    let last = state_of rounds.new.request rounds.new.self rounds.ensures.serves.served in
     record {
       last = last;
       run =
           onward
           (idle (same_state begins
-          (at_start c.args.config.now c.args.sockets.requests.port c.args.server c.args.journal.events)
+          (at_start c.args.config.now c.args.sockets.requests.port c.args.server (g.N.Udp.log c.args.net.now))
           (ap (λ (s : Sockets). s.requests.port) made.sockets)
           (ap (λ (s : Sockets). s.pool.range) made.sockets ∙ c.requires.range) made.longest made.requests_only made.server
           (ap (λ (p : Option (Endpoint × ℕ)). pending_in p request) made.pending) (ap (map timer_of) made.ports)
           (ap (λ (s : Sockets). s.watch.now) made.sockets ∙ c.requires.time)
           (ap (λ (s : Sockets). s.limit) made.sockets ∙ c.requires.limit) refl
           (ap (λ (s : Sockets). s.is_ready) made.sockets ∙ c.requires.marked)
-          (ap (λ (s : Sockets). s.has_received) made.sockets ∙ c.requires.asked) made.drain made.left made.rounds
-          (ap (λ (j : Journal). j.events) made.journal)))
-          rounds.ensures.serves;
-      noted = refl;
-      ends = ends_by rounds.result rounds.new.request rounds.new.self rounds.ensures.end rounds.ensures.fault;
+          (ap (λ (s : Sockets). s.has_received) made.sockets ∙ c.requires.asked) made.drain made.left made.rounds refl))
+          rounds.ensures.serves.serves;
+      noted = rounds.ensures.serves.noted;
+      ends =
+          ends_by rounds.result rounds.new.request rounds.new.self _ rounds.ensures.serves.served rounds.ensures.end
+          rounds.ensures.serves.fault;
     }

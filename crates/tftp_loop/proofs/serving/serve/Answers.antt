@@ -11,7 +11,8 @@ pub returns-in-Ok : goal.returns-in-Ok
 returns-in-Ok g c =
     let port = c.in-Ok.sockets.requests.port in
     let At : List ℕ → Type 0 = λ ip. RunsServerFrom g.S.Store.meaning g.S.Source.Source.meaning c.args.config.now
-    port c.args.server c.listen.result.0 (listening ip port c.args.journal.events) c.listen.result.1.events in
+    port c.args.server c.listen.result (listening ip port (g.N.Udp.log c.args.net.now))
+    (g.N.Udp.log c.listen.new.net) in
     let bound = c.in-Ok.ensures.bound in
     Bound port (record { same_ip = refl; same_port = bound.same_port; has_port = bound.has_port })
     (subst At c.in-Ok.ensures.bound.same_ip c.listen.ensures)

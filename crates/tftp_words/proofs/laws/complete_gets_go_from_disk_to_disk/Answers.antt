@@ -5,7 +5,7 @@ use Rattle.tftp_words.proofs.laws.complete_gets_go_from_disk_to_disk.Goals as go
 
 pub returns : goal.returns
 returns g c =
-    from_disk _ _
+    from_disk _ _ _ _
     (record {
       keeps = c.a_run_keeps_the_settings.ensures;
       gives = c.gives_its_file.ensures;

@@ -5,16 +5,16 @@ use Rattle.tftp_words.proofs.laws.words_keep_promises.Goals as goal
 
 pub returns-clause-one : goal.returns-clause-one
 returns-clause-one g c =
-    words_keep _ _ _ _ c.a_server_is_one_run.ensures c.a_client_is_one_run.ensures.programs
+    words_keep _ _ _ _ _ c.a_server_is_one_run.ensures c.a_client_is_one_run.ensures.programs
     c.programs_keep_promises.ensures.any_files c.programs_keep_promises.ensures.alone
 
 pub returns-clause-files : goal.returns-clause-files
 returns-clause-files g c =
-    words_move _ _ _ _
-    (words_keep _ _ _ _ c.a_server_is_one_run.ensures c.a_client_is_one_run.ensures.programs
+    words_move _ _ _ _ _
+    (words_keep _ _ _ _ _ c.a_server_is_one_run.ensures c.a_client_is_one_run.ensures.programs
     c.programs_keep_promises.ensures.any_files c.programs_keep_promises.ensures.alone)
 
 pub returns-clause-several : goal.returns-clause-several
 returns-clause-several g c =
-    several_keep _ _ _ _ c.a_server_is_one_run.ensures c.a_client_is_one_run.ensures.programs
+    several_keep _ _ _ _ _ c.a_server_is_one_run.ensures c.a_client_is_one_run.ensures.programs
     c.each_client_keeps_promises.ensures.any_files c.each_client_keeps_promises.ensures.passed_over

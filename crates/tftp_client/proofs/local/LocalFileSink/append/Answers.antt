@@ -1,12 +1,11 @@
 -- An append leaves the name, and a file with another content is not committed.
-use Rattle.std.proofs.Common.{◌≡◌, ◌≢◌, ℕ, Bool, true, false, List, [], append-nil, Option, Some, Err, refl, sym, ap, ◌∙◌}
-use Rattle.std.proofs.lemmas.Bool.{true≢false}
-use Rattle.tftp_disk.specs.Changes.{changes}
-use Rattle.tftp_file.specs.Sink.{AppendsFreely, Holding, KeptPrefix, UnlessArmed}
+use Rattle.std.proofs.Common.{◌≡◌, ◌≢◌, ℕ, false, List, [], append-nil, Option, Some, Err, refl, sym, ap, ◌∙◌, subst, length}
+use Rattle.tftp_file.specs.Sink.{AppendsFreely, Holding, KeptPrefix}
 use Rattle.tftp_file.specs.declared.fault.StoreFault.{StoreFault}
 use Rattle.tftp_file.specs.declared.fault.StoreFault.TheVariants.{Missing, Exists, Full, Io, Memory}
-use Rattle.tftp_client.specs.Written.{paths_of}
-use Rattle.tftp_client.proofs.Changing.{still_named, still_own}
+use Rattle.tftp_client.specs.Fetched.{IsNamed}
+use Rattle.tftp_client.specs.Written.{bytes_in, held_of, paths_of}
+use Rattle.tftp_client.proofs.Changing.{keeps_as, still_named}
 use Rattle.tftp_client.proofs.local.LocalFileSink.append.Goals as goal
 
 -- a file that holds what it held has kept no byte of the piece
@@ -23,51 +22,70 @@ kept_none before after piece same = record {
 }
 
 -- an append that is refused leaves what the file holds
-refused : (fault : StoreFault) (armed : Bool) (before : Holding) (after : Option Holding) (piece : List ℕ)
-    → armed ≡ false → fault ≢ Memory → after ≡ Some before
-    → UnlessArmed {A = Unit {0}} armed before after (Err fault) (AppendsFreely {A = Unit {0}} before after piece (Err fault))
-refused fault true before after piece off other same = absurd (true≢false off)
-refused Memory false before after piece off other same = absurd (other refl)
-refused Missing false before after piece off other same = kept_none before after piece same
-refused Exists false before after piece off other same = kept_none before after piece same
-refused Full false before after piece off other same = kept_none before after piece same
-refused Io false before after piece off other same = kept_none before after piece same
+refused : (fault : StoreFault) (before : Holding) (after : Option Holding) (piece : List ℕ)
+    → fault ≢ Memory → after ≡ Some before
+    → AppendsFreely {A = Unit {0}} before after piece (Err fault)
+refused Memory before after piece other same = absurd (other refl)
+refused Missing before after piece other same = kept_none before after piece same
+refused Exists before after piece other same = kept_none before after piece same
+refused Full before after piece other same = kept_none before after piece same
+refused Io before after piece other same = kept_none before after piece same
+
+pub returns-in_default-clause-appends : goal.returns-in_default-clause-appends
+returns-in_default-clause-appends g c =
+    let old = c.args.self.now in
+    let new = c.record_error.new.self in
+    let same : held_of new.part.written new.committed ≡ held_of old.part.written old.committed =
+    λ k. record {
+      bytes = bytes_in ((c.record_error.ensures.part k).written);
+      committed = c.record_error.ensures.committed k;
+      refuses = false;
+    } in
+    refused c.record_error.result (held_of old.part.written old.committed)
+    (Some (held_of new.part.written new.committed)) c.args.bytes.now c.record_error.ensures.fault (ap Some same)
 
 pub returns-in-Err-clause-appends : goal.returns-in-Err-clause-appends
 returns-in-Err-clause-appends g c =
-    let old = c.args.self.now.taken.holding in
-    refused c.record_error-in-Err.result old.refuses old (Some c.record_error-in-Err.new.self.taken.holding)
-    c.args.bytes.now c.args.self.now.never_refuses c.record_error-in-Err.ensures.fault
-    (ap (λ (t : _). Some t.holding) c.record_error-in-Err.ensures.taken)
+    let old = c.args.self.now in
+    let new = c.record_error-in-Err.new.self in
+    let bytes : bytes_in new.part.written ≡ bytes_in old.part.written =
+    (λ k. bytes_in ((c.record_error-in-Err.ensures.part k).written)) ∙ c.in-Err.ensures.err in
+    let same : held_of new.part.written new.committed ≡ held_of old.part.written old.committed =
+    λ k. record {
+      bytes = bytes k;
+      committed = c.record_error-in-Err.ensures.committed k;
+      refuses = false;
+    } in
+    refused c.record_error-in-Err.result (held_of old.part.written old.committed)
+    (Some (held_of new.part.written new.committed)) c.args.bytes.now c.record_error-in-Err.ensures.fault (ap Some same)
 
-pub invariant_of-self-clause-own : goal.invariant_of-self-clause-own
-invariant_of-self-clause-own g c =
+pub returns-in-Err-clause-leaves : goal.returns-in-Err-clause-leaves
+returns-in-Err-clause-leaves g c =
     let old = c.args.self.now.part in
-    let new = c.append.new.self in
-    let same = c.append.ensures.names in
-    still_own (paths_of old.names old.existing) (paths_of new.names new.existing) (changes old.journal.events)
-    (changes new.journal.events) (λ k. paths_of (same.names k) (same.existing k)) c.append.ensures.keeps
-    c.args.self.now.own
-
-pub invariant_of-self-clause-named : goal.invariant_of-self-clause-named
-invariant_of-self-clause-named g c committed =
-    absurd (true≢false (sym committed ∙ ap (λ (h : Holding). h.committed) c.appended.ensures))
+    let mid = c.append.new.self in
+    let same = c.record_error-in-Err.ensures.part in
+    keeps_as (paths_of old.names old.existing) (paths_of mid.names mid.existing)
+    (paths_of c.record_error-in-Err.new.self.part.names c.record_error-in-Err.new.self.part.existing)
+    (g.D.Looks.log old.disk) (g.D.Looks.log mid.disk) (g.D.Looks.log c.record_error-in-Err.new.self.part.disk)
+    (λ k. paths_of (c.append.ensures.names k) (c.append.ensures.existing k))
+    (λ k. paths_of (same k).names (same k).existing) (λ k. g.D.Looks.log (same k).disk)
+    c.append.ensures.keeps
 
 pub invariant_of-self-in-Err-1 : goal.invariant_of-self-in-Err-1
 invariant_of-self-in-Err-1 g c =
     let old = c.args.self.now.part in
     let new = c.append.new.self in
-    let same = c.append.ensures.names in
-    let paths = paths_of old.names old.existing in
-    let paths' = paths_of new.names new.existing in
-    let is : paths' ≡ paths = λ k. paths_of (same.names k) (same.existing k) in
-    let before = changes old.journal.events in
-    let after = changes new.journal.events in
+    let bytes = c.in-Err.ensures.err in
     record {
-      counts = c.args.self.now.counts;
-      never_refuses = c.args.self.now.never_refuses;
-      content = c.in-Err.ensures.err ∙ c.args.self.now.content;
-      own = still_own paths paths' before after is c.append.ensures.keeps c.args.self.now.own;
-      named = λ committed. still_named paths paths' c.args.self.now.taken.holding.bytes before after is
-          c.append.ensures.keeps (c.args.self.now.named committed);
+      counts = c.args.self.now.counts ∙ sym (ap length bytes);
+      named = λ committed.
+          subst (λ (bytes : List ℕ). ∥ IsNamed (paths_of new.names new.existing) bytes (g.D.Looks.log new.disk) ∥₁)
+          (sym bytes)
+          (still_named (paths_of old.names old.existing) (paths_of new.names new.existing) (bytes_in old.written)
+          (g.D.Looks.log old.disk) (g.D.Looks.log new.disk)
+          (record {
+            same = λ k. paths_of (c.append.ensures.names k) (c.append.ensures.existing k);
+            keeps = c.append.ensures.keeps;
+          })
+          (c.args.self.now.named committed));
     }

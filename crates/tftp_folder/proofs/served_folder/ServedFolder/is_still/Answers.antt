@@ -8,11 +8,11 @@ pub returns-then-has_no_link-clause-inside : goal.returns-then-has_no_link-claus
 returns-then-has_no_link-clause-inside g c = λ below all.
     c.is_at.ensures.inside (inr below)
     (folders_inside c.as_str.result.now (string_bytes c.args.self.now.root) c.args.path.now c.folder_of.result.now
-    c.args.journal.now.events c.has_no_link.new.journal.events c.as_str.ensures.value below c.folder_of.ensures
+    (g.L.Looks.log c.args.looks.now) (g.L.Looks.log c.has_no_link.new.looks) c.as_str.ensures.value below c.folder_of.ensures
     c.has_no_link.ensures.inside all)
 
 pub returns-else-has_no_link-clause-inside : goal.returns-else-has_no_link-clause-inside
 returns-else-has_no_link-clause-inside g c = λ below.
     folders_inside c.as_str.result.now (string_bytes c.args.self.now.root) c.args.path.now c.folder_of.result.now
-    c.args.journal.now.events c.has_no_link.new.journal.events c.as_str.ensures.value below c.folder_of.ensures
+    (g.L.Looks.log c.args.looks.now) (g.L.Looks.log c.has_no_link.new.looks) c.as_str.ensures.value below c.folder_of.ensures
     c.has_no_link.ensures.inside

@@ -7,5 +7,5 @@ use Rattle.tftp_folder.proofs.served_folder.ServedFolder.open_file.Given as goal
 
 abbrev pub invariant-loop : goal.invariant-loop
 invariant-loop g l =
-    (changes l.journal.events ≡ changes l.fn.journal.events)
-    × StaysInside (string_bytes l.self.root) l.fn.journal.events l.journal.events
+    (changes (g.V.Looks.log l.view) ≡ changes (g.V.Looks.log l.fn.view))
+    × StaysInside (string_bytes l.self.root) (g.V.Looks.log l.fn.view) (g.V.Looks.log l.view)

@@ -4,6 +4,8 @@ use Rattle.std.proofs.lemmas.Grind.{common_steps}
 use Rattle.std.specs.String.{string_bytes}
 use Rattle.tftp_disk.specs.Changes.{changes}
 use Rattle.tftp_folder.specs.Inside.{IsInside}
+use Rattle.tftp_folder.specs.Opened.{follows}
+use Rattle.tftp_folder.specs.Placed.{placed}
 use Rattle.tftp_folder.proofs.InsideLemmas.{front_inside, look_inside}
 use Rattle.tftp_folder.proofs.served_folder.ServedFolder.walk_folders.Goals as goal
 
@@ -22,11 +24,13 @@ loop-segment-preserved g c =
       ap changes c.look.ensures ∙ c.loop-segment.invariant.0,
       long,
       λ inside all.
-          look_inside root c.in-Some-get.at.now c.look.result c.loop-segment.journal.events c.look.new.journal.events
+          look_inside root c.in-Some-get.at.now c.look.result (g.L.Looks.log c.loop-segment.looks) (g.L.Looks.log c.look.new.self)
           c.look.ensures
           (range_inside root c.args.target.now c.in-Some-get.at.now c.saturating_add-end.result inside long
           c.in-Some-get.ensures.cases.0)
           (c.loop-segment.invariant.2 inside all),
+      ap follows c.look.ensures ∙ c.loop-segment.invariant.3,
+      ap placed c.look.ensures ∙ c.loop-segment.invariant.4,
     )
 
 pub returns-in-Err-clause-inside : goal.returns-in-Err-clause-inside
@@ -34,7 +38,7 @@ returns-in-Err-clause-inside g c =
     let root = string_bytes c.args.self.now.root in
     let long : length root ≤ c.saturating_add-end.result = omega (arith, c.loop-segment.invariant.1) in
     λ inside all.
-    look_inside root c.in-Some-get.at.now c.look.result c.loop-segment.journal.events c.look.new.journal.events
+    look_inside root c.in-Some-get.at.now c.look.result (g.L.Looks.log c.loop-segment.looks) (g.L.Looks.log c.look.new.self)
     c.look.ensures
     (range_inside root c.args.target.now c.in-Some-get.at.now c.saturating_add-end.result inside long
     c.in-Some-get.ensures.cases.0)

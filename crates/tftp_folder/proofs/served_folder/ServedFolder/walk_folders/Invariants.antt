@@ -4,11 +4,15 @@ use Rattle.std.proofs.Common.{◌≡◌, ◌≤◌, length}
 use Rattle.std.specs.String.{string_bytes}
 use Rattle.tftp_disk.specs.Changes.{changes}
 use Rattle.tftp_folder.specs.Inside.{IsInside, StaysInside}
+use Rattle.tftp_folder.specs.Opened.{follows}
+use Rattle.tftp_folder.specs.Placed.{placed}
 use Rattle.tftp_folder.proofs.served_folder.ServedFolder.walk_folders.Given as goal
 
 abbrev pub invariant-loop-segment : goal.invariant-loop-segment
 invariant-loop-segment g l =
-    (changes l.journal.events ≡ changes l.fn.journal.events)
+    (changes (g.L.Looks.log l.looks) ≡ changes (g.L.Looks.log l.fn.looks))
     × (length (string_bytes l.self.root) ≤ l.end)
     × (IsInside (string_bytes l.self.root) l.target
-    → StaysInside (string_bytes l.self.root) l.fn.journal.events l.journal.events)
+    → StaysInside (string_bytes l.self.root) (g.L.Looks.log l.fn.looks) (g.L.Looks.log l.looks))
+    × (follows (g.L.Looks.log l.looks) ≡ follows (g.L.Looks.log l.fn.looks))
+    × (placed (g.L.Looks.log l.looks) ≡ placed (g.L.Looks.log l.fn.looks))

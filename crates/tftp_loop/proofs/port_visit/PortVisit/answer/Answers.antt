@@ -15,11 +15,11 @@ pub returns-then-self-clause-answers : goal.returns-then-self-clause-answers
 returns-then-self-clause-answers g c =
     let old = c.args.self.now in
     record {
-      same = record { server = refl; port = refl; journal = refl; now = refl; active = refl };
+      same = record { server = refl; port = refl; net = refl; now = refl; active = refl };
       serves =
           λ events noted.
           receives_late g.S.Store.meaning g.S.Source.Source.meaning old.now old.server.now (timer_of old.port.now)
-          (timer_of c.note_received.new.port) events old.journal.now.events c.args.datagram.from
+          (timer_of c.note_received.new.port) events (g.N.Udp.log old.net.now) c.args.datagram.from
           c.args.datagram.bytes.now (omega (arith)) c.requires noted c.note_received.ensures;
       tries = λ q h. h;
       received = omega arith;
@@ -38,12 +38,12 @@ pub returns-in_default-clause-answers : goal.returns-in_default-clause-answers
 returns-in_default-clause-answers g c =
     let old = c.args.self.now in
     record {
-      same = record { server = refl; port = refl; journal = refl; now = refl; active = refl };
+      same = record { server = refl; port = refl; net = refl; now = refl; active = refl };
       serves =
           λ events noted.
           receives_lost g.S.Store.meaning g.S.Source.Source.meaning old.now old.server.now c.handle_datagram.new.self
           (timer_of old.port.now) (timer_of c.note_received-in_default.new.port)
-          events old.journal.now.events old.journal.now.events c.args.datagram.from c.args.datagram.bytes.now
+          events (g.N.Udp.log old.net.now) (g.N.Udp.log old.net.now) c.args.datagram.from c.args.datagram.bytes.now
           (omega (arith)) c.requires noted
           (lost g.S.Store.meaning g.S.Source.Source.meaning _ old.port.now.socket.udp.port c.args.datagram.from
           c.args.datagram.bytes.now old.server.now c.handle_datagram.new.self c.in_default.field-0 (cc)
@@ -63,25 +63,25 @@ returns-clause-answers g c =
     bytes_lent c.bytes_of.result _ c.unwrap_or_default-answer.result _ (lent c.in-Ok.outgoing takes.next.end)
     c.bytes_of.ensures (ap (option_map (λ held. lent c.in-Ok.outgoing held.end)) found) c.unwrap_or_default-answer.ensures in
     record {
-      same = record { server = refl; port = refl; journal = refl; now = refl; active = refl };
+      same = record { server = refl; port = refl; net = refl; now = refl; active = refl };
       serves =
           λ events noted.
           then_works g.S.Store.meaning g.S.Source.Source.meaning old.now
           (here g.S.Store.meaning g.S.Source.Source.meaning old.now old.server.now (timer_of old.port.now) events)
-          c.handle_datagram.new.self c.work_after.new.server (timer_of c.note_step.new.port) c.reply-sent.new.journal.events
+          c.handle_datagram.new.self c.work_after.new.server (timer_of c.note_step.new.port) (g.N.Udp.log c.reply-sent.new.net)
           c.note_step.new.port.socket.udp.port
           (receives g.S.Store.meaning g.S.Source.Source.meaning old.now old.server.now c.handle_datagram.new.self
           (timer_of old.port.now) (timer_of c.note_step.new.port)
-          events old.journal.now.events c.reply-sent.new.journal.events c.args.datagram.from c.args.datagram.bytes.now
+          events (g.N.Udp.log old.net.now) (g.N.Udp.log c.reply-sent.new.net) c.args.datagram.from c.args.datagram.bytes.now
           c.in-Ok.step (omega (arith)) c.requires noted
           (handled g.S.Store.meaning g.S.Source.Source.meaning _ old.server.now c.handle_datagram.new.self
           c.in-Ok.step c.in-Ok.outgoing old.port.now.socket.udp.port c.args.datagram.from c.args.datagram.bytes.now
-          old.journal.now.events c.reply-sent.new.journal.events c.unwrap_or_default-answer.result.now (cc) takes
+          (g.N.Udp.log old.net.now) (g.N.Udp.log c.reply-sent.new.net) c.unwrap_or_default-answer.result.now (cc) takes
           c.in-Ok.ensures.rest sent c.reply-sent.ensures.events) c.note_step.ensures)
           refl c.work_after.ensures.works;
       tries =
-          subst (KeepsTries old.journal.now.events) (sym c.reply-sent.ensures.events)
-          (replied_tries _ c.in-Ok.step.to c.unwrap_or_default-answer.result.now old.journal.now.events);
+          subst (KeepsTries (g.N.Udp.log old.net.now)) (sym c.reply-sent.ensures.events)
+          (replied_tries _ c.in-Ok.step.to c.unwrap_or_default-answer.result.now (g.N.Udp.log old.net.now));
       received = c.reply-sent.ensures.received;
     }
 

@@ -10,18 +10,18 @@ use Rattle.tftp_loop.proofs.Unclosed.{unless_map}
 use Rattle.tftp_loop.proofs.port_visit.PortVisit.take_datagrams.Goals as goal
 
 pub loop-count-init : goal.loop-count-init
-loop-count-init g c = (idles g.S.Store.meaning g.S.Source.Source.meaning 0 _, omega arith, inl refl, λ unclosed. unclosed)
+loop-count-init g c = (idles g.N.Udp.log g.S.Store.meaning g.S.Source.Source.meaning 0 _, omega arith, inl refl, λ unclosed. unclosed)
 
 pub loop-count-preserved : goal.loop-count-preserved
 loop-count-preserved g c =
     let noted = c.in-Datagram.ensures.noted in
     let answers = c.answer.ensures.answers in (
-      serves_onward g.S.Store.meaning g.S.Source.Source.meaning c.loop-count.count 1 (c.loop-count.count + 1) _ _ _
+      serves_onward g.N.Udp.log g.S.Store.meaning g.S.Source.Source.meaning c.loop-count.count 1 (c.loop-count.count + 1) _ _ _
           (omega arith) c.loop-count.invariant.0
-          (serves_received g.S.Store.meaning g.S.Source.Source.meaning _ c.loop-count.self _ _ refl noted answers),
+          (serves_received g.N.Udp.log g.S.Store.meaning g.S.Source.Source.meaning _ c.loop-count.self _ _ refl noted answers),
       let before = c.loop-count.invariant.1 in let one = c.answer.ensures.counted in omega (arith, before, one),
       inr (
-        tried_received g.S.Store.meaning g.S.Source.Source.meaning _ c.loop-count.self _ _ noted answers,
+        tried_received g.N.Udp.log g.S.Store.meaning g.S.Source.Source.meaning _ c.loop-count.self _ _ noted answers,
         c.in-Unfinished.ensures.status.timer,
       ),
       λ unclosed. c.in-Unfinished.ensures.open (c.loop-count.invariant.3 unclosed),
@@ -35,14 +35,14 @@ answer-requires g c =
 
 pub returns-in_default-clause-serves : goal.returns-in_default-clause-serves
 returns-in_default-clause-serves g c =
-    serves_onward g.S.Store.meaning g.S.Source.Source.meaning c.loop-count.count 1 MOST_AT_ONCE _ _ _ (omega arith)
+    serves_onward g.N.Udp.log g.S.Store.meaning g.S.Source.Source.meaning c.loop-count.count 1 MOST_AT_ONCE _ _ _ (omega arith)
     c.loop-count.invariant.0
-    (serves_received g.S.Store.meaning g.S.Source.Source.meaning _ c.loop-count.self _ _ refl
+    (serves_received g.N.Udp.log g.S.Store.meaning g.S.Source.Source.meaning _ c.loop-count.self _ _ refl
     c.in-Datagram.ensures.noted c.answer.ensures.answers)
 
 pub returns-in_default-clause-tried : goal.returns-in_default-clause-tried
 returns-in_default-clause-tried g c =
-    tried_received g.S.Store.meaning g.S.Source.Source.meaning _ c.loop-count.self _ _ c.in-Datagram.ensures.noted
+    tried_received g.N.Udp.log g.S.Store.meaning g.S.Source.Source.meaning _ c.loop-count.self _ _ c.in-Datagram.ensures.noted
     c.answer.ensures.answers
 
 pub returns-in_default-clause-open : goal.returns-in_default-clause-open
@@ -53,33 +53,33 @@ pub returns-in-Nothing-clause-serves : goal.returns-in-Nothing-clause-serves
 returns-in-Nothing-clause-serves g c =
     let visit = c.loop-count.self in
     let noted = c.in-Nothing.ensures.noted in
-    serves_onward g.S.Store.meaning g.S.Source.Source.meaning c.loop-count.count 0 MOST_AT_ONCE _ _ _ (omega arith)
+    serves_onward g.N.Udp.log g.S.Store.meaning g.S.Source.Source.meaning c.loop-count.count 0 MOST_AT_ONCE _ _ _ (omega arith)
     c.loop-count.invariant.0 (record {
-      same = record { server = refl; port = refl; journal = refl; now = refl; active = refl };
+      same = record { server = refl; port = refl; net = refl; now = refl; active = refl };
       serves =
           finds_nothing g.S.Store.meaning g.S.Source.Source.meaning visit.now visit.server.now (timer_of visit.port.now)
-          (timer_of c.mark_empty.new.port) visit.journal.now.events c.receive.new.journal.events noted
+          (timer_of c.mark_empty.new.port) (g.N.Udp.log visit.net.now) (g.N.Udp.log c.receive.new.self) noted
           c.mark_empty.ensures;
       received =
           receives_none
-          (Empty visit.port.now.socket.udp.port) 0 visit.journal.now.events c.receive.new.journal.events noted;
+          (Empty visit.port.now.socket.udp.port) 0 (g.N.Udp.log visit.net.now) (g.N.Udp.log c.receive.new.self) noted;
     })
 
 pub returns-in-Failed-clause-serves : goal.returns-in-Failed-clause-serves
 returns-in-Failed-clause-serves g c =
     let visit = c.loop-count.self in
     let noted = c.in-Failed.ensures.noted in
-    serves_onward g.S.Store.meaning g.S.Source.Source.meaning c.loop-count.count 0 MOST_AT_ONCE _ _ _ (omega arith)
+    serves_onward g.N.Udp.log g.S.Store.meaning g.S.Source.Source.meaning c.loop-count.count 0 MOST_AT_ONCE _ _ _ (omega arith)
     c.loop-count.invariant.0 (record {
-      same = record { server = refl; port = refl; journal = refl; now = refl; active = refl };
+      same = record { server = refl; port = refl; net = refl; now = refl; active = refl };
       serves =
           fails_to_receive g.S.Store.meaning g.S.Source.Source.meaning visit.now visit.server.now
           (timer_of visit.port.now)
-          (timer_of c.mark_ready.new.port) visit.journal.now.events c.receive.new.journal.events noted
+          (timer_of c.mark_ready.new.port) (g.N.Udp.log visit.net.now) (g.N.Udp.log c.receive.new.self) noted
           c.mark_ready.ensures;
       received =
           receives_none
-          (Failed visit.port.now.socket.udp.port) 0 visit.journal.now.events c.receive.new.journal.events noted;
+          (Failed visit.port.now.socket.udp.port) 0 (g.N.Udp.log visit.net.now) (g.N.Udp.log c.receive.new.self) noted;
     })
 
 pub returns-in-Nothing-clause-open : goal.returns-in-Nothing-clause-open

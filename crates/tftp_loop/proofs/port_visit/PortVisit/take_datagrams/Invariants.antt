@@ -7,7 +7,7 @@ use Rattle.tftp_loop.proofs.port_visit.PortVisit.take_datagrams.Given as goal
 -- transfer is open, if it was
 abbrev pub invariant-loop-count : goal.invariant-loop-count
 invariant-loop-count g l =
-    ServesVisit g.S.Store.meaning g.S.Source.Source.meaning l.count l.initial.self l.self
+    ServesVisit g.N.Udp.log g.S.Store.meaning g.S.Source.Source.meaning l.count l.initial.self l.self
     × (l.self.port.now.socket.received ≤ l.initial.self.port.now.socket.received + l.count)
-    × ((l.count ≡ 0) ⊎ (IsTried l.self × (l.self.port.now.look_at ≡ l.self.port.now.socket.deadline)))
-    × StaysOpen (at_visit l.initial.self) (at_visit l.self)
+    × ((l.count ≡ 0) ⊎ (IsTried g.N.Udp.log l.self × (l.self.port.now.look_at ≡ l.self.port.now.socket.deadline)))
+    × StaysOpen (at_visit g.N.Udp.log l.initial.self) (at_visit g.N.Udp.log l.self)

@@ -12,18 +12,18 @@ returns-clause-serves g c =
     let old = c.args.self.now in
     let same = ap (λ (t : Timer). t.port) c.restart.ensures in
     record {
-      same = record { server = refl; port = refl; journal = refl; now = refl; active = refl };
+      same = record { server = refl; port = refl; net = refl; now = refl; active = refl };
       serves =
           elapses_either g.S.Store.meaning g.S.Source.Source.meaning old.now old.server.now c.time_out-step.new.server
           (timer_of old.port.now) (timer_of c.restart.new.port)
-          old.journal.now.events c.elapsed.new.self.events c.time_out-step.new.journal.events c.port-number.result
+          (g.N.Udp.log old.net.now) (g.N.Udp.log c.elapsed.new.self) (g.N.Udp.log c.time_out-step.new.net) c.port-number.result
           c.time_out-step.result
           c.restart.new.port.socket.udp.port
           c.requires.due c.requires.tried c.requires.look c.elapsed.ensures
           (c.port-number.ensures ∙ same) same c.time_out-step.ensures.steps c.restart.ensures;
       received =
-          elapses_none c.port-number.result old.now old.journal.now.events c.elapsed.new.self.events
-          c.time_out-step.new.journal.events c.elapsed.ensures c.time_out-step.ensures.received;
+          elapses_none c.port-number.result old.now (g.N.Udp.log old.net.now) (g.N.Udp.log c.elapsed.new.self)
+          (g.N.Udp.log c.time_out-step.new.net) c.elapsed.ensures c.time_out-step.ensures.received;
     }
 
 pub returns-clause-open : goal.returns-clause-open

@@ -1,8 +1,7 @@
-use Rattle.std.proofs.Common.{arith, map, refl, sym, inl, ◌∙◌}
-use Rattle.std.specs.Prelude.{Some, vec_capacity}
+use Rattle.std.proofs.Common.{arith, map, refl, sym, ap, inl, ◌∙◌}
+use Rattle.std.specs.Prelude.{None, Some, vec_capacity}
 use Rattle.std.proofs.lemmas.List.{length-map}
 use Rattle.tftp_loop.specs.LoopStates.{loop_state, timer_of}
-use Rattle.tftp_loop.proofs.LoopRuns.{noted_state}
 use Rattle.tftp_loop.proofs.RequestRuns.{drops_as, loses_for_memory}
 use Rattle.tftp_loop.proofs.Reserving.{has_reserved}
 use Rattle.tftp_loop.proofs.server_loop.ServerLoop.answer_pending.Goals as goal
@@ -10,16 +9,15 @@ use Rattle.tftp_loop.proofs.server_loop.ServerLoop.answer_pending.Goals as goal
 pub returns-in_default-clause-answers : goal.returns-in_default-clause-answers
 returns-in_default-clause-answers g c =
     let d = c.args.datagram in
-    let lost = c.lose_for_memory.ensures in
     loses_for_memory g.S.Store.meaning g.S.Source.Source.meaning
-    (loop_state (Some (d.from, d.bytes.now)) c.args.self.now) _ d.from d.bytes.now refl
-    (inl c.in_default.ensures.why) (noted_state c.args.self.now c.lose_for_memory.new.self _ lost.rest lost.noted)
+    (loop_state (Some (d.from, d.bytes.now)) c.args.self.now (g.N.Udp.log c.args.net.now)) _ d.from d.bytes.now refl
+    (inl c.in_default.ensures.why) (ap (loop_state None c.args.self.now) c.lose_for_memory.ensures)
 
 pub returns-then-drops-clause-answers : goal.returns-then-drops-clause-answers
 returns-then-drops-clause-answers g c =
     let d = c.args.datagram in
-    drops_as g.S.Store.meaning g.S.Source.Source.meaning (loop_state (Some (d.from, d.bytes.now)) c.args.self.now) _
-    d.from d.bytes.now refl (sym c.drops.ensures.value ∙ c.if-drops.true) refl
+    drops_as g.S.Store.meaning g.S.Source.Source.meaning
+    (loop_state (Some (d.from, d.bytes.now)) c.args.self.now (g.N.Udp.log c.args.net.now)) _ d.from d.bytes.now refl (sym c.drops.ensures.value ∙ c.if-drops.true) refl
 
 pub open_request-requires-clause-reserved : goal.open_request-requires-clause-reserved
 open_request-requires-clause-reserved g c =

@@ -12,7 +12,7 @@ returns-then-is_none-clause-finishes g c =
     let taken = c.record_of_closed-closed in
     stays_by g.S.Store.meaning g.S.Source.Source.meaning c.args.self.now _ c.args.index c.index-port.result.now
     c.port.result taken.result c.requires.within c.index-port.ensures c.port.ensures
-    taken.ensures.found taken.ensures.held taken.ensures.rest (c.is_none.ensures ∙ ap not c.if-is_none.true) refl
+    taken.ensures.found taken.ensures.held taken.ensures.rest (g.N.Udp.log c.args.net.now) (c.is_none.ensures ∙ ap not c.if-is_none.true) refl
 
 pub returns-clause-finishes : goal.returns-clause-finishes
 returns-clause-finishes g c =
@@ -21,14 +21,15 @@ returns-clause-finishes g c =
     let new = c.close_port.new.self in
     let closes = c.close_port.ensures.closes in
     let after : ServerLoop _ _ _ =
-    record old { server = taken.new.server; ports = new.ports; journal = new.journal; left = old.left - 1 } in
+    record old { server = taken.new.server; ports = new.ports; left = old.left - 1 } in
     let same : c.index-port.result.now ≡ closes.port =
     one_at old.ports.items c.args.index c.index-port.result.now closes.port c.requires.within c.index-port.ensures
     closes.is_port in
-    subst (λ (d : ServerLoop _ _ _). Finishes g.S.Store.meaning g.S.Source.Source.meaning c.args.index old d)
+    subst (λ (d : ServerLoop _ _ _). Finishes g.S.Store.meaning g.S.Source.Source.meaning c.args.index old
+    (g.N.Udp.log c.args.net.now) d (g.N.Udp.log c.close_port.new.net))
     (sym closes.rest)
     (goes_by g.S.Store.meaning g.S.Source.Source.meaning old after c.args.index closes.port c.port.result taken.result
     c.requires.within closes.is_port
     (c.port.ensures ∙ ap (λ (p : Port TransferSocket). p.socket.udp.port) same) taken.ensures.found taken.ensures.held
-    taken.ensures.rest (c.is_none.ensures ∙ ap not c.if-is_none.false)
-    c.requires.left closes.items closes.events refl)
+    taken.ensures.rest (g.N.Udp.log c.args.net.now) (g.N.Udp.log c.close_port.new.net)
+    (c.is_none.ensures ∙ ap not c.if-is_none.false) c.requires.left closes.items closes.events refl)

@@ -1,6 +1,8 @@
-use Rattle.std.proofs.Common.{refl}
+use Rattle.std.proofs.Common.{refl, ap}
 use Rattle.tftp_loop.specs.Run.Run.{Start}
-use Rattle.tftp_loop.proofs.Receipts.{drains_as}
+use Rattle.tftp_loop.specs.LoopStates.{state_of}
+use Rattle.tftp_loop.proofs.Receipts.{drains_as, found_it, found_nothing}
+use Rattle.tftp_loop.proofs.RunLemmas.{idle}
 use Rattle.tftp_loop.proofs.server_loop.ServerLoop.look_at_signal.Goals as goal
 
 pub returns-in_default : goal.returns-in_default
@@ -9,11 +11,14 @@ returns-in_default g c = record { works = λ buffer. Start; rest = refl; room = 
 pub returns-then-now-self-clause-works : goal.returns-then-now-self-clause-works
 returns-then-now-self-clause-works g c = λ buffer. Start
 
-pub returns-then-not-is_given-clause-works : goal.returns-then-not-is_given-clause-works
-returns-then-not-is_given-clause-works g c = λ buffer. Start
+pub returns-then-not-is_signalled-clause-works : goal.returns-then-not-is_signalled-clause-works
+returns-then-not-is_signalled-clause-works g c =
+    λ buffer.
+    idle (ap (state_of buffer c.args.self.now) (found_nothing c.is_signalled.result _ _ _ c.if-not-is_signalled.true
+    c.is_signalled.ensures))
 
 pub returns-clause-works : goal.returns-clause-works
 returns-clause-works g c =
     λ buffer.
-    drains_as g.S.Store.meaning g.S.Source.Source.meaning buffer _ c.begin_drain.new.self c.in-Awaited.is
-    c.begin_drain.ensures
+    drains_as g.S.Store.meaning g.S.Source.Source.meaning buffer _ c.begin_drain.new.self _ _ c.in-Awaited.is
+    c.begin_drain.ensures (found_it c.is_signalled.result _ _ _ c.if-not-is_signalled.false c.is_signalled.ensures)

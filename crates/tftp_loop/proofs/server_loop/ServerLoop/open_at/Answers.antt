@@ -1,8 +1,7 @@
-use Rattle.std.proofs.Common.{arith, map, refl, ap, ◌∙◌, ℕ}
+use Rattle.std.proofs.Common.{arith, refl, ap, ◌∙◌, ℕ}
 use Rattle.tftp_server.specs.State.{ServerState, at}
-use Rattle.tftp_loop.specs.declared.server_loop.ServerLoop.{ServerLoop}
 use Rattle.std.specs.Prelude.{Some, None}
-use Rattle.tftp_loop.specs.LoopStates.{loop_state, timer_of}
+use Rattle.tftp_loop.specs.LoopStates.{loop_state}
 use Rattle.tftp_loop.proofs.LoopRuns.{same_state}
 use Rattle.tftp_loop.proofs.RequestRuns.{sets_and_answers, sets_and_loses, is_free, ok-err}
 use Rattle.tftp_loop.proofs.Reserving.{carried_config, lacks_to_open, memory_if_free, room_grown, room_same}
@@ -16,7 +15,8 @@ returns-in-Ok-clause-answers g c =
     is_free (at c.port-tid.result c.set_store.new.server.held)
     (λ h. ok-err c.in-Ok.opened _ (c.in-Ok.ensures.in_use.1 h)) in
     sets_and_answers g.S.Store.meaning g.S.Source.Source.meaning
-    (loop_state (Some (d.from, d.bytes.now)) c.args.self.now) (loop_state None c.answer_opened.new.self)
+    (loop_state (Some (d.from, d.bytes.now)) c.args.self.now (g.N.Udp.log c.args.net.now))
+    (loop_state None c.answer_opened.new.self (g.N.Udp.log c.answer_opened.new.net))
     d.from d.bytes.now c.port-tid.result c.set_store.new.server c.open-opened.new.self c.args.admission
     c.clear.new.self.items c.open-opened.new.out.items c.in-Ok.opened
     refl c.requires.admitted c.requires.handled c.set_store.ensures.rest c.set_store.ensures.same c.set_store.ensures.behind
@@ -37,26 +37,14 @@ returns-in-Err-clause-answers g c =
     ∙ (ap (λ (p : ℕ). at p c.args.self.now.server.held) c.port-tid.ensures ∙ c.requires.free) in
     let is_memory =
     memory_if_free (at c.port-tid.result c.set_store.new.server.held) c.in-Err.field-0 free why.in_use.0 why.fault in
-    let s = loop_state (Some (d.from, d.bytes.now)) c.args.self.now in
+    let s = loop_state (Some (d.from, d.bytes.now)) c.args.self.now (g.N.Udp.log c.args.net.now) in
     sets_and_loses g.S.Store.meaning g.S.Source.Source.meaning s _ d.from d.bytes.now c.set_store.new.server
     refl c.set_store.ensures.rest c.set_store.ensures.same c.set_store.ensures.behind
     (lacks_to_open g.S.Store.meaning g.S.Source.Source.meaning c.args.self.now.server c.set_store.new.server
     d.from d.bytes.now c.args.admission _ _ c.set_store.ensures.rest c.requires.admitted c.clear.ensures.len
     (let capacity = c.clear.ensures.capacity in let longest = c.requires.room.longest in omega (arith, capacity, longest))
     (why.why is_memory))
-    (same_state _ _
-    (ap (λ (d : ServerLoop _ _ _). d.sockets.requests.port) lost.rest)
-    (ap (λ (d : ServerLoop _ _ _). d.sockets.pool.range) lost.rest)
-    (ap (λ (d : ServerLoop _ _ _). d.longest) lost.rest)
-    (ap (λ (d : ServerLoop _ _ _). d.requests_only) lost.rest)
-    (ap (λ (d : ServerLoop _ _ _). d.server) lost.rest ∙ why.err.0) refl
-    (ap (λ (d : ServerLoop _ _ _). map timer_of d.ports.items) lost.rest)
-    (ap (λ (d : ServerLoop _ _ _). d.sockets.watch.now) lost.rest)
-    (ap (λ (d : ServerLoop _ _ _). d.sockets.limit) lost.rest) refl
-    (ap (λ (d : ServerLoop _ _ _). d.sockets.is_ready) lost.rest)
-    (ap (λ (d : ServerLoop _ _ _). d.sockets.has_received) lost.rest)
-    (ap (λ (d : ServerLoop _ _ _). d.drain) lost.rest)
-    (ap (λ (d : ServerLoop _ _ _). d.left) lost.rest) (ap (λ (d : ServerLoop _ _ _). d.rounds) lost.rest) lost.noted)
+    (same_state _ _ refl refl refl refl why.err.0 refl refl refl refl refl refl refl refl refl refl lost)
 
 pub returns-in-Ok-clause-room : goal.returns-in-Ok-clause-room
 returns-in-Ok-clause-room g c =
@@ -76,4 +64,4 @@ returns-in-Err-clause-room g c =
     ap (λ (s : ServerState _ _ _). s.config) (why.err.0 ∙ c.set_store.ensures.rest) in
     let capacity = c.clear.ensures.capacity in
     let grown = c.open-opened.ensures.capacity in
-    c.lose_for_memory.ensures.room (room_same config (room_grown (omega (arith, capacity, grown)) c.requires.room))
+    room_same config (room_grown (omega (arith, capacity, grown)) c.requires.room)

@@ -13,12 +13,12 @@ pub returns-in_default-clause-answers : goal.returns-in_default-clause-answers
 returns-in_default-clause-answers g c =
     let d = c.args.datagram in
     let same = c.port_for.ensures.same in
-    let s = loop_state (Some (d.from, d.bytes.now)) c.args.self.now in
+    let s = loop_state (Some (d.from, d.bytes.now)) c.args.self.now (g.N.Udp.log c.args.net.now) in
     let opens =
     may_open g.S.Store.meaning g.S.Source.Source.meaning c.args.self.now.server c.args.self.now.server d.from
     d.bytes.now c.args.admission refl c.requires.admitted c.requires.may_open in
     tries_in_vain g.S.Store.meaning g.S.Source.Source.meaning s _ d.from d.bytes.now
-    c.port_for.new.journal.events refl opens c.in_default.ensures.tries
+    (g.N.Udp.log c.port_for.new.net) refl opens c.in_default.ensures.tries
     (same_state _ _ (ap (λ (s : Sockets). s.requests.port) same) (ap (λ (s : Sockets). s.pool.range) same) refl refl refl refl
     refl (ap (λ (s : Sockets). s.watch.now) same) (ap (λ (s : Sockets). s.limit) same) refl
     (ap (λ (s : Sockets). s.is_ready) same) (ap (λ (s : Sockets). s.has_received) same) refl refl refl refl)
@@ -27,7 +27,7 @@ pub returns-then-is_taken-clause-answers : goal.returns-then-is_taken-clause-ans
 returns-then-is_taken-clause-answers g c =
     let d = c.args.datagram in
     let same = c.port_for.ensures.same in
-    let s = loop_state (Some (d.from, d.bytes.now)) c.args.self.now in
+    let s = loop_state (Some (d.from, d.bytes.now)) c.args.self.now (g.N.Udp.log c.args.net.now) in
     let opens =
     may_open g.S.Store.meaning g.S.Source.Source.meaning c.args.self.now.server c.args.self.now.server d.from
     d.bytes.now c.args.admission refl c.requires.admitted c.requires.may_open in
@@ -36,7 +36,7 @@ returns-then-is_taken-clause-answers g c =
     ∙ (ap (λ (k : Sockets). (c.port.result == k.requests.port) || is_some (at c.port.result s.server.held)) (sym same)
     ∙ (sym c.is_taken.ensures ∙ c.if-is_taken.true)) in
     binds_in_vain g.S.Store.meaning g.S.Source.Source.meaning s _ d.from d.bytes.now
-    c.port_for.new.journal.events c.in-Some.bound.port refl opens c.in-Some.ensures.port.port
+    (g.N.Udp.log c.port_for.new.net) c.in-Some.bound.port refl opens c.in-Some.ensures.port.port
     c.in-Some.ensures.tries taken
     (same_state _ _ (ap (λ (s : Sockets). s.requests.port) same) (ap (λ (s : Sockets). s.pool.range) same) refl refl refl refl
     refl (ap (λ (s : Sockets). s.watch.now) same) (ap (λ (s : Sockets). s.limit) same) refl
@@ -46,16 +46,16 @@ pub returns-clause-answers : goal.returns-clause-answers
 returns-clause-answers g c =
     let d = c.args.datagram in
     let same = c.port_for.ensures.same in
-    let s = loop_state (Some (d.from, d.bytes.now)) c.args.self.now in
+    let s = loop_state (Some (d.from, d.bytes.now)) c.args.self.now (g.N.Udp.log c.args.net.now) in
     let opens =
     may_open g.S.Store.meaning g.S.Source.Source.meaning c.args.self.now.server c.args.self.now.server d.from
     d.bytes.now c.args.admission refl c.requires.admitted c.requires.may_open in
-    let tried : LoopState _ _ _ = record s { events = c.port_for.new.journal.events } in
+    let tried : LoopState _ _ _ = record s { events = g.N.Udp.log c.port_for.new.net } in
     prepares_first g.S.Store.meaning g.S.Source.Source.meaning s tried _
-    (bound_as g.S.Store.meaning g.S.Source.Source.meaning s d.from d.bytes.now refl opens c.args.self.now.journal.events
-    c.port_for.new.journal.events c.in-Some.bound.port c.in-Some.ensures.port.port c.in-Some.ensures.tries)
+    (bound_as g.S.Store.meaning g.S.Source.Source.meaning s d.from d.bytes.now refl opens (g.N.Udp.log c.args.net.now)
+    (g.N.Udp.log c.port_for.new.net) c.in-Some.bound.port c.in-Some.ensures.port.port c.in-Some.ensures.tries)
     (subst (λ (u : LoopState _ _ _). Concludes g.S.Store.meaning g.S.Source.Source.meaning u
-    (loop_state None c.open_at.new.self))
+    (loop_state None c.open_at.new.self (g.N.Udp.log c.open_at.new.net)))
     (same_state _ tried (ap (λ (s : Sockets). s.requests.port) same) (ap (λ (s : Sockets). s.pool.range) same) refl refl refl
     refl refl (ap (λ (s : Sockets). s.watch.now) same) (ap (λ (s : Sockets). s.limit) same) refl
     (ap (λ (s : Sockets). s.is_ready) same) (ap (λ (s : Sockets). s.has_received) same) refl refl refl refl)

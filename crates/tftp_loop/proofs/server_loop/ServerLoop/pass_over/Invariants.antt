@@ -7,9 +7,10 @@ use Rattle.tftp_loop.proofs.server_loop.ServerLoop.pass_over.Given as goal
 abbrev pub invariant-loop-index : goal.invariant-loop-index
 invariant-loop-index g l =
     record {
-      works : OnlyWorks g.S.Store.meaning g.S.Source.Source.meaning l.initial.self l.self;
+      works : OnlyWorks g.S.Store.meaning g.S.Source.Source.meaning l.initial.self (g.N.Udp.log l.initial.net) l.self
+          (g.N.Udp.log l.net);
       settled : IsSettled l.self;
-      visited : WereVisited l.fn.pass l.index l.self;
+      visited : WereVisited l.fn.pass l.index l.self (g.N.Udp.log l.net);
       waiting : AwaitVisit l.fn.pass l.index l.self;
       asked : l.self.sockets.has_received ≡ l.initial.self.sockets.has_received;
       rounds : l.self.rounds ≡ l.initial.self.rounds;

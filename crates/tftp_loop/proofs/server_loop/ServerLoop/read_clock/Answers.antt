@@ -27,5 +27,5 @@ returns g c =
       left = refl;
       rounds = refl;
       room = λ h. h;
-      events = read.noted ∙ ap (λ (n : ℕ). Watched n ∷ c.args.self.now.journal.events) (sym is);
+      events = read.noted ∙ ap (λ (n : ℕ). Watched n ∷ g.N.Udp.log c.args.net.now) (sym is);
     }

@@ -11,9 +11,9 @@ pub returns-in-Some-clause-answers : goal.returns-in-Some-clause-answers
 returns-in-Some-clause-answers g c =
     let d = c.args.datagram in
     let a = c.answer.ensures in
-    let s = loop_state (Some (d.from, d.bytes.now)) c.args.self.now in
+    let s = loop_state (Some (d.from, d.bytes.now)) c.args.self.now (g.N.Udp.log c.args.net.now) in
     let M = g.S.Store.meaning in
-    refuses_as M g.S.Source.Source.meaning s (loop_state None c.answer.new.self) d.from d.bytes.now
+    refuses_as M g.S.Source.Source.meaning s (loop_state None c.answer.new.self (g.N.Udp.log c.answer.new.net)) d.from d.bytes.now
     c.args.admission.ask refl c.requires.handled c.requires.admitted.admits c.requires.opens_none
     (same_state _ _ a.requests a.range a.longest a.requests_only a.server refl a.timers a.now a.limit refl a.marked a.asked a.drain a.left_to_close a.rounds
     (a.events ∙ (ap (λ (bytes : List ℕ). replied s.requests (Some d.from) bytes s.events) c.datagram.ensures.bytes
@@ -24,9 +24,9 @@ pub returns-clause-answers : goal.returns-clause-answers
 returns-clause-answers g c =
     let d = c.args.datagram in
     let a = c.answer-in-None.ensures in
-    let s = loop_state (Some (d.from, d.bytes.now)) c.args.self.now in
+    let s = loop_state (Some (d.from, d.bytes.now)) c.args.self.now (g.N.Udp.log c.args.net.now) in
     let M = g.S.Store.meaning in
-    refuses_as M g.S.Source.Source.meaning s (loop_state None c.answer-in-None.new.self) d.from d.bytes.now
+    refuses_as M g.S.Source.Source.meaning s (loop_state None c.answer-in-None.new.self (g.N.Udp.log c.answer-in-None.new.net)) d.from d.bytes.now
     c.args.admission.ask refl c.requires.handled c.requires.admitted.admits c.requires.opens_none
     (same_state _ _ a.requests a.range a.longest a.requests_only a.server refl a.timers a.now a.limit refl a.marked a.asked a.drain a.left_to_close a.rounds
     (a.events

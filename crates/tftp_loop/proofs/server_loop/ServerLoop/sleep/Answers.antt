@@ -9,7 +9,7 @@ returns-clause-serves g c =
     let read = c.read_clock.new.self in
     let millis = millis_of read in
     let ports = c.wait_for_ports.new.reports.ports.items in
-    let reads : HasRead old read =
+    let reads : HasRead old (g.N.Udp.log c.args.net.now) read (g.N.Udp.log c.read_clock.new.net) =
     record {
       requests = c.read_clock.ensures.requests;
       range = c.read_clock.ensures.range;
@@ -32,7 +32,7 @@ returns-clause-serves g c =
     λ buffer.
     waits_as g.S.Store.meaning g.S.Source.Source.meaning buffer old read c.wait_for_ports.new.self c.wake.new.self
     millis ports reads
-    (may_wait buffer old read millis ports reads c.requires.tended c.requires.left c.requires.rounds (omega arith)
+    (may_wait buffer old read (g.N.Udp.log c.args.net.now) (g.N.Udp.log c.read_clock.new.net) millis ports reads c.requires.tended c.requires.left c.requires.rounds (omega arith)
     (λ h. inl h)) c.wait_for_ports.ensures c.wake.ensures
 
 pub returns-clause-settled : goal.returns-clause-settled

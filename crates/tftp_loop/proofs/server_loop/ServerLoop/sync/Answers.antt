@@ -8,10 +8,10 @@ use Rattle.tftp_loop.proofs.Visits.{works_settled}
 use Rattle.tftp_loop.proofs.server_loop.ServerLoop.sync.Goals as goal
 
 pub returns-in_default-clause-works : goal.returns-in_default-clause-works
-returns-in_default-clause-works g c = λ buffer. Start
+returns-in_default-clause-works g c = λ events buffer. Start
 
 pub returns-then-index-len-clause-works : goal.returns-then-index-len-clause-works
-returns-then-index-len-clause-works g c = λ buffer. Start
+returns-then-index-len-clause-works g c = λ events buffer. Start
 
 pub returns-clause-works : goal.returns-clause-works
 returns-clause-works g c =
@@ -19,7 +19,7 @@ returns-clause-works g c =
     let port = c.index-port.result.now in
     let within : c.in-Some.index < length ports.items =
     omega (arith, ports.ok.0, c.len.ensures, c.if-index-len.false) in
-    λ buffer. works g.S.Store.meaning g.S.Source.Source.meaning (state_of buffer c.args.self.now) c.in-Some.index
+    λ events buffer. works g.S.Store.meaning g.S.Source.Source.meaning (state_of buffer c.args.self.now events) c.in-Some.index
     (timer_of port) c.work_at.new.server
     (map_within timer_of ports.items c.in-Some.index within)
     (map_is timer_of ports.items c.in-Some.index port c.index-port.ensures) c.work_at.ensures

@@ -1,4 +1,6 @@
-use Rattle.std.proofs.Common.{arith, inr, refl}
+use Rattle.std.proofs.Common.{arith, ap, inr, refl, sym, true, Bool, List, ℕ, ◌≡◌, ◌∙◌}
+use Rattle.tftp_sockets.specs.Journal.{polled}
+use Rattle.tftp_sockets.specs.declared.port_poll.Reports.{Reports}
 use Rattle.tftp_loop.specs.MayWait.{HasRead}
 use Rattle.tftp_loop.proofs.LoopRuns.{runs_as}
 use Rattle.tftp_loop.proofs.RunLemmas.{onward}
@@ -7,10 +9,12 @@ use Rattle.tftp_loop.proofs.server_loop.ServerLoop.sync_and_wait.Goals as goal
 
 pub returns-then-poll_now-clause-serves : goal.returns-then-poll_now-clause-serves
 returns-then-poll_now-clause-serves g c =
-    let ports = c.poll_now.new.reports.ports.items in
+    let ports = c.note_poll.new.reports.ports.items in
+    let same : ports ≡ c.poll_now.new.reports.ports.items =
+    ap (λ (r : Reports). r.ports.items) c.note_poll.ensures.once in
     let old = c.args.self.now in
     let read = c.read_clock.new.self in
-    let reads : HasRead old read =
+    let reads : HasRead old (g.N.Udp.log c.args.net.now) read (g.N.Udp.log c.read_clock.new.net) =
     record {
       requests = c.read_clock.ensures.requests;
       range = c.read_clock.ensures.range;
@@ -32,8 +36,8 @@ returns-then-poll_now-clause-serves g c =
     } in
     λ buffer.
     waits_as g.S.Store.meaning g.S.Source.Source.meaning buffer old read _ c.wake.new.self 0 ports reads
-    (may_wait buffer old read 0 ports reads c.requires.tended c.requires.left c.requires.rounds (omega arith)
-    (λ h. inr (c.poll_now.ensures c.if-poll_now.true)))
+    (may_wait buffer old read (g.N.Udp.log c.args.net.now) (g.N.Udp.log c.read_clock.new.net) 0 ports reads c.requires.tended c.requires.left c.requires.rounds (omega arith)
+    (λ h. inr (λ e. c.poll_now.ensures.some c.if-poll_now.true (sym same ∙ e))))
     (record {
       requests = refl;
       range = refl;
@@ -50,12 +54,16 @@ returns-then-poll_now-clause-serves g c =
       left = refl;
       rounds = refl;
       room = λ h. h;
-      events = c.note_poll.ensures;
+      events =
+          c.note_poll.ensures.noted
+          ∙ (ap (λ (b : Bool). polled b c.poll_now.new.reports.ports.items (g.N.Udp.log c.read_clock.new.net))
+          (c.poll_now.ensures.unnoted ∙ c.if-poll_now.true)
+          ∙ ap (λ (ps : List ℕ). polled true ps (g.N.Udp.log c.read_clock.new.net)) (sym same));
     }) c.wake.ensures
 
 pub returns-then-poll_now-clause-settled : goal.returns-then-poll_now-clause-settled
 returns-then-poll_now-clause-settled g c =
-    woken_settled g.S.Store.meaning g.S.Source.Source.meaning _ c.wake.new.self c.poll_now.new.reports.ports.items
+    woken_settled g.S.Store.meaning g.S.Source.Source.meaning _ c.wake.new.self c.note_poll.new.reports.ports.items
     c.wake.ensures
     (read_settled g.S.Store.meaning g.S.Source.Source.meaning c.args.self.now c.read_clock.new.self (record {
       requests = c.read_clock.ensures.requests;
@@ -81,10 +89,10 @@ returns-then-poll_now-clause-settled g c =
 pub returns-clause-serves : goal.returns-clause-serves
 returns-clause-serves g c =
     λ buffer.
-    onward (runs_as g.S.Store.meaning g.S.Source.Source.meaning (c.sync.ensures.works buffer))
+    onward (runs_as g.S.Store.meaning g.S.Source.Source.meaning (c.sync.ensures.works _ buffer))
     (c.sleep.ensures.serves buffer)
 
 pub returns-then-poll_now-clause-few : goal.returns-then-poll_now-clause-few
 returns-then-poll_now-clause-few g c =
-    woken_few g.S.Store.meaning g.S.Source.Source.meaning _ c.wake.new.self c.poll_now.new.reports.ports.items
+    woken_few g.S.Store.meaning g.S.Source.Source.meaning _ c.wake.new.self c.note_poll.new.reports.ports.items
     c.wake.ensures

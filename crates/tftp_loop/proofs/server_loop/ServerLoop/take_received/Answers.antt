@@ -1,11 +1,9 @@
 use Rattle.std.proofs.Common.{arith, map, take, refl, sym, ap, inl, ◌∙◌}
-use Rattle.std.specs.Prelude.{Some, vec_capacity}
+use Rattle.std.specs.Prelude.{None, Some, vec_capacity}
 use Rattle.std.proofs.lemmas.List.{length-map}
-use Rattle.tftp_loop.specs.declared.server_loop.ServerLoop.{ServerLoop}
 use Rattle.tftp_loop.specs.Steps.{No_answer}
 use Rattle.tftp_loop.specs.LoopStates.{loop_state, timer_of}
 use Rattle.tftp_loop.specs.MayWait.{Concluded}
-use Rattle.tftp_loop.proofs.LoopRuns.{noted_state}
 use Rattle.tftp_loop.proofs.RequestRuns.{drops_as, loses_as, loses_for_memory}
 use Rattle.tftp_loop.proofs.Reserving.{has_reserved}
 use Rattle.tftp_loop.proofs.server_loop.ServerLoop.take_received.Goals as goal
@@ -13,19 +11,18 @@ use Rattle.tftp_loop.proofs.server_loop.ServerLoop.take_received.Goals as goal
 pub returns-in_default-clause-handles : goal.returns-in_default-clause-handles
 returns-in_default-clause-handles g c =
     let bytes = take c.args.count c.args.request.now in
-    let lost = c.lose_for_memory.ensures in
     Concluded
     (loses_for_memory g.S.Store.meaning g.S.Source.Source.meaning
-    (loop_state (Some (c.args.from, bytes)) c.args.self.now) _ c.args.from bytes refl
-    (inl c.in_default.ensures.why) (noted_state c.args.self.now c.lose_for_memory.new.self _ lost.rest lost.noted))
-    (ap (λ (d : ServerLoop _ _ _). d.pending) lost.rest ∙ c.requires.pending)
+    (loop_state (Some (c.args.from, bytes)) c.args.self.now (g.N.Udp.log c.args.net.now)) _ c.args.from bytes refl
+    (inl c.in_default.ensures.why) (ap (loop_state None c.args.self.now) c.lose_for_memory.ensures))
+    c.requires.pending
 
 pub returns-then-from-eq-NO_PORT-clause-handles : goal.returns-then-from-eq-NO_PORT-clause-handles
 returns-then-from-eq-NO_PORT-clause-handles g c =
     let bytes = take c.args.count c.args.request.now in
     let none = c.if-from-eq-NO_PORT.true in
     Concluded
-    (loses_as g.S.Store.meaning g.S.Source.Source.meaning (loop_state (Some (c.args.from, bytes)) c.args.self.now) _
+    (loses_as g.S.Store.meaning g.S.Source.Source.meaning (loop_state (Some (c.args.from, bytes)) c.args.self.now (g.N.Udp.log c.args.net.now)) _
     c.args.from bytes refl (No_answer (omega (arith, none))) refl)
     c.requires.pending
 
@@ -33,7 +30,7 @@ pub returns-then-drops-clause-handles : goal.returns-then-drops-clause-handles
 returns-then-drops-clause-handles g c =
     let bytes = take c.args.count c.args.request.now in
     Concluded
-    (drops_as g.S.Store.meaning g.S.Source.Source.meaning (loop_state (Some (c.args.from, bytes)) c.args.self.now) _
+    (drops_as g.S.Store.meaning g.S.Source.Source.meaning (loop_state (Some (c.args.from, bytes)) c.args.self.now (g.N.Udp.log c.args.net.now)) _
     c.args.from bytes refl (sym c.drops.ensures.value ∙ c.if-drops.true) refl)
     c.requires.pending
 

@@ -35,13 +35,15 @@ returns-clause-tended g c =
           (omega arith) h).0)) k d h;
       timed = due left;
       requests =
-          from_state buffer c.pass_over-2.new.self
-          (timed.tried (to_state buffer c.take_request.new.self c.take_request.ensures.tried));
+          from_state buffer c.pass_over-2.new.self (g.N.Udp.log c.pass_over-2.new.net)
+          (timed.tried (to_state buffer c.take_request.new.self (g.N.Udp.log c.take_request.new.net)
+          c.take_request.ensures.tried));
     })
     c.pass_over-2.ensures.visited
 
 pub take_request-requires : goal.take_request-requires
 take_request-requires g c = record {
+  long = c.requires.long_request;
   settled = c.pass_over.ensures.settled;
   room = c.pass_over.ensures.room (c.look_at_signal.ensures.room c.requires.room);
   first =

@@ -7,8 +7,9 @@ use Rattle.tftp_loop.proofs.server_loop.ServerLoop.take_rounds.Given as goal
 abbrev pub invariant-loop-self : goal.invariant-loop-self
 invariant-loop-self g l =
     record {
-      serves : ServesRounds g.S.Store.meaning g.S.Source.Source.meaning l.fn.request l.fn.self l.request l.self;
-      tended : 1 ≤ l.self.left → IsTended l.self;
+      serves : ServesRounds g.S.Store.meaning g.S.Source.Source.meaning l.fn.request l.fn.self (g.N.Udp.log l.fn.net) l.request
+          l.self (g.N.Udp.log l.net);
+      tended : 1 ≤ l.self.left → IsTended l.self (g.N.Udp.log l.net);
       room : HasRoom l.self;
     }
 

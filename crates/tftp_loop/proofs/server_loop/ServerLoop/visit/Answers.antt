@@ -1,10 +1,10 @@
-use Rattle.std.proofs.Common.{arith, rules, ◌≡◌, ◌<◌, ℕ, length, refl, sym, subst}
+use Rattle.std.proofs.Common.{List, arith, rules, ◌≡◌, ◌<◌, ℕ, length, refl, sym, subst}
 use Rattle.std.specs.Prelude.{slice_index_or}
 use Rattle.std.specs.Vec.{with_item}
 use Rattle.tftp_file.specs.Source.{SourceMeaning}
 use Rattle.tftp_store.specs.Store.{StoreMeaning}
 use Rattle.tftp_server.specs.State.{ServerState}
-use Rattle.tftp_sockets.specs.declared.journal.Journal.{Journal}
+use Rattle.tftp_sockets.specs.Journal.{SocketEvent}
 use Rattle.tftp_sockets.specs.declared.port.Port.{Port}
 use Rattle.tftp_loop.specs.declared.port_visit.TheConstants.{MOST_AT_ONCE}
 use Rattle.tftp_loop.specs.declared.server_loop.ServerLoop.{ServerLoop}
@@ -21,17 +21,17 @@ use Rattle.tftp_loop.proofs.Visits.{before, few_before, visit_settled, visited_a
 use Rattle.tftp_loop.proofs.Unclosed.{idle_visited, open_at, unless_not}
 use Rattle.tftp_loop.proofs.server_loop.ServerLoop.visit.Goals as goal
 
--- a visit by what it leaves of the server, the port and the journal
+-- a visit by what it leaves of the server, the port and the history
 visits_by : {S F D : Type 0} (meaning : StoreMeaning S D) (sources : SourceMeaning F)
     (leaves : PortState S F D → ℕ → Type 0) (index : ℕ) (old : ServerLoop S F D) (port next : Port TransferSocket)
-    (server : ServerState S F D) (journal : Journal) → index < length old.ports.items
+    (server : ServerState S F D) (before after : List SocketEvent) → index < length old.ports.items
     → port ≡ slice_index_or old.ports.items index port
-    → OnlyServesPort meaning sources old.sockets.watch.now old.server port old.journal server next journal
-    → leaves (at_port server next journal) old.sockets.watch.now
-    → ReceivesAtMost MOST_AT_ONCE old.journal.events journal.events
-    → VisitsPort meaning sources leaves index old
-    (record old { server = server; ports = with_item old.ports index next; journal = journal })
-visits_by meaning sources leaves index old port next server journal within is_port serves left few = record {
+    → OnlyServesPort meaning sources old.sockets.watch.now old.server port before server next after
+    → leaves (at_port server next after) old.sockets.watch.now
+    → ReceivesAtMost MOST_AT_ONCE before after
+    → VisitsPort meaning sources leaves index old before
+    (record old { server = server; ports = with_item old.ports index next }) after
+visits_by meaning sources leaves index old port next server before after within is_port serves left few = record {
   port = port;
   next = next;
   within = within;
@@ -55,7 +55,7 @@ returns-then-not-is_visited-clause-works g c = λ buffer. Start
 pub returns-then-not-is_visited-clause-visited : goal.returns-then-not-is_visited-clause-visited
 returns-then-not-is_visited-clause-visited g c =
     let ports = c.args.self.now.ports in
-    idle_visited c.args.pass c.args.index c.args.self.now c.index.result.now
+    idle_visited c.args.pass c.args.index c.args.self.now (g.N.Udp.log c.args.net.now) c.index.result.now
     (omega (arith, ports.ok.0, c.len.ensures, c.if-index-len.false)) c.index.ensures
     (c.is_visited.ensures c.if-not-is_visited.true)
     c.requires.settled c.requires.waiting
@@ -71,6 +71,7 @@ visit_port-status-requires g c =
     map_within timer_of ports.items c.args.index (omega (arith, ports.ok.0, c.len.ensures, c.if-index-len.false)) in
     let is = sym (map_is timer_of ports.items c.args.index port c.index_mut-port.ensures.value) in
     record {
+      long = c.requires.long;
       due =
           (subst (IsHeld c.args.self.now.server.held) is
           (c.requires.settled.kept.each c.args.index (timer_of port) within)).look;
@@ -88,10 +89,11 @@ returns-then-not-is_closed g c =
     omega (arith, old.ports.ok.0, c.len.ensures, c.if-index-len.false) in
     let visits =
     visits_by g.S.Store.meaning g.S.Source.Source.meaning (leaves_by c.args.pass) c.args.index old
-    c.index_mut-port.result.now visit.new.port visit.new.server visit.new.journal within
+    c.index_mut-port.result.now visit.new.port visit.new.server
+    (g.N.Udp.log c.args.net.now) (g.N.Udp.log visit.new.net) within
     c.index_mut-port.ensures.value visit.ensures.serves visit.ensures.leaves visit.ensures.received in
     let stays =
-    Stays refl (open_at old c.args.index c.index_mut-port.result.now visit.new.port visit.new.server.held _ within
+    Stays refl refl (open_at old c.args.index c.index_mut-port.result.now visit.new.port visit.new.server.held _ within
     c.index_mut-port.ensures.value refl c.requires.settled
     (unless_not visit.result (c.is_closed.ensures c.if-not-is_closed.true) visit.ensures.open)) in
     record {
@@ -116,7 +118,8 @@ returns g c =
     let visit = c.visit_port-status in
     let visits =
     visits_by g.S.Store.meaning g.S.Source.Source.meaning (leaves_by c.args.pass) c.args.index old
-    c.index_mut-port.result.now visit.new.port visit.new.server visit.new.journal
+    c.index_mut-port.result.now visit.new.port visit.new.server
+    (g.N.Udp.log c.args.net.now) (g.N.Udp.log visit.new.net)
     (omega (arith, old.ports.ok.0, c.len.ensures, c.if-index-len.false))
     c.index_mut-port.ensures.value visit.ensures.serves visit.ensures.leaves visit.ensures.received in
     let ends = c.finish.ensures in

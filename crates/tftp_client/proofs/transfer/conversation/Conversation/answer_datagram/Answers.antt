@@ -6,7 +6,7 @@ use Rattle.tftp_client.proofs.transfer.conversation.Conversation.answer_datagram
 
 pub returns-clause-answers : goal.returns-clause-answers
 returns-clause-answers g c =
-    let next : State = state_of c.take_datagram-step.new.self c.take_datagram-step.new.journal.events in
+    let next : State = state_of c.take_datagram-step.new.self (g.N.Udp.log c.take_datagram-step.new.net) in
     let again = c.renew.new.self.watch.now in
     record {
       next = next;

@@ -13,7 +13,7 @@ invariant-loop g l =
       fit : AreFilesOf l.self.end.role.side l.files;
       port : l.self.socket.port ≡ l.initial.self.socket.port;
       ready : IsReady l.self;
-      waits : waits l.journal.events ≡ l.counter + waits l.initial.journal.events;
+      waits : waits (g.N.Udp.log l.net) ≡ l.counter + waits (g.N.Udp.log l.initial.net);
       converses : Converses g.S.Source.meaning g.K.Sink.meaning l.initial.self.socket.port
-          (state_of l.initial.self l.initial.journal.events) l.initial.files (state_of l.self l.journal.events) l.files;
+          (state_of l.initial.self (g.N.Udp.log l.initial.net)) l.initial.files (state_of l.self (g.N.Udp.log l.net)) l.files;
     }

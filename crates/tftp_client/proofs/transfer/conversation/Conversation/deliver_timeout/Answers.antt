@@ -11,16 +11,16 @@ use Rattle.tftp_client.proofs.Conversing.{due_elapsed, is_closed, not_refused, r
 use Rattle.tftp_client.proofs.transfer.conversation.Conversation.deliver_timeout.Goals as goal
 
 pub returns-in_default-clause-elapses : goal.returns-in_default-clause-elapses
-returns-in_default-clause-elapses c =
-    let s : State = state_of c.args.self.now c.args.journal.now.events in
+returns-in_default-clause-elapses g c =
+    let s : State = state_of c.args.self.now (g.N.Udp.log c.args.net.now) in
     let At : State → Type 0 = λ t. MayElapse c.args.self.now.socket.port s t in
     subst At (state_is (sym c.in_default.ensures.err) refl refl refl)
     (Stays (inr (is_closed c.in_default.field-0 c.in_default.ensures.closed c.in_default.ensures.memory)))
 
 pub returns-clause-elapses : goal.returns-clause-elapses
-returns-clause-elapses c =
+returns-clause-elapses g c =
     let port = c.args.self.now.socket.port in
-    let s : State = state_of c.args.self.now c.args.journal.now.events in
+    let s : State = state_of c.args.self.now (g.N.Udp.log c.args.net.now) in
     let At : State → Type 0 = λ t. MayElapse port s t in
     let lends = c.in-Ok.ensures.steps.0 in
     let noted = c.elapsed.ensures ∙ ap (λ (p : ℕ). Elapsed p s.now ∷ s.events) c.port.ensures in
@@ -31,13 +31,13 @@ returns-clause-elapses c =
     (Elapses c.requires (not_refused _ _ c.in-Ok.ensures.closed))
 
 pub returns-in_default-clause-ready : goal.returns-in_default-clause-ready
-returns-in_default-clause-ready c is_open due =
+returns-in_default-clause-ready g c is_open due =
     absurd (subst IsOpen c.in_default.ensures.err is_open
     (is_closed c.in_default.field-0 c.in_default.ensures.closed c.in_default.ensures.memory))
 
 pub returns-clause-ready : goal.returns-clause-ready
-returns-clause-ready c is_open due =
-    let s : State = state_of c.args.self.now c.args.journal.now.events in
+returns-clause-ready g c is_open due =
+    let s : State = state_of c.args.self.now (g.N.Udp.log c.args.net.now) in
     c.deadline-self.ensures.value
     ∙ (ap (λ (n : ℕ). deadline_of s.now n) c.interval-seconds.ensures
     ∙ (due_elapsed s ∙ ap (λ (e : EndState). deadline_at s.now e) (sym c.in-Ok.ensures.steps.0.state)))

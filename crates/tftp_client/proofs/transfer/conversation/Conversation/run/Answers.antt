@@ -48,7 +48,7 @@ returns-in-Some-clause-counted g c =
 
 pub loop-made-preserved : goal.loop-made-preserved
 loop-made-preserved g c =
-    let first : State = state_of c.args.self.now c.args.journal.now.events in
+    let first : State = state_of c.args.self.now (g.N.Udp.log c.args.net.now) in
     let Fit : EndState → Type 0 = λ e. AreFilesOf e.role.side c.turn.new.files in
     let At : State → Type 0 = λ t. Converses g.S.Source.meaning g.K.Sink.meaning c.args.self.now.socket.port first
     c.args.files.now t c.turn.new.files in

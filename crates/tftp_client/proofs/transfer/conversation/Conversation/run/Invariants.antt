@@ -14,8 +14,8 @@ invariant-loop-made g l =
       port : l.self.socket.port ≡ l.initial.self.socket.port;
       not_closed : IsOpen l.self.end;
       ready : IsReady l.self;
-      waits : waits l.journal.events ≡ l.made + waits l.initial.journal.events;
+      waits : waits (g.N.Udp.log l.net) ≡ l.made + waits (g.N.Udp.log l.initial.net);
       left : l.waits + l.made ≡ l.initial.waits;
       converses : Converses g.S.Source.meaning g.K.Sink.meaning l.initial.self.socket.port
-          (state_of l.initial.self l.initial.journal.events) l.initial.files (state_of l.self l.journal.events) l.files;
+          (state_of l.initial.self (g.N.Udp.log l.initial.net)) l.initial.files (state_of l.self (g.N.Udp.log l.net)) l.files;
     }

@@ -10,7 +10,7 @@ use Rattle.tftp_client.proofs.transfer.conversation.Conversation.take_datagram.G
 pub returns-in_default-clause-handles : goal.returns-in_default-clause-handles
 returns-in_default-clause-handles g c =
     let port = c.args.self.now.socket.port in
-    let s : State = state_of c.args.self.now c.args.journal.now.events in
+    let s : State = state_of c.args.self.now (g.N.Udp.log c.args.net.now) in
     let handles : List ℕ → State → Type 0 = λ b t.
     HandlesAs g.S.Source.meaning g.K.Sink.meaning port c.args.from b s c.args.files.now t
     c.handle_datagram.new.files false in
@@ -27,7 +27,7 @@ returns-in_default-clause-handles g c =
 pub returns-clause-handles : goal.returns-clause-handles
 returns-clause-handles g c =
     let port = c.args.self.now.socket.port in
-    let s : State = state_of c.args.self.now c.args.journal.now.events in
+    let s : State = state_of c.args.self.now (g.N.Udp.log c.args.net.now) in
     let handles : List ℕ → State → Type 0 = λ b t.
     HandlesAs g.S.Source.meaning g.K.Sink.meaning port c.args.from b s c.args.files.now t
     c.handle_datagram.new.files c.in-Ok.step.progress in

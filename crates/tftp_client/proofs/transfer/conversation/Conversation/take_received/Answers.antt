@@ -13,10 +13,10 @@ use Rattle.tftp_client.proofs.transfer.conversation.Conversation.take_received.G
 pub returns-in-Datagram-clause-converses : goal.returns-in-Datagram-clause-converses
 returns-in-Datagram-clause-converses g c =
     let port = c.args.self.now.socket.port in
-    let s : State = state_of c.args.self.now c.args.journal.now.events in
+    let s : State = state_of c.args.self.now (g.N.Udp.log c.args.net.now) in
     let from = c.in-Datagram.from in
     let time = c.read_watch.result in
-    let next : State = state_of c.answer_datagram.new.self c.answer_datagram.new.journal.events in
+    let next : State = state_of c.answer_datagram.new.self (g.N.Udp.log c.answer_datagram.new.net) in
     let handles : List ℕ → ℕ → State → Type 0 = λ b p t.
     AnswersReceived g.S.Source.meaning g.K.Sink.meaning p from (take c.in-Datagram.count b) t c.args.files.now
     next c.answer_datagram.new.files in
@@ -24,7 +24,7 @@ returns-in-Datagram-clause-converses g c =
       end = s.end;
       now = c.read_watch.new.watch.now;
       deadline = s.deadline;
-      events = c.read_watch.new.journal.events;
+      events = (g.N.Udp.log c.read_watch.new.self);
     } in
     let At : State → Type 0 = λ t. handles c.receive_until-received.new.buffer port t in
     let Of : ℕ → Type 0 = λ p. handles c.receive_until-received.new.buffer p t in
@@ -38,7 +38,7 @@ returns-in-Datagram-clause-converses g c =
 
 pub returns-in-Nothing-clause-converses : goal.returns-in-Nothing-clause-converses
 returns-in-Nothing-clause-converses g c =
-    let s : State = state_of c.args.self.now c.args.journal.now.events in
+    let s : State = state_of c.args.self.now (g.N.Udp.log c.args.net.now) in
     let At : State → Type 0 = λ t. Converses g.S.Source.meaning g.K.Sink.meaning c.args.self.now.socket.port s
     c.args.files.now t c.args.files.now in
     let may : MayWait s = record { not_closed = c.requires.not_closed; due = c.requires.ready c.requires.not_closed } in
@@ -50,7 +50,7 @@ returns-in-Nothing-clause-converses g c =
 
 pub returns-in-Failed-clause-converses : goal.returns-in-Failed-clause-converses
 returns-in-Failed-clause-converses g c =
-    let s : State = state_of c.args.self.now c.args.journal.now.events in
+    let s : State = state_of c.args.self.now (g.N.Udp.log c.args.net.now) in
     let At : State → Type 0 = λ t. Converses g.S.Source.meaning g.K.Sink.meaning c.args.self.now.socket.port s
     c.args.files.now t c.args.files.now in
     let may : MayWait s = record { not_closed = c.requires.not_closed; due = c.requires.ready c.requires.not_closed } in

@@ -11,8 +11,8 @@ returns-then-step-clause-converses g c = Rests c.take_received-step.ensures.conv
 
 pub returns-clause-converses : goal.returns-clause-converses
 returns-clause-converses g c =
-    let s : State = state_of c.take_received-step.new.self c.take_received-step.new.journal.events in
-    let next : State = state_of c.take_timeout.new.self c.take_timeout.new.journal.events in
+    let s : State = state_of c.take_received-step.new.self (g.N.Udp.log c.take_received-step.new.net) in
+    let next : State = state_of c.take_timeout.new.self (g.N.Udp.log c.take_timeout.new.net) in
     let Of : ℕ → Type 0 = λ p. MayElapse p s next in
     Times {s = s} c.take_received-step.ensures.converses
     (subst Of c.take_received-step.ensures.port c.take_timeout.ensures.elapses)

@@ -1,0 +1,200 @@
+-- A transfer that is complete, from the run of its end.
+use Rattle.std.proofs.Common.{◌≡◌, ℕ, Bool, List, Some, inl, inr, refl, sym, subst, ◌∙◌}
+use Rattle.std.specs.Prelude.{◌+◌}
+use Rattle.std.specs.declared.io.traits.Read as read
+use Rattle.std.specs.declared.io.traits.Write as write
+use Rattle.std.specs.declared.io.traits.Seek as seek
+use Rattle.tftp_wire.specs.declared.mode.Mode.TheVariants.{Octet}
+use Rattle.tftp_negotiate.specs.declared.known.Kind.{Kind}
+use Rattle.tftp_negotiate.specs.declared.known.Kind.TheVariants as kinds
+use Rattle.tftp_file.specs.Sink.{SinkMeaning}
+use Rattle.tftp_file.specs.Source.{SourceMeaning}
+use Rattle.tftp_file.specs.declared.files.Files.{Files}
+use Rattle.tftp_file.specs.declared.files.Files.TheVariants.{Source, Sink}
+use Rattle.tftp_disk.specs.DiskJournal.{DiskEvent}
+use Rattle.tftp_disk.specs.declared.disk.Looks as looks
+use Rattle.tftp_disk.specs.declared.disk_source.DiskSource.{DiskSource}
+use Rattle.tftp_sockets.specs.Journal.{SocketEvent}
+use Rattle.tftp_sockets.specs.Quiet.{waits}
+use Rattle.tftp_client.specs.declared.local.LocalFile.{LocalFile}
+use Rattle.tftp_client.specs.declared.transfer.Job.{Job}
+use Rattle.tftp_client.specs.Converses.{Converses, State}
+use Rattle.tftp_client.specs.Fetched.{AreOwn, Keeps, KeepsPlace}
+use Rattle.tftp_client.specs.Moved.{nothing_moved, run_moves}
+use Rattle.tftp_client.specs.OnDisk.{IsFor, IsOnDisk, KeepsDisk, Reaches, job_paths}
+use Rattle.tftp_client.specs.Runs.{IsFileOf, IsNew, MayOpen, Refused, begun, dallied, opens, plain}
+use Rattle.tftp_client.specs.Sent.{BeginsAt, Concludes, EndStores, JobStores}
+use Rattle.tftp_client.specs.Stored.{HasDisk, count_of}
+use Rattle.tftp_client.specs.Written.{held_of}
+use Rattle.tftp_client.proofs.Counting.{runs_as}
+use Rattle.tftp_client.proofs.HeldBytes.{run_whole}
+use Rattle.tftp_client.proofs.NamedOnDisk.{kept, log_in, of_file, paths_in, still_for}
+use Rattle.tftp_client.proofs.ReadFile.{for_plain as begins_plain}
+use Rattle.tftp_client.proofs.SameKind.{converses}
+
+-- ---- what a job asks of the disk
+pub keeps_none : (job : Job) (before after : List DiskEvent) → after ≡ before → KeepsDisk job before after
+keeps_none job before after same =
+    record {
+      own = λ own. subst (λ (l : List DiskEvent). AreOwn (job_paths job) l) (sym same) own;
+      put = λ write. same;
+    }
+
+pub keeps_got : (job : Job) (before after : List DiskEvent) → job.kind ≡ kinds.Read → Keeps (job_paths job) before after
+    → KeepsDisk job before after
+keeps_got job before after is keeps =
+    record {
+      own = keeps.own;
+      put = λ write. absurd (let e : ◌≡◌ {A = Kind} kinds.Read kinds.Write = sym is ∙ write in cc);
+    }
+
+module _ {F K : Type 0} (sources : SourceMeaning (DiskSource F)) (sinks : SinkMeaning K) where
+  -- ---- of a job
+  pub end_job : {most : ℕ} (job : Job) {kind : Kind} {before after : List SocketEvent} {calls : List DiskEvent}
+      → job.kind ≡ kind → EndStores sources sinks most kind job before after calls
+      → EndStores sources sinks most job.kind job before after calls
+  end_job {most} job {kind} {before} {after} {calls} is stores =
+      subst (λ (k : Kind). EndStores sources sinks most k job before after calls) (sym is) stores
+
+  -- a file that is sent is on the disk
+  put_on_disk : (job : Job) (files : Files (DiskSource F) K) (bytes : List ℕ) (calls : List DiskEvent)
+      → IsFileOf sources sinks kinds.Write files → IsOnDisk job files bytes calls
+  put_on_disk job (Source source) bytes calls side = tt
+  put_on_disk job (Sink sink) bytes calls side = absurd side
+
+  pub put_stores : {most : ℕ} (job : Job) {before after : List SocketEvent} (calls : List DiskEvent)
+      → Concludes sources sinks most kinds.Write job before after
+      → EndStores sources sinks most kinds.Write job before after calls
+  put_stores job calls done = (
+    done,
+    put_on_disk job done.files (run_moves done.run.0.runs.converses nothing_moved).bytes calls
+        (converses sources sinks kinds.Write done.run.0.runs.converses done.run.0.side),
+  )
+
+  -- at once
+  pub first_stores : {most : ℕ} (job : Job) {before after : List SocketEvent} {calls : List DiskEvent}
+      → EndStores sources sinks most job.kind job before after calls
+      → JobStores sources sinks most job before after calls
+  first_stores job stores =
+      let done = stores.0 in (
+        record {
+          port = done.port;
+          last = done.last;
+          files = done.files;
+          count = done.count;
+          transfers = (inl done.run.0, done.run.1);
+          complete = done.complete;
+          stays = done.stays;
+          over = done.over;
+        },
+        stores.1,
+      )
+
+  disk_plain : (job : Job) (files : Files (DiskSource F) K) (bytes : List ℕ) (calls : List DiskEvent)
+      → IsOnDisk (plain job) files bytes calls → IsOnDisk job files bytes calls
+  disk_plain job (Source source) bytes calls stored = tt
+  disk_plain job (Sink sink) bytes calls stored = stored
+
+  -- without the options that were refused
+  pub again_stores : {most most' : ℕ} (job other : Job) {before : List SocketEvent} (middle : List SocketEvent)
+      {after : List SocketEvent} {calls : List DiskEvent} → Refused sources sinks most job before middle
+      → other ≡ plain job → most' ≡ most → EndStores sources sinks most' other.kind other middle after calls
+      → JobStores sources sinks most job before after calls
+  again_stores {most} {most'} job other middle {after} {calls} refused is same stores =
+      let Of : Job → Type 0 = λ j. EndStores sources sinks most j.kind j middle after calls in
+      let Within : ℕ → Type 0 = λ m. EndStores sources sinks m other.kind other middle after calls in
+      let again = subst Of is (subst Within same stores) in
+      let done = again.0 in (
+        record {
+          port = done.port;
+          last = done.last;
+          files = done.files;
+          count = done.count;
+          transfers = (
+            inr (middle, refused, done.run.0),
+            begins_plain job done.count done.run.0.length done.run.0.runs.file
+                done.run.1,
+          );
+          complete = done.complete;
+          stays = done.stays;
+          over = done.over;
+        },
+        disk_plain job done.files (run_moves done.run.0.runs.converses nothing_moved).bytes calls again.1,
+      )
+
+module _ {D F V G : Type 0} {logs : looks.Ghosts D} {writes : write.Ghosts F} {views : looks.Ghosts V}
+    {reads : read.Ghosts G} {seeks : seek.Ghosts G}
+    (sources : SourceMeaning (DiskSource G)) (sinks : SinkMeaning (LocalFile D F V G logs writes views reads seeks))
+    (known : (local : LocalFile D F V G logs writes views reads seeks) → sinks.held local
+    ≡ Some (held_of local.part.written local.committed)) where
+  abbrev Local : Type 0
+  Local = LocalFile D F V G logs writes views reads seeks
+
+  -- the run of an end from its request on
+  abbrev concluded : (job : Job) (kind : Kind) (sent length most : ℕ) (before after : List SocketEvent) {port : ℕ}
+      (file files : Files (DiskSource G) Local) → MayOpen kind job length → IsNew sources sinks file
+      → IsFileOf sources sinks kind file → (job.mode ≡ Octet → sent ≡ length)
+      → (r : Reaches sources sinks job.dallies most port (begun port (opens kind job length) before) file sent after files)
+      → BeginsAt job (count_of sent r.files) length file → Concludes sources sinks most kind job before after
+  concluded job kind sent length most before after {port} file files may new side octet r begins =
+      record {
+        port = port;
+        last = r.last;
+        files = r.files;
+        count = count_of sent r.files;
+        run = (
+          runs_as sources sinks known job kind sent length may
+              (record { file = file; new = new; converses = r.converses }) side octet refl,
+          begins,
+        );
+        complete = r.complete;
+        stays = dallied sources sinks r.stays;
+        over = r.stays.over;
+      }
+
+  -- a request is no wait
+  pub concludes : (job : Job) (kind : Kind) (sent length most : ℕ) (before after : List SocketEvent) {port : ℕ}
+      {first : State} (file files : Files (DiskSource G) Local) → MayOpen kind job length
+      → first ≡ begun port (opens kind job length) before → IsNew sources sinks file → IsFileOf sources sinks kind file
+      → (job.mode ≡ Octet → sent ≡ length)
+      → (r : Reaches sources sinks job.dallies (most + waits first.events) port first file sent after files)
+      → BeginsAt job (count_of sent r.files) length file
+      → Concludes sources sinks (most + waits before) kind job before after
+  concludes job kind sent length most before after {port} {first} file files may is new side octet r begins =
+      let From : State → Type 0 =
+      λ s. (r : Reaches sources sinks job.dallies (most + waits s.events) port s file sent after files)
+      × BeginsAt job (count_of sent r.files) length file in
+      let at = subst From is (r, begins) in
+      concluded job kind sent length (most + waits before) before after file files may new side octet at.0 at.1
+
+  pub stores : ((before after : Local) (committed : Bool) → sinks.becomes before after committed
+      → KeepsPlace (paths_in before) (paths_in after) (log_in before) (log_in after))
+      → (job : Job) (kind : Kind) (sent length most : ℕ) (before after : List SocketEvent) (disk : D) {port : ℕ}
+      {first : State} (file files : Files (DiskSource G) Local) → MayOpen kind job length
+      → first ≡ begun port (opens kind job length) before → IsNew sources sinks file → IsFileOf sources sinks kind file
+      → (job.mode ≡ Octet → sent ≡ length) → IsFor job file → HasDisk files disk
+      → (r : Reaches sources sinks job.dallies (most + waits first.events) port first file sent after files)
+      → BeginsAt job (count_of sent r.files) length file
+      → EndStores sources sinks (most + waits before) kind job before after (logs.log disk)
+  stores becomes job kind sent length most before after disk {port} {first} file files may is new side octet for has r begins =
+      let From : State → Type 0 =
+      λ s. (r : Reaches sources sinks job.dallies (most + waits s.events) port s file sent after files)
+      × BeginsAt job (count_of sent r.files) length file in
+      let at = subst From is (r, begins) in
+      let done = concluded job kind sent length (most + waits before) before after file files may new side octet at.0 at.1 in (
+        done,
+        of_file sources sinks known job done.files files done.count
+            (run_moves done.run.0.runs.converses nothing_moved).bytes disk
+            (still_for job file done.files (kept sources sinks becomes file done.files at.0.converses) for)
+            (run_whole sources sinks (λ local. (held_of local.part.written local.committed, known local)) done.run.0
+            done.complete)
+            at.0.kept has,
+      )
+
+  -- a file that is sent has the length with which it was opened
+  pub sends_so : (job : Job) (source : DiskSource G) (bytes wire : ℕ) {port : ℕ} {first last : State}
+      (files : Files (DiskSource G) Local) → Converses sources sinks port first (Source source) last files
+      → BeginsAt {K = Local} job bytes wire (Source source)
+      → BeginsAt {K = Local} job (count_of bytes files) wire (Source source)
+  sends_so job source bytes wire (Source other) run begins = begins
+  sends_so job source bytes wire (Sink local) run begins = absurd (converses sources sinks kinds.Write run tt)

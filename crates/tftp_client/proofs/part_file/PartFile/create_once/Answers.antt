@@ -1,0 +1,38 @@
+-- The folder stays, and the file is made just now.
+use Rattle.std.proofs.Common.{◌≡◌, false, ℕ, List, Option, Some, None, sym, ◌∙◌}
+use Rattle.std.specs.Prelude.{is_some}
+use Rattle.std.proofs.lemmas.Bool.{true≢false}
+use Rattle.std.specs.String.{string_bytes}
+use Rattle.tftp_disk.specs.DiskJournal.{DiskEvent}
+use Rattle.tftp_client.specs.declared.written.Written.{Written}
+use Rattle.tftp_client.specs.Written.{IsStillIn, paths_of}
+use Rattle.tftp_client.proofs.NamedFile.{folder_later}
+use Rattle.tftp_client.proofs.part_file.PartFile.create_once.Goals as goal
+
+pub invariant_of-self-clause-folder_fits : goal.invariant_of-self-clause-folder_fits
+invariant_of-self-clause-folder_fits g c =
+    let self = c.args.self.now in
+    folder_later self.folder.folder (paths_of self.names self.existing) (g.D.Looks.log self.disk)
+    (g.D.Looks.log c.make_part.new.disk) c.make_part.ensures.keeps self.folder_fits
+
+pub invariant_of-self-clause-still : goal.invariant_of-self-clause-still
+invariant_of-self-clause-still g c off = c.in-Ok.ensures.still
+
+-- none was made
+none_there : {F : Type 0} (part : List ℕ) (written : Option (Written F)) (log : List DiskEvent) → is_some written ≡ false
+    → ∥ IsStillIn part written log ∥₁
+none_there part None log none = ∣ tt ∣₁
+none_there part (Some written) log none = absurd (true≢false none)
+
+pub invariant_of-self-in-Err-1 : goal.invariant_of-self-in-Err-1
+invariant_of-self-in-Err-1 g c =
+    let self = c.args.self.now in
+    record {
+      placed = self.placed;
+      folder_fits =
+          folder_later self.folder.folder (paths_of self.names self.existing) (g.D.Looks.log self.disk)
+          (g.D.Looks.log c.make_part.new.disk) c.make_part.ensures.keeps self.folder_fits;
+      still = λ off.
+          none_there (string_bytes self.names.part) self.written (g.D.Looks.log c.make_part.new.disk)
+          (sym c.is_some.ensures ∙ c.if-is_some.false);
+    }

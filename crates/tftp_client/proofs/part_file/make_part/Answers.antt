@@ -1,0 +1,17 @@
+-- Nothing has its path but it.
+use Rattle.std.proofs.Common.{ℕ, List, ◌∷◌, Ok, ap, ◌∙◌}
+use Rattle.std.specs.String.{string_bytes}
+use Rattle.tftp_disk.specs.DiskJournal.{FileState, made_when}
+use Rattle.tftp_disk.specs.DiskJournal.DiskEvent.{Made}
+use Rattle.tftp_disk.specs.DiskWriter.{calls_of}
+use Rattle.tftp_client.proofs.StillThere.{just_made}
+use Rattle.tftp_client.proofs.part_file.make_part.Goals as goal
+
+pub returns-clause-still : goal.returns-clause-still
+returns-clause-still g c =
+    let before = g.D.Looks.log c.remove.new.self in
+    ∣ just_made (string_bytes c.args.names.now.part) (made_when (calls_of c.keep_permissions.new.self.writer)) before
+    (g.D.Looks.log c.make.new.self)
+    (c.in_ok-file.ensures.noted ∙ ap (λ (path : List ℕ). Made path (Ok tt) ∷ before) c.as_str-3.ensures.value)
+    (ap (λ (file : FileState). file.made_when) c.keep_permissions.ensures.state
+    ∙ ((λ k. made_when ((c.new-written.ensures.file k).journal.events)) ∙ ap made_when c.in_ok-file.ensures.file)) ∣₁

@@ -1,0 +1,238 @@
+-- The file that an open file made is still at its path.
+use Rattle.std.proofs.Common.{◌≡◌, ◌≢◌, ◌∙◌, ℕ, List, [], ◌∷◌, ◌++◌, Option, Some, Ok, Err, inl, inr, length, ap, refl, subst, sym}
+use Rattle.std.specs.Prelude.{◌⊎◌}
+use Rattle.std.specs.String.{string_bytes}
+use Rattle.tftp_disk.specs.DiskJournal.{DiskEvent, Done, FileState, made_when}
+use Rattle.tftp_disk.specs.DiskJournal.DiskEvent.{Looked, Followed, Resolved, Opened, Tried, Created, Made, Linked, Renamed, Removed}
+use Rattle.tftp_disk.specs.DiskJournal.DiskEvent.{Folder_opened, Folder_synced, Examined, Given, Not_given, Sought}
+use Rattle.tftp_disk.specs.DiskJournal.DiskEvent.{Written, Not_written, Synced, Mode_set}
+use Rattle.tftp_disk.specs.Still.{AllLeave, IsStillAt, LeavesPath}
+use Rattle.tftp_disk.specs.DiskWriter.{calls_of}
+use Rattle.tftp_disk.specs.NamedFolder.{OpensAlone, SyncsAlone}
+use Rattle.tftp_disk.specs.declared.disk_file.DiskFile.{DiskFile}
+use Rattle.tftp_disk.specs.declared.disk_file.DiskFolder.{DiskFolder}
+use Rattle.tftp_disk.specs.declared.disk_writer.DiskWriter.{DiskWriter}
+use Rattle.tftp_folder.specs.Begin.{IsNew}
+use Rattle.tftp_folder.specs.Commit.{lock_of}
+use Rattle.tftp_folder.specs.Draft.{IsThere, SameNames}
+use Rattle.tftp_folder.specs.Placed.{placed, AreNamedThere, LeavesOthers, NamesThere, StaysThere}
+use Rattle.tftp_folder.specs.declared.folder_draft.FolderDraft.{FolderDraft}
+
+-- a file is made, or removed, at another path
+leaves_made : (path own : List ℕ) (answer : Done) → path ≢ own → LeavesPath path (Made own answer)
+leaves_made path own (Ok done) differs = differs
+leaves_made path own (Err error) differs = tt
+
+leaves_removed : (path own : List ℕ) (answer : Done) → path ≢ own → LeavesPath path (Removed own answer)
+leaves_removed path own (Ok done) differs = differs
+leaves_removed path own (Err error) differs = tt
+
+module _ (path : List ℕ) (when : Option ℕ) where
+  -- the same by the calls up to each that makes, names or removes a file
+  abbrev StillIn : List (List DiskEvent) → Type 0
+  StillIn [] = ⊥
+  StillIn ([] ∷ rest) = StillIn rest
+  StillIn ((Made at (Ok done) ∷ events) ∷ rest) =
+      ((path ≡ at) × (when ≡ Some (length events))) ⊎ ((path ≢ at) × StillIn rest)
+  StillIn ((event ∷ events) ∷ rest) = LeavesPath path event × StillIn rest
+
+  -- a call that leaves what has the path
+  pub still_past : (event : DiskEvent) (events : List DiskEvent) → LeavesPath path event → IsStillAt path when events
+      → IsStillAt path when (event ∷ events)
+  still_past event events leaves still = record {
+    since = event ∷ still.since;
+    before = still.before;
+    made = ap (λ (l : List DiskEvent). event ∷ l) still.made;
+    when = still.when;
+    left = (leaves, still.left);
+  }
+
+  to_in : (since before : List DiskEvent) → AllLeave path since → when ≡ Some (length before)
+      → StillIn (placed (since ++ (Made path (Ok tt) ∷ before)))
+  to_in [] before left is = inl (refl, is)
+  to_in (Made at (Ok done) ∷ since) before left is = inr (left.0, to_in since before left.1 is)
+  to_in (Made at (Err error) ∷ since) before left is = (left.0, to_in since before left.1 is)
+  to_in (Linked file from to answer ∷ since) before left is = (left.0, to_in since before left.1 is)
+  to_in (Renamed file from to answer ∷ since) before left is = (left.0, to_in since before left.1 is)
+  to_in (Removed at answer ∷ since) before left is = (left.0, to_in since before left.1 is)
+  to_in (Looked at answer ∷ since) before left is = to_in since before left.1 is
+  to_in (Followed at answer ∷ since) before left is = to_in since before left.1 is
+  to_in (Resolved at answer ∷ since) before left is = to_in since before left.1 is
+  to_in (Opened at answer ∷ since) before left is = to_in since before left.1 is
+  to_in (Tried at answer ∷ since) before left is = to_in since before left.1 is
+  to_in (Created at calls ∷ since) before left is = to_in since before left.1 is
+  to_in (Folder_opened at answer ∷ since) before left is = to_in since before left.1 is
+  to_in (Folder_synced at answer ∷ since) before left is = to_in since before left.1 is
+  to_in (Examined answer ∷ since) before left is = to_in since before left.1 is
+  to_in (Given bytes ∷ since) before left is = to_in since before left.1 is
+  to_in (Not_given error ∷ since) before left is = to_in since before left.1 is
+  to_in (Sought to answer ∷ since) before left is = to_in since before left.1 is
+  to_in (Written bytes ∷ since) before left is = to_in since before left.1 is
+  to_in (Not_written error ∷ since) before left is = to_in since before left.1 is
+  to_in (Synced answer ∷ since) before left is = to_in since before left.1 is
+  to_in (Mode_set mode answer ∷ since) before left is = to_in since before left.1 is
+
+  from_in : (events : List DiskEvent) → StillIn (placed events) → IsStillAt path when events
+  from_in [] still = absurd still
+  from_in (Made at (Ok done) ∷ events) (inl (same, is)) = record {
+    since = [];
+    before = events;
+    made = ap (λ (p : List ℕ). Made p (Ok tt) ∷ events) (sym same);
+    when = is;
+    left = tt;
+  }
+  from_in (Made at (Ok done) ∷ events) (inr (differs, still)) =
+      still_past (Made at (Ok done)) events differs (from_in events still)
+  from_in (Made at (Err error) ∷ events) still = still_past (Made at (Err error)) events still.0 (from_in events still.1)
+  from_in (Linked file from to answer ∷ events) still =
+      still_past (Linked file from to answer) events still.0 (from_in events still.1)
+  from_in (Renamed file from to answer ∷ events) still =
+      still_past (Renamed file from to answer) events still.0 (from_in events still.1)
+  from_in (Removed at answer ∷ events) still =
+      still_past (Removed at answer) events still.0 (from_in events still.1)
+  from_in (Looked at answer ∷ events) still = still_past (Looked at answer) events tt (from_in events still)
+  from_in (Followed at answer ∷ events) still = still_past (Followed at answer) events tt (from_in events still)
+  from_in (Resolved at answer ∷ events) still = still_past (Resolved at answer) events tt (from_in events still)
+  from_in (Opened at answer ∷ events) still = still_past (Opened at answer) events tt (from_in events still)
+  from_in (Tried at answer ∷ events) still = still_past (Tried at answer) events tt (from_in events still)
+  from_in (Created at calls ∷ events) still = still_past (Created at calls) events tt (from_in events still)
+  from_in (Folder_opened at answer ∷ events) still = still_past (Folder_opened at answer) events tt (from_in events still)
+  from_in (Folder_synced at answer ∷ events) still = still_past (Folder_synced at answer) events tt (from_in events still)
+  from_in (Examined answer ∷ events) still = still_past (Examined answer) events tt (from_in events still)
+  from_in (Given bytes ∷ events) still = still_past (Given bytes) events tt (from_in events still)
+  from_in (Not_given error ∷ events) still = still_past (Not_given error) events tt (from_in events still)
+  from_in (Sought to answer ∷ events) still = still_past (Sought to answer) events tt (from_in events still)
+  from_in (Written bytes ∷ events) still = still_past (Written bytes) events tt (from_in events still)
+  from_in (Not_written error ∷ events) still = still_past (Not_written error) events tt (from_in events still)
+  from_in (Synced answer ∷ events) still = still_past (Synced answer) events tt (from_in events still)
+  from_in (Mode_set mode answer ∷ events) still = still_past (Mode_set mode answer) events tt (from_in events still)
+
+  -- calls that make, name and remove nothing
+  pub still_by : (before after : List DiskEvent) → placed after ≡ placed before → IsStillAt path when before
+      → IsStillAt path when after
+  still_by before after same still =
+      from_in after (subst StillIn (sym same)
+      (subst (λ (l : List DiskEvent). StillIn (placed l)) (sym still.made)
+      (to_in still.since still.before still.left still.when)))
+
+-- calls that make, name and remove nothing
+pub looks_there : (before after : List DiskEvent) → placed after ≡ placed before → StaysThere before after
+looks_there before after same names = subst AreNamedThere (sym same) names
+
+-- a file was just made at its path
+pub new_there : (path : List ℕ) (file log : List DiskEvent) → IsNew path file log → IsStillAt path (made_when file) log
+new_there path file log new = record {
+  since = [];
+  before = new.before;
+  made = new.made;
+  when = ap made_when new.opened;
+  left = tt;
+}
+
+-- one of another path was
+pub makes_other : (own : List ℕ) (removal answer : Done) (before looked after : List DiskEvent)
+    → placed looked ≡ placed before → after ≡ Made own answer ∷ Removed own removal ∷ looked
+    → LeavesOthers own before after
+makes_other own removal answer before looked after same is path when differs still =
+    subst (IsStillAt path when) (sym is)
+    (still_past path when (Made own answer) (Removed own removal ∷ looked) (leaves_made path own answer differs)
+    (still_past path when (Removed own removal) looked (leaves_removed path own removal differs)
+    (still_by path when before looked same still)))
+
+-- one of another path was, after such calls
+pub then_others : (at own : List ℕ) (before looked after : List DiskEvent) → at ≡ own → placed looked ≡ placed before
+    → LeavesOthers at looked after → LeavesOthers own before after
+then_others at own before looked after is same leaves path when differs still =
+    leaves path when (λ equal. differs (equal ∙ is)) (still_by path when before looked same still)
+
+module _ {F : Type 0} where
+  -- a draft whose file was just made
+  pub new_draft_there : (draft : FolderDraft F) (name target at : List ℕ) (writer : DiskWriter F) (file : DiskFile F)
+      (log : List DiskEvent) → string_bytes draft.draft ≡ name → string_bytes draft.target ≡ target
+      → name ≢ lock_of target → at ≡ name → draft.writer ≡ writer → writer.file ≡ file
+      → IsNew at file.journal.events log → IsThere draft log
+  new_draft_there draft name target at writer file log is_name is_target apart place wrote opened new = record {
+    apart = λ same. apart (sym is_name ∙ same ∙ ap (λ (t : List ℕ). lock_of t) is_target);
+    still = subst (λ (p : List ℕ). IsStillAt p (made_when (calls_of draft.writer)) log) (place ∙ sym is_name)
+        (subst (λ (w : Option ℕ). IsStillAt at w log)
+        (sym (ap (λ (w : DiskWriter F). made_when (calls_of w)) wrote
+        ∙ ap (λ (f : DiskFile F). made_when f.journal.events) opened))
+        (new_there at file.journal.events log new));
+  }
+
+  still_as : (draft : FolderDraft F) (file : FileState) (from : List ℕ) (before looked : List DiskEvent)
+      → placed looked ≡ placed before → file.made_when ≡ made_when (calls_of draft.writer)
+      → from ≡ string_bytes draft.draft → IsThere draft before → IsStillAt from file.made_when looked
+  still_as draft file from before looked same making path there =
+      subst (λ (p : List ℕ). IsStillAt p file.made_when looked) (sym path)
+      (subst (λ (w : Option ℕ). IsStillAt (string_bytes draft.draft) w looked) (sym making)
+      (still_by (string_bytes draft.draft) (made_when (calls_of draft.writer)) before looked same there.still))
+
+  -- the draft is renamed after such calls
+  pub rename_there : (draft : FolderDraft F) (file : FileState) (from to : List ℕ) (answer : Done)
+      (before looked after : List DiskEvent) → placed looked ≡ placed before
+      → file.made_when ≡ made_when (calls_of draft.writer) → from ≡ string_bytes draft.draft
+      → after ≡ Renamed file from to answer ∷ looked → IsThere draft before → StaysThere before after
+  rename_there draft file from to answer before looked after same making path is there names =
+      subst NamesThere (sym is)
+      (still_as draft file from before looked same making path there, looks_there before looked same names)
+
+  -- it is linked after such calls
+  pub link_there : (draft : FolderDraft F) (file : FileState) (from to : List ℕ) (answer : Done)
+      (before after : List DiskEvent)
+      → file.made_when ≡ made_when (calls_of draft.writer) → from ≡ string_bytes draft.draft
+      → after ≡ Linked file from to answer ∷ before → IsThere draft before → StaysThere before after
+  link_there draft file from to answer before after making path is there names =
+      subst NamesThere (sym is) (still_as draft file from before before refl making path there, names)
+
+  -- its file is still there after a call that leaves it
+  pub past_there : (draft : FolderDraft F) (event : DiskEvent) (before after : List DiskEvent)
+      → LeavesPath (string_bytes draft.draft) event → after ≡ event ∷ before → IsThere draft before
+      → IsThere draft after
+  past_there draft event before after leaves is there = record {
+    apart = there.apart;
+    still = subst (IsStillAt (string_bytes draft.draft) (made_when (calls_of draft.writer))) (sym is)
+        (still_past (string_bytes draft.draft) (made_when (calls_of draft.writer)) event before leaves there.still);
+  }
+
+  -- and after calls that make, name and remove nothing
+  pub looks_past : (draft : FolderDraft F) (before after : List DiskEvent) → placed after ≡ placed before
+      → IsThere draft before → IsThere draft after
+  looks_past draft before after same there = record {
+    apart = there.apart;
+    still = still_by (string_bytes draft.draft) (made_when (calls_of draft.writer)) before after same there.still;
+  }
+
+  -- it is another value of the same draft
+  pub same_there : (a b : FolderDraft F) (log : List DiskEvent) → SameNames a b → IsThere a log → IsThere b log
+  same_there a b log names there = record {
+    apart = λ same. there.apart (sym (ap string_bytes names.draft) ∙ same
+        ∙ ap (λ (t : List ℕ). lock_of t) (ap string_bytes names.target));
+    still = subst (λ (w : Option ℕ). IsStillAt (string_bytes b.draft) w log) (sym names.making)
+        (subst (λ (p : List ℕ). IsStillAt p (made_when (calls_of a.writer)) log) (sym (ap string_bytes names.draft))
+        there.still);
+  }
+
+  -- the lock of its name is made
+  pub lock_there : (draft : FolderDraft F) (at : List ℕ) (answer : Done) (before after : List DiskEvent)
+      → at ≡ lock_of (string_bytes draft.target) → after ≡ Made at answer ∷ before → IsThere draft before
+      → IsThere draft after
+  lock_there draft at answer before after lock is there =
+      past_there draft (Made at answer) before after
+      (leaves_made (string_bytes draft.draft) at answer (λ same. there.apart (same ∙ lock))) is there
+
+  -- its open file was made when the draft says
+  pub same_making : (draft : FolderDraft F) (file : DiskFile F) → file ≡ draft.writer.file
+      → made_when file.journal.events ≡ made_when (calls_of draft.writer)
+  same_making draft file same = ap (λ (f : DiskFile F). made_when f.journal.events) same
+
+  -- the folder is synced
+  pub syncs_placed : (folder : Option (DiskFolder F)) (before after : List DiskEvent) → SyncsAlone folder before after
+      → placed after ≡ placed before
+  syncs_placed folder before after (inl same) = ap placed same
+  syncs_placed folder before after (inr (answer, is)) = ap placed is
+
+-- the folder of a path is opened
+pub opens_placed : (path : List ℕ) (before after : List DiskEvent) → OpensAlone path before after
+    → placed after ≡ placed before
+opens_placed path before after (at, answer, is_folder, is) = ap placed is

@@ -1,0 +1,86 @@
+//! The poll of a server's sockets, and what a wait reports.
+
+ghost use Rattle.std.specs.Prelude.{◌≡◌, ◌≢◌, [], true, IfOk};
+
+use mio::{Events, Poll};
+use std::alloc::{AllocError, Global};
+use std::time::Duration;
+
+/// A poll of non-blocking sockets.
+#[derive(Drop)]
+pub struct PortPoll {
+    pub(crate) poll: Poll,
+}
+
+/// The ports that a wait reports: datagrams may be there.
+#[derive(Drop)]
+pub struct Reports {
+    events: Events,
+    ports: Vec<u16>,
+    /// Whether they are of a poll without a wait that is not noted yet.
+    pub(crate) is_unnoted: bool,
+}
+
+impl Reports {
+    /// Room for so many ports a wait. Others are reported by the next.
+    pub fn new(alloc: Global, most: usize) -> Result<Reports, AllocError>
+        ensures { IfOk result (λ reports. reports.ports.items ≡ []) }
+    {
+        Ok(Reports {
+            events: Events::with_capacity(alloc, most)?,
+            ports: Vec::with_capacity(alloc, most)?,
+            is_unnoted: false,
+        })
+    }
+
+    /// The ports that the newest wait reported.
+    pub fn ports(&self) -> &[u16]
+        ensures { result.now ≡ self.now.ports.items }
+    {
+        self.ports.as_slice()
+    }
+
+    /// Whether the newest wait reported a port.
+    fn has_port(&self) -> bool
+        ensures { result ≡ true → self.now.ports.items ≢ [] }
+    {
+        !self.ports.is_empty()
+    }
+
+    /// Polls without waiting. Returns whether a port is reported: then the poll is yet to be noted.
+    pub(crate) fn poll_now(&mut self, poll: &mut PortPoll) -> bool
+        ensures some { result ≡ true → self.new.ports.items ≢ [] }
+        ensures unnoted { self.new.is_unnoted ≡ result }
+    {
+        self.poll(poll, 0);
+        self.is_unnoted = self.has_port();
+        self.is_unnoted
+    }
+
+    /// Polls for at most `millis` milliseconds. An interrupted poll reports no port.
+    pub(crate) fn poll(&mut self, poll: &mut PortPoll, millis: u64) {
+        self.ports.clear();
+        self.is_unnoted = false;
+        let time = Some(Duration::from_millis(millis));
+        if poll.poll.poll(&mut self.events, time).is_err() {
+            return;
+        }
+        for event in self.events.iter() {
+            if let Ok(port) = u16::try_from(event.token().0) {
+                // There is room for as many ports as events.
+                let _ = self.ports.push(port);
+            }
+        }
+    }
+
+    /// Polls up to so many times without a sleep, until a port is reported. Returns whether one is.
+    pub(crate) fn poll_often(&mut self, poll: &mut PortPoll, polls: u32) -> bool {
+        for _ in 0..polls {
+            self.poll(poll, 0);
+            if self.has_port() {
+                return true;
+            }
+        }
+        false
+    }
+}

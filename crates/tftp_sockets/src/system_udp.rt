@@ -1,0 +1,280 @@
+//! **Trusted by reading**: UDP, waits, the clock and standard output of the system, with notes of its
+//! calls.
+//!
+//! Review alone shows that a note is true: the sockets, the clock and the printer of std and `mio`
+//! have no model. Each datagram, wait, receive without a datagram, bind of a transfer's port,
+//! reading of the clock and printed line has one note: what was passed to the system or returned
+//! by it, and for a receive or a datagram the port that the socket is bound to. That a
+//! port stays empty, once a receive found nothing there, until a wait reports it, is trusted too.
+//!
+//! A failed send counts as a lost datagram, and returns the reason. A poll that takes
+//! no time and reports no port is no event, nor is a look that finds nothing, or whether a datagram
+//! has arrived.
+
+ghost use Rattle.std.specs.Prelude.{◌≡◌, []};
+
+use crate::address::{address_of, endpoint_of};
+use crate::bound::{bound_socket, same_socket};
+use crate::clock::{micros, read_clock};
+use crate::error_lines::{ErrorLines, WholeLines};
+use crate::event_ref::EventRef;
+use crate::journal::Journal;
+use crate::load::Load;
+use crate::port_poll::{PortPoll, Reports};
+use crate::reader::{OutputReader, has_gone, watch_output};
+use crate::receipt::Receipt;
+use crate::received::{note_receipt, sent};
+use crate::signal::DrainSignal;
+use crate::sockets::{ClientSocket, ServerSocket};
+use crate::udp::{ClientUdp, ServerUdp, Udp};
+use crate::watch::{LONGEST_WAIT, Watch};
+use mio::Poll;
+use rand::make_rng;
+use rand::rngs::StdRng;
+use std::alloc::Global;
+use std::fmt::Display;
+use std::io;
+use std::net::{Net, UdpSocket};
+use std::random::RandomSource;
+use std::time::{Clock, Duration};
+use tftp_ends::Endpoint;
+use tftp_lines::{ClientOutcome, Printed, Reason};
+
+/// The number of polls before a wait: some 25 microseconds.
+const POLLS: u32 = 64;
+
+/// UDP, the clock and the printer of the system. A program makes one.
+#[derive(Drop)]
+pub struct SystemUdp<'a, R> {
+    rt: &'a R,
+    /// The reader of standard output, if it is watched.
+    reader: Option<OutputReader>,
+    journal: Journal,
+}
+
+impl<'a, R: Clock> SystemUdp<'a, R> {
+    /// UDP of this runtime, where nothing was done yet.
+    pub fn new(rt: &'a R) -> SystemUdp<'a, R>
+        ensures { ⟦<SystemUdp<'a, R> as Udp>⟧.log result ≡ [] }
+    {
+        SystemUdp {
+            rt,
+            reader: None,
+            journal: Journal::new(),
+        }
+    }
+}
+
+impl<R: Clock> Udp for SystemUdp<'_, R> {
+    ghost log = { λ udp. udp.journal.events };
+
+    fn start_watch(&self) -> Watch {
+        Watch::new(read_clock(self.rt, 0))
+    }
+
+    fn elapsed(&mut self, port: u16, time: u64) {
+        self.journal.note(&EventRef::Elapsed(port, time));
+    }
+}
+
+impl<R: Net + Clock + Print> ClientUdp for SystemUdp<'_, R> {
+    fn bind(&self, ip: [u8; 4]) -> io::Result<ClientSocket> {
+        let udp = UdpSocket::bind(self.rt, address_of(Endpoint { ip, port: 0 }))?;
+        let port = udp.local_addr()?.port();
+        udp.set_read_timeout(Some(Duration::from_millis(LONGEST_WAIT)))?;
+        Ok(ClientSocket {
+            ip,
+            port,
+            udp,
+            wait: LONGEST_WAIT,
+        })
+    }
+
+    fn receive(&mut self, socket: &mut ClientSocket, wait: u64, buffer: &mut [u8]) -> Receipt {
+        let wait = wait.max(1);
+        self.journal.note(&EventRef::Slept(wait));
+        if !set_wait(socket, wait) {
+            self.journal.note(&EventRef::Failed(socket.port));
+            return Receipt::Failed;
+        }
+        let received = socket.udp.recv_from(buffer);
+        note_receipt(&mut self.journal, socket.port, received, buffer)
+    }
+
+    fn send(&mut self, socket: &ClientSocket, to: Endpoint, bytes: &[u8]) -> Result<(), Reason> {
+        self.journal.note(&EventRef::Sent(socket.port, to, bytes));
+        sent(socket.udp.send_to(bytes, address_of(to)))
+    }
+
+    fn read_watch(&mut self, watch: &mut Watch) -> u64 {
+        let reading = read_clock(self.rt, watch.reading);
+        let time = watch.advance(reading);
+        self.journal.note(&EventRef::Watched(time));
+        time
+    }
+
+    fn print_end(&mut self, end: ClientOutcome) -> io::Result<()> {
+        self.journal.note(&EventRef::End(end));
+        self.rt.println(end)
+    }
+}
+
+/// Sets the read timeout of a socket, if it changes. False if the system refuses.
+fn set_wait(socket: &mut ClientSocket, wait: u64) -> bool
+    ensures { socket.new.port ≡ socket.old.port }
+{
+    if wait == socket.wait {
+        return true;
+    }
+    let time = Some(Duration::from_millis(wait));
+    let is_set = socket.udp.set_read_timeout(time).is_ok();
+    if is_set {
+        socket.wait = wait;
+    }
+    is_set
+}
+
+impl<R: Net + Clock + Print + RandomSource> ServerUdp for SystemUdp<'_, R> {
+    fn bind(&self, at: Endpoint) -> io::Result<ServerSocket> {
+        bound_socket(self.rt, at)
+    }
+
+    fn adopt(&self, handed: &UdpSocket, at: Endpoint) -> io::Result<ServerSocket> {
+        same_socket(handed, at)
+    }
+
+    fn bind_noted(&mut self, at: Endpoint) -> io::Result<ServerSocket> {
+        match bound_socket(self.rt, at) {
+            Ok(socket) => {
+                self.journal.note(&EventRef::NewSocket(socket.port));
+                Ok(socket)
+            }
+            Err(error) => {
+                self.journal.note(&EventRef::NoSocket(at.port));
+                Err(error)
+            }
+        }
+    }
+
+    fn receive(&mut self, socket: &ServerSocket, buffer: &mut [u8]) -> Receipt {
+        let received = socket.udp.recv_from(buffer);
+        note_receipt(&mut self.journal, socket.port, received, buffer)
+    }
+
+    /// A server alone leaves nothing.
+    fn receive_request(
+        &mut self,
+        requests: &ServerSocket,
+        _load: Load,
+        buffer: &mut [u8],
+    ) -> Receipt {
+        let received = requests.udp.recv_from(buffer);
+        note_receipt(&mut self.journal, requests.port, received, buffer)
+    }
+
+    fn first_sender(&self, socket: &ServerSocket) -> Option<Endpoint> {
+        match socket.udp.peek_from(&mut [0u8; 1]) {
+            Ok((_, address)) => endpoint_of(address),
+            Err(_) => None,
+        }
+    }
+
+    fn leave(&mut self, requests: &ServerSocket, _load: Load) -> Receipt {
+        self.journal.note(&EventRef::Failed(requests.port));
+        Receipt::Failed
+    }
+
+    fn send(&mut self, socket: &ServerSocket, peer: Endpoint, bytes: &[u8]) -> Result<(), Reason> {
+        self.journal.note(&EventRef::Sent(socket.port, peer, bytes));
+        sent(socket.udp.send_to(bytes, address_of(peer)))
+    }
+
+    fn poll(&self) -> io::Result<PortPoll> {
+        let poll = PortPoll {
+            poll: Poll::new(self.rt)?,
+        };
+        if self.reader.is_some() {
+            watch_output(&poll)?;
+        }
+        Ok(poll)
+    }
+
+    fn polls(&self) -> u32 {
+        POLLS
+    }
+
+    fn wait(&mut self, poll: &mut PortPoll, reports: &mut Reports, millis: u64, polls: u32) {
+        self.journal.note(&EventRef::Slept(millis));
+        if !reports.poll_often(poll, polls) {
+            reports.poll(poll, millis);
+        }
+        self.journal.note(&EventRef::Woke(reports.ports()));
+    }
+
+    fn poll_now(&self, poll: &mut PortPoll, reports: &mut Reports) -> bool {
+        reports.poll_now(poll)
+    }
+
+    fn note_poll(&mut self, reports: &mut Reports) {
+        if reports.is_unnoted {
+            self.journal.note(&EventRef::Slept(0));
+            self.journal.note(&EventRef::Woke(reports.ports()));
+        }
+        reports.is_unnoted = false;
+    }
+
+    fn read_watch_within(&mut self, watch: &mut Watch, limit: u64) -> u64 {
+        let reading = read_clock(self.rt, watch.reading);
+        let time = watch.advance_within(reading, limit);
+        self.journal.note(&EventRef::Watched(time));
+        time
+    }
+
+    fn micros(&self) -> Option<u64> {
+        micros(self.rt)
+    }
+
+    fn out_of_memory(&mut self) {
+        self.journal.note(&EventRef::OutOfMemory);
+    }
+
+    fn print_line(&mut self, line: Printed) -> io::Result<()> {
+        self.journal.note(&EventRef::Line(line));
+        self.rt.println(line)
+    }
+
+    fn watch_reader(&mut self, alloc: Global) -> io::Result<()> {
+        self.reader = Some(OutputReader::new(self.rt, alloc)?);
+        Ok(())
+    }
+
+    fn has_no_reader(&mut self) -> bool {
+        if !has_gone(&mut self.reader) {
+            return false;
+        }
+        self.journal.note(&EventRef::NoReader);
+        true
+    }
+
+    fn is_signalled<D: DrainSignal>(&mut self, signal: &D) -> bool {
+        if !signal.is_given() {
+            return false;
+        }
+        self.journal.note(&EventRef::DrainSignalled);
+        true
+    }
+
+    fn rng(&self) -> io::Result<StdRng> {
+        make_rng(self.rt)
+    }
+}
+
+impl<R: ErrorLines> Eprint for SystemUdp<'_, R> {
+    fn eprint<D: Display + Drop>(&self, value: D) -> io::Result<()> {
+        WholeLines::new(self.rt).eprint(value)
+    }
+
+    fn eprintln<D: Display + Drop>(&self, value: D) -> io::Result<()> {
+        WholeLines::new(self.rt).eprintln(value)
+    }
+}

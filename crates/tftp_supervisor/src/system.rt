@@ -1,0 +1,218 @@
+//! **Trusted by reading**: the servers of a supervisor as processes of the system, the pipes that
+//! they print to, and standard output, with a history of what was done.
+//!
+//! Review alone shows that the history is true: processes, pipes and the printer of std have no
+//! model. Each call is for the server of the number that it was passed, and has the event that its
+//! clauses in [`ServerProcesses`] say. Nothing else here starts a process, reads a pipe or prints.
+
+ghost use Rattle.std.specs.Prelude.{◌≡◌, [], IfOk};
+
+mod event_ref;
+mod journal;
+
+use crate::fault::SupervisorFault;
+use crate::processes::ServerProcesses;
+use crate::supervise::Supervise;
+use crate::supervisor;
+use event_ref::EventRef;
+use journal::Journal;
+use mio::unix::SourceFd;
+use mio::{Events, Interest, Poll, Token};
+use std::env;
+use std::io::{self, ErrorKind, Read};
+use std::net::{SocketAddr, UdpSocket};
+use std::os::fd::{AsRawFd, OwnedFd};
+use std::path::PathBuf;
+use std::process::{Child, ChildStdout, Command, ExitStatus, Stdio};
+
+/// The most outputs that one wait reports.
+const MOST_REPORTS: usize = 64;
+
+/// Servers of this program, which have a socket as their standard input.
+#[derive(Drop)]
+struct SystemProcesses {
+    rt: HostRuntime,
+    program: PathBuf,
+    socket: OwnedFd,
+    children: Vec<Child>,
+    poll: Poll,
+    /// What the last wait reported.
+    events: Events,
+    /// How many of the servers have their outputs reported.
+    registered: usize,
+    journal: Journal,
+}
+
+impl SystemProcesses {
+    /// No server.
+    fn new(rt: HostRuntime, socket: &OwnedFd) -> Result<SystemProcesses, SupervisorFault>
+        ensures { IfOk result (λ processes. processes.journal.events ≡ []) }
+    {
+        let program = match env::current_exe(&rt) {
+            Ok(program) => program,
+            Err(error) => return Err(SupervisorFault::of_program(error)),
+        };
+        match SystemProcesses::of_program(rt, program, socket) {
+            Ok(processes) => Ok(processes),
+            Err(error) => Err(SupervisorFault::of(error)),
+        }
+    }
+
+    /// No server of this program.
+    fn of_program(
+        rt: HostRuntime,
+        program: PathBuf,
+        socket: &OwnedFd,
+    ) -> io::Result<SystemProcesses>
+        ensures { IfOk result (λ processes. processes.journal.events ≡ []) }
+    {
+        Ok(SystemProcesses {
+            rt,
+            program,
+            socket: socket.try_clone()?,
+            children: Vec::new(rt.alloc()),
+            poll: Poll::new(&rt)?,
+            events: Events::with_capacity(rt.alloc(), MOST_REPORTS)?,
+            registered: 0,
+            journal: Journal::new(),
+        })
+    }
+
+    /// Starts a process.
+    fn spawn(&self, line: &[String]) -> io::Result<Child> {
+        let mut command = Command::new(self.rt.alloc(), self.program.as_path())?;
+        for word in line.iter().skip(1) {
+            command.arg(word.as_str())?;
+        }
+        command.stdin(Stdio::from(self.socket.try_clone()?));
+        command.stdout(Stdio::piped());
+        command.spawn(&self.rt)
+    }
+
+    /// Has the outputs be reported: those of servers that were started since the last wait, and
+    /// again those that it reported, since one read, which cannot wait, follows each report.
+    fn register(&mut self) -> io::Result<()>
+        ensures { self.new.journal ≡ self.old.journal }
+    {
+        let registry = self.poll.registry();
+        for event in self.events.iter() {
+            if let Some(pipe) = pipe_of(self.children.as_slice(), event.token()) {
+                let fd = pipe.as_raw_fd();
+                registry.reregister(&mut SourceFd(&fd), event.token(), Interest::READABLE)?;
+            }
+        }
+        for index in self.registered..self.children.len() {
+            if let Some(pipe) = pipe_of(self.children.as_slice(), Token(index)) {
+                let fd = pipe.as_raw_fd();
+                registry.register(&mut SourceFd(&fd), Token(index), Interest::READABLE)?;
+            }
+        }
+        self.registered = self.children.len();
+        Ok(())
+    }
+}
+
+impl ServerProcesses for SystemProcesses {
+    ghost log = { λ processes. processes.journal.events };
+
+    fn start(&mut self, line: &[String]) -> io::Result<()> {
+        self.children.reserve(1)?;
+        let child = self.spawn(line)?;
+        self.children.push(child)?;
+        self.journal.note(&EventRef::Started(line));
+        Ok(())
+    }
+
+    fn wait(&mut self, reported: &mut Vec<u8>) -> io::Result<()> {
+        self.register()?;
+        self.poll.poll(&mut self.events, None)?;
+        reported.clear();
+        for event in self.events.iter() {
+            if let Ok(server) = u8::try_from(event.token().0.saturating_add(1)) {
+                reported.push(server)?;
+            }
+        }
+        Ok(())
+    }
+
+    fn read<'b>(&mut self, server: u8, buffer: &'b mut [u8]) -> io::Result<Option<&'b [u8]>> {
+        let child = child_of(self.children.as_mut_slice(), server)?;
+        let Some(pipe) = &mut child.stdout else {
+            return Err(io::Error::from(ErrorKind::NotFound));
+        };
+        let count = pipe.read(buffer)?;
+        if count == 0 {
+            child.stdout = None;
+            self.journal.note(&EventRef::Closed(server));
+            return Ok(None);
+        }
+        let bytes = &buffer[..count];
+        self.journal.note(&EventRef::Gave(server, bytes));
+        Ok(Some(bytes))
+    }
+
+    fn end(&mut self, server: u8) -> io::Result<ExitStatus> {
+        let answer = ended(self.children.as_mut_slice(), server);
+        self.journal.note(&EventRef::Ended(server, answer));
+        answer
+    }
+
+    fn print(&mut self, text: &[u8]) -> io::Result<()> {
+        self.journal.note(&EventRef::Printed(text));
+        self.rt.write_all(text)
+    }
+}
+
+/// The process of a server.
+fn child_of(children: &mut [Child], server: u8) -> io::Result<&mut Child> {
+    let index = usize::from(server).wrapping_sub(1);
+    children
+        .get_mut(index)
+        .ok_or(io::Error::from(ErrorKind::NotFound))
+}
+
+/// The pipe of the process under this token, until it is closed.
+fn pipe_of(children: &[Child], token: Token) -> Option<&ChildStdout> {
+    children.get(token.0)?.stdout.as_ref()
+}
+
+/// Kills the process of a server, if it has not ended, and waits for it.
+fn ended(children: &mut [Child], server: u8) -> io::Result<ExitStatus> {
+    let child = child_of(children, server)?;
+    child.kill()?;
+    child.wait()
+}
+
+/// What a supervisor did. Only clauses read it.
+#[derive(Drop)]
+pub struct History {
+    journal: Journal,
+}
+
+impl Supervise for HostRuntime {
+    type History = History;
+
+    ghost supervised = { λ history. history.journal.events };
+
+    fn bind_shared(&self, at: SocketAddr) -> io::Result<OwnedFd> {
+        Ok(OwnedFd::from(UdpSocket::bind(self, at)?))
+    }
+
+    fn supervise(
+        &self,
+        socket: &OwnedFd,
+        servers: &[Vec<String>],
+    ) -> (Result<(), SupervisorFault>, History) {
+        match SystemProcesses::new(*self, socket) {
+            Ok(mut processes) => {
+                let ended = supervisor::supervise(&mut processes, self.alloc(), servers);
+                let SystemProcesses { journal, .. } = processes;
+                (ended, History { journal })
+            }
+            Err(fault) => {
+                let journal = Journal::new();
+                (Err(fault), History { journal })
+            }
+        }
+    }
+}
