@@ -43,10 +43,10 @@ fn is_refused(rt: &impl Abort, alloc: Global, bytes: &[u8]) {
     end.finish();
 }
 
-#[test]
-fn wrong_text_closes_a_receiver(rt: HostRuntime) {
+/// The receiver stores nothing of them, and closes.
+pub(crate) fn wrong_text_closes_a_receiver(rt: &impl Abort, alloc: Global) {
     for &bytes in &WRONG {
-        is_refused(&rt, rt.alloc(), bytes);
+        is_refused(rt, alloc, bytes);
     }
 }
 
@@ -59,15 +59,14 @@ fn cut_after_cr(rt: &impl Abort, alloc: Global) -> OpenEnd<MemSource> {
 }
 
 /// The end keeps the CR, which awaits its byte, and one datagram, the ACK.
-#[test]
-fn a_receiver_keeps_an_ack_and_a_cr(rt: HostRuntime) {
-    let end = cut_after_cr(&rt, rt.alloc());
+pub(crate) fn a_receiver_keeps_an_ack_and_a_cr(rt: &impl Abort, alloc: Global) {
+    let end = cut_after_cr(rt, alloc);
     let held = Held {
         datagram: 4,
         text: 1,
     };
-    expect_equal(&rt, &end.as_end().held(), &held, "an ACK and a CR");
-    end.has_drafted(&rt, b"AAAAAAA");
+    expect_equal(rt, &end.as_end().held(), &held, "an ACK and a CR");
+    end.has_drafted(rt, b"AAAAAAA");
     end.finish();
 }
 
@@ -100,16 +99,15 @@ fn a_pair_is_cut_between_blocks(rt: HostRuntime) {
 }
 
 /// A sender keeps its newest DATA, and no text.
-#[test]
-fn a_sender_keeps_its_block(rt: HostRuntime) {
-    let source = source_of(&rt, rt.alloc(), b"ABCDEFGHI", Mode::Octet);
-    let mut end = writer(&rt, rt.alloc(), &EIGHT, &CONFIG, 9, source);
-    end.answers(&rt, SERVER_END, OACK_8, b"\x00\x03\x00\x01ABCDEFGH");
+pub(crate) fn a_sender_keeps_its_block(rt: &impl Abort, alloc: Global) {
+    let source = source_of(rt, alloc, b"ABCDEFGHI", Mode::Octet);
+    let mut end = writer(rt, alloc, &EIGHT, &CONFIG, 9, source);
+    end.answers(rt, SERVER_END, OACK_8, b"\x00\x03\x00\x01ABCDEFGH");
     let held = Held {
         datagram: 12,
         text: 0,
     };
-    expect_equal(&rt, &end.as_end().held(), &held, "a header and a block");
+    expect_equal(rt, &end.as_end().held(), &held, "a header and a block");
     end.finish();
 }
 
@@ -149,11 +147,10 @@ fn long_line() -> [u8; 512] {
 
 /// Wire text of 5 bytes has one block, and of 512 bytes a second, empty one. In that of 513 bytes
 /// the CR of the last pair ends the first block.
-#[test]
-fn files_travel_as_wire_text(rt: HostRuntime) {
-    is_got(&rt, rt.alloc(), b"\r\nA", 3, 3);
-    is_got(&rt, rt.alloc(), &[b'\n'; 256], 256, 5);
-    is_got(&rt, rt.alloc(), &long_line(), 511, 5);
+pub(crate) fn files_travel_as_wire_text(rt: &impl Abort, alloc: Global) {
+    is_got(rt, alloc, b"\r\nA", 3, 3);
+    is_got(rt, alloc, &[b'\n'; 256], 256, 5);
+    is_got(rt, alloc, &long_line(), 511, 5);
 }
 
 /// A server's end answers a read request for an empty file by this datagram.
@@ -165,22 +162,11 @@ fn is_answered(rt: &impl Abort, alloc: Global, request: &[u8], mode: Mode, answe
 }
 
 /// The length is returned in octet only. In netascii `tsize` is ignored, and the answer is DATA 1.
-#[test]
-fn a_length_is_reported_in_octet(rt: HostRuntime) {
+pub(crate) fn a_length_is_reported_in_octet(rt: &impl Abort, alloc: Global) {
     let octet = b"\x00\x01a\x00octet\x00tsize\x000\x00";
-    is_answered(
-        &rt,
-        rt.alloc(),
-        octet,
-        Mode::Octet,
-        b"\x00\x06tsize\x000\x00",
-    );
+    let oack = b"\x00\x06tsize\x000\x00";
+    is_answered(rt, alloc, octet, Mode::Octet, oack);
     let netascii = b"\x00\x01a\x00netascii\x00tsize\x000\x00";
-    is_answered(
-        &rt,
-        rt.alloc(),
-        netascii,
-        Mode::Netascii,
-        b"\x00\x03\x00\x01",
-    );
+    let block = b"\x00\x03\x00\x01";
+    is_answered(rt, alloc, netascii, Mode::Netascii, block);
 }

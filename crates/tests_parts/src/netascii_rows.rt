@@ -1,6 +1,9 @@
 //! Netascii: host bytes and their wire text, pieces of it, and lengths on the wire (RFC 764).
 
 use crate::expect::{expect_bytes, expect_equal};
+use crate::netascii_end_rows::{
+    a_length_is_reported_in_octet, files_travel_as_wire_text, wrong_text_closes_a_receiver,
+};
 use std::alloc::Global;
 use std::io::{Error, ErrorKind, Read, Result as IoResult};
 use std::process::Abort;
@@ -75,14 +78,13 @@ fn stores_and_holds(
     expect_equal(rt, &found, &(piece, stored, held), "stored and held");
 }
 
-#[test]
-fn netascii_rows(rt: HostRuntime) {
+fn is_stored_in_pieces(rt: &impl Abort, alloc: Global) {
     let mut decoder = NetDecoder::new();
-    let mut out = Vec::new(rt.alloc());
+    let mut out = Vec::new(alloc);
     for &(piece, stored, held) in &PIECES {
-        stores_and_holds(&rt, &mut decoder, &mut out, piece, (stored, held));
+        stores_and_holds(rt, &mut decoder, &mut out, piece, (stored, held));
     }
-    expect_equal(&rt, &decoder.finish(), &Ok(()), "the end");
+    expect_equal(rt, &decoder.finish(), &Ok(()), "the end");
 }
 
 /// A piece of wire text, a next one that is not valid, and the fault.
@@ -177,6 +179,21 @@ fn has_length(rt: &impl Abort, host: &[u8], mode: Mode, expected: usize) {
         &(host, Ok(expected as u64)),
         mode.word(),
     );
+}
+
+/// A text in pieces; lengths on the wire of three files, and how they travel; a text that is not
+/// netascii, and an empty one.
+#[test]
+fn netascii_rows(rt: HostRuntime) {
+    let rt = &rt;
+    is_sent_as(rt, rt.alloc(), b"\r\nA", b"\r\0\r\nA");
+    is_stored_in_pieces(rt, rt.alloc());
+    has_length(rt, b"\r\nA", Mode::Netascii, 5);
+    has_length(rt, &[b'\n'; 256], Mode::Netascii, 512);
+    has_length(rt, &long_line(rt, rt.alloc()), Mode::Netascii, 513);
+    files_travel_as_wire_text(rt, rt.alloc());
+    wrong_text_closes_a_receiver(rt, rt.alloc());
+    a_length_is_reported_in_octet(rt, rt.alloc());
 }
 
 #[test]

@@ -108,25 +108,10 @@ fn is_shown_as(rt: &impl Abort, alloc: Global, bytes: &[u8], expected: &str) {
     drop(packet);
 }
 
-#[test]
-fn packets_show(rt: HostRuntime) {
-    let rt = &rt;
-    for &(bytes, expected) in &PACKETS {
-        is_shown_as(rt, rt.alloc(), bytes, expected);
-    }
-}
-
 /// The borrowed reader returns this fault.
 fn has_fault(rt: &impl Abort, bytes: &[u8], fault: PacketFault) {
     let found = decode_ref(bytes).err();
     expect_equal(rt, &(bytes, found), &(bytes, Some(fault)), "the fault");
-}
-
-#[test]
-fn faults_stand(rt: HostRuntime) {
-    for &(bytes, kind, at) in &FAULTS {
-        has_fault(&rt, bytes, PacketFault { kind, at });
-    }
 }
 
 /// Encodes the packet of a datagram.
@@ -137,12 +122,12 @@ fn written(rt: &impl Abort, alloc: Global, bytes: &[u8], out: &mut Vec<u8>) {
     drop(packet);
 }
 
-#[test]
-fn packet_rows(rt: HostRuntime) {
-    let mut out = Vec::new(rt.alloc());
-    written(&rt, rt.alloc(), b"\x00\x01boot.img\x00OCTET\x00", &mut out);
+/// A mode in capital letters is read, and written in small ones.
+fn is_written_in_lower_case(rt: &impl Abort, alloc: Global) {
+    let mut out = Vec::new(alloc);
+    written(rt, alloc, b"\x00\x01boot.img\x00OCTET\x00", &mut out);
     let lower = b"\x00\x01boot.img\x00octet\x00".as_slice();
-    expect_bytes(&rt, out.as_slice(), lower, "the mode in lower case");
+    expect_bytes(rt, out.as_slice(), lower, "the mode in lower case");
 }
 
 /// The opcode of a read request and letters, `len` bytes in total.
@@ -161,12 +146,24 @@ fn is_refused(rt: &impl Abort, alloc: Global, bytes: &[u8], fault: PacketFault) 
     }
 }
 
-#[test]
-fn requests_have_512_bytes_at_most(rt: HostRuntime) {
+fn requests_have_512_bytes_at_most(rt: &impl Abort, alloc: Global) {
     for &(len, kind, at) in &LENGTHS {
-        let request = endless_request(&rt, rt.alloc(), len);
-        is_refused(&rt, rt.alloc(), &request, PacketFault { kind, at });
+        let request = endless_request(rt, alloc, len);
+        is_refused(rt, alloc, &request, PacketFault { kind, at });
     }
+}
+
+#[test]
+fn packet_rows(rt: HostRuntime) {
+    let rt = &rt;
+    for &(bytes, expected) in &PACKETS {
+        is_shown_as(rt, rt.alloc(), bytes, expected);
+    }
+    for &(bytes, kind, at) in &FAULTS {
+        is_refused(rt, rt.alloc(), bytes, PacketFault { kind, at });
+    }
+    is_written_in_lower_case(rt, rt.alloc());
+    requests_have_512_bytes_at_most(rt, rt.alloc());
 }
 
 /// The `Debug` text of a packet.
@@ -207,10 +204,6 @@ fn ref_equals_owned(rt: HostRuntime) {
     for &(bytes, _) in &PACKETS {
         prefixes_read_alike(&rt, rt.alloc(), bytes);
     }
-}
-
-#[test]
-fn ref_equals_owned_of_faults(rt: HostRuntime) {
     for &(bytes, _, _) in &FAULTS {
         prefixes_read_alike(&rt, rt.alloc(), bytes);
     }

@@ -2,6 +2,7 @@
 
 use crate::calls::{AtEnd, appends, commits, fails, gives_each};
 use crate::expect::{expect, expect_bytes, expect_equal};
+use crate::netascii_end_rows::{a_receiver_keeps_an_ack_and_a_cr, a_sender_keeps_its_block};
 use std::alloc::Global;
 use std::io;
 use std::io::{Read, Write};
@@ -89,13 +90,12 @@ fn gives_and_holds(
     expect_equal(rt, &(piece, source.held()), &(piece, held), "held back");
 }
 
-#[test]
-fn stream_rows(rt: HostRuntime) {
-    let rt = &rt;
+/// The source gives them, and holds back at most the second byte of a pair.
+fn gives_line_ends(rt: &impl Abort, alloc: Global) {
     let mut source = ReadSource::new(b"\n\n".as_slice(), Mode::Netascii);
     expect_equal(rt, &source.held(), &0, "before the first fill");
     for &(piece, held) in &LINE_ENDS {
-        gives_and_holds(rt, rt.alloc(), &mut source, piece, held);
+        gives_and_holds(rt, alloc, &mut source, piece, held);
     }
     expect(rt, source.get_ref().is_empty(), "the reader is at its end");
 }
@@ -181,11 +181,14 @@ fn holds_what_has_room(rt: &impl Abort, alloc: Global, when_full: AtEnd) {
     expect_bytes(rt, written, b"AB", "what it took");
 }
 
-/// The writer then fails, or writes nothing.
+/// A source, a sink whose writer fails or writes nothing once it is full, and what an end keeps.
 #[test]
-fn stream_rows_of_a_sink(rt: HostRuntime) {
+fn stream_rows(rt: HostRuntime) {
+    gives_line_ends(&rt, rt.alloc());
     holds_what_has_room(&rt, rt.alloc(), AtEnd::Fails);
     holds_what_has_room(&rt, rt.alloc(), AtEnd::Stops);
+    a_receiver_keeps_an_ack_and_a_cr(&rt, rt.alloc());
+    a_sender_keeps_its_block(&rt, rt.alloc());
 }
 
 /// A writer with capacity for nine bytes, whose first flush fails.

@@ -101,20 +101,55 @@ fn replacing_server(rt: &impl Abort, alloc: Global) -> Served<MemStore> {
     Served::new(rt, alloc, config, store_of(rt, alloc, b"a", &[b'a'; 600]))
 }
 
+const DATA_B: &[u8] = b"\x00\x03\x00\x01B";
+
 /// A read of a file that a write replaces continues with the file that it opened.
+fn replaces_what_is_read(rt: &impl Abort, alloc: Global) {
+    let mut served = replacing_server(rt, alloc);
+    let read = b"\x00\x01a\x00octet\x00";
+    let first = data(rt, alloc, 1, b'a', 512);
+    served.answers_request(rt, CLIENT, 1025, read, &first);
+    let replace = b"\x00\x02a\x00octet\x00";
+    served.answers_request(rt, OTHER, 1026, replace, ACK_0);
+    served.answers(rt, OTHER, 1026, DATA_B, ACK_1);
+    has_file(rt, alloc, served.server.store(), b"a", b"B");
+    let rest = data(rt, alloc, 2, b'a', 88);
+    served.answers(rt, CLIENT, 1025, ACK_1, &rest);
+    served.finish();
+}
+
+/// Two clients write a file of one name, and the first has committed its `A`. The `B` of the second
+/// has this answer, and then the file has these bytes.
+fn races(
+    rt: &impl Abort,
+    alloc: Global,
+    mut served: Served<MemStore>,
+    answer: &[u8],
+    bytes: &[u8],
+) {
+    open(rt, &mut served);
+    served.answers_request(rt, OTHER, 1027, WRITE, ACK_0);
+    served.answers(rt, CLIENT, 1025, DATA_A, ACK_1);
+    served.answers(rt, OTHER, 1027, DATA_B, answer);
+    has_file(rt, alloc, served.server.store(), b"n", bytes);
+    served.finish();
+}
+
+const FILE_EXISTS: &[u8] = b"\x00\x05\x00\x06file exists\x00";
+
+/// The last commit counts where files may be replaced, and else the first.
 #[test]
 fn overwrite_rows(rt: HostRuntime) {
-    let mut served = replacing_server(&rt, rt.alloc());
-    let read = b"\x00\x01a\x00octet\x00";
-    let first = data(&rt, rt.alloc(), 1, b'a', 512);
-    served.answers_request(&rt, CLIENT, 1025, read, &first);
-    let replace = b"\x00\x02a\x00octet\x00";
-    served.answers_request(&rt, OTHER, 1026, replace, ACK_0);
-    served.answers(&rt, OTHER, 1026, b"\x00\x03\x00\x01B", ACK_1);
-    has_file(&rt, rt.alloc(), served.server.store(), b"a", b"B");
-    let rest = data(&rt, rt.alloc(), 2, b'a', 88);
-    served.answers(&rt, CLIENT, 1025, ACK_1, &rest);
-    served.finish();
+    let rt = &rt;
+    races(
+        rt,
+        rt.alloc(),
+        replacing_server(rt, rt.alloc()),
+        ACK_1,
+        b"B",
+    );
+    races(rt, rt.alloc(), server(rt, rt.alloc()), FILE_EXISTS, b"A");
+    replaces_what_is_read(rt, rt.alloc());
 }
 
 const DISK_FULL: &[u8] = b"\x00\x05\x00\x03disk full\x00";

@@ -16,6 +16,7 @@ use Rattle.tftp_rules.specs.OpenEnds.{files_of}
 use Rattle.tftp_player.specs.Openings.{sending_end, receiving_end}
 use Rattle.tftp_player.specs.Recovering.{IsReached, SomeReadRecovers, SomeWriteRecovers, SomeReadRequestRecovers}
 use Rattle.tftp_player.specs.Recovering.{SomeWriteRequestRecovers}
+use Rattle.tftp_player.specs.Requests.{service}
 use Rattle.tftp_player.specs.Straight.{IsAccepted}
 use Rattle.tftp_player.specs.World.{WorldState, Open_end, world_after, report_of, sent_report, opened_in, datagram}
 use Rattle.tftp_player.specs.WorldSteps.{HasPort, WorldStep, ServiceStep, At_request_port}
@@ -146,13 +147,13 @@ asked_reached kind s runs = record {
 }
 
 -- the world after the client's timeout
-abbrev client_timed : Kind → Sample → WorldState
+abbrev pub client_timed : Kind → Sample → WorldState
 client_timed kind s =
     world_after (asked_world kind s) 0 (client_for kind s) (timeout_turn (client_for kind s).state)
     (files_of (client_for kind s)) (asked_world kind s).files
 
 -- the request is delivered, and the port opens its end
-request_delivered : (kind : Kind) (s : Sample) (mid new : WorldState) → HasPort mid →
+pub request_delivered : (kind : Kind) (s : Sample) (mid new : WorldState) → HasPort mid →
     slice_get mid.sent 1
     ≡ Some
     (datagram (client_for kind s).address (client_for kind s).state.position.last_sent_to (request_for kind s)) →
@@ -170,33 +171,33 @@ request_delivered kind s mid new port there accepted served = (
 )
 
 -- the world after that
-abbrev read_opened : WorldState
-read_opened =
-    opened_in (client_timed Read blocks)
-    (sending_end (client_timed Read blocks) (client_for Read blocks).address (request_for Read blocks) blocks.mode name
-    blocks.file blocks.agreed)
+abbrev pub read_opened : Sample → WorldState
+read_opened s =
+    opened_in (client_timed Read s)
+    (sending_end (client_timed Read s) (client_for Read s).address (request_for Read s) s.mode name s.file s.agreed)
 
-read_accepted : IsAccepted (client_timed Read blocks) (client_for Read blocks) (service_for Read blocks)
-unfolding occurrences_of name_of number_of digits answered_option taken_option
-read_accepted = record {
-  decoded = Some (packet_in (request_for Read blocks));
-  says = spells (request_for Read blocks) blocks_run.spelled;
+pub read_accepted : (s : Sample) → Runs Read s →
+    service (client_timed Read s) false (request_for Read s) (Some (packet_in (request_for Read s)))
+    ≡ service_for Read s → IsAccepted (client_timed Read s) (client_for Read s) (service_for Read s)
+read_accepted s runs is = record {
+  decoded = Some (packet_in (request_for Read s));
+  says = spells (request_for Read s) runs.spelled;
   repeated = false;
   repeats = (
     λ f. absurd (true≢false (sym f)),
     λ any. elim any [
-      | inl again ↦ absurd (true≢false (sym (is_of_client Read blocks) ∙ again.still))
+      | inl again ↦ absurd (true≢false (sym (is_of_client Read s) ∙ again.still))
       | inr none ↦ absurd none
     ],
   );
-  is = refl;
+  is = is;
 }
 
 pub read_request_recovers : SomeReadRequestRecovers
 unfolding occurrences_of name_of number_of digits answered_option taken_option
 read_request_recovers = (
   asked_world Read blocks,
-  world_at blocks.host 8 read_opened 2,
+  world_at blocks.host 8 (read_opened blocks) 2,
   0,
   client_for Read blocks,
   blocks.asked,
@@ -221,29 +222,30 @@ read_request_recovers = (
         record { is = refl; there = refl },
         record { files = (asked_world Read blocks).files; stored = refl; reports = refl; is = refl },
       );
-      reports = sent_report (client_timed Read blocks) ∷ reports blocks.host 8 read_opened 2;
+      reports = sent_report (client_timed Read blocks) ∷ reports blocks.host 8 (read_opened blocks) 2;
       settles = (
-        read_opened,
-        request_delivered Read blocks (client_timed Read blocks) read_opened (omega arith) refl read_accepted
+        read_opened blocks,
+        request_delivered Read blocks (client_timed Read blocks) (read_opened blocks) (omega arith) refl
+            (read_accepted blocks blocks_run refl)
             (blocks.file, refl, record { reports = refl; is = refl }),
-        settles blocks.host 8 read_opened 2 (search rules),
+        settles blocks.host 8 (read_opened blocks) 2 (search rules),
       );
       taken = inr (refl, refl);
     };
-    accepted = read_accepted;
+    accepted = read_accepted blocks blocks_run refl;
   },
   refl,
   blocks_run.answered,
   refl,
 )
 
-abbrev write_opened : WorldState
+abbrev pub write_opened : WorldState
 write_opened =
     opened_in (client_timed Write oack)
     (receiving_end (client_timed Write oack) (client_for Write oack).address (request_for Write oack) oack.mode name
     oack.agreed)
 
-write_accepted : IsAccepted (client_timed Write oack) (client_for Write oack) (service_for Write oack)
+pub write_accepted : IsAccepted (client_timed Write oack) (client_for Write oack) (service_for Write oack)
 unfolding occurrences_of name_of number_of digits answered_option taken_option
 write_accepted = record {
   decoded = Some (packet_in (request_for Write oack));

@@ -51,6 +51,7 @@ mod SentAgain
 mod WorldFacts
 mod RecoveringRuns
 mod AnsweringEnds
+mod FirstAnswers
 mod RecoveringReads
 mod RecoveringWrites
 mod RecoveriesSettled
@@ -67,5 +68,19 @@ mod ErrorsKnown
 mod ErrorsHeard
 mod RefusedWitness
 mod RequestArrives
+mod EndsHeard
+mod EndsStay
+mod OldDatagrams
+mod LossyCounts
+mod LossyPairs
+mod LossySteps
+mod LossyMoves
+mod LossyOpenings
+mod LossyExchange
+mod LossyFirsts
+mod LossyRuns
+mod LossyReads
+mod LossyWrites
+mod LossyWitness
 mod RecoveringRequests
 pub mod SettledLemmas

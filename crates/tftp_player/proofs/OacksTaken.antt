@@ -1,6 +1,6 @@
 -- A client that took no OACK has a peer that was opened without options.
 -- For BlamelessActions, Blameless and ErrorsKnown.
-use Rattle.std.proofs.Common.{◌≡◌, ℕ, ◌≤◌, Bool, true, false, List, ◌++◌, Option, Some, None, refl, sym, ap, ◌∙◌, subst}
+use Rattle.std.proofs.Common.{◌≡◌, ℕ, ◌≤◌, Bool, true, false, List, Option, Some, None, refl, sym, ap, ◌∙◌, subst}
 use Rattle.std.proofs.Common.{arith, inl, inr}
 use Rattle.std.specs.Prelude.{◌≢◌, ◌==◌, not, if◌then◌else◌, option_map, slice_get}
 use Rattle.std.specs.List.{Contains}
@@ -33,11 +33,10 @@ use Rattle.tftp_ends.specs.Step.{Turn, DatagramStep, response_turn, timeout_turn
 use Rattle.tftp_ends.specs.Waiting.{default_terms, agreed_terms}
 use Rattle.tftp_rules.specs.EndKept.{PhaseKept}
 use Rattle.tftp_rules.specs.Hosts.{host_of, two_hosts}
-use Rattle.tftp_rules.specs.Machine.{Endpoint, At_server, Elsewhere, Machine, Party, start}
+use Rattle.tftp_rules.specs.Machine.{Endpoint, At_server, Elsewhere, Machine, Party}
 use Rattle.tftp_rules.specs.OpenEnds.{OpenEnd, end_after, files_of}
 use Rattle.tftp_rules.proofs.Grows.{AllGrow}
 use Rattle.tftp_rules.proofs.HostLemmas.{host_server}
-use Rattle.tftp_rules.proofs.Runs.{run_then}
 use Rattle.tftp_rules.proofs.Steps.{own_server, own_of, server_end}
 use Rattle.tftp_player.specs.World.{WorldState, WorldEnd, Open_end, Closed_end, standing, by_outcome, datagram}
 use Rattle.tftp_player.specs.World.{in_the_way, file_at}
@@ -47,8 +46,7 @@ use Rattle.tftp_player.specs.declared.event.Event.{Event}
 use Rattle.tftp_player.specs.declared.report.Report.{Report}
 use Rattle.tftp_player.proofs.EndsCame.{Came, Was, Opened, Armed, Timed, Took, Arrives, came}
 use Rattle.tftp_player.proofs.WorldFacts.{m, holds, matched, attests}
-use Rattle.tftp_rules.proofs.RulesGrow.{run_grows, legal_rest}
-use Rattle.tftp_player.proofs.WorldRuns.{steps_are_rules}
+use Rattle.tftp_player.proofs.EndsStay.{grown}
 use Rattle.tftp_player.proofs.ActionCases.{IsPlainAnswer, HasTerms, MayTake, datagram_takes, Agreed, By_default}
 use Rattle.tftp_player.proofs.ActionCases.{By_oack, Ignores, Resends, Completes, Stranger, Garbled, Hears}
 use Rattle.tftp_player.proofs.ActionCases.{Refuses_answer, Refuses_peer, Accepts, Sends_block, Stores_block}
@@ -309,27 +307,10 @@ pub record Known_world (w : WorldState) : Type 0 where
 pub known_then : (w v : WorldState) (event : Event) (report : Report) → Known_world w → WorldStep w event report v →
     Known_world v
 known_then w v event report known s =
-    let next = steps_are_rules true w v event report tt known.ok s in
-    let first = known.ok.shown.0 in
-    let more = next.shown.0 in
-    let ok : Refines true v = record {
-      messages = next.messages;
-      shown = (first ++ more, next.shown.2);
-      sent = next.sent;
-      only = next.only;
-      speakers = next.speakers;
-      ports = next.ports;
-      max_block = next.max_block;
-      ends = next.ends;
-    } in
-    let grows : AllGrow (Machine.party (m w known.ok)) (Machine.party (m v ok)) =
-    subst (λ (u : Machine). AllGrow (Machine.party (m w known.ok)) u.party)
-    (sym (run_then two_hosts first more start))
-    (run_grows two_hosts more (m w known.ok) (holds w known.ok) (legal_rest two_hosts first more start next.shown.2.0))
-    in
+    let g = grown w v event report known.ok s in
     record {
-      ok = ok;
+      ok = g.now;
       plain = λ k z i.
-          plain_grows (Machine.party (m w known.ok)) (Machine.party (m v ok)) grows z
+          plain_grows (Machine.party (m w known.ok)) (Machine.party (m v g.now)) g.grows z
           (came_plain w known.ok known.plain k z (came w v event report s k z i));
     }

@@ -24,9 +24,9 @@ use Rattle.tftp_player.specs.WorldKept.{Refines}
 use Rattle.tftp_player.proofs.WorldFacts.{holds, attests, m, near}
 use Rattle.tftp_player.proofs.RunsLeft.{GoesOn, IsWilling, IsLeft, Reaches, walks}
 use Rattle.tftp_player.proofs.StraightRuns.{IsReady, stays_at, set_at, ready_next, SendsAt, AwaitsAt, fit_of}
-use Rattle.tftp_player.proofs.StraightRuns.{awaits_now, next_is_stored, ack_ready, ack_sender, ack_receiver, from_data}
+use Rattle.tftp_player.proofs.StraightRuns.{awaits_now, ack_ready, ack_sender, ack_receiver, from_data}
 use Rattle.tftp_player.proofs.StraightSteps.{ports_of, Handles, delivered, handles_oack}
-use Rattle.std.proofs.lemmas.Bool.{cases_Bool, cases_eq, le-leb}
+use Rattle.std.proofs.lemmas.Bool.{cases_Bool, cases_eq}
 use Rattle.tftp_wire.specs.declared.mode.Mode.{Mode}
 use Rattle.tftp_wire.specs.declared.options.RawOption.{RawOption}
 use Rattle.tftp_wire.specs.declared.packet.Packet.TheVariants.{Read, Write, Data, Ack, Error, Oack}
@@ -40,14 +40,13 @@ use Rattle.tftp_ends.specs.declared.action.Action.{Action}
 use Rattle.tftp_ends.specs.declared.action.Action.TheVariants.{Respond, Store}
 use Rattle.tftp_ends.specs.declared.action.Response.TheVariants.{Accept}
 use Rattle.tftp_ends.specs.declared.phase.Terms.{Terms}
-use Rattle.tftp_ends.specs.Receiver.{receiver_action, next_action}
 use Rattle.tftp_ends.specs.Step.{ack_bytes, data_bytes}
-use Rattle.tftp_ends.specs.Waiting.{reader_action, writer_action, accept_action, default_terms, agreed_terms, no_answer}
+use Rattle.tftp_ends.specs.Waiting.{reader_action, accept_action, default_terms, agreed_terms}
 use Rattle.tftp_rules.proofs.SaidLemmas.{taken_oack}
 use Rattle.tftp_rules.proofs.SinkMoves.{text_else}
 use Rattle.tftp_rules.proofs.SourceMoves.{text_if}
+use Rattle.tftp_player.proofs.FirstAnswers.{data_first, reads_as}
 use Rattle.tftp_player.proofs.RecoveringRuns.{through_at, willing_still}
-use Rattle.tftp_player.proofs.StraightActions.{data_next, block_within}
 use Rattle.tftp_player.proofs.AnsweringEnds.{reached_ok, refused_takes_none, none_taken, IsWaitedFor, AreMeeting}
 use Rattle.tftp_player.proofs.AnsweringEnds.{meeting, offers}
 use Rattle.tftp_player.proofs.SentAgain.{MaySendAgain, retransmits}
@@ -155,10 +154,8 @@ module _ (w new : WorldState) (one other i : ℕ) (x y : OpenEnd) (asked : Asked
     abbrev reads_by : Packet → Action
     reads_by p = reader_action y.state.role.mode asked limit sa (Some p)
 
-    reads_as : (p : Packet) → packet_action y.state sa (Some p) (Waiting asked limit) ≡ reads_by p
-    reads_as p =
-        ap (λ (b : Bool). if b then writer_action y.state.role.mode asked limit y.state.role.length sa (Some p)
-        else reader_action y.state.role.mode asked limit sa (Some p)) receives
+    read_as : (p : Packet) → packet_action y.state sa (Some p) (Waiting asked limit) ≡ reads_by p
+    read_as p = reads_as y.state asked limit sa p receives
 
     -- by DATA 1
     pub by_data : (k : ℕ) (piece : List ℕ) → Spells (Data k piece) bytes_now → Recovers
@@ -202,19 +199,9 @@ module _ (w new : WorldState) (one other i : ℕ) (x y : OpenEnd) (asked : Asked
         subst (λ (b : List ℕ). Spells (Data 1 b) bytes_now) piece_is
         (subst (λ (j : ℕ). Spells (Data j piece) bytes_now) k_is spelled) in
         let bytes_are : bytes_now ≡ data_bytes (0 + 1) own = spelled_own.whole in
-        let within : length own ≤ DEFAULT_BLOCK =
-        let l = block_within text_now st.size fit.positive fit.fits 0 first in omega (arith, l, small) in
         let does : datagram_action y.state sa bytes_now (Some (Data 1 own)) ≡ Store rt 1 =
-        known.waiting_does bytes_now (Data 1 own)
-        ∙ (reads_as (Data 1 own)
-        ∙ (ap
-        (λ (b : Bool).
-        if b then receiver_action true y.state.role.mode [] rt 0 (Some (Data 1 own)) else no_answer)
-        (le-leb (length own) DEFAULT_BLOCK within)
-        ∙ (data_next y.state.role.mode [] rt 0 own
-        ∙ (ap (λ (h : List ℕ). next_action y.state.role.mode h rt (0 + 1) own) (sym held_y)
-        ∙ next_is_stored true one other known.away sa ra st rt x.state.role.mode x.file sp refl same y 0 fit first known.mode_same
-        has_none)))) in
+        data_first one other known.away sa ra st x.state.role.mode x.file sp same fit y asked limit receives
+        known.mode_same held_y has_none bytes_now (known.waiting_does bytes_now (Data 1 own)) in
         let receiver : AwaitsAt true one other known.away sa ra st rt x.state.role.mode x.file sp refl same reads w 0 =
         record {
           x = y;
@@ -248,7 +235,7 @@ module _ (w new : WorldState) (one other i : ℕ) (x y : OpenEnd) (asked : Asked
         let same : rt.size ≡ st.size =
         sym (taken_oack asked kinds.Read y.state.role.mode options limit taken.0 taken.1) ∙ (sym t.size ∙ size_x) in
         let does : datagram_action y.state sa bytes_now (Some (Oack options)) ≡ Respond (Accept rt) =
-        known.waiting_does bytes_now (Oack options) ∙ (reads_as (Oack options) ∙ ap (accept_action sa) taken.1) in
+        known.waiting_does bytes_now (Oack options) ∙ (read_as (Oack options) ∙ ap (accept_action sa) taken.1) in
         let first : 0 < block_count text_now st.size = omega arith in
         let rest = block_count text_now st.size - 1 in
         let counted : 0 + 1 + rest ≡ block_count text_now st.size = omega (arith, first) in
@@ -307,7 +294,7 @@ module _ (w new : WorldState) (one other i : ℕ) (x y : OpenEnd) (asked : Asked
     -- by each first datagram of a server that sends
     pub read_recovers : (p : Packet) → Spells p bytes_now →
         TakesPeer (packet_action y.state sa (Some p) (Waiting asked limit)) → Recovers
-    read_recovers p spelled takes = reads_so p spelled (subst TakesPeer (reads_as p) takes)
+    read_recovers p spelled takes = reads_so p spelled (subst TakesPeer (read_as p) takes)
 
 -- so a read recovers
 pub reads_recover : ReadsRecover

@@ -2,7 +2,7 @@
 -- For the law a_transfer_recovers.
 use Rattle.std.proofs.Common.{◌≡◌, ℕ, ◌+◌, ◌*◌, ◌-◌, ◌<◌, ◌≤◌, suc, zero, Bool, true, false, not, List, [], ◌∷◌, ◌++◌}
 use Rattle.std.proofs.Common.{length, take, Option, Some, None, refl, sym, ap, ◌∙◌, subst, arith, inl, inr}
-use Rattle.std.specs.Prelude.{◌≢◌, ◌⊎◌, ◌&&◌, ◌==◌, if◌then◌else◌, nat_lt, slice_get, option_map}
+use Rattle.std.specs.Prelude.{◌≢◌, ◌⊎◌, if◌then◌else◌, slice_get, option_map}
 use Rattle.std.specs.List.{Contains}
 use Rattle.std.proofs.lemmas.Bool.{true≢false, eq-eqb, cases_eq}
 use Rattle.std.proofs.lemmas.Option.{same_Some}
@@ -23,8 +23,6 @@ use Rattle.tftp_ends.specs.declared.phase.Phase.TheVariants.{Waiting, Sending, R
 use Rattle.tftp_ends.specs.declared.phase.Terms.{Terms}
 use Rattle.tftp_ends.specs.End.{is_sender, is_client, is_complete, outcome_of, number_of, terms_of, size_of}
 use Rattle.tftp_ends.specs.Action.{datagram_action}
-use Rattle.tftp_ends.specs.Receiver.{next_action}
-use Rattle.tftp_ends.specs.Sender.{illegal_action}
 use Rattle.tftp_ends.specs.Step.{ack_bytes, data_bytes}
 use Rattle.tftp_rules.specs.EndKept.{PhaseKept, HeldBackFits}
 use Rattle.tftp_rules.specs.Hosts.{two_hosts}
@@ -40,6 +38,7 @@ use Rattle.tftp_player.specs.WorldKept.{Refines}
 use Rattle.tftp_player.specs.declared.event.Event.TheVariants.{Timeout}
 use Rattle.tftp_player.proofs.NewestKept.{IsNewest, Newest, EndNewest, AllNewest, run_newest, new_newest}
 use Rattle.tftp_player.proofs.RunsLeft.{UnlessReads, IsWilling, IsLeft, GoesOn, Reaches, IsOver, walks, ends_here}
+use Rattle.tftp_player.proofs.OldDatagrams.{data_again, oack_again}
 use Rattle.tftp_player.proofs.StraightActions.{from_peer}
 use Rattle.tftp_player.proofs.StraightRuns.{IsReady, ready_next, stays_at, set_at, SendsAt, AwaitsAt, fit_of}
 use Rattle.tftp_player.proofs.StraightRuns.{awaits_now, ack_ready, ack_sender, ack_receiver, ack_over, from_data}
@@ -316,10 +315,7 @@ module _ (w new : WorldState) (ok : Refines true w) (one other : ℕ) (x y : Ope
         datagram_action y.state sa bytes_now (Some (Data n piece)) ≡ Respond ResendReply
     again_receiving rt k is same =
         from_peer y.state (Receiving rt k) rt sa bytes_now (Data n piece) is refl (rp rt (ap terms_of is))
-        ∙ ap (λ (b : Bool).
-        if b then Respond ResendReply else if nat_lt n k then Respond Ignore else if n == k + 1
-        then next_action y.state.role.mode y.state.position.held_back rt n piece else illegal_action rt)
-        (eq-eqb n k same)
+        ∙ data_again y.state.role.mode y.state.position.held_back rt k n piece same
 
     again_dallying : (rt : Terms) (k : ℕ) (dally : Dally) → phase_y ≡ Dallying rt k dally → n ≡ k →
         datagram_action y.state sa bytes_now (Some (Data n piece)) ≡ Respond ResendReply
@@ -389,10 +385,8 @@ module _ (w new : WorldState) (ok : Refines true w) (one other : ℕ) (x y : Ope
         datagram_action y.state sa bytes_now (Some (Oack others.0)) ≡ Respond ResendReply
     again_oack rt is took =
         from_peer y.state (Receiving rt 0) rt sa bytes_now (Oack others.0) is refl (rp rt (ap terms_of is))
-        ∙ (ap (λ (b : Bool). if b && rt.by_oack then (if 0 == 0 then Respond ResendReply else Respond Ignore)
-        else illegal_action rt) client_y
-        ∙ ap (λ (b : Bool). if b then (if 0 == 0 then Respond ResendReply else Respond Ignore)
-        else illegal_action rt) took)
+        ∙ oack_again (is_client y.state.role.side) y.state.role.mode y.state.position.held_back rt others.0 client_y took 0
+        refl
 
     oack_recovers : (p : Phase) → phase_y ≡ p → Recovers
     oack_recovers (Waiting asked limit) is = none_waits asked limit is

@@ -41,7 +41,7 @@ use Rattle.tftp_ends.specs.declared.action.Action.{Action}
 use Rattle.tftp_ends.specs.declared.action.Action.TheVariants.{Respond, Send}
 use Rattle.tftp_ends.specs.declared.phase.Terms.{Terms}
 use Rattle.tftp_ends.specs.Step.{data_bytes}
-use Rattle.tftp_ends.specs.Waiting.{reader_action, writer_action, default_terms, agreed_terms, no_answer, begin_action}
+use Rattle.tftp_ends.specs.Waiting.{writer_action, default_terms, agreed_terms, no_answer, begin_action}
 use Rattle.tftp_ends.specs.Waiting.{begin_with_action}
 use Rattle.tftp_rules.proofs.SaidLemmas.{taken_oack}
 use Rattle.tftp_rules.proofs.SinkMoves.{text_else}
@@ -49,6 +49,7 @@ use Rattle.tftp_player.specs.Straight.{AllTaken}
 use Rattle.tftp_player.proofs.SentAgain.{MaySendAgain, retransmits}
 use Rattle.tftp_player.proofs.AnsweringEnds.{reached_ok, refused_takes_none, none_taken, client_x, IsWaitedFor}
 use Rattle.tftp_player.proofs.AnsweringEnds.{AreMeeting, meeting, offers, waited_by}
+use Rattle.tftp_player.proofs.FirstAnswers.{writes_as}
 use Rattle.tftp_ends.specs.declared.error_reply.ErrorReply.TheVariants.{FileTooLarge}
 use Rattle.tftp_ends.specs.declared.outcome.Outcome.TheVariants as outcomes
 use Rattle.tftp_player.proofs.WorldRuns.{contains_at}
@@ -146,10 +147,8 @@ module _ (w new : WorldState) (one other i : ℕ) (x y : OpenEnd) (asked : Asked
     abbrev writes_by : Packet → Action
     writes_by p = writer_action y.state.role.mode asked limit y.state.role.length sa (Some p)
 
-    writes_as : (p : Packet) → packet_action y.state sa (Some p) (Waiting asked limit) ≡ writes_by p
-    writes_as p =
-        ap (λ (b : Bool). if b then writer_action y.state.role.mode asked limit y.state.role.length sa (Some p)
-        else reader_action y.state.role.mode asked limit sa (Some p)) sends_y
+    written_as : (p : Packet) → packet_action y.state sa (Some p) (Waiting asked limit) ≡ writes_by p
+    written_as p = writes_as y.state asked limit sa p sends_y
 
     back : one ≢ other
     back e = known.away (sym e)
@@ -211,7 +210,7 @@ module _ (w new : WorldState) (one other i : ℕ) (x y : OpenEnd) (asked : Asked
         sym size_of_x ∙ ((holds w ok).ends sa known.at_x.is_open).plain known.server_x plain in
         begins (Ack k) st spelled
         (known.waiting_does bytes_now (Ack k)
-        ∙ (writes_as (Ack k)
+        ∙ (written_as (Ack k)
         ∙ (ap (λ (b : Bool). if b then begin_action y.state.role.length st else no_answer) h.0 ∙ begins_as st h.1)))
         refl small
 
@@ -227,7 +226,7 @@ module _ (w new : WorldState) (one other i : ℕ) (x y : OpenEnd) (asked : Asked
         ∙ (t.size ∙ taken_oack asked kinds.Write y.state.role.mode options limit h.0 h.1) in
         begins (Oack options) st spelled
         (known.waiting_does bytes_now (Oack options)
-        ∙ (writes_as (Oack options)
+        ∙ (written_as (Oack options)
         ∙ (ap (begin_with_action sa y.state.role.length) h.1 ∙ begins_as st h.2)))
         refl same
 
@@ -243,7 +242,7 @@ module _ (w new : WorldState) (one other i : ℕ) (x y : OpenEnd) (asked : Asked
     -- by each first datagram of a server that receives
     pub write_recovers : (p : Packet) → Spells p bytes_now →
         TakesPeer (packet_action y.state sa (Some p) (Waiting asked limit)) → Writes
-    write_recovers p spelled takes = writes p spelled (subst TakesPeer (writes_as p) takes)
+    write_recovers p spelled takes = writes p spelled (subst TakesPeer (written_as p) takes)
 
 through_back : (old new : WorldState) (one other count : ℕ) → IsOver new other one (length old.sent + count) →
     AreThrough old new one other count

@@ -93,7 +93,7 @@ any_last : (from : Endpoint) (packet : Packet) (ends : List WorldEnd) (x : World
 any_last from packet [] x r = inl r
 any_last from packet (y ∷ ends) x r = inr (any_last from packet ends x r)
 
-sender_repeats :
+pub sender_repeats :
     (w : WorldState) (from : Endpoint) (bytes : List ℕ) (mode : Mode) (path file : List ℕ) (agreed : List Known)
     (packet : Packet) → Spells packet bytes →
     WasAskedBy from packet (sending_end w from bytes mode path file agreed)
@@ -101,7 +101,7 @@ sender_repeats w from bytes mode path file [] packet spells = record { still = r
 sender_repeats w from bytes mode path file (known ∷ agreed) packet spells =
     record { still = refl; peer = refl; same = spells }
 
-receiver_repeats :
+pub receiver_repeats :
     (w : WorldState) (from : Endpoint) (bytes : List ℕ) (mode : Mode) (path : List ℕ) (agreed : List Known)
     (packet : Packet) → Spells packet bytes →
     WasAskedBy from packet (receiving_end w from bytes mode path agreed)

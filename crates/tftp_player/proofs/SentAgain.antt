@@ -1,9 +1,10 @@
 -- An end sends its newest datagram again, or acknowledges again.
 -- For the laws on recovery, and for what ERRORs say (ErrorAnswers).
-use Rattle.std.proofs.Common.{◌≡◌, ℕ, ◌+◌, ◌<◌, ◌≤◌, Bool, true, false, List, [], ◌∷◌, ◌++◌, length, Option, Some}
+use Rattle.std.proofs.Common.{◌≡◌, ℕ, ◌+◌, ◌-◌, ◌<◌, ◌≤◌, Bool, true, false, List, [], ◌∷◌, ◌++◌, length, Option, Some}
 use Rattle.std.proofs.Common.{None, refl, sym, ap, ◌∙◌, subst, arith, inl, inr, length-append}
 use Rattle.std.specs.Prelude.{◌≢◌, ◌⊎◌, ◌==◌, if◌then◌else◌, nat_lt, slice_get, slice_set}
 use Rattle.std.proofs.lemmas.Bool.{ne_eqb, cases_Bool, ltb-true, ltb-false}
+use Rattle.std.proofs.lemmas.List.{append-nil}
 use Rattle.std.proofs.lemmas.Option.{same_Some}
 use Rattle.tftp_wire.specs.declared.limits.TheConstants.{MAX_BLOCK}
 use Rattle.tftp_wire.specs.declared.options.RawOption.{RawOption}
@@ -19,7 +20,7 @@ use Rattle.tftp_file.specs.declared.files.Files.TheVariants.{Source, Sink}
 use Rattle.tftp_ends.specs.declared.action.Action.{Action}
 use Rattle.tftp_ends.specs.declared.action.Action.TheVariants.{Respond}
 use Rattle.tftp_ends.specs.declared.action.Response.{Response}
-use Rattle.tftp_ends.specs.declared.action.Response.TheVariants.{ResendReply, Retransmit, Close}
+use Rattle.tftp_ends.specs.declared.action.Response.TheVariants.{Ignore, ResendReply, Retransmit, Close}
 use Rattle.tftp_ends.specs.declared.outcome.Outcome.{Outcome}
 use Rattle.tftp_ends.specs.declared.outcome.Outcome.TheVariants as outcomes
 use Rattle.tftp_ends.specs.declared.phase.Phase.{Phase}
@@ -42,7 +43,7 @@ use Rattle.tftp_rules.proofs.Indices.{slice_get-push_new}
 use Rattle.tftp_player.specs.declared.datagram.Datagram.{Datagram}
 use Rattle.tftp_player.specs.declared.event.Event.{Event}
 use Rattle.tftp_player.proofs.StraightRuns.{IsReady}
-use Rattle.tftp_player.proofs.WorldRuns.{step_keeps}
+use Rattle.tftp_player.proofs.WorldRuns.{set_same, step_keeps}
 
 -- ---- what bytes say
 abbrev pub second : List ℕ → ℕ
@@ -94,6 +95,11 @@ pub record Again (w v : WorldState) (k : ℕ) (x : OpenEnd) (from : Endpoint) (n
   pub stored : y.stored ≡ x.stored
   pub held_back : y.state.position.held_back ≡ x.state.position.held_back
   pub refuses : y.refuses ≡ x.refuses
+  pub role : y.state.role ≡ x.state.role
+  pub last_sent : y.state.position.last_sent ≡ x.state.position.last_sent
+  pub retries : y.state.position.retries_left ≡ x.state.position.retries_left
+  -- its newest datagram is that ACK
+  pub acks : x.state.position.last_sent ≡ ack_bytes n
 
 -- a reply that is an ACK has the bytes of one
 pub acked_bytes : (n : ℕ) (reply : Option Reply) (to : Endpoint) (bytes : List ℕ) →
@@ -142,6 +148,41 @@ handles_again w v k x from bytes report n packet h spelled is still number =
       stored = refl;
       held_back = refl;
       refuses = refl;
+      role = refl;
+      last_sent = refl;
+      retries = refl;
+      acks = said_again;
+    }
+
+-- ---- an end ignores a datagram: nothing changes
+pub record Ignored (w v : WorldState) : Type 0 where
+  pub sent : v.sent ≡ w.sent
+  pub ends : v.ends ≡ w.ends
+
+pub handles_ignored : (w v : WorldState) (k : ℕ) (x : OpenEnd) (from : Endpoint) (bytes : List ℕ) (report : Report)
+    (packet : Packet) → Handles w k x from bytes report v → Spells packet bytes →
+    datagram_action x.state from bytes (Some packet) ≡ Respond Ignore →
+    outcome_of x.state.position.phase ≡ None → slice_get w.ends k ≡ Some (Open_end x) → Ignored w v
+handles_ignored w v k x from bytes report packet h spelled is still there =
+    let action_is : datagram_action x.state from bytes h.steps.decoded ≡ Respond Ignore =
+    ap (datagram_action x.state from bytes) (decoded_is bytes packet h.steps.decoded spelled h.steps.says) ∙ is in
+    let refuses_commit : Holding → StoreFault → Type 0 =
+    may_refuse_commit (is_client x.state.role.side) (in_the_way w.overwrite (file_at w.files x.path)) in
+    let a =
+    subst
+    (λ (action : Action).
+    Acts memory_source (world_sink refuses_commit) action from bytes x.state (files_of x) h.turn h.held)
+    action_is h.steps.acts in
+    let turn = response_turn Ignore from x.state in
+    record {
+      sent = h.sent
+          ∙ (ap (λ (t : Turn). w.sent ++ replied x.address t.reply) a.0 ∙ append-nil w.sent);
+      ends = h.ends
+          ∙ (ap (λ (t : Turn). slice_set w.ends k (standing (end_after x t h.held))) a.0
+          ∙ (ap (λ (fs : Files (List ℕ) Holding). slice_set w.ends k (standing (end_after x turn fs))) a.1
+          ∙ (ap (λ (u : OpenEnd). slice_set w.ends k (standing u)) (same_with (is_sender x.state.role.side) x)
+          ∙ (ap (λ (o : Option Outcome). slice_set w.ends k (by_outcome o x)) still
+          ∙ set_same w.ends k (Open_end x) there))));
     }
 
 -- ---- an end sends again
@@ -159,6 +200,9 @@ pub record Resent (w v : WorldState) (k : ℕ) (x : OpenEnd) : Type 0 where
   pub held_back : y.state.position.held_back ≡ x.state.position.held_back
   pub last_sent : y.state.position.last_sent ≡ x.state.position.last_sent
   pub refuses : y.refuses ≡ x.refuses
+  pub role : y.state.role ≡ x.state.role
+  pub last_sent_to : y.state.position.last_sent_to ≡ x.state.position.last_sent_to
+  pub retries : y.state.position.retries_left ≡ x.state.position.retries_left - 1
 
 -- it does so at a timeout whose response is to send again
 pub resends : (w v : WorldState) (k : ℕ) (x : OpenEnd) (report : Report) →
@@ -188,6 +232,9 @@ resends w v k x report is still t =
       held_back = refl;
       last_sent = refl;
       refuses = refl;
+      role = refl;
+      last_sent_to = refl;
+      retries = refl;
     }
 
 -- the timeout of the end at an index is its step

@@ -32,7 +32,7 @@ use Rattle.tftp_rules.proofs.StoredTexts.{wire_text-append}
 use Rattle.tftp_player.proofs.HostBytes.{wire_prefix}
 
 -- ---- from whom it is
-same_list : (xs : List ℕ) → pointwise nat_eq xs xs ≡ true
+pub same_list : (xs : List ℕ) → pointwise nat_eq xs xs ≡ true
 same_list [] = refl
 same_list (x ∷ xs) = ap (λ (b : Bool). b && pointwise nat_eq xs xs) (eq-eqb x x refl) ∙ same_list xs
 

@@ -18,7 +18,7 @@ use Rattle.tftp_player.proofs.RunsLeft.{Reaches, reader_ends, writer_ends}
 use Rattle.tftp_player.proofs.StraightPort.{HasAsked, has_asked}
 
 -- strangers may have sent, or may not
-any_of : (strangers : Bool) (w : WorldState) → Refines strangers w → Refines true w
+pub any_of : (strangers : Bool) (w : WorldState) → Refines strangers w → Refines true w
 any_of strangers w ok = record {
   messages = ok.messages;
   shown = ok.shown;

@@ -76,12 +76,12 @@ pub set_at : (w v : WorldState) (k : ℕ) (x y : WorldEnd) → v.ends ≡ slice_
     slice_get v.ends k ≡ Some y
 set_at w v k x y ends there = ap (λ (xs : List WorldEnd). slice_get xs k) ends ∙ slice_get-set_same w.ends k y x there
 
-stored_more_phase : (terms : Terms) (number : ℕ) (l : ℕ) → l ≡ terms.size →
+pub stored_more_phase : (terms : Terms) (number : ℕ) (l : ℕ) → l ≡ terms.size →
     stored_phase terms number (nat_lt l terms.size) ≡ Receiving terms number
 stored_more_phase terms number l e =
     ap (stored_phase terms number) (le-ltb l terms.size (let f : terms.size ≤ l = omega (arith, e) in f))
 
-stored_last_phase : (terms : Terms) (number : ℕ) (l : ℕ) → l < terms.size →
+pub stored_last_phase : (terms : Terms) (number : ℕ) (l : ℕ) → l < terms.size →
     stored_phase terms number (nat_lt l terms.size) ≡ Dallying terms number Fresh
 stored_last_phase terms number l e = ap (stored_phase terms number) (lt-ltb l terms.size e)
 
@@ -155,7 +155,7 @@ module _ (strangers : Bool) (ks kr : ℕ) (apart : kr ≢ ks) (sa ra : Endpoint)
         fits = subst (λ (t : List ℕ). Fits t st.size) (text_of_sender w n ok s) u.fits;
       }
 
-  spelled_at : (n : ℕ) → IsFit → n + 1 ≤ blocks → Spells (Data (n + 1) (piece n)) (data_bytes (n + 1) (piece n))
+  pub spelled_at : (n : ℕ) → IsFit → n + 1 ≤ blocks → Spells (Data (n + 1) (piece n)) (data_bytes (n + 1) (piece n))
   spelled_at n f l = spells_own (Data (n + 1) (piece n)) (valid_data text st.size n f.positive f.small f.fits l)
 
   sender_stays : (w v : WorldState) (n : ℕ) (y : WorldEnd) → v.ends ≡ slice_set w.ends kr y → SendsAt w n → SendsAt v n
@@ -202,7 +202,7 @@ module _ (strangers : Bool) (ks kr : ℕ) (apart : kr ≢ ks) (sa ra : Endpoint)
       (nat_lt (length (piece n)) rt.size) whole
       (λ e. last_rest text st.size f.positive f.fits n (ap (nat_lt (length (piece n))) (sym same_size) ∙ e)))
 
-  receiving_stores : (x : OpenEnd) (n : ℕ) → IsFit → n + 1 ≤ blocks → x.state.position.phase ≡ Receiving rt n →
+  pub receiving_stores : (x : OpenEnd) (n : ℕ) → IsFit → n + 1 ≤ blocks → x.state.position.phase ≡ Receiving rt n →
       x.state.role.mode ≡ mode →
       wire_text x.state.role.mode x.stored ++ x.state.position.held_back ≡ take (n * st.size) text →
       datagram_action x.state sa (data_bytes (n + 1) (piece n)) (Some (Data (n + 1) (piece n))) ≡ Store rt (n + 1)

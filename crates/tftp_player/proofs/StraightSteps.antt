@@ -27,7 +27,7 @@ use Rattle.tftp_ends.specs.declared.phase.Dally.TheVariants.{Fresh}
 use Rattle.tftp_ends.specs.declared.phase.Phase.{Phase}
 use Rattle.tftp_ends.specs.declared.phase.Phase.TheVariants.{Sending, Receiving, Dallying}
 use Rattle.tftp_ends.specs.declared.phase.Terms.{Terms}
-use Rattle.tftp_ends.specs.End.{EndState, is_sender, is_client, outcome_of}
+use Rattle.tftp_ends.specs.End.{EndState, is_progress, is_sender, is_client, outcome_of}
 use Rattle.tftp_ends.specs.Action.{Decodes, datagram_action}
 use Rattle.tftp_ends.specs.Step.{Turn, Done, Acts, Appended, GoesOn, Stores, StoresIn, response_turn, sent_turn}
 use Rattle.tftp_ends.specs.Step.{refused_turn, committed_turn, commit_reply, holding, ack_bytes, data_bytes, after_turn}
@@ -195,6 +195,13 @@ module _ (w v : WorldState) (k : ℕ) (x : OpenEnd) (from : Endpoint) (bytes : L
     pub file : y.file ≡ x.file
     pub mode : y.state.role.mode ≡ x.state.role.mode
     pub side : y.state.role.side ≡ x.state.role.side
+    pub role : y.state.role ≡ x.state.role
+    -- progress restores its retries
+    pub retries : y.state.position.retries_left
+        ≡ (if is_progress x.state.position.phase y.state.position.phase then x.state.role.retries
+        else x.state.position.retries_left)
+    -- what it sent is its newest datagram
+    pub newest : said ≡ datagram x.address y.state.position.last_sent_to y.state.position.last_sent ∷ []
 
   -- ---- a sender sends
   abbrev pub data_turn_at : Terms → ℕ → List ℕ → Turn
@@ -228,6 +235,9 @@ module _ (w v : WorldState) (k : ℕ) (x : OpenEnd) (from : Endpoint) (bytes : L
           file = refl;
           mode = refl;
           side = refl;
+          role = refl;
+          retries = refl;
+          newest = refl;
         },
       )
 
@@ -278,6 +288,9 @@ module _ (w v : WorldState) (k : ℕ) (x : OpenEnd) (from : Endpoint) (bytes : L
           file = refl;
           mode = refl;
           side = refl;
+          role = refl;
+          retries = refl;
+          newest = refl;
         },
         refl,
       )
@@ -391,6 +404,9 @@ module _ (w v : WorldState) (k : ℕ) (x : OpenEnd) (from : Endpoint) (bytes : L
           file = refl;
           mode = refl;
           side = refl;
+          role = refl;
+          retries = refl;
+          newest = refl;
         };
       },
     )

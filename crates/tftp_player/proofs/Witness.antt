@@ -39,7 +39,7 @@ abbrev pub name : List ℕ
 name = 97 ∷ []
 
 abbrev pub config : Config
-config = record { limits = record { max_block = 1428; max_file = 10 }; retries = 1; cap = 1; overwrite = false }
+config = record { limits = record { max_block = 1428; max_file = 10 }; retries = 2; cap = 1; overwrite = false }
 
 -- the options that are requested and agreed, and the file
 pub record Sample : Type 0 where
@@ -124,7 +124,7 @@ is_of_client Read s = refl
 is_of_client Write s = refl
 
 module _ (kind : Kind) (s : Sample) (runs : Runs kind s) where
-  accepted : IsAccepted (asked_world kind s) (client_for kind s) (service_for kind s)
+  pub accepted : IsAccepted (asked_world kind s) (client_for kind s) (service_for kind s)
   accepted = record {
     decoded = Some (packet_in (request_for kind s));
     says = spells (request_for kind s) runs.spelled;

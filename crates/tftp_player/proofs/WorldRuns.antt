@@ -54,7 +54,7 @@ contains_at {X = X} (y ∷ ys) zero x e =
     subst (λ (z : X). Contains (y ∷ ys) z) (same_Some y x e) (Contains-append_left (y ∷ []) ys y (Contains-push [] y))
 contains_at {X = X} (y ∷ ys) (suc k) x e = Contains-append_right (y ∷ []) ys x (contains_at ys k x e)
 
-set_same : {X : Type 0} (xs : List X) (k : ℕ) (x : X) → slice_get xs k ≡ Some x → set xs k x ≡ xs
+pub set_same : {X : Type 0} (xs : List X) (k : ℕ) (x : X) → slice_get xs k ≡ Some x → set xs k x ≡ xs
 set_same {X = X} [] k x e = refl
 set_same {X = X} (y ∷ ys) zero x e = ap (λ (z : X). z ∷ ys) (sym (same_Some y x e))
 set_same {X = X} (y ∷ ys) (suc k) x e = ap (λ (zs : List X). y ∷ zs) (set_same ys k x e)
