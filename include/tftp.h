@@ -25,7 +25,7 @@
  *   gave, and the library uses no other. They align to 16: the fields of an end would be at addresses that
  *   no such field has. A null from malloc or realloc is reported as TFTP_MEMORY, and nothing has changed,
  *   in no struct and no buffer, except that an opening closes what its end held before; a call that
- *   returns a length returns 0. An end has a block of 128 bytes, one for the datagram that it sent
+ *   returns a length returns 0. An end has a block of 144 bytes, one for the datagram that it sent
  *   last, which a timeout sends again, and, if it sends a file or receives netascii, one for the block
  *   at hand. So tftp_get asks for memory twice and tftp_put three times, whatever the options are, and
  *   no later call of that end does, but a get in netascii at its first block, once. A server's end
@@ -44,8 +44,8 @@
  * - What is longer than its buffer. A datagram that was cut is taken for a shorter one: have room for one
  *   byte more than the longest that may come, which is TFTP_HEADER and a block.
  *
- * The structs are final, except struct tftp_options, which states its size: a later version may add fields
- * at its end, and still takes the sizes of earlier ones.
+ * The structs are final, except struct tftp_options and struct tftp_info, which state their sizes: a later
+ * version may add fields at their ends, and still takes the sizes of earlier ones.
  */
 #ifndef TFTP_H
 #define TFTP_H
@@ -122,7 +122,8 @@ enum {
     TFTP_NO_TRANSFER = 9,      /* the server has no open transfer of this number that receives, or that
                                   sends; or the request opens none */
     TFTP_IN_USE = 10,          /* the server has a transfer of this number */
-    TFTP_BAD_OPTIONS = 11      /* the options have no size: they did not begin as TFTP_OPTIONS_INIT */
+    TFTP_BAD_OPTIONS = 11      /* the options or the info have no size: they did not begin as
+                                  TFTP_OPTIONS_INIT or TFTP_INFO_INIT */
 };
 
 /* tftp_event.outcome: 0 while the transfer goes on. */
@@ -180,6 +181,18 @@ struct tftp_event {
     bool complete;             /* whether the whole file was stored, or acknowledged. A receiver goes on
                                   until `outcome`, to repeat its last ACK if that was lost */
 };
+
+/* What an end and its peer have agreed. It begins as TFTP_INFO_INIT: all bytes zero are refused as
+ * TFTP_BAD_OPTIONS. */
+struct tftp_info {
+    size_t size;               /* of this struct */
+    uint64_t length;           /* the length of the file that was answered (`tsize`, RFC 2349), in bytes of wire
+                                  text, or 0 */
+    uint8_t timeout;           /* the agreed timeout in seconds (RFC 2349), or 0: none */
+    bool has_length;           /* whether a length was answered: a file may have 0 bytes */
+};
+
+#define TFTP_INFO_INIT {sizeof(struct tftp_info), 0, 0, false}
 
 /* One end of a transfer. All bytes zero: closed. */
 struct tftp_end {
@@ -267,6 +280,12 @@ uint8_t tftp_timeout(struct tftp_end *end, uint8_t *reply, size_t reply_len,
 TFTP_CHECKED TFTP_NONNULL(1, 7)
 uint8_t tftp_abort(struct tftp_end *end, uint16_t code, const uint8_t *text, size_t text_len,
                    uint8_t *reply, size_t reply_len, struct tftp_event *event);
+
+/* Reports what the end and its peer have agreed: a client's from the answer that made its peer known, a
+ * server's end's from its opening, also once the transfer is over. The agreed block size is
+ * event.block_size. After a fault, which is TFTP_BAD_OPTIONS or TFTP_NOT_OPEN, `info` is unchanged. */
+TFTP_CHECKED TFTP_NONNULL(1, 2)
+uint8_t tftp_end_info(struct tftp_end *end, struct tftp_info *info);
 
 /* tftp_close of an end that is not NULL: the symbol of the library, for callers without this header. */
 TFTP_NONNULL(1)
@@ -460,7 +479,7 @@ static inline const char *tftp_strfault(uint8_t fault) {
     case TFTP_NO_SOURCE: return "the first block is not there";
     case TFTP_NO_TRANSFER: return "no such transfer is open";
     case TFTP_IN_USE: return "a transfer has this number";
-    case TFTP_BAD_OPTIONS: return "the options did not begin as TFTP_OPTIONS_INIT";
+    case TFTP_BAD_OPTIONS: return "the options or the info have no size";
     default: return "unknown fault";
     }
 }

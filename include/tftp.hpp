@@ -10,6 +10,7 @@
 #include "tftp.h"
 #include <cstddef>
 #include <cstdint>
+#include <optional>
 #include <string_view>
 #include <utility>
 
@@ -17,6 +18,7 @@ namespace tftp {
 
 using Endpoint = tftp_endpoint;
 using Event = tftp_event;
+using Info = tftp_info;
 using Packet = tftp_packet;
 using Question = tftp_question;
 
@@ -117,6 +119,12 @@ public:
     }
     [[nodiscard]] Fault abort(uint16_t code, View why, Room reply) noexcept {
         return fault(tftp_abort(&end_, code, why.data, why.size, reply.data, reply.size, &event_));
+    }
+    // What the end and its peer have agreed, if it is open.
+    std::optional<Info> info() noexcept {
+        Info info = TFTP_INFO_INIT;
+        if (tftp_end_info(&end_, &info) != TFTP_OK) return std::nullopt;
+        return info;
     }
 
 private:

@@ -4,7 +4,7 @@
 The types are those of include/tftp.h: it is compiled with each call as an empty function, with debugging information,
 and abidiff compares that with packaging/libtftp1.abi, which --write makes anew for a release. The names are those of
 packaging/libtftp.map: the header declares each of them and no other, and the library that was built has each of them and
-no other. The header, the files for pkg-config and CMake, and the crate for Rust state one version. Says what was skipped: the comparison of types where abidiff is not installed, the library where it is not built.
+no other. The manual names each call, constant and field of the header. The header, the files for pkg-config and CMake, and the crate for Rust state one version. Says what was skipped: the comparison of types where abidiff is not installed, the library where it is not built.
 """
 import re
 import shutil
@@ -52,6 +52,17 @@ def versions() -> set[str]:
     return found
 
 
+def unnamed() -> list[str]:
+    """What the header has and the manual does not name."""
+    header = re.sub(r"/\*.*?\*/", "", (TOP / "include/tftp.h").read_text(), flags=re.S)
+    manual = {*re.findall(r"\w+", (TOP / "man/tftp.3").read_text())}
+    calls = re.findall(r"\b(tftp_\w+)\(", header)
+    constants = re.findall(r"^ +(TFTP_\w+) = ", header, re.M)
+    fields = re.findall(r"^    (?:u?int\d+_t|size_t|bool|void|struct \w+) ([^(){};]*);", header, re.M)
+    named = [name for line in fields for name in re.findall(r"[a-z]\w*", line)]
+    return sorted({*calls, *constants, *named} - manual)
+
+
 def compared(empty, room, writes) -> str:
     """What differs from the last release."""
     if writes:
@@ -65,6 +76,8 @@ def main() -> None:
     faults, skipped = [], []
     if len(versions()) != 1:
         faults.append(f"more than one version is stated: {sorted(versions())}")
+    if unnamed():
+        faults.append(f"the manual does not name {', '.join(unnamed())}")
     if not shutil.which("cc") or not shutil.which("nm"):
         print("library's interface: skipped: no C compiler")
         return

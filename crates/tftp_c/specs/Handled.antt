@@ -71,3 +71,14 @@ abbrev pub OnEnd : Option Client → Option Client → (EndState → EndState �
 OnEnd None after does = after ≡ None
 OnEnd (Some c) None does = ⊥
 OnEnd (Some c) (Some d) does = does c.end d.end
+
+-- the same, of the client with what it knows
+abbrev pub OnClient : Option Client → Option Client → (Client → Client → Type 0) → Type 0
+OnClient None after does = after ≡ None
+OnClient (Some c) None does = ⊥
+OnClient (Some c) (Some d) does = does c d
+
+-- a handle holds a client of which this holds
+abbrev pub HoldsClient : Option Client → (Client → Type 0) → Type 0
+HoldsClient None holds = ⊥
+HoldsClient (Some c) holds = holds c

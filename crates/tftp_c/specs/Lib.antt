@@ -3,6 +3,8 @@ pub mod Built
 pub mod Elsewhere
 pub mod Faults
 pub mod Handled
+pub mod Informed
+pub mod Lending
 pub mod Listed
 pub mod Modes
 pub mod Options

@@ -1,4 +1,4 @@
-//! What a handle holds: an end, which its calls change.
+//! What a handle holds: an end, which its calls change, and what its peer stated.
 
 use tftp_ends::End;
 
@@ -6,4 +6,6 @@ use tftp_ends::End;
 #[derive(Drop)]
 pub struct Client {
     pub(crate) end: End,
+    /// The length of the file that the answer to its request stated (`tsize`).
+    pub(crate) stated: Option<u64>,
 }

@@ -1,6 +1,7 @@
 //! What crosses to C by value.
 
 ghost use Rattle.std.specs.Prelude.{◌↔◌, IsTrue};
+ghost use Rattle.tftp_c.specs.Informed.{HasInfoSize};
 ghost use Rattle.tftp_c.specs.Options.{HasSize};
 
 /// The numbers that the calls return: 0 is success.
@@ -31,6 +32,9 @@ pub(crate) const ABORTED: u8 = 10;
 
 /// The size of [`TftpOptions`] in bytes, which its field `size` states.
 pub(crate) const OPTIONS_SIZE: usize = 24;
+
+/// The size of [`TftpInfo`] in bytes, which its field `size` states.
+pub(crate) const INFO_SIZE: usize = 24;
 
 /// What a server asks its caller for: to open a file that is read, or to begin one that is written.
 pub(crate) const WANTS_OPEN: u8 = 1;
@@ -95,6 +99,28 @@ pub struct TftpEvent {
     pub progress: bool,
     /// Whether the whole file was stored, or acknowledged.
     pub complete: bool,
+}
+
+/// What an end and its peer have agreed.
+#[repr(C)]
+#[derive(Clone, Copy)]
+pub struct TftpInfo {
+    /// The size of this struct where the caller was compiled: a later one has further fields.
+    pub size: usize,
+    /// The length of the file that was answered (`tsize`), in bytes of wire text, or 0.
+    pub length: u64,
+    /// The agreed timeout in seconds, or 0.
+    pub timeout: u8,
+    pub has_length: bool,
+}
+
+impl TftpInfo {
+    /// Whether the caller has set the size: then it knows these fields, and no other.
+    pub(crate) fn has_size(&self) -> bool
+        ensures { IsTrue result ↔ HasInfoSize self.now }
+    {
+        self.size == INFO_SIZE
+    }
 }
 
 /// What a server asks its caller for a datagram at its request port.

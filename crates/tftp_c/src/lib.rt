@@ -15,6 +15,7 @@ mod event;
 mod handle;
 mod held_server;
 mod holding;
+mod informing;
 mod loose;
 mod opening;
 mod options;
@@ -46,17 +47,18 @@ ghost use Rattle.tftp_wire.specs.Options.{option_bytes};
 ghost use Rattle.tftp_ends.specs.Opening.{MayGet, MayPut};
 ghost use Rattle.tftp_c.specs.Aborted.{AbortRefused, AbortsOpen, OnRecord};
 ghost use Rattle.tftp_c.specs.Built.{BuildsRequest};
-ghost use Rattle.tftp_c.specs.Handled.{OnEnd, Received, Sent, TimedOut};
+ghost use Rattle.tftp_c.specs.Handled.{HoldsClient, OnClient, OnEnd, Received, Sent, TimedOut};
+ghost use Rattle.tftp_c.specs.Informed.{InfoFault, Informs};
 ghost use Rattle.tftp_c.specs.Listed.{option_at, option_named, WritesOption};
 ghost use Rattle.tftp_c.specs.Faults.{GetFault, PutFault, ServeGetFault, ServePutFault};
 ghost use Rattle.tftp_c.specs.Opens.{asked_of, gets, mode_of, puts, Opens};
 ghost use Rattle.tftp_c.specs.Options.{HasSize};
 ghost use Rattle.tftp_c.specs.ServerOpens.{HoldsSuch, ServesGet, ServesPut};
 ghost use Rattle.tftp_c.specs.Shown.{Shows};
-ghost use Rattle.tftp_c.specs.Stated.{States, StatesNone};
+ghost use Rattle.tftp_c.specs.Stated.{KnowsFirst, LearnsFrom, States, StatesNone};
 
 use crate::error::write_error;
-use crate::event::{TftpEndpoint, TftpEvent, TftpOptions, TftpQuestion};
+use crate::event::{TftpEndpoint, TftpEvent, TftpInfo, TftpOptions, TftpQuestion};
 use crate::handle::TftpEnd;
 use crate::packet::{TftpPacket, decode};
 use crate::samples::TftpSizes;
@@ -90,6 +92,8 @@ pub extern "C" fn tftp_get(
 ) -> u8
     ensures ok { result ≡ 0 → Opens end.new.slot.value (gets server.now name.now options.now)
         server.now request.new event.new }
+    ensures unstated { result ≡ 0
+        → HoldsClient end.new.slot.value (λ c. c.stated ≡ None) }
     ensures allowed { result ≡ 0 → HasSize options.now
         × MayGet name.now (mode_of options.now) (asked_of options.now 0) }
     ensures fault { (result ≡ 0 → ⊥) → GetFault name.now options.now result }
@@ -122,6 +126,8 @@ pub extern "C" fn tftp_put(
 ) -> u8
     ensures ok { result ≡ 0 → Opens end.new.slot.value
         (puts server.now name.now length options.now) server.now request.new event.new }
+    ensures unstated { result ≡ 0
+        → HoldsClient end.new.slot.value (λ c. c.stated ≡ None) }
     ensures allowed { result ≡ 0 → HasSize options.now
         × MayPut name.now (mode_of options.now) (asked_of options.now length) length }
     ensures fault { (result ≡ 0 → ⊥) → PutFault name.now length options.now result }
@@ -143,7 +149,6 @@ pub extern "C" fn tftp_put(
 /// and the datagram to send to `reply`.
 #[unsafe(no_mangle)]
 pub extern "C" fn tftp_receive(
-    alloc: Global,
     end: &mut TftpEnd,
     from: &TftpEndpoint,
     datagram: &[u8],
@@ -153,26 +158,22 @@ pub extern "C" fn tftp_receive(
 ) -> u8
     ensures ok { OnEnd end.old.slot.value end.new.slot.value (λ before e. result ≡ 0
         → Received from.now datagram.now before e file.old file.new reply.new event.new) }
-    ensures err { (result ≡ 0 → ⊥)
-        → OnEnd end.old.slot.value end.new.slot.value (λ before e. e ≡ before) }
+    ensures learns { OnClient end.old.slot.value end.new.slot.value (λ c d. result ≡ 0
+        → LearnsFrom datagram.now c d) }
+    ensures err { (result ≡ 0 → ⊥) → end.new.slot.value ≡ end.old.slot.value }
     ensures unmoved { (result ≡ 0 → ⊥) → event.new ≡ event.old }
     ensures none { end.old.slot.value ≡ None → result ≡ 1 }
 {
-    match end.take(alloc) {
-        Some(mut held) => {
-            let answer = stepping::receive(&mut held.end, from, datagram, file, reply, event);
-            end.put(held);
-            answer
-        }
-        None => event::NOT_OPEN,
+    if !end.is_open() {
+        return event::NOT_OPEN;
     }
+    stepping::receive(end.slot.client(), from, datagram, file, reply, event)
 }
 
 /// Handles a datagram at a sender: it takes what it sends from the start of `next`, the next bytes
 /// of the file, and writes the datagram to send to `reply`.
 #[unsafe(no_mangle)]
 pub extern "C" fn tftp_send(
-    alloc: Global,
     end: &mut TftpEnd,
     from: &TftpEndpoint,
     datagram: &[u8],
@@ -182,44 +183,33 @@ pub extern "C" fn tftp_send(
 ) -> u8
     ensures ok { OnEnd end.old.slot.value end.new.slot.value (λ before e. result ≡ 0
         → Sent from.now datagram.now before e next.now reply.new event.new) }
-    ensures err { (result ≡ 0 → ⊥)
-        → OnEnd end.old.slot.value end.new.slot.value (λ before e. e ≡ before) }
+    ensures learns { OnClient end.old.slot.value end.new.slot.value (λ c d. result ≡ 0
+        → LearnsFrom datagram.now c d) }
+    ensures err { (result ≡ 0 → ⊥) → end.new.slot.value ≡ end.old.slot.value }
     ensures unmoved { (result ≡ 0 → ⊥) → event.new ≡ event.old }
     ensures none { end.old.slot.value ≡ None → result ≡ 1 }
 {
-    match end.take(alloc) {
-        Some(mut held) => {
-            let answer = stepping::send(&mut held.end, from, datagram, next, reply, event);
-            end.put(held);
-            answer
-        }
-        None => event::NOT_OPEN,
+    if !end.is_open() {
+        return event::NOT_OPEN;
     }
+    stepping::send(end.slot.client(), from, datagram, next, reply, event)
 }
 
 /// Delivers a timeout.
 #[unsafe(no_mangle)]
-pub extern "C" fn tftp_timeout(
-    alloc: Global,
-    end: &mut TftpEnd,
-    reply: &mut [u8],
-    event: &mut TftpEvent,
-) -> u8
+pub extern "C" fn tftp_timeout(end: &mut TftpEnd, reply: &mut [u8], event: &mut TftpEvent) -> u8
     ensures ok { OnEnd end.old.slot.value end.new.slot.value (λ before e. result ≡ 0
         → TimedOut before e reply.new event.new) }
-    ensures err { (result ≡ 0 → ⊥)
-        → OnEnd end.old.slot.value end.new.slot.value (λ before e. e ≡ before) }
+    ensures stated { OnClient end.old.slot.value end.new.slot.value (λ c d.
+        d.stated ≡ c.stated) }
+    ensures err { (result ≡ 0 → ⊥) → end.new.slot.value ≡ end.old.slot.value }
     ensures unmoved { (result ≡ 0 → ⊥) → event.new ≡ event.old }
     ensures none { end.old.slot.value ≡ None → result ≡ 1 }
 {
-    match end.take(alloc) {
-        Some(mut held) => {
-            let answer = stepping::time_out(&mut held.end, reply, event);
-            end.put(held);
-            answer
-        }
-        None => event::NOT_OPEN,
+    if !end.is_open() {
+        return event::NOT_OPEN;
     }
+    stepping::time_out(end.slot.client(), reply, event)
 }
 
 /// Ends the transfer by an ERROR, which is written to `reply` for the peer, and closes the end.
@@ -240,24 +230,39 @@ pub extern "C" fn tftp_abort(
     ensures closed { result ≡ 0 → end.new.slot.value ≡ None }
     ensures fault { (result ≡ 0 → ⊥) → (end.old.slot.value ≡ None)
         ⊎ OnRecord end.old.slot.value (λ r. AbortRefused 4 r text.now result) }
-    ensures err { (result ≡ 0 → ⊥)
-        → OnEnd end.old.slot.value end.new.slot.value (λ before e. e ≡ before) }
+    ensures err { (result ≡ 0 → ⊥) → end.new.slot.value ≡ end.old.slot.value }
     ensures unmoved { (result ≡ 0 → ⊥) → (event.new ≡ event.old) × (reply.new ≡ reply.old) }
     ensures none { end.old.slot.value ≡ None → result ≡ 1 }
 {
-    match end.take(alloc) {
-        Some(held) => {
-            let state = held.end.record();
-            match aborting::abort(alloc, &state, code, text, reply, event) {
-                Ok(()) => 0,
-                Err(fault) => {
-                    end.put(held);
-                    aborting::number(fault, event::CLOSED)
-                }
-            }
-        }
-        None => event::NOT_OPEN,
+    if !end.is_open() {
+        return event::NOT_OPEN;
     }
+    let state = end.slot.client().end.record();
+    match aborting::abort(alloc, &state, code, text, reply, event) {
+        Ok(()) => {
+            end.close(alloc);
+            0
+        }
+        Err(fault) => aborting::number(fault, event::CLOSED),
+    }
+}
+
+/// Reports what the end and its peer have agreed. After a fault `info` is unchanged.
+#[unsafe(no_mangle)]
+pub extern "C" fn tftp_end_info(end: &mut TftpEnd, info: &mut TftpInfo) -> u8
+    ensures ok { result ≡ 0 → HoldsClient end.old.slot.value (λ c. Informs c info.new) }
+    ensures fault { (result ≡ 0 → ⊥) → InfoFault end.old.slot.value info.old result }
+    ensures same { end.new.slot.value ≡ end.old.slot.value }
+    ensures unmoved { (result ≡ 0 → ⊥) → info.new ≡ info.old }
+{
+    if !info.has_size() {
+        return event::BAD_OPTIONS;
+    }
+    if !end.is_open() {
+        return event::NOT_OPEN;
+    }
+    *info = informing::info(end.slot.client());
+    0
 }
 
 /// Closes the end and frees its memory, if there is one. `tftp_close` of `tftp.h` calls it, which
@@ -285,6 +290,7 @@ pub extern "C" fn tftp_serve_get(
 ) -> u8
     ensures ok { result ≡ 0 → HoldsSuch end.new.slot.value (λ e. ServesGet client.now request.now
         length next.now options.now e reply.new event.new) }
+    ensures stated { result ≡ 0 → HoldsClient end.new.slot.value KnowsFirst }
     ensures allowed { result ≡ 0 → HasSize options.now }
     ensures fault { (result ≡ 0 → ⊥)
         → ServeGetFault request.now length next.now options.now result }
@@ -315,6 +321,7 @@ pub extern "C" fn tftp_serve_put(
 ) -> u8
     ensures ok { result ≡ 0 → HoldsSuch end.new.slot.value (λ e. ServesPut client.now request.now
         options.now e reply.new event.new) }
+    ensures stated { result ≡ 0 → HoldsClient end.new.slot.value KnowsFirst }
     ensures allowed { result ≡ 0 → HasSize options.now }
     ensures fault { (result ≡ 0 → ⊥) → ServePutFault request.now options.now result }
     ensures err { (result ≡ 0 → ⊥) → end.new.slot.value ≡ None }
@@ -446,6 +453,7 @@ pub extern "C" fn tftp_samples(
     event: &mut TftpEvent,
     packet: &mut TftpPacket,
     question: &mut TftpQuestion,
+    info: &mut TftpInfo,
     sizes: &mut TftpSizes,
 ) {
     *endpoint = samples::endpoint();
@@ -453,5 +461,6 @@ pub extern "C" fn tftp_samples(
     *event = samples::event(samples::endpoint());
     *packet = samples::packet();
     *question = samples::question();
+    *info = samples::info();
     *sizes = samples::sizes();
 }

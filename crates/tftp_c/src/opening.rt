@@ -1,6 +1,6 @@
 //! How a client opens for C.
 
-ghost use Rattle.std.specs.Prelude.{◌≡◌, IfOk, IfErr, OnOk, OnErr, Some};
+ghost use Rattle.std.specs.Prelude.{◌≡◌, IfOk, IfErr, None, OnOk, OnErr, Some};
 ghost use Rattle.tftp_ends.specs.Opening.{MayGet, MayPut, getting, putting};
 ghost use Rattle.tftp_c.specs.Faults.{open_fault, GetFault, GetRefused, PutFault, PutRefused};
 ghost use Rattle.tftp_c.specs.Opens.{asked_of, gets, mode_of, puts, Opened};
@@ -81,13 +81,14 @@ fn open_get(
 ) -> Result<Box<Client>, OpenFault>
     ensures ok { IfOk result (λ c. c.value.end ≡ getting to name.now (mode_of options.now)
         (asked_of options.now 0) options.now.max_file options.now.retries) }
+    ensures unstated { IfOk result (λ c. c.value.stated ≡ None) }
     ensures allowed { OnOk result
         (MayGet name.now (mode_of options.now) (asked_of options.now 0)) }
     ensures err { IfErr result (GetRefused name.now options.now) }
 {
     let asked = asked(options, 0);
     match End::open_get(alloc, to, name, mode(options), &asked, &config(options)) {
-        Ok(end) => match Box::new(alloc, Client { end }) {
+        Ok(end) => match Box::new(alloc, Client { end, stated: None }) {
             Ok(client) => Ok(client),
             Err(_) => Err(OpenFault::Memory),
         },
@@ -105,6 +106,7 @@ fn open_put(
 ) -> Result<Box<Client>, OpenFault>
     ensures ok { IfOk result (λ c. c.value.end ≡ putting to name.now (mode_of options.now)
         (asked_of options.now length) length options.now.max_file options.now.retries) }
+    ensures unstated { IfOk result (λ c. c.value.stated ≡ None) }
     ensures allowed { OnOk result
         (MayPut name.now (mode_of options.now) (asked_of options.now length) length) }
     ensures err { IfErr result (PutRefused name.now length options.now) }
@@ -112,7 +114,7 @@ fn open_put(
     let asked = asked(options, length);
     let config = config(options);
     match End::open_put(alloc, to, name, mode(options), &asked, length, &config) {
-        Ok(end) => match Box::new(alloc, Client { end }) {
+        Ok(end) => match Box::new(alloc, Client { end, stated: None }) {
             Ok(client) => Ok(client),
             Err(_) => Err(OpenFault::Memory),
         },
@@ -142,6 +144,7 @@ pub(crate) fn get(
 ) -> Result<Box<Client>, u8>
     ensures ok { IfOk result (λ c. Opened c.value.end (gets server.now name.now options.now)
         server.now request.new event.new) }
+    ensures unstated { IfOk result (λ c. c.value.stated ≡ None) }
     ensures allowed { OnOk result (HasSize options.now
         × MayGet name.now (mode_of options.now) (asked_of options.now 0)) }
     ensures err { IfErr result (GetFault name.now options.now) }
@@ -172,6 +175,7 @@ pub(crate) fn put(
 ) -> Result<Box<Client>, u8>
     ensures ok { IfOk result (λ c. Opened c.value.end (puts server.now name.now length options.now)
         server.now request.new event.new) }
+    ensures unstated { IfOk result (λ c. c.value.stated ≡ None) }
     ensures allowed { OnOk result (HasSize options.now
         × MayPut name.now (mode_of options.now) (asked_of options.now length) length) }
     ensures err { IfErr result (PutFault name.now length options.now) }

@@ -1,12 +1,11 @@
 //! What the calls report to C.
 
 ghost use Rattle.std.specs.Prelude.{◌≡◌, ◌≤◌, Some, length, take, option_map};
-ghost use Rattle.tftp_ends.specs.Step.{lent};
-ghost use Rattle.tftp_c.specs.Reports.{endpoint_of, outcome_number, peer_code, Reports};
+ghost use Rattle.tftp_c.specs.Reports.{endpoint_of, outcome_number, peer_code};
 ghost use Rattle.tftp_c.specs.Reports.{ReportsRecord, Sends};
 
 use crate::event::{TftpEndpoint, TftpEvent};
-use tftp_ends::{End, Endpoint, Outcome, Outgoing, Record, Step};
+use tftp_ends::{Endpoint, Outcome, Record, Step};
 
 pub(crate) fn endpoint(at: &TftpEndpoint) -> Endpoint
     ensures { result ≡ endpoint_of at.now }
@@ -83,30 +82,6 @@ pub(crate) fn report_record(
     event.block_size = state.size;
     event.outcome = outcome_number(state.outcome);
     event.peer_code = peer_code(state.outcome);
-}
-
-/// Reports a step of an end, and copies the datagram to send.
-pub(crate) fn report(
-    end: &End,
-    step: Step,
-    outgoing: Outgoing,
-    reply: &mut [u8],
-    file_len: usize,
-    event: &mut TftpEvent,
-)
-    ensures sends { Sends step.to (lent outgoing end.now) reply.new event.new }
-    ensures file { event.new.file_len ≡ file_len }
-    ensures progress { event.new.progress ≡ step.progress }
-    ensures reports { Reports end.now event.new }
-{
-    report_record(
-        &end.record(),
-        step,
-        end.bytes_of(outgoing),
-        reply,
-        file_len,
-        event,
-    );
 }
 
 /// Reports an opening, and copies its first datagram, which is for `to`.

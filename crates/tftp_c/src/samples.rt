@@ -3,7 +3,9 @@
 
 ghost use Rattle.std.specs.Prelude.{◌≡◌, [], ◌∷◌, true, false};
 
-use crate::event::{OPTIONS_SIZE, TftpEndpoint, TftpEvent, TftpOptions, TftpQuestion};
+use crate::event::{
+    INFO_SIZE, OPTIONS_SIZE, TftpEndpoint, TftpEvent, TftpInfo, TftpOptions, TftpQuestion,
+};
 use crate::handle::TftpEnd;
 use crate::packet::TftpPacket;
 use crate::server_handle::TftpServer;
@@ -19,6 +21,7 @@ pub struct TftpSizes {
     pub end: u8,
     pub question: u8,
     pub server: u8,
+    pub info: u8,
 }
 
 const _: () = prove!(size_of::<TftpEndpoint>() == 6);
@@ -34,6 +37,8 @@ const _: () = prove!(size_of::<TftpEnd>() == 16);
 const _: () = prove!(size_of::<TftpQuestion>() == 24);
 
 const _: () = prove!(size_of::<TftpServer>() == 16);
+
+const _: () = prove!(size_of::<TftpInfo>() == INFO_SIZE);
 
 pub(crate) fn endpoint() -> TftpEndpoint
     ensures ip { result.ip ≡ 1 ∷ 2 ∷ 3 ∷ 4 ∷ [] }
@@ -129,6 +134,17 @@ pub(crate) fn question() -> TftpQuestion
     }
 }
 
+pub(crate) fn info() -> TftpInfo
+    ensures { result ≡ record { size = 32; length = 29; timeout = 30; has_length = true } }
+{
+    TftpInfo {
+        size: 32,
+        length: 29,
+        timeout: 30,
+        has_length: true,
+    }
+}
+
 pub(crate) fn sizes() -> TftpSizes
     ensures { result ≡ record {
       endpoint = 6;
@@ -138,6 +154,7 @@ pub(crate) fn sizes() -> TftpSizes
       end = 16;
       question = 24;
       server = 16;
+      info = 24;
     } }
 {
     TftpSizes {
@@ -148,5 +165,6 @@ pub(crate) fn sizes() -> TftpSizes
         end: 16,
         question: 24,
         server: 16,
+        info: 24,
     }
 }

@@ -63,22 +63,11 @@ pub extern "C" fn tftp_server_request(
     ensures unmoved { (result ≡ 0 → ⊥) → question.new ≡ question.old }
     ensures none { server.old.slot.value ≡ None → result ≡ 1 }
 {
-    match server.take(alloc) {
-        Some(held) => {
-            let answer = asking::request(
-                alloc,
-                &held.server,
-                from,
-                datagram,
-                name,
-                reply,
-                question,
-            );
-            server.put(held);
-            answer
-        }
-        None => event::NOT_OPEN,
+    if !server.is_open() {
+        return event::NOT_OPEN;
     }
+    let held = server.slot.server();
+    asking::request(alloc, &held.server, from, datagram, name, reply, question)
 }
 
 /// Opens a transfer for a read request: the file has `length` bytes, of which `next` are the first.
@@ -106,16 +95,11 @@ pub extern "C" fn tftp_server_get(
     ensures unmoved { (result ≡ 0 → ⊥) → (event.new ≡ event.old) × (reply.new ≡ reply.old) }
     ensures none { server.old.slot.value ≡ None → result ≡ 1 }
 {
-    match server.take(alloc) {
-        Some(mut held) => {
-            let answer = holding::get(
-                alloc, &mut held, tid, from, request, length, next, reply, event,
-            );
-            server.put(held);
-            answer
-        }
-        None => event::NOT_OPEN,
+    if !server.is_open() {
+        return event::NOT_OPEN;
     }
+    let held = server.slot.server();
+    holding::get(alloc, held, tid, from, request, length, next, reply, event)
 }
 
 /// Opens a transfer for a write request.
@@ -139,20 +123,16 @@ pub extern "C" fn tftp_server_put(
     ensures unmoved { (result ≡ 0 → ⊥) → (event.new ≡ event.old) × (reply.new ≡ reply.old) }
     ensures none { server.old.slot.value ≡ None → result ≡ 1 }
 {
-    match server.take(alloc) {
-        Some(mut held) => {
-            let answer = holding::put(alloc, &mut held, tid, from, request, reply, event);
-            server.put(held);
-            answer
-        }
-        None => event::NOT_OPEN,
+    if !server.is_open() {
+        return event::NOT_OPEN;
     }
+    let held = server.slot.server();
+    holding::put(alloc, held, tid, from, request, reply, event)
 }
 
 /// Handles a datagram at the transfer with the identifier, as `tftp_receive`.
 #[unsafe(no_mangle)]
 pub extern "C" fn tftp_server_receive(
-    alloc: Global,
     server: &mut TftpServer,
     tid: u16,
     from: &TftpEndpoint,
@@ -172,28 +152,16 @@ pub extern "C" fn tftp_server_receive(
     ensures unmoved { (result ≡ 0 → ⊥) → event.new ≡ event.old }
     ensures none { server.old.slot.value ≡ None → result ≡ 1 }
 {
-    match server.take(alloc) {
-        Some(mut held) => {
-            let answer = transfers::receive(
-                &mut held.server,
-                tid,
-                from,
-                datagram,
-                file,
-                reply,
-                event,
-            );
-            server.put(held);
-            answer
-        }
-        None => event::NOT_OPEN,
+    if !server.is_open() {
+        return event::NOT_OPEN;
     }
+    let held = server.slot.server();
+    transfers::receive(&mut held.server, tid, from, datagram, file, reply, event)
 }
 
 /// Handles a datagram at the transfer with the identifier, as `tftp_send`.
 #[unsafe(no_mangle)]
 pub extern "C" fn tftp_server_send(
-    alloc: Global,
     server: &mut TftpServer,
     tid: u16,
     from: &TftpEndpoint,
@@ -212,20 +180,16 @@ pub extern "C" fn tftp_server_send(
     ensures unmoved { (result ≡ 0 → ⊥) → event.new ≡ event.old }
     ensures none { server.old.slot.value ≡ None → result ≡ 1 }
 {
-    match server.take(alloc) {
-        Some(mut held) => {
-            let answer = transfers::send(&mut held.server, tid, from, datagram, next, reply, event);
-            server.put(held);
-            answer
-        }
-        None => event::NOT_OPEN,
+    if !server.is_open() {
+        return event::NOT_OPEN;
     }
+    let held = server.slot.server();
+    transfers::send(&mut held.server, tid, from, datagram, next, reply, event)
 }
 
 /// Delivers a timeout to the transfer with the identifier, as `tftp_timeout`.
 #[unsafe(no_mangle)]
 pub extern "C" fn tftp_server_timeout(
-    alloc: Global,
     server: &mut TftpServer,
     tid: u16,
     reply: &mut [u8],
@@ -241,14 +205,11 @@ pub extern "C" fn tftp_server_timeout(
     ensures unmoved { (result ≡ 0 → ⊥) → event.new ≡ event.old }
     ensures none { server.old.slot.value ≡ None → result ≡ 1 }
 {
-    match server.take(alloc) {
-        Some(mut held) => {
-            let answer = transfers::time_out(&mut held.server, tid, reply, event);
-            server.put(held);
-            answer
-        }
-        None => event::NOT_OPEN,
+    if !server.is_open() {
+        return event::NOT_OPEN;
     }
+    let held = server.slot.server();
+    transfers::time_out(&mut held.server, tid, reply, event)
 }
 
 /// Ends the transfer with the identifier by an ERROR, as `tftp_abort`, and removes it.
@@ -272,19 +233,16 @@ pub extern "C" fn tftp_server_abort(
     ensures unmoved { (result ≡ 0 → ⊥) → (event.new ≡ event.old) × (reply.new ≡ reply.old) }
     ensures none { server.old.slot.value ≡ None → result ≡ 1 }
 {
-    match server.take(alloc) {
-        Some(mut held) => {
-            let answer = aborting::abort_at(alloc, &mut held.server, tid, code, text, reply, event);
-            server.put(held);
-            answer
-        }
-        None => event::NOT_OPEN,
+    if !server.is_open() {
+        return event::NOT_OPEN;
     }
+    let held = server.slot.server();
+    aborting::abort_at(alloc, &mut held.server, tid, code, text, reply, event)
 }
 
 /// Removes the transfer with the identifier, open or closed, and returns whether there was one.
 #[unsafe(no_mangle)]
-pub extern "C" fn tftp_server_give_up(alloc: Global, server: &mut TftpServer, tid: u16) -> bool
+pub extern "C" fn tftp_server_give_up(server: &mut TftpServer, tid: u16) -> bool
     ensures removed { OnServer server.old.slot.value server.new.slot.value (λ s t. t ≡ record s {
       server = record s.server { held = without tid s.server.held };
     }) }
@@ -292,14 +250,11 @@ pub extern "C" fn tftp_server_give_up(alloc: Global, server: &mut TftpServer, ti
         result ≡ is_some (at tid s.server.held)) }
     ensures none { server.old.slot.value ≡ None → result ≡ false }
 {
-    match server.take(alloc) {
-        Some(mut held) => {
-            let was_held = held.server.give_up(tid).is_some();
-            server.put(held);
-            was_held
-        }
-        None => false,
+    if !server.is_open() {
+        return false;
     }
+    let held = server.slot.server();
+    held.server.give_up(tid).is_some()
 }
 
 /// Closes the server and its transfers, and frees their memory, if there is one. `tftp_server_close`

@@ -36,6 +36,12 @@ impl TftpServer {
         }
     }
 
+    pub(crate) fn is_open(&self) -> bool
+        ensures { result ≡ is_some self.now.slot.value }
+    {
+        self.is_open
+    }
+
     /// Takes the server, and leaves none.
     pub(crate) fn take(&mut self, alloc: Global) -> Option<Box<HeldServer>>
         ensures taken { option_map (λ b. b.value) result ≡ self.old.slot.value }

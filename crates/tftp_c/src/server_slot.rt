@@ -2,6 +2,7 @@
 
 ghost use Rattle.std.specs.Prelude.{◌≡◌, Some, None, IsSome};
 ghost use Rattle.std.specs.declared.option.Option.{Option};
+ghost use Rattle.std.specs.Borrow.{sem};
 ghost use Rattle.std.specs.Coded.{coded_option};
 ghost use Rattle.tftp_c.specs.declared.held_server.HeldServer.{HeldServer};
 ghost use Rattle.tftp_c.specs.contracts.held_server.HeldServer.{the_row};
@@ -28,6 +29,17 @@ impl Model for ServerSlot {
 }
 
 impl ServerSlot {
+    ghost use Rattle.tftp_c.specs.Lending.{LendsServer};
+
+    /// The server, in its place.
+    pub(crate) fn server(&mut self) -> &mut HeldServer
+        requires { IsSome self.old.value }
+        ensures* writes_back { sem 𝓛 (LendsServer self.entry result) }
+        ensures value { Some result.now ≡ self.old.value }
+    {
+        unsafe { &mut *(self.at as *mut HeldServer) }
+    }
+
     /// Forgets the type of the pointer.
     fn seal(loose: Loose<HeldServer, Global>) -> ServerSlot
         ensures { result.value ≡ Some loose.value }

@@ -14,12 +14,14 @@ ghost use Rattle.tftp_c.specs.Options.{HasSize};
 ghost use Rattle.tftp_c.specs.Reports.{endpoint_of};
 ghost use Rattle.tftp_c.specs.ServerOpens.{limits_of, AnswersGet, AnswersPut, FirstSent};
 ghost use Rattle.tftp_c.specs.ServerOpens.{LimitsBlocks, ServesGet, ServesPut};
+ghost use Rattle.tftp_c.specs.Stated.{KnowsFirst};
 
 use crate::client::Client;
 use crate::event::{self, TftpEndpoint, TftpEvent, TftpOptions};
 use crate::opening::number;
 use crate::report::{endpoint, report_opening};
 use crate::slice_source::SliceSource;
+use crate::stated::stated_by;
 use std::alloc::Global;
 use tftp_ends::{End, OpenFault, ReadService};
 use tftp_negotiate::{Agreed, Kind, Limits, accept_ref, is_block_size};
@@ -215,6 +217,7 @@ fn boxed(
 ) -> Option<Box<Client>>
     requires { served.first.items ≡ served.end.position.last_sent }
     ensures end { IfSome result (λ c. c.value.end ≡ served.end) }
+    ensures stated { IfSome result (λ c. KnowsFirst c.value) }
     ensures sent { IfSome result (λ c. FirstSent served.end (endpoint_of client.now) reply.new
         event.new) }
     ensures file { IfSome result (λ c. event.new.file_len ≡ served.count) }
@@ -222,7 +225,8 @@ fn boxed(
 {
     let Served { end, count, first } = served;
     let state = end.record();
-    match Box::new(alloc, Client { end }) {
+    let stated = stated_by(first.as_slice());
+    match Box::new(alloc, Client { end, stated }) {
         Ok(opened) => {
             report_opening(
                 &state,
@@ -251,6 +255,7 @@ pub(crate) fn open_get(
 ) -> Result<Box<Client>, u8>
     ensures ok { IfOk result (λ c. ServesGet client.now request.now length next.now options.now
         c.value.end reply.new event.new) }
+    ensures stated { IfOk result (λ c. KnowsFirst c.value) }
     ensures allowed { OnOk result (HasSize options.now) }
     ensures err { IfErr result (ServeGetFault request.now length next.now options.now) }
     ensures unmoved { OnErr result ((event.new ≡ event.old) × (reply.new ≡ reply.old)) }
@@ -278,6 +283,7 @@ pub(crate) fn open_put(
 ) -> Result<Box<Client>, u8>
     ensures ok { IfOk result (λ c. ServesPut client.now request.now options.now c.value.end
         reply.new event.new) }
+    ensures stated { IfOk result (λ c. KnowsFirst c.value) }
     ensures allowed { OnOk result (HasSize options.now) }
     ensures err { IfErr result (ServePutFault request.now options.now) }
     ensures unmoved { OnErr result ((event.new ≡ event.old) × (reply.new ≡ reply.old)) }

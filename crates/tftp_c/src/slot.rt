@@ -2,6 +2,7 @@
 
 ghost use Rattle.std.specs.Prelude.{◌≡◌, Some, None, IsSome};
 ghost use Rattle.std.specs.declared.option.Option.{Option};
+ghost use Rattle.std.specs.Borrow.{sem};
 ghost use Rattle.std.specs.Coded.{coded_option};
 ghost use Rattle.tftp_c.specs.declared.client.Client.{Client};
 ghost use Rattle.tftp_c.specs.contracts.client.Client.{the_row};
@@ -28,6 +29,17 @@ impl Model for Slot {
 }
 
 impl Slot {
+    ghost use Rattle.tftp_c.specs.Lending.{LendsClient};
+
+    /// The client, in its place.
+    pub(crate) fn client(&mut self) -> &mut Client
+        requires { IsSome self.old.value }
+        ensures* writes_back { sem 𝓛 (LendsClient self.entry result) }
+        ensures value { Some result.now ≡ self.old.value }
+    {
+        unsafe { &mut *(self.at as *mut Client) }
+    }
+
     /// Forgets the type of the pointer.
     fn seal(loose: Loose<Client, Global>) -> Slot
         ensures { result.value ≡ Some loose.value }

@@ -1,8 +1,9 @@
 //! The length of the file that a packet states, for C.
 
 ghost use Rattle.std.specs.Prelude.{◌≡◌, IfSome, None};
-ghost use Rattle.tftp_c.specs.Stated.{States, StatesNone};
+ghost use Rattle.tftp_c.specs.Stated.{Learns, StatedBy, States, StatesNone};
 
+use tftp_ends::Endpoint;
 use tftp_negotiate::stated_tsize;
 use tftp_wire::{PacketRef, decode_ref};
 
@@ -20,5 +21,30 @@ pub(crate) fn stated_length(datagram: &[u8]) -> Option<u64>
         Ok(PacketRef::Ack { .. }) => None,
         Ok(PacketRef::Error { .. }) => None,
         Err(_) => None,
+    }
+}
+
+/// The same, in one clause.
+pub(crate) fn stated_by(datagram: &[u8]) -> Option<u64>
+    ensures { StatedBy datagram.now result }
+{
+    stated_length(datagram)
+}
+
+/// The length that an end knows after a datagram, by its peer before and after it.
+pub(crate) fn stated_after(
+    before: Option<Endpoint>,
+    after: Option<Endpoint>,
+    datagram: &[u8],
+    known: Option<u64>,
+) -> Option<u64>
+    ensures { Learns before after datagram.now known result }
+{
+    match before {
+        Some(_) => known,
+        None => match after {
+            Some(_) => stated_by(datagram),
+            None => known,
+        },
     }
 }

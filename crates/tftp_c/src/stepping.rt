@@ -3,11 +3,14 @@
 ghost use Rattle.std.specs.Prelude.{◌≡◌, true, false, IfOk, OnErr};
 ghost use Rattle.tftp_ends.specs.End.{is_sender};
 ghost use Rattle.tftp_c.specs.Handled.{Received, Sent, Stored, Taken, TimedOut};
+ghost use Rattle.tftp_c.specs.Stated.{LearnsFrom};
 
+use crate::client::Client;
 use crate::event::{self, TftpEndpoint, TftpEvent};
-use crate::report::{endpoint, report};
+use crate::report::{endpoint, report_record};
 use crate::slice_sink::SliceSink;
 use crate::slice_source::SliceSource;
+use crate::stated::stated_after;
 use tftp_ends::{End, EndFault, Endpoint, Outgoing, Step};
 
 fn number(fault: EndFault) -> u8
@@ -66,23 +69,34 @@ fn take(
 
 /// Handles a datagram at a receiver.
 pub(crate) fn receive(
-    end: &mut End,
+    client: &mut Client,
     from: &TftpEndpoint,
     datagram: &[u8],
     file: &mut [u8],
     reply: &mut [u8],
     event: &mut TftpEvent,
 ) -> u8
-    ensures ok { result ≡ 0 → Received from.now datagram.now end.old end.new file.old file.new
-        reply.new event.new }
-    ensures err { (result ≡ 0 → ⊥) → (end.new ≡ end.old) × (event.new ≡ event.old) }
+    ensures ok { result ≡ 0 → Received from.now datagram.now client.old.end client.new.end file.old
+        file.new reply.new event.new }
+    ensures learns { result ≡ 0 → LearnsFrom datagram.now client.old client.new }
+    ensures err { (result ≡ 0 → ⊥) → (client.new ≡ client.old) × (event.new ≡ event.old) }
 {
-    if end.record().side.is_sender() {
+    let before = client.end.record();
+    if before.side.is_sender() {
         return event::WRONG_SIDE;
     }
-    match store(end, endpoint(from), datagram, file) {
+    match store(&mut client.end, endpoint(from), datagram, file) {
         Ok((step, outgoing, count)) => {
-            report(end, step, outgoing, reply, count, event);
+            let after = client.end.record();
+            client.stated = stated_after(before.peer, after.peer, datagram, client.stated);
+            report_record(
+                &after,
+                step,
+                client.end.bytes_of(outgoing),
+                reply,
+                count,
+                event,
+            );
             0
         }
         Err(fault) => number(fault),
@@ -91,21 +105,32 @@ pub(crate) fn receive(
 
 /// Handles a datagram at a sender.
 pub(crate) fn send(
-    end: &mut End,
+    client: &mut Client,
     from: &TftpEndpoint,
     datagram: &[u8],
     next: &[u8],
     reply: &mut [u8],
     event: &mut TftpEvent,
 ) -> u8
-    ensures ok { result ≡ 0 → Sent from.now datagram.now end.old end.new next.now reply.new
-        event.new }
-    ensures err { (result ≡ 0 → ⊥) → (end.new ≡ end.old) × (event.new ≡ event.old) }
+    ensures ok { result ≡ 0 → Sent from.now datagram.now client.old.end client.new.end next.now
+        reply.new event.new }
+    ensures learns { result ≡ 0 → LearnsFrom datagram.now client.old client.new }
+    ensures err { (result ≡ 0 → ⊥) → (client.new ≡ client.old) × (event.new ≡ event.old) }
 {
-    if end.record().side.is_sender() {
-        match take(end, endpoint(from), datagram, next) {
+    let before = client.end.record();
+    if before.side.is_sender() {
+        match take(&mut client.end, endpoint(from), datagram, next) {
             Ok((step, outgoing, count)) => {
-                report(end, step, outgoing, reply, count, event);
+                let after = client.end.record();
+                client.stated = stated_after(before.peer, after.peer, datagram, client.stated);
+                report_record(
+                    &after,
+                    step,
+                    client.end.bytes_of(outgoing),
+                    reply,
+                    count,
+                    event,
+                );
                 0
             }
             Err(fault) => number(fault),
@@ -116,13 +141,15 @@ pub(crate) fn send(
 }
 
 /// Delivers a timeout.
-pub(crate) fn time_out(end: &mut End, reply: &mut [u8], event: &mut TftpEvent) -> u8
-    ensures ok { result ≡ 0 → TimedOut end.old end.new reply.new event.new }
-    ensures err { (result ≡ 0 → ⊥) → (end.new ≡ end.old) × (event.new ≡ event.old) }
+pub(crate) fn time_out(client: &mut Client, reply: &mut [u8], event: &mut TftpEvent) -> u8
+    ensures ok { result ≡ 0 → TimedOut client.old.end client.new.end reply.new event.new }
+    ensures stated { client.new.stated ≡ client.old.stated }
+    ensures err { (result ≡ 0 → ⊥) → (client.new ≡ client.old) × (event.new ≡ event.old) }
 {
-    match end.handle_timeout() {
+    match client.end.handle_timeout() {
         Ok((step, outgoing)) => {
-            report(end, step, outgoing, reply, 0, event);
+            let after = client.end.record();
+            report_record(&after, step, client.end.bytes_of(outgoing), reply, 0, event);
             0
         }
         Err(fault) => number(fault),
