@@ -72,7 +72,9 @@ if test -e "$root$libdir/libtftp.a"; then
     library_package libtftp-dev "$dev" ''
 fi
 
-# where Debian has them
+# where Debian has them; what an operator changes in the settings stays at an upgrade
+mkdir -p "$root/etc/default"
+mv "$doc/tftpd.default" "$root/etc/default/fanjuvery-tftpd"
 mkdir -p "$root/usr/share/zsh/vendor-completions"
 mv "$root"/usr/share/zsh/site-functions/* "$root/usr/share/zsh/vendor-completions"
 rmdir "$root/usr/share/zsh/site-functions"
@@ -93,6 +95,7 @@ sed "s/@VERSION@/$version/
     s/@ARCHITECTURE@/$architecture/
     s/@LIBC@/$libc/
     s/@SIZE@/$(du -sk --exclude=DEBIAN "$root" | cut -f 1)/" debian/control > "$root/DEBIAN/control"
+echo /etc/default/fanjuvery-tftpd > "$root/DEBIAN/conffiles"
 for script in postinst prerm postrm; do
     install -m 755 "debian/$script" "$root/DEBIAN/$script"
 done
