@@ -6,8 +6,9 @@
 #   nothing may be skipped. The last line is `N passed, N failed`
 # make quick CRATE=NAME: what a change of one crate is tried by in minutes
 # make docs: writes docs/STATEMENT.md and the pictures of docs/ from the sources, and out/DEFINITIONS.md
-# make slips CRATES="NAME ..": tries the wrong bodies in crates/NAME/slips/, of all crates without words; with FEW=5 five of
-#   them, by the seed of the commit
+# make slips CRATES="NAME ..": tries the wrong bodies in crates/NAME/slips/, of all crates without words; with STALE=1 only
+#   such as changed since they were last refused, or whose crate did; with FEW=5 five of all, by the seed of the commit, as
+#   the gate does
 # make install, make uninstall: programs, library, manuals, completions, units and documents at DESTDIR and PREFIX; they
 #   copy what is in bin/, and build nothing. PROGRAM_PREFIX= is put before the names of the programs and their manuals
 # make dist: an archive of what is installed, with a script that installs it on hosts without the kit
@@ -35,15 +36,15 @@ SOURCES := $(shell find crates -path '*/out' -prune -o \( -name '*.rt' -o -name 
 
 # the tests of the tools; `python3 -m unittest` runs the checks, too
 TESTS := tools.tests.test_gate tools.tests.test_packages tools.tests.test_stand_ins tools.tests.test_programs \
-	tools.tests.test_rows tools.tests.test_requests
+	tools.tests.test_rows tools.tests.test_requests tools.tests.test_slips
 # what is run behind `rt ci`, over bin/, which holds by then what `make` builds (tools/shipped.py). Each is run once, with a
 # limit, whatever the others come to: tools/gate.py says what was skipped and what failed
 CHECKS := tools/same_options.py tools/check_install.py tools/check_documents.py tools/statement.py tools/definitions.py \
-	tools/figures.py tools/one_journal.py tools/disk_calls.py tools/disk_trace.py tools/power_cuts.py tools/same_pictures.sh \
+	tools/figures.py tools/disk_trace.py tools/power_cuts.py tools/same_pictures.sh \
 	tools/lint.py tools/processors.py \
 	'$(MAKE) --no-print-directory run' tools/statuses.py tools/captures.py tools/memory_in_turn.py tools/lost_requests.py \
 	tools/out_of_memory.py 'python3 -m unittest $(TESTS)' tools/mutants.py tools/c_library.py tools/library_abi.py \
-	tools/loopback/run.py tools/behaviours.py 'tools/network.py bin/tftp bin/tftpd' tools/soak/run.py
+	tools/loopback/run.py tools/behaviours.py 'tools/network.py bin/tftp bin/tftpd' tools/soak/run.py 'tools/slips.py --few'
 
 .PHONY: build programs libtftp run sample tftp-show tftp-play tftp tftpd test quick docs slips install uninstall dist deb soak \
 	behaviours coverage mutants bench bench-udp clean
@@ -102,7 +103,7 @@ docs:
 	tools/figures.py --write
 
 slips:
-	@tools/slips.py $(if $(FEW),--few $(FEW),$(CRATES))
+	@tools/slips.py $(if $(FEW),--few $(FEW),$(if $(STALE),--stale) $(CRATES))
 
 install uninstall:
 	@tools/install.sh $@ 'DESTDIR=$(DESTDIR)' 'PREFIX=$(PREFIX)' 'PROGRAM_PREFIX=$(PROGRAM_PREFIX)' \

@@ -25,10 +25,11 @@ void *__wrap_realloc(void *bytes, size_t len) {
 
 /* Of the static library, for this test alone: the size of each struct, and a different number in each field. */
 struct tftp_sizes {
-    uint8_t endpoint, options, event, packet, end, question, server;
+    uint8_t endpoint, options, event, packet, end, question, server, info;
 };
 void tftp_samples(struct tftp_endpoint *endpoint, struct tftp_options *options, struct tftp_event *event,
-                  struct tftp_packet *packet, struct tftp_question *question, struct tftp_sizes *sizes);
+                  struct tftp_packet *packet, struct tftp_question *question, struct tftp_info *info,
+                  struct tftp_sizes *sizes);
 
 /* Options with these fields, and zeros. */
 #define OPTIONS(...) {.size = sizeof(struct tftp_options), __VA_ARGS__}
@@ -478,6 +479,76 @@ static void stated(void) {
 }
 
 /* (a compiler that knows the texts would compare them itself, and says so) */
+/* What an end says that it has agreed with its peer; has_length as well, so that 0 bytes are a length. */
+static void agrees(const char *what, struct tftp_end *end, bool has_length, uint64_t length, uint8_t timeout) {
+    struct tftp_info info = TFTP_INFO_INIT;
+    info.length = 77, info.timeout = 77;
+    expect(what, tftp_end_info(end, &info), TFTP_OK);
+    FIELD(info, size, sizeof info);
+    FIELD(info, has_length, has_length);
+    FIELD(info, length, length);
+    FIELD(info, timeout, timeout);
+}
+
+/* A datagram at a client that gets or puts: no fault. */
+static void hears(struct tftp_end *end, bool puts, const uint8_t *datagram, size_t len) {
+    static const struct tftp_endpoint peer = {{10, 0, 0, 1}, 1024};
+    static uint8_t file[TFTP_DEFAULT_BLOCK], reply[TFTP_MIN_REPLY];
+    struct tftp_event event = {0};
+    expect("a datagram", puts ? tftp_send(end, &peer, datagram, len, TEXT("abc"), reply, sizeof reply, &event)
+                              : tftp_receive(end, &peer, datagram, len, file, sizeof file, reply, sizeof reply, &event), TFTP_OK);
+}
+
+/* What was answered to the options of an end, and the faults of asking for it. */
+static void agreements(void) {
+    static const struct tftp_endpoint at = {{10, 0, 0, 1}, 69};
+    struct tftp_options options = OPTIONS(.max_file = 1000, .timeout = 9, .retries = 5, .asks_tsize = true);
+    struct tftp_info info = {0};
+    struct tftp_event event = {0};
+    struct tftp_end end = {0};
+    uint8_t out[TFTP_MIN_REPLY];
+    expect("an info without a size", tftp_end_info(&end, &info), TFTP_BAD_OPTIONS);
+    info = (struct tftp_info)TFTP_INFO_INIT;
+    info.length = 77;
+    expect("the info of a closed end", tftp_end_info(&end, &info), TFTP_NOT_OPEN);
+    FIELD(info, length, 77);
+
+    expect("a get", tftp_get(&end, &at, TEXT("a"), &options, out, sizeof out, &event), TFTP_OK);
+    agrees("a get before its answer", &end, false, 0, 0);
+    hears(&end, false, TEXT("\0\6tsize\0" "3\0timeout\0" "9\0"));
+    agrees("a get with an OACK", &end, true, 3, 9);
+    hears(&end, false, TEXT("\0\3\0\1abc"));
+    agrees("a get that is complete", &end, true, 3, 9);
+    hears(&end, false, TEXT("\0\3\0\1abc"));
+    agrees("a get that dallies", &end, true, 3, 9);
+    expect("a get", tftp_get(&end, &at, TEXT("a"), &options, out, sizeof out, &event), TFTP_OK);
+    hears(&end, false, TEXT("\0\3\0\1abc"));
+    agrees("a get without an OACK", &end, false, 0, 0);
+    expect("a get", tftp_get(&end, &at, TEXT("a"), &options, out, sizeof out, &event), TFTP_OK);
+    hears(&end, false, TEXT("\0\6tsize\0" "0\0"));
+    agrees("a get of no bytes", &end, true, 0, 0);
+
+    expect("a put", tftp_put(&end, &at, TEXT("a"), 3, &options, out, sizeof out, &event), TFTP_OK);
+    hears(&end, true, TEXT("\0\6tsize\0" "3\0"));
+    agrees("a put with an OACK", &end, true, 3, 0);
+    expect("a put", tftp_put(&end, &at, TEXT("a"), 3, &options, out, sizeof out, &event), TFTP_OK);
+    hears(&end, true, TEXT("\0\4\0\0"));
+    agrees("a put without an OACK", &end, false, 0, 0);
+
+    static const char read[] = "\0\1a\0octet\0tsize\0" "0\0timeout\0" "4", plain[] = "\0\1a\0octet";
+    static const char write[] = "\0\2a\0octet\0tsize\0" "700";
+    expect("a served read", tftp_serve_get(&end, &at, (const uint8_t *)read, sizeof read, 3, TEXT("abc"), &options, out,
+                                           sizeof out, &event), TFTP_OK);
+    agrees("a served read", &end, true, 3, 4);
+    expect("a served read", tftp_serve_get(&end, &at, (const uint8_t *)plain, sizeof plain, 3, TEXT("abc"), &options, out,
+                                           sizeof out, &event), TFTP_OK);
+    agrees("a served read without options", &end, false, 0, 0);
+    expect("a served write", tftp_serve_put(&end, &at, (const uint8_t *)write, sizeof write, &options, out, sizeof out,
+                                            &event), TFTP_OK);
+    agrees("a served write", &end, true, 700, 0);
+    tftp_close(&end);
+}
+
 static bool differ(const char *volatile one, const char *volatile other) { return strcmp(one, other) != 0; }
 
 /* Each number has a text of its own, and the numbers around them have none. */
@@ -728,8 +799,10 @@ int main(void) {
     memset(&packet, 0, sizeof packet);
     struct { struct tftp_question it, behind; } question;
     memset(&question, 0, sizeof question);
+    struct { struct tftp_info it, behind; } info;
+    memset(&info, 0, sizeof info);
     struct tftp_sizes sizes = {0};
-    tftp_samples(&endpoint.it, &options.it, &event.it, &packet.it, &question.it, &sizes);
+    tftp_samples(&endpoint.it, &options.it, &event.it, &packet.it, &question.it, &info.it, &sizes);
 
     for (int i = 0; i < 4; i++) expect("ip", endpoint.it.ip[i], (unsigned)i + 1);
     FIELD(endpoint.it, port, 5);
@@ -761,6 +834,10 @@ int main(void) {
     FIELD(question.it, send_len, 25);
     FIELD(question.it, name_len, 26);
     FIELD(question.it, wants, 27);
+    FIELD(info.it, length, 29);
+    FIELD(info.it, timeout, 30);
+    FIELD(info.it, has_length, 1);
+    FIELD(info.it, size, 32);
 
     expect("sizeof endpoint", sizeof(struct tftp_endpoint), sizes.endpoint);
     expect("sizeof options", sizeof(struct tftp_options), sizes.options);
@@ -769,6 +846,7 @@ int main(void) {
     expect("sizeof end", sizeof(struct tftp_end), sizes.end);
     expect("sizeof question", sizeof(struct tftp_question), sizes.question);
     expect("sizeof server", sizeof(struct tftp_server), sizes.server);
+    expect("sizeof info", sizeof(struct tftp_info), sizes.info);
 
     /* what is behind each struct is as it was */
     static const unsigned char zeros[64];
@@ -777,6 +855,7 @@ int main(void) {
     expect("behind event", memcmp(&event.behind, zeros, sizeof event.behind), 0);
     expect("behind packet", memcmp(&packet.behind, zeros, sizeof packet.behind), 0);
     expect("behind question", memcmp(&question.behind, zeros, sizeof question.behind), 0);
+    expect("behind info", memcmp(&info.behind, zeros, sizeof info.behind), 0);
 
     /* the numbers of faults: of a closed handle, of a request that is none, of the longest request and one more */
     struct tftp_end end = {0};
@@ -806,6 +885,7 @@ int main(void) {
     packets();
     faults_of_packets();
     stated();
+    agreements();
     texts();
     without_memory();
     numbers();

@@ -1,8 +1,8 @@
 #!/usr/bin/env python3
 """Runs each command line of tftp-show and tftp-play that a document or a manual shows, and compares what it prints with
 what stands there. Nothing is written to standard error, and the status is that of the manuals. Of each
-examples/NAME.script at least one document has to show the output. The tour of tftpd and tftp in README.md is run twice in
-a folder, and leaves nothing there.
+examples/NAME.script at least one document has to show the output. The tours of tftpd and tftp are run twice in a folder,
+and leave nothing there. A document shows no command that is neither, except those of which another check runs the like.
 
 The programs are those of bin/, or else those that the gate left in crates/*_main/out/.
 """
@@ -22,6 +22,9 @@ from lib.programs import NAMES, TOP, program
 SECONDS = TOUR_SECONDS = 120
 # Of the lines of the tour: the address that they name, and what differs from run to run
 ADDRESS, PORTS = "127.0.0.1:6969", re.compile(r"\d+ \d+ (?=Complete$)")
+# The documents with a tour; and the commands of programs that `rt ci`, tools/loopback/ and tools/captures.py run
+TOURS = ["README.md", "crates/tftp_main/README.md"]
+ELSEWHERE = re.compile(r"fetch_memory$|serve_memory |tftp get [\d.:]+ greeting |tshark -r FILE ")
 # a line of tftp-show that makes its status 1, and one of tftp-play: a client that is not complete
 FAULTS = {"tftp-show": r"fault |not hex$", "tftp-play": r"end \d+ client-.* complete=no "}
 
@@ -88,21 +91,27 @@ def toured(folder, text, address) -> list[list[str]]:
     return [sorted(PORTS.sub("", line) for line in it) for it in (printed.splitlines(), wanted)]
 
 
-def tour(folder) -> int:
-    """How many of two runs of the tour in README.md are not as it says, or leave something behind."""
-    text, failures = (TOP / "README.md").read_text(), 0
+def tour(folder, document) -> int:
+    """How many of two runs of a document's tour are not as it says, or leave something behind."""
+    text, failures = (TOP / document).read_text(), 0
     examples, address = sorted(os.listdir(TOP / "examples")), f"{own_address()}:6969"
     for _ in range(2):
         printed, wanted = toured(folder, text, address)
         left = sorted(os.listdir(folder)), sorted(os.listdir(TOP / "examples"))
-        if printed != wanted or left != (["bin", "examples"], examples):
+        if not wanted or printed != wanted or left != (["bin", "examples"], examples):
             failures += 1
-            print(f"README.md: the tour: prints {printed}; wanted {wanted}; leaves {left}")
+            print(f"{document}: the tour: prints {printed}; wanted {wanted}; leaves {left}")
     return failures
 
 
+def is_run(document, command) -> bool:
+    """Whether a command of a document that is not compared is run by a tour, or by another check. Those of manuals name
+    hosts of a network."""
+    return document.suffix != ".md" or str(document.relative_to(TOP)) in TOURS or bool(ELSEWHERE.match(command))
+
+
 def main() -> int:
-    patterns = ["README.md", "docs/*.md", "crates/*/README.md", "examples/*/README.md", "man/*.[1-8]"]
+    patterns = ["*.md", "docs/*.md", "crates/*/README.md", "examples/**/README.md", "bench/**/README.md", "man/*.[1-8]"]
     documents = sorted(path for pattern in patterns for path in TOP.glob(pattern))
     failures, compared, manuals = 0, 0, 0
     scripts = {path.name for path in TOP.glob("examples/*.script")}
@@ -115,6 +124,9 @@ def main() -> int:
             for number, command, wanted in shown_in(document):
                 name = program_of(command)
                 if not name:
+                    if not is_run(document, command):
+                        failures += 1
+                        print(f"{document.relative_to(TOP)}:{number}: {command}: no check runs it")
                     continue
                 compared, manuals = compared + 1, manuals + (document.suffix != ".md")
                 printed, errors, status = printed_by(command, folder)
@@ -127,7 +139,7 @@ def main() -> int:
                     print(f"{document.relative_to(TOP)}:{number}: {command}: prints otherwise, with status {status}")
                     for line in [*printed, *errors.splitlines()]:
                         print(f"    {line}")
-        failures += tour(folder)
+        failures += sum(tour(folder, document) for document in TOURS)
     for name in sorted(scripts):
         failures += 1
         print(f"examples/{name}: no document shows what it prints")

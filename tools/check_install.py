@@ -26,7 +26,7 @@ WORDS = ["PREFIX=/usr", "PROGRAM_PREFIX=x-", "MANDIR=/usr/man", "UNITDIR=/usr/un
 SHELLS = {"bash": ["bash", "-n"], "zsh": ["zsh", "-f", "-n"], "fish": ["fish", "--no-execute"]}
 PATIENCE = 600
 # what is installed with these words, but the programs and what is named for each
-DOCUMENTS = ["LICENSE", "OPERATING.md", "README.md", "SECURITY.md", "tftpd.nft"]
+DOCUMENTS = ["LICENSE", "OPERATING.md", "README.md", "SECURITY.md", "tftpd.default", "tftpd.nft"]
 MANUALS = ["man1/x-tftp.1", "man1/x-tftp-play.1", "man1/x-tftp-show.1", "man5/x-tftp-play.5", "man8/x-tftpd.8"]
 UNITS = ["x-tftpd.service", "x-tftpd@.service", "x-tftpd.socket", "x-tftpd-socket.service"]
 
@@ -114,7 +114,8 @@ class Trial:
         for name in UNITS:
             text = (root / "usr/units" / name).read_text()
             # the file that has the server drain is in the folder of the unit at run time
-            named = set(re.findall(r"[\w./-]*tftpd\b(?!\.nft)", re.sub(r"%t/x-tftpd(-%i|-socket)?/drain", "", text)))
+            text = re.sub(r"%t/x-tftpd(-%i|-socket)?/drain|(?<=EnvironmentFile=)-", "", text)
+            named = set(re.findall(r"[\w./-]*tftpd\b(?!\.nft)", text))
             if name.endswith(".socket"):
                 self.expect(named, {"x-tftpd"}, f"what {name} names")
                 continue
@@ -122,7 +123,8 @@ class Trial:
             self.expect(set(started), {'"/usr/bin/x-tftpd"'}, f"what {name} starts")
             # standard error goes where standard output goes, unless the unit says otherwise
             self.expect("\nStandardError=journal\n" in text, True, f"whether the log of {name} is in the journal")
-            self.expect(named, {"/usr/bin/x-tftpd", "x-tftpd"}, f"what {name} calls the program")
+            paths = {"/usr/bin/x-tftpd", "/etc/default/fanjuvery-x-tftpd", "x-tftpd"}
+            self.expect(named, paths, f"what {name} calls the program and its settings")
         self.check_links(root / "usr/share/doc/fanjuvery")
         (root / "usr/bin/other").touch()
         self.run("make", "uninstall", *words)
@@ -177,13 +179,14 @@ class Trial:
         package = self.top / self.run("debian/pack.sh", "9").strip()
         held = self.run("dpkg-deb", "--contents", package)
         for name in ["usr/bin/tftpd", "usr/share/man/man8/tftpd.8.gz", "usr/share/doc/fanjuvery/copyright",
-                     "usr/share/doc/fanjuvery/changelog.gz", "lib/systemd/system/tftpd.service"]:
+                     "usr/share/doc/fanjuvery/changelog.gz", "lib/systemd/system/tftpd.service",
+                     "etc/default/fanjuvery-tftpd"]:
             self.expect(f" ./{name}\n" in held, True, f"whether the package has {name}")
         control = self.room / "control"
         self.run("dpkg-deb", "--control", package, control)
-        names = ["control", "md5sums", "postinst", "postrm", "prerm"]
+        names = ["conffiles", "control", "md5sums", "postinst", "postrm", "prerm"]
         self.expect(sorted(it.name for it in control.iterdir()), names, "the files of control")
-        for name in names[2:]:
+        for name in names[3:]:
             self.run("sh", "-n", control / name)
         self.check_removal(package)
         if not shutil.which("lintian"):

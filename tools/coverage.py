@@ -1,82 +1,92 @@
 #!/usr/bin/env python3
 """Which functions of the programs no test and no row runs: coverage.py [PROGRAM..]
 
-The tests run over the programs of bin/ under `qemu-x86_64 -d in_asm`, which says of each piece of code that it translates in
-which function it is; nothing is built again. Of each program, or of those that are named, the functions of the repository's
-crates that were never reached are printed, without those that the compiler has put into their callers. It takes some
-minutes, and is no check.
+The tests run over the programs of bin/, before each of which a library is loaded that has a breakpoint at each function of the
+repository's crates until it is entered (coverage.c); nothing is built again. Of each program, or of those that are named, the
+functions that were never reached are printed, without those that the compiler has put into their callers. docs/TESTING.md says
+why each is not. It takes some minutes, and is no check. A test that looks at the memory of a program may fail under it.
 """
 import os
 import re
 import shutil
+import struct
 import subprocess
 import sys
 import tempfile
 from pathlib import Path
 
+from lib.preload import compiled
 from lib.programs import NAMES, TOP, programs
 
-EMULATOR = "qemu-x86_64"
+SOURCE = TOP / "tools/coverage.c"
 LIMIT = 3_000
 UNITS = ["tools.tests.test_rows", "tools.tests.test_requests", "tools.tests.test_programs", "tools.tests.test_stand_ins"]
-OTHERS = ["tools/statuses.py", "tools/captures.py", "tools/mutants.py"]
+OTHERS = ["tools/statuses.py", "tools/captures.py", "tools/mutants.py", "tools/out_of_memory.py", "tools/lost_requests.py"]
+# what is written in a crate of this repository
+GIVEN = r"tftp(?!.*(::Destruct\+\+|\+Destruct::drop|\+Fn(Once|Mut)?::call))"
+# those that are given the two programs
+BOTH = ["tools/loopback/run.py", "tools/soak/run.py 30 1"]
 
 
 def plain(name: str) -> str:
     """A function without what tells its instances apart."""
-    return re.sub(r"::<#\w+>", "", name)
+    return re.sub(r"::<.*", "", name)
 
 
-def functions(path: str) -> set[str]:
-    """The functions of the repository's crates in a program."""
+def functions(path: str) -> dict[int, str]:
+    """The functions of the repository's crates in a program, by their places, in rising order, without what the compiler
+    makes to drop values and to call closures."""
     done = subprocess.run(["nm", path], capture_output=True, text=True, check=True)
-    names = (line.split(" ", 2)[2] for line in done.stdout.splitlines() if re.match(r"[0-9a-f]+ [tT] ", line))
-    return {plain(name) for name in names if name.startswith("tftp")}
+    found = (re.match(r"([0-9a-f]+) [tT] (.*)", line) for line in done.stdout.splitlines())
+    return dict(sorted((int(it[1], 16), it[2]) for it in found if it and re.match(GIVEN, it[2])))
 
 
 def wrapped(paths: dict[str, str], folder: Path) -> dict[str, str]:
-    """Scripts that run the programs and log what they reach."""
-    found = {}
+    """Scripts that run the programs and note what they reach."""
+    shim, found = compiled(folder, SOURCE), {}
     for name, path in paths.items():
+        places = functions(path)
+        (folder / f"{name}.list").write_bytes(struct.pack(f"<{len(places)}Q", *places))
+        (folder / f"{name}.seen").write_bytes(bytes(len(places)))
+        words = {"COVERAGE_OF": os.path.realpath(path), "COVERAGE_LIST": folder / f"{name}.list",
+                 "COVERAGE_SEEN": folder / f"{name}.seen", "LD_PRELOAD": f"{shim}${{LD_PRELOAD:+:$LD_PRELOAD}}"}
         script = folder / name
-        # (what a test preloads is for the program, and not for the emulator)
-        script.write_text(f'#!/bin/sh\nmore=$LD_PRELOAD\nunset LD_PRELOAD\n'
-                          f'exec {EMULATOR} ${{more:+-E LD_PRELOAD=$more}} -d in_asm -D "{folder}/{name}.$$.log" {path} "$@"\n')
+        script.write_text("#!/bin/sh\n" + "".join(f'{key}="{value}" ' for key, value in words.items()) + f'exec {path} "$@"\n')
         script.chmod(0o755)
         found[name] = str(script)
     return found
 
 
-def reached(name: str, folder: Path) -> set[str]:
-    """The functions that the logs of a program name."""
-    found: set[str] = set()
-    for log in folder.glob(f"{name}.[0-9]*.log"):
-        with open(log, errors="replace") as lines:
-            found |= {plain(line[4:].strip()) for line in lines if line.startswith("IN: ")}
-    return found
+def reached(name: str, path: str, folder: Path) -> set[str]:
+    """The functions of a program that were entered."""
+    seen = (folder / f"{name}.seen").read_bytes()
+    return {plain(function) for function, is_seen in zip(functions(path).values(), seen) if is_seen}
 
 
 def main() -> int:
     if sys.argv[1:2] in (["-h"], ["--help"]):
         sys.exit(__doc__)
-    if not shutil.which(EMULATOR):
-        print(f"coverage: skipped: no {EMULATOR} (qemu-user)")
+    if not shutil.which("nm"):
+        print("coverage: skipped: no nm (binutils)")
         return 0
     paths = programs(NAMES)
     with tempfile.TemporaryDirectory(prefix="coverage-") as room:
         folder = Path(room)
+        folder.chmod(0o755)  # (some tests run a program as another user)
         scripts = wrapped(paths, folder)
+        for name in paths:
+            (folder / f"{name}.seen").chmod(0o666)
         env = {**os.environ, "TFTP_PROGRAMS": str(folder)}
         wanted = sys.argv[1:] or list(NAMES)
         runs = [[sys.executable, "-m", "unittest", *UNITS], *([tool] for tool in OTHERS)]
         if {"tftp", "tftpd"} & {*wanted}:
-            runs.append(["tools/loopback/run.py", scripts["tftp"], scripts["tftpd"]])
+            runs += [[*tool.split(), scripts["tftp"], scripts["tftpd"]] for tool in BOTH]
         for words in runs:
             done = subprocess.run(words, cwd=TOP, env=env, stdin=subprocess.DEVNULL, capture_output=True, text=True, timeout=LIMIT)
             last = ([line for line in (done.stdout + done.stderr).splitlines() if line.strip()] or [""])[-1]
             print(f"coverage: {' '.join(words[:3])}: status {done.returncode}, {last[:100]}", flush=True)
         for name in wanted:
-            there, seen = functions(paths[name]), reached(name, folder)
+            there, seen = {*map(plain, functions(paths[name]).values())}, reached(name, paths[name], folder)
             missed = sorted(there - seen)
             print(f"{name}: {len(there) - len(missed)} of {len(there)} functions are reached; not:")
             print(*(f"  {function}" for function in missed), sep="\n")

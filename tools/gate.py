@@ -86,8 +86,8 @@ def faults_of(lines: Sequence[str], edits: int) -> list[str]:
 
 
 def skipped_by(name: str, lines: Sequence[str]) -> list[str]:
-    """What a check says that it skipped."""
-    return [f"{name}: {line}" for line in lines if re.search(r"\bskipped\b", line)]
+    """What a check says that it skipped, or did without."""
+    return [f"{name}: {line}" for line in lines if re.search(r"\bskipped\b|; without [a-z]", line)]
 
 
 def repeated_by(name: str, lines: Sequence[str]) -> list[str]:

@@ -65,7 +65,7 @@ named() {
     # as a word in double quotes of a unit, and then as the replacement of sed
     path=$(printf '%s' "$PREFIX/bin/$PROGRAM_PREFIX" | sed 's/[\\"]/\\&/g; s/%/%%/g' | sed 's/[&\\|]/\\&/g')
     case $1 in
-    packaging/*.service | packaging/*.socket)
+    packaging/*.service | packaging/*.socket | packaging/*.default)
         sed "s|/usr/local/bin/tftpd|@path@|g; s|tftpd\.nft|@nft@|g
             s|tftpd|${PROGRAM_PREFIX}tftpd|g
             s|@path@|${path}tftpd|g; s|@nft@|tftpd.nft|g" "$1"
@@ -123,6 +123,7 @@ files() {
         echo "644 $UNITDIR/$PROGRAM_PREFIX$unit $(named "packaging/$unit")"
     done
     echo "644 $DOCDIR/tftpd.nft packaging/tftpd.nft"
+    echo "644 $DOCDIR/tftpd.default $(named packaging/tftpd.default)"
     for document in LICENSE SECURITY.md docs/OPERATING.md "$(named packaging/README.md)"; do
         echo "644 $DOCDIR/${document##*/} $document"
     done

@@ -6,7 +6,8 @@ shell scripts; each is skipped where it is not installed, pyflakes or ruff alone
 finds is shown, and counts where its version is Debian 12's: another may find more, and no gate fails for what is
 installed on its host. Each Python file compiles, and each function says what it returns. Lines of documents, but of the
 READMEs of crates, are at most 120 columns wide, without those of tables and code. Each slip can be applied, and has a line
-in tools/slips.txt; and the tests that NAMED lists are there. The last line but one counts the words of README.md and docs/.
+in tools/slips.txt; and the tests that NAMED lists are there. No document has more words than LIMITS says, or a word of the
+project's own that its glossary replaces. The last line but one counts all written words.
 """
 import ast
 import os
@@ -22,8 +23,16 @@ import slips
 from lib.programs import TOP
 
 COLUMNS = 120
-# as many words as README.md and docs/ are meant to have, without the documents that are made
-WORDS, MADE = 15_000, ["DEFINITIONS.md", "STATEMENT.md"]
+# The most words of documents, each by its patterns, of which one that begins with a dash takes files out again
+LIMITS: dict[str, int] = {
+    "README.md": 1_000, "docs/OPERATING.md": 3_000, "docs/PROVED.md": 1_300, "docs/ARCHITECTURE.md": 1_300,
+    "docs/STATEMENT.md": 6_000, "docs/*.md -docs/STATEMENT.md SECURITY.md CONTRIBUTING.md": 12_000,
+    "crates/*/README.md": 15_000, "CHANGELOG.md": 1_200, "bench/**/*.md": 4_500, "examples/**/*.md": 2_200,
+    "packaging/*.md tools/**/*.md": 500,
+}
+# Words that the glossary of docs/PROVED.md has others for, where no code is shown; the made STATEMENT explains its own
+OLD_WORDS = re.compile(r"(?<![/\w])(?:headlines?|strangers?|slips?|drafts?|wire text|handed over)\b", re.I)
+READ_FIRST = "README.md docs/*.md -docs/STATEMENT.md SECURITY.md CONTRIBUTING.md packaging/*.md"
 PYTHON = ["tools", "bench", "examples"]
 SHELL = ["tools/*.sh", ".ci/*", "debian/*.sh", "bench/*/*.sh", "examples/*.sh", "examples/*/*.sh"]
 RUFF = ["ruff", "check", "--quiet", "--select", "E9,F", *PYTHON]
@@ -38,18 +47,16 @@ FOLDERS = ["tools", "tools/soak", "tools/loopback", "tools/rows", "tools/tests",
 UNKNOWN = ["arg-type", "assignment", "attr-defined", "call-overload", "dict-item", "func-returns-value", "has-type", "index",
            "list-item", "misc", "operator", "str-bytes-safe", "union-attr", "var-annotated"]
 
-# Tests that keep their names, since their rows were agreed under them; beside some, those of a crate of tests that give the
-# rows which need a call of the library. Each is a test in Rattle, a method `test_NAME`, or a tool
+# Tests that keep their names, since their rows were agreed under them; beside some, those that give the rows which need
+# another crate. Each is a test in Rattle, a method `test_NAME`, or a tool
 NAMED: dict[str, list[str]] = {
     "vectors_show": [], "packet_rows": [], "play_first": [], "read_rows": ["the_most_blocks_come_whole"], "option_rows": [],
     "write_rows": ["a_write_makes_a_file"], "random_safe": [], "port_rows": ["wrong_names", "paths_of_names", "long_names"],
-    "netascii_rows": ["wrong_text_closes_a_receiver"], "every_cut": [], "loopback": [],
-    "stream_rows": ["stream_rows_of_a_sink", "a_receiver_keeps_an_ack_and_a_cr", "a_sender_keeps_its_block"],
-    "ref_equals_owned": ["ref_equals_owned_of_faults"], "table_rows": [], "memory_in_turn": [], "stray_rows": [],
-    "malformed_each_state": [],
-    "fault_rows": ["a_read_of_twenty_bytes_breaks_off", "a_file_that_cannot_be_opened", "a_file_that_cannot_be_read",
-                   "one_call_is_refused"],
-    "fault_each": [], "overwrite_rows": [], "repeat_rows": [],
+    "netascii_rows": [], "every_cut": [], "loopback": [], "stream_rows": [], "ref_equals_owned": [], "table_rows": [],
+    "memory_in_turn": [], "stray_rows": [], "malformed_each_state": [],
+    "fault_rows": ["a_read_of_twenty_bytes_breaks_off", "a_write_is_refused_at_each_block", "a_file_that_cannot_be_opened",
+                   "a_file_that_cannot_be_read", "a_draft_that_cannot_be_begun"],
+    "fault_each": ["a_read_breaks_off_at_each_block", "a_source_faults_in_each_block"], "overwrite_rows": [], "repeat_rows": [],
 }
 
 
@@ -123,10 +130,34 @@ def wide_lines() -> list[str]:
     return found
 
 
-def words() -> int:
-    """How many words README.md and docs/ have."""
-    paths = [TOP / "README.md", *(path for path in TOP.glob("docs/*.md") if path.name not in MADE)]
-    return sum(len(path.read_text().split()) for path in paths)
+def files_of(patterns: str) -> list[Path]:
+    """The files of patterns, without those of the patterns that begin with a dash."""
+    found: set[Path] = set()
+    for pattern in patterns.split():
+        files = {path for path in TOP.glob(pattern.removeprefix("-")) if path.is_file() and "out" not in path.parts}
+        found = found - files if pattern.startswith("-") else found | files
+    return sorted(found)
+
+
+def words(patterns: str) -> int:
+    """How many words documents have."""
+    return sum(len(path.read_text().split()) for path in files_of(patterns))
+
+
+def too_long() -> list[str]:
+    """Documents that have more words than they may have."""
+    return [f"{patterns}: {words(patterns):,} words of {most:,}" for patterns, most in LIMITS.items() if words(patterns) > most]
+
+
+def old_words() -> list[str]:
+    """Words of the project's own in the documents that are read first. A line of a glossary has them in parentheses."""
+    found = []
+    for path in files_of(READ_FIRST):
+        text = re.sub(r"(?ms)^```.*?^```$|`[^`]*`", lambda code: "\n" * code[0].count("\n"), path.read_text())
+        for number, line in enumerate(text.splitlines(), 1):
+            if not re.match(r"- [^:]* \([a-z ]+\): ", line):
+                found += [f"{path.relative_to(TOP)}:{number}: {word}" for word in OLD_WORDS.findall(line)]
+    return found
 
 
 def counts(name: str) -> bool:
@@ -136,7 +167,7 @@ def counts(name: str) -> bool:
 
 
 def main() -> int:
-    found, skipped = [*wide_lines(), *untyped(), *slips.not_applied(), *unnamed()], []
+    found, skipped = [*wide_lines(), *too_long(), *old_words(), *untyped(), *slips.not_applied(), *unnamed()], []
     looked = ["documents", "return types", "slips", "names of tests"]
     looks: dict[str, Callable[[], list[str]]] = {
         "pyflakes3": lambda: printed_by(["pyflakes3", *PYTHON]), "ruff": lambda: printed_by(RUFF), "mypy": mistyped,
@@ -159,8 +190,7 @@ def main() -> int:
         skipped = [name for name in skipped if name not in ("pyflakes3", "ruff")]
     if skipped:
         print(f"lint: skipped: no {', no '.join(skipped)}")
-    # (said, and no failure: who adds a paragraph shortens another)
-    print(f"lint: README.md and docs/: {words():,} words of {WORDS:,}")
+    print(f"lint: {words('**/*.md'):,} words of documents")
     print(f"lint: {', '.join(looked)}: {len(found)} lines found")
     return 1 if found else 0
 

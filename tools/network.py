@@ -19,6 +19,8 @@ import time
 from contextlib import ExitStack
 from pathlib import Path
 
+from lib.units import arguments_of
+
 TOP = Path(__file__).resolve().parent.parent
 PAGE = TOP / "docs/OPERATING.md"
 # The longest time of all, of a wait, and of a wait for what does not come, in seconds
@@ -45,12 +47,6 @@ def block_of(part) -> str:
     blocks = [it for it in re.findall(r"(?ms)^```\n(.*?)^```$", PAGE.read_text()) if part in it]
     expect(len(blocks), 1, f"how many pieces of code of the page have {part!r}")
     return blocks[0]
-
-
-def started_by(unit) -> list[str]:
-    """The words of a unit's command line, without the program."""
-    line = re.search(r'(?m)^ExecStart="[^"]+" (.*)$', (TOP / "packaging" / unit).read_text())
-    return line[1].split()
 
 
 class Host:
@@ -158,7 +154,7 @@ class Scene:
 
 def try_unit(scene) -> None:
     """The unit's own command line serves port 69, and refuses writes."""
-    scene.serve(started_by("tftpd.service"))
+    scene.serve(arguments_of("tftpd.service"))
     expect(scene.is_served(), True, "whether the unit's command line serves")
     words = [scene.tftp, "put", f"{SERVER}:69", __file__, "new", "--retries", "10"]
     done = subprocess.run(scene.client.words(*words), capture_output=True, text=True, timeout=PATIENCE)
@@ -237,7 +233,7 @@ def try_many(scene) -> None:
     """Eight servers by the command line of their unit, and 200 clients at once, each of which asks twice: none is
     refused or opened twice, each file is whole, and each server has some of them."""
     for port in range(6901, 6909):
-        scene.serve([it.replace("%i", str(port)) for it in started_by("tftpd@.service")])
+        scene.serve([it.replace("%i", str(port)) for it in arguments_of("tftpd@.service")])
     scene.server.rules((TOP / "packaging/tftpd.nft").read_text())
     expect(scene.ask("--fetch", scene.root / "a"), [str(len(MANY))], "how many files are whole")
     logs = scene.stop()
@@ -370,7 +366,22 @@ KERNEL = """table ip a {
 }
 """
 
-TRIALS = [try_unit, try_redirection, try_firewall, try_translation, try_limit, try_many]
+def try_removal(scene) -> None:
+    """The two commands that remove what failed puts left spare what is an hour old at most, and what is not theirs."""
+    commands = re.findall(r"`(find /srv/tftp[^`]*)`", " ".join(PAGE.read_text().split()))
+    expect(len(commands), 2, "how many commands of the page remove files")
+    left, kept = [".tftp-40000", "n~tftp"], [".tftp-40001", "m~tftp", "old"]
+    for name in [*left, *kept]:
+        (scene.root / name).touch()
+    for name in [*left, "old"]:
+        os.utime(scene.root / name, times=(0, time.time() - 2 * 3600))
+    for command in commands:
+        scene.server.run(command)
+    found = [name for name in [*left, *kept] if (scene.root / name).exists()]
+    expect(found, kept, "the files that are not removed")
+
+
+TRIALS = [try_unit, try_redirection, try_firewall, try_translation, try_limit, try_many, try_removal]
 
 
 def run(tftp, tftpd) -> int:

@@ -29,7 +29,6 @@ step in_crate "$crate" rt fmt
 git --no-pager diff --stat -- "crates/$crate"
 step tools/definitions.py
 step tools/statement.py
-step tools/one_journal.py
 step tools/lint.py
 step in_crate "$crate" rt check
 for name in $(tests); do

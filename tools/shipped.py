@@ -15,26 +15,18 @@ from concurrent.futures import ThreadPoolExecutor
 from pathlib import Path
 from typing import Any
 
+from lib.kit import crates, has_libraries, kit
 from lib.programs import NAMES, TOP, of_crate
 
 # what is for every processor of x86-64, and the word that says so
 PLAIN, FLAG, LIBRARY = ("tftp", "tftpd"), "--cpu=x86-64", "tftp_c"
-KIT = Path(shutil.which("rt") or sys.exit("shipped: rt is not on the PATH")).resolve().parent.parent
-sys.path.append(str(KIT / "bin"))
+KIT = kit()
 import rtlib
 
 
 def crate_of(name) -> Any:
     """The crate of a program or of the library for C, as rt has it."""
-    wanted = LIBRARY if name == LIBRARY else name.replace("-", "_") + "_main"
-    return next(crate for crate in rtlib.crates_below(str(TOP)) if crate.name == wanted)
-
-
-def has_libraries(crate) -> bool:
-    """Whether all libraries below are those of `rt ci`, which have no stamp, or all of the text as it stands."""
-    stamps = [Path(it.folder, "out/rlib/stamp").is_file() for it in crate.below()]
-    is_there = all(Path(it.rlib, "format").is_file() for it in crate.below())
-    return is_there and (not any(stamps) or all(it.is_built() for it in crate.below()))
+    return crates()[LIBRARY if name == LIBRARY else name.replace("-", "_") + "_main"]
 
 
 def proved(crate, to) -> None:

@@ -1,13 +1,17 @@
 #!/usr/bin/env python3
-"""Tries the slips of crates as `rt must-fail` tries edits: slips.py [CRATE.. | --few [COUNT]]
+"""Tries slips: slips.py [--jobs N] [--stale] [CRATE.. | CRATE/SLIP..], or slips.py --few [COUNT]
 
-A slip is a wrong body in crates/NAME/slips/, in the form of an edit in must-fail/, which the prover has to refuse, too; the
-gate has no time for all of them. Without words every crate that has slips is tried. It works on a copy, a crate after the
-other, and takes what checks on this machine have kept. With `--few` some of all slips are tried, five if COUNT is not given,
-by the seed of the commit: each over the libraries that `rt ci` left, at the function that it changes alone, and where that
-is still proved, in the whole crate, for which there is not always time, as is said then. tools/slips.txt says of each slip by which commit it was last refused; a run of whole
-crates writes there. The last line is a count; the status is 1 where a slip proves, or cannot be applied.
+A slip is a wrong body in crates/NAME/slips/, in the form of an edit in must-fail/. The prover has to refuse it: a goal stays
+open at the function that it changes, or else in its crate. tools/slips.txt says of each by which commit and at which function
+it was last refused, and a run without --few writes there. Without words all are tried, and with --stale of these only such as
+have changed since, or whose crate has, and such of which nothing is known. The status is 1 where a slip proves or cannot be
+read.
+
+With --few, as in the gate, some are tried by the seed of the commit, five if COUNT is not given, over the libraries that are
+there. There one that proves is a failure only if it was refused by a commit since which neither it nor its crate has changed:
+of the others nobody knows whether the change at hand is to blame, and the last lines name them.
 """
+import os
 import random
 import re
 import shutil
@@ -16,20 +20,28 @@ import sys
 import tempfile
 import time
 from concurrent.futures import ThreadPoolExecutor
+from functools import partial
 from pathlib import Path
-from typing import Any
+from typing import Any, Callable, NamedTuple, Optional
 
+from lib.kit import crates, has_libraries
+from lib.programs import TOP
 from lib.seeds import commit_seed
 
-TOP = Path(__file__).resolve().parent.parent
 PARTS = ("src", "specs", "proofs", "c")
 RECORD = TOP / "tools/slips.txt"
 # how many are tried of all, how many at a time, and the longest time of all in seconds
 FEW, AT_ONCE, LIMIT = 5, 2, 600
-
-
-def crates_with_slips() -> list[str]:
-    return sorted({path.parent.parent.name for path in TOP.glob("crates/*/slips/*.edit")})
+# the longest time of one that is tried by hand
+PATIENCE = 3_600
+UNKNOWN = "-"
+# a line of the prover on a place; what says that it cannot read a text, and what that a name is gone
+SAID = re.compile(r"(?:note: )?(?:\./)?(?P<path>\S+?):\d+:\d+: (?P<error>error: )?(?P<name>`[^`]*`: )?(?P<what>.*)")
+UNREAD = re.compile(r"is not in scope|has no field|is no name|operand is missing|expected the end|cannot continue")
+UNREADABLE = "it cannot be read"
+GONE = re.compile(r"has no field|is not in scope|has no `|was not admitted")
+FUNCTION = re.compile(r"""^ *(?:pub(?:\([a-z]+\))? )?(?:unsafe )?(?:extern "C" )?fn (\w+)""")
+IMPL = re.compile(r"^(?:pub )?(?:unsafe )?(?:(?P<trait>trait) (?P<own>\w+)|impl(?:<.*?>)? (?:(?P<what>\w+)(?:<.*>)? for )?(?P<type>\w+).*)")
 
 
 def all_slips() -> list[str]:
@@ -37,29 +49,50 @@ def all_slips() -> list[str]:
     return sorted(f"{path.parent.parent.name}/{path.stem}" for path in TOP.glob("crates/*/slips/*.edit"))
 
 
+def crate_of(slip: str) -> str:
+    return slip.split("/")[0]
+
+
 def path_of(slip: str) -> Path:
     crate, name = slip.split("/")
     return TOP / "crates" / crate / "slips" / f"{name}.edit"
 
 
+def git(*words: str) -> "subprocess.CompletedProcess[str]":
+    return subprocess.run(["git", *words], cwd=TOP, capture_output=True, text=True)
+
+
 # ---- by which commit each was refused
 
 
-def recorded() -> dict[str, str]:
-    """The commit by which each slip was last refused, `-` where none is known."""
+class Refusal(NamedTuple):
+    """The commit by which a slip was last refused, and the function that was not proved; each `-` where it is not known."""
+    commit: str = UNKNOWN
+    function: str = UNKNOWN
+
+
+def recorded() -> dict[str, Refusal]:
+    """What the record says of each slip."""
     lines = RECORD.read_text().splitlines() if RECORD.is_file() else []
-    return {line.split()[0]: line.split()[1] for line in lines}
+    return {words[0]: Refusal(*words[1:3]) for words in map(str.split, lines)}
 
 
-def record(refused: list[str]) -> None:
-    """Writes that these were refused by the commit that is checked out, if nothing of the crates differs from it."""
-    head = subprocess.run(["git", "rev-parse", "--short=10", "HEAD"], cwd=TOP, capture_output=True, text=True).stdout.strip()
-    changed = subprocess.run(["git", "status", "--porcelain", "crates"], cwd=TOP, capture_output=True, text=True).stdout
-    before = recorded()
-    now = {slip: head if slip in refused and head and not changed else before.get(slip, "-") for slip in all_slips()}
-    text = "".join(f"{slip} {commit}\n" for slip, commit in now.items())
-    if text != (RECORD.read_text() if RECORD.is_file() else ""):
-        RECORD.write_text(text)
+def is_fresh(slip: str, refusal: Refusal) -> bool:
+    """Whether neither the slip nor its crate has changed since it was refused."""
+    paths = [*(f"crates/{crate_of(slip)}/{part}" for part in PARTS), str(path_of(slip).relative_to(TOP))]
+    return refusal.commit != UNKNOWN and git("diff", "--quiet", refusal.commit, "--", *paths).returncode == 0
+
+
+def record(slip: str, function: str, crate: Any) -> None:
+    """Writes that this one was refused by the commit that is checked out, if its crate and those below are as they are there."""
+    head = git("rev-parse", "--short=10", "HEAD").stdout.strip()
+    changed = git("status", "--porcelain", "--", *(f"crates/{it.name}" for it in [crate, *crate.below()])).stdout
+    if not head or changed:
+        print(f"slip {slip}: not recorded: its crates differ from the commit")
+        return
+    known = {**recorded(), slip: Refusal(head, function)}
+    lines = [" ".join([name, *known.get(name, Refusal())]).removesuffix(f" {UNKNOWN}") for name in all_slips()]
+    RECORD.write_text("".join(f"{line} {UNKNOWN}\n" if " " not in line else f"{line}\n" for line in lines))
 
 
 # ---- whether each can be applied
@@ -93,130 +126,199 @@ def not_applied() -> list[str]:
     return found + [f"tools/slips.txt and crates/*/slips differ in {slip}" for slip in wrong]
 
 
-# ---- a few, each alone
+# ---- one of them
 
 
-def crates() -> dict[str, Any]:
-    """The crates as rt has them, by their names."""
-    kit = Path(shutil.which("rt") or sys.exit("slips: rt is not on the PATH")).resolve().parent
-    if str(kit) not in sys.path:
-        sys.path.append(str(kit))
-    import rtlib
-    return {crate.name: crate for crate in rtlib.crates_below(str(TOP))}
+class Verdict(NamedTuple):
+    """What the prover says of a slip: whether it refuses it (None: there was no time to know), at which function, and why."""
+    is_refused: Optional[bool]
+    function: str = ""
+    why: str = ""
+
+    def __str__(self) -> str:
+        if self.is_refused:
+            return f"refused at {self.function}{f' ({self.why})' if self.why else ''}"
+        return f"NOT REFUSED: {self.why}" if self.is_refused is False else "undecided, no time for the whole crate"
 
 
-def functions_of(slip: str, texts: dict[str, str]) -> list[str]:
+class Place(NamedTuple):
+    """Where a slip changes its crate: the file, the type and the function."""
+    path: str
+    owner: str
+    name: str
+
+
+def places(slip: str, texts: dict[str, str]) -> list[Place]:
     """The functions that a slip changes: each stands before the first line that differs."""
     found = []
     for path, text in texts.items():
-        before = (path_of(slip).parent.parent / path).read_text().splitlines()
-        after = text.splitlines()
+        before, after = (path_of(slip).parent.parent / path).read_text().splitlines(), text.splitlines()
         at = next((at for at, (one, other) in enumerate(zip(before, after)) if one != other), min(len(before), len(after)))
-        names = re.findall(r"(?m)^ *(?:pub(?:\([a-z]+\))? )?(?:unsafe )?(?:extern \"C\" )?fn (\w+)", "\n".join(before[:at + 1]))
-        found += names[-1:]
+        owner, name = "", ""
+        for line in before[:at + 1]:
+            head = IMPL.match(line)
+            owner = (head["own"] or head["type"] + (head["what"] or "")) if head else "" if line.startswith("}") else owner
+            name = match[1] if (match := FUNCTION.match(line)) else name
+        found += [Place(path, owner, name)] if name else []
     return found
 
 
-def checked(crate: Any, folder: Path, words: list[str], end: float) -> str:
+def checked(crate: Any, room: Path, words: list[str], end: float) -> str:
     """What a check of the copy prints, or nothing if it takes too long."""
     import rtlib
     command = [rtlib.RATTLE, "check", *crate.words(["--jobs", "1", *words], keeps=False)]
     try:
-        done = subprocess.run(command, cwd=folder, stdin=subprocess.DEVNULL, stdout=subprocess.PIPE, stderr=subprocess.STDOUT,
+        done = subprocess.run(command, cwd=room, stdin=subprocess.DEVNULL, stdout=subprocess.PIPE, stderr=subprocess.STDOUT,
                               text=True, errors="replace", timeout=max(end - time.monotonic(), 1))
     except subprocess.TimeoutExpired:
         return ""
     return done.stdout
 
 
-def judged(slip: str, crate: Any, room: Path, end: float) -> str:
-    """What the prover says of a slip: `refused at F`, `NOT REFUSED`, or `undecided`."""
+def checked_at(place: Place, crate: Any, room: Path, end: float) -> str:
+    """What a check of the function of a place alone prints. Where others have its name it is found by its whole path."""
+    said = checked(crate, room, ["--only", place.name], end)
+    several = re.search(r"several functions are named .*: write one of (.*)", said)
+    if not several:
+        return said
+    paths = re.findall(r"`([^`]+)`", several[1])
+    module = place.path.removeprefix("src/").removesuffix(".rt").replace("/", "::")
+    inside = [path for path in paths if path.startswith(f"{crate.name}::{module}::")] or paths
+    named = [path for path in inside if path.split("::")[-2] == place.owner] or inside
+    return checked(crate, room, [word for path in named for word in ["--only", path]], end)
+
+
+def unread(said: "re.Match[str]", texts: dict[str, str]) -> bool:
+    """Whether a line says that a text cannot be read: an edit that makes a statement false reads well."""
+    is_text = said["path"] in texts or said["path"].startswith(("src/", "specs/"))
+    return bool(is_text and said["error"] and (not said["name"] or UNREAD.search(re.sub(r"`[^`]*`", "", said["what"]))))
+
+
+def judged_by(output: str, texts: dict[str, str]) -> Verdict:
+    """What the output of a check comes to."""
+    said = [match for match in map(SAID.match, output.splitlines()) if match]
+    wrong = next((it[0] for it in said if unread(it, texts)), "")
+    opened = re.search(r"(?m)^fn (\S+): (?:not proved|no proof)", output)
+    if wrong or not opened and re.search(r"\berror\[[\w-]+\]", output):
+        return Verdict(False, why=f"{UNREADABLE}: {wrong or output[:300]}")
+    if opened:
+        is_gone = said and all(it["path"].startswith("proofs/") and GONE.search(it["what"]) for it in said)
+        return Verdict(True, opened[1], "only because a proof cites what it takes away" if is_gone else "")
+    is_proved = re.search(r"(?m)^(logic=proved |only=(\d+) proved=\2$)", output)
+    return Verdict(False, why="it is proved") if is_proved else Verdict(None)
+
+
+def seeded(crate: Any, room: Path) -> list[str]:
+    """The words by which a check takes what earlier ones of the crate have proved, of which the copy gets links."""
+    kept = TOP / "crates" / crate.name / "out/incremental"
+
+    def linked(one: str, other: str) -> str:
+        try:
+            if one.endswith(".oantt"):
+                os.link(one, other)
+                return other
+        except OSError:
+            pass
+        return shutil.copy2(one, other)
+
+    if not kept.is_dir():
+        return []
+    shutil.copytree(kept, room / "kept", copy_function=linked)
+    return ["--incremental", str(room / "kept")]
+
+
+def judged(slip: str, crate: Any, function: str, end: float) -> Verdict:
+    """What the prover says of a slip: at the function where it was refused before, or at the one that it changes, or else in
+    the whole crate."""
     texts, why = edited(slip)
     if why:
-        return f"NOT REFUSED: {why}"
-    for part in PARTS:
-        if (TOP / "crates" / crate.name / part).is_dir():
-            shutil.copytree(TOP / "crates" / crate.name / part, room / part)
-    for path, text in texts.items():
-        (room / path).write_text(text)
-    said, everything = "", list[str]()
-    for words in [*[["--only", name] for name in functions_of(slip, texts)], everything]:
-        said = checked(crate, room, words, end)
-        opened = re.search(r"(?m)^fn (\S+): (?:not proved|no proof)", said)
-        if opened:
-            return f"refused at {opened[1]}"
-    return "NOT REFUSED" if "logic=proved " in said else "undecided"
+        return Verdict(False, why=why)
+    with tempfile.TemporaryDirectory(prefix="slip-") as folder:
+        room = Path(folder)
+        for part in PARTS:
+            if (TOP / "crates" / crate.name / part).is_dir():
+                shutil.copytree(TOP / "crates" / crate.name / part, room / part)
+        for path, text in texts.items():
+            (room / path).write_text(text)
+        tries: list[Callable[[], str]] = [partial(checked, crate, room, ["--only", function], end)] * (function != UNKNOWN)
+        tries += [partial(checked_at, place, crate, room, end) for place in places(slip, texts)]
+        tries.append(lambda: checked(crate, room, seeded(crate, room), end))
+        verdict = Verdict(None)
+        for run in tries:
+            verdict = judged_by(run(), texts)
+            if verdict.is_refused or verdict.why.startswith(UNREADABLE):
+                break
+        return verdict
+
+
+# ---- a few of them
 
 
 def few(count: int) -> int:
     """Tries some slips by the seed of the commit, of crates below which all libraries are there."""
-    known, end = crates(), time.monotonic() + LIMIT
-    ready = [slip for slip in all_slips() if all(Path(it.rlib, "format").is_file() for it in known[slip.split("/")[0]].below())]
+    known, before, end = crates(), recorded(), time.monotonic() + LIMIT
+    ready = [slip for slip in all_slips() if has_libraries(known[crate_of(slip)])]
     chosen = random.Random(commit_seed()).sample(ready, min(count, len(ready)))
-    with tempfile.TemporaryDirectory(prefix="slips-") as folder, ThreadPoolExecutor(AT_ONCE) as pool:
-        def tried(slip: str) -> str:
-            room = Path(folder, slip.replace("/", "."))
-            room.mkdir()
-            return judged(slip, known[slip.split("/")[0]], room, end)
-
-        found = dict(zip(chosen, pool.map(tried, chosen)))
+    counted = {slip: is_fresh(slip, before.get(slip, Refusal())) for slip in all_slips()}
+    with ThreadPoolExecutor(AT_ONCE) as pool:
+        found = dict(zip(chosen, pool.map(
+            lambda slip: judged(slip, known[crate_of(slip)], before.get(slip, Refusal()).function, end), chosen)))
+    wrong = [slip for slip, verdict in found.items() if verdict.is_refused is False]
     for slip, verdict in found.items():
-        print(f"slip {slip}: {verdict}{', no time for the whole crate: skipped' * (verdict == 'undecided')}")
-    wrong = sum(verdict.startswith("NOT") for verdict in found.values())
-    refused = sum(verdict.startswith("refused") for verdict in found.values())
-    lacking = "" if ready else "; skipped: no library is built"
-    print(f"slips: {refused} of {len(all_slips())} tried and refused, {wrong} not{lacking}")
+        unknown = "" if counted[slip] else "; no failure, since it was not tried after the last change of its crate"
+        print(f"slip {slip}: {verdict}{unknown * (verdict.is_refused is False)}")
+    lacking = "" if ready else ", skipped: no library is built"
+    print(f"slips: {sum(counted.values())} of {len(counted)} were refused as they and their crates stand")
+    print(f"slips: {len(chosen)} of these and others tried, {len(wrong)} not refused{lacking}")
+    return int(any(counted[slip] for slip in wrong))
+
+
+# ---- all of them
+
+
+def built(names: set[str], known: dict[str, Any]) -> bool:
+    """Whether the libraries below these crates are built, where need be now."""
+    lacking = sorted(name for name in names if not has_libraries(known[name]))
+    return not lacking or subprocess.run(["tools/build.sh", *lacking], cwd=TOP).returncode == 0
+
+
+def every(slips: list[str], jobs: int) -> int:
+    """Tries these, and records those that are refused."""
+    known, before, began = crates(), recorded(), time.monotonic()
+    if not built({crate_of(slip) for slip in slips}, known):
+        return 1
+    with ThreadPoolExecutor(jobs) as pool:
+        runs = {slip: pool.submit(judged, slip, known[crate_of(slip)], before.get(slip, Refusal()).function,
+                                  time.monotonic() + PATIENCE * len(slips)) for slip in slips}
+        for slip, run in runs.items():
+            verdict = run.result()
+            print(f"slip {slip}: {verdict}", flush=True)
+            if verdict.is_refused:
+                record(slip, verdict.function, known[crate_of(slip)])
+    wrong = sum(not run.result().is_refused for run in runs.values())
+    print(f"slips: {len(slips) - wrong} refused, {wrong} not, in {time.monotonic() - began:.0f} s")
     return int(wrong > 0)
 
 
-# ---- those of whole crates
-
-
-def copied(folder: Path) -> None:
-    """A copy of what the prover reads, without edits."""
-    for name in ["crates.txt", "HANDLES"]:
-        shutil.copy2(TOP / name, folder / name)
-    for crate in (TOP / "crates").iterdir():
-        (folder / "crates" / crate.name).mkdir(parents=True)
-        for part in PARTS:
-            if (crate / part).is_dir():
-                shutil.copytree(crate / part, folder / "crates" / crate.name / part)
-
-
-def tried(crate: str, folder: Path) -> tuple[list[str], int]:
-    """The slips of a crate that were refused, and how many were not."""
-    edits = sorted((TOP / "crates" / crate / "slips").glob("*.edit"))
-    place = folder / "crates" / crate / "must-fail"
-    place.mkdir()
-    for edit in edits:
-        shutil.copy2(edit, place / edit.name)
-    print(f"== {crate}: {len(edits)} slips", flush=True)
-    done = subprocess.run(["rt", "must-fail", crate], cwd=folder, stdout=subprocess.PIPE, stderr=subprocess.STDOUT, text=True)
-    text = done.stdout.replace(f"must-fail {crate}/", f"slip {crate}/").replace(f"{folder}/", "")
-    print(text, end="", flush=True)
-    shutil.rmtree(place)
-    shutil.rmtree(folder / "crates" / crate / "out", ignore_errors=True)
-    # each edit has a line that says what it came to
-    refused = [f"{crate}/{edit.stem}" for edit in edits if f"/{edit.name}: refused" in text]
-    record(refused)
-    return refused, max(len(edits) - len(refused), int(done.returncode != 0))
+def chosen_by(words: list[str]) -> list[str]:
+    """The slips that a command line names."""
+    slips, before, is_stale = all_slips(), recorded(), "--stale" in words
+    names = {*words} - {"--stale"}
+    lacking = names - {*slips} - {*map(crate_of, slips)}
+    if lacking:
+        sys.exit(f"slips: there is no slip {', '.join(sorted(lacking))}")
+    named = [slip for slip in slips if not names or slip in names or crate_of(slip) in names]
+    return [slip for slip in named if not is_stale or not is_fresh(slip, before.get(slip, Refusal()))]
 
 
 def main() -> int:
-    if sys.argv[1:2] in (["-h"], ["--help"]):
+    words = sys.argv[1:]
+    if words[:1] in (["-h"], ["--help"]):
         sys.exit(__doc__)
-    if sys.argv[1:2] == ["--few"]:
-        return few(int(sys.argv[2]) if sys.argv[2:] else FEW)
-    names = sys.argv[1:] or crates_with_slips()
-    lacking = sorted({*names} - {*crates_with_slips()})
-    if lacking:
-        sys.exit(f"slips: no slips in {', '.join(lacking)}")
-    with tempfile.TemporaryDirectory(prefix="slips-") as room:
-        copied(Path(room))
-        counts = [tried(crate, Path(room)) for crate in names]
-    wrong = sum(count for _, count in counts)
-    print(f"slips: {sum(len(refused) for refused, _ in counts)} refused, {wrong} not")
-    return 1 if wrong else 0
+    if words[:1] == ["--few"]:
+        return few(int(words[1]) if words[1:] else FEW)
+    jobs, words = (int(words[1]), words[2:]) if words[:1] == ["--jobs"] else (AT_ONCE, words)
+    return every(chosen_by(words), jobs)
 
 
 if __name__ == "__main__":

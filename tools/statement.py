@@ -14,14 +14,12 @@ from specs import TOP, all_files, source_of
 DOCUMENT = TOP / "docs" / "STATEMENT.md"
 MOST_WORDS = 6_000
 # as many names of a file are listed; of more their number is
-MOST_NAMES = 5
+MOST_NAMES = 1
 
 HEAD = """# The theorem, word by word
 
-Made by `tools/statement.py` from the definitions in `crates/*/specs`, which the prover checks as they stand there. It
-is read from the top: the theorem, then what each of its ten words means, then the other theorems, then the names of all
-that these need, by file. It takes half an hour. `make docs` makes it, and out/DEFINITIONS.md, which has each definition
-that a contract cites, in words.
+Made by `make docs` from the definitions in `crates/*/specs`, which the prover checks as they stand there. It is read
+from the top.
 
 **Notation.** `A → B` is "if A then B", and before a value "for all"; `×` is "and", or "there is" before a name; `⊎` is
 "or"; `≡` is "equals", `≢` "differs from". `[]` is the empty list, `x ∷ xs` a list with a first element, `++` joins.
@@ -29,11 +27,11 @@ that a contract cites, in words.
 and `AllByRecursion P xs` say that P holds of each. A `record` has fields, a `data` has cases; `record r { a = b }` is r
 with that a. Lists of an order or a trace have the newest event first. A name that a definition does not bind is a
 parameter of its module, as `programs`, or `stores`, `sources`, `inputs` and `outputs`: the models of the server's store
-and files and of the clients' files. For the programs these are the models of files on a disk.
+and files and of the clients' files.
 
 **Words of the definitions.** *Words* are the arguments of a command line. A *journal* is a trace: what a program asked
-of the system and what it answered; what a program *noted* is its trace. A *stranger* is a third party, a program other
-than these. A *draft* is the temporary file of a put. *Honest* is a network that delivers only what was sent.
+of the system and what it answered; what it *noted* is its trace. A *stranger* is a third party. A *draft* is the
+temporary file of a put.
 """
 
 
@@ -60,8 +58,8 @@ THEOREMS = [
         "Then there are programs whose traces are those, and in whatever order an honest network joined them, if their "
         "ports are fresh, the transfers keep their promises, and each get that is complete has reached the disk. The law is "
         "`tftp_words::laws::complete_gets_go_from_disk_to_disk`, a public function with an empty body. Its premises on the "
-        "runs, `ServerRan` and `ClientStored`, are the clauses `runs` of `tftp_daemon::tftpd_with_journal` and "
-        "`tftp_client::tftp_with_journal`.",
+        "runs, `ServerRan` and `ClientStored`, are the clauses `runs` of `tftp_daemon::tftpd_on` and "
+        "`tftp_client::tftp_on`.",
         "tftp_words.FromDisk.FromDiskToDisk",
         [
             Word("ServerRan", "A run of `tftpd`, by its arguments (`words`), its status and its trace before and after it. "
@@ -101,7 +99,7 @@ THEOREMS = [
     Theorem(
         "A put, from disk to disk",
         "The same of puts (`PutsFromDiskToDisk`): it has `ClientSent` in place of `ClientStored`, by the clause `sends` of "
-        "`tftp_client::tftp_with_journal`, and `LeavesDisk` in place of `ReachesDisk`. The law is "
+        "`tftp_client::tftp_on`, and `LeavesDisk` in place of `ReachesDisk`. The law is "
         "`tftp_words::laws::complete_puts_go_from_disk_to_disk`.",
         "tftp_words.PutFromDisk.PutsFromDiskToDisk",
         [
@@ -183,7 +181,7 @@ def rest_of(definitions) -> list[str]:
         if crate != last:
             lines += [""] * bool(last) + [f"**{crate}**", ""]
             last = crate
-        told = ", ".join(names) if len(names) <= MOST_NAMES else f"{len(names)} definitions"
+        told = ", ".join(names) if len(names) <= MOST_NAMES else str(len(names))
         lines += wrap(f"- {file}: {told}", 120, subsequent_indent="  ", break_on_hyphens=False)
     return lines
 
@@ -207,8 +205,9 @@ def document() -> str:
                 del left[key_of(each)]
             lines += [f"### {word.name}", "", *paragraph(word.says), *text_of(shown)]
     lines += ["## The rest, by name and file", "",
-              *paragraph(f"These {len(left)} definitions are needed by those above, too. Each has a comment in plain words "
-                         "where it stands, `crates/CRATE/specs/FILE.antt`."), *rest_of(left)]
+              *paragraph(f"These {len(left)} definitions are needed by those above, too; of a file with more than "
+                         f"{MOST_NAMES} their number stands here. Each has a comment in plain words where it stands, "
+                         "`crates/CRATE/specs/FILE.antt`."), *rest_of(left)]
     return "\n".join(lines).rstrip() + "\n"
 
 

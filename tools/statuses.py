@@ -397,6 +397,9 @@ def test_server_faults(check) -> None:
     words = ["served", "--listen", f"{HOST}:0", "--rounds", "1"]
     fault = f"tftpd: socket fault\ntftpd: {HOST}:0: too many open files\n"
     check.ends("tftpd", words, 2, fault, "", preexec_fn=few_files(4))
+    fault = "tftpd: server fault\ntftpd: a server did not start: too many open files\n"
+    several = ["served", "--listen", f"{HOST}:0", "--servers", "3", "--forever"]
+    check.ends("tftpd", several, 2, fault, "", preexec_fn=few_files(6))
     with open("/dev/full", "wb") as full:
         check.ends("tftpd", words, 2, UNWRITABLE, stdout=full)
     # a server that nobody asks ends after its waits

@@ -21,6 +21,7 @@ from pathlib import Path
 from typing import Any
 
 import network
+from lib.units import SETTINGS, settings_of
 from network import CLIENT, MANY, PATIENCE, SERVER, TOP, Fault, Host, expect
 
 SUITE, ARCHIVE = "bookworm", "http://deb.debian.org/debian"
@@ -110,6 +111,16 @@ def for_writes(unit, user) -> str:
     return "[Service]\n" + lines[1].replace("#", "").replace("User=USER", f"User={user}")
 
 
+def without_read_only(unit) -> str:
+    """The options of a unit that accepts writes."""
+    return settings_of(unit)["OPTIONS"].replace(" --read-only", "")
+
+
+def two_servers(unit) -> str:
+    """The options of a unit that starts two servers in place of one."""
+    return settings_of(f"{unit}.service")["OPTIONS"] + " --servers 2"
+
+
 def packed(version) -> bytes:
     """The bytes of a package of this version."""
     words = [TOP / "debian/pack.sh", version]
@@ -178,8 +189,11 @@ class Container:
     def property(self, unit, name) -> str:
         return self.run(f"systemctl show --value --property {name} {unit}").strip()
 
-    def begin(self, unit, change="") -> None:
-        """Starts a unit, with these lines of `systemctl edit`."""
+    def begin(self, unit, change="", **settings) -> None:
+        """Starts a unit, with these settings and these lines of `systemctl edit`."""
+        if settings:
+            text = "".join(f'{name}="{value}"\n' for name, value in settings.items())
+            self.run(f"mkdir -p /etc/default; cat > {SETTINGS}", input=text.encode())
         if change:
             place = f"/etc/systemd/system/{unit}.service.d"
             self.run(f"mkdir -p {place}; cat > {place}/override.conf; systemctl daemon-reload", input=change.encode())
@@ -189,7 +203,7 @@ class Container:
     def revert(self, unit) -> None:
         """Stops a unit, and forgets what was changed in it."""
         change = f"/etc/systemd/system/{unit}.service.d"
-        self.run(f"systemctl disable --now {unit}; rm -rf {change}; systemctl daemon-reload")
+        self.run(f"systemctl disable --now {unit}; rm -rf {change} {SETTINGS}; systemctl daemon-reload")
 
     def log(self, unit) -> list[str]:
         return self.run(f"journalctl --quiet --output=cat _SYSTEMD_UNIT={unit}").splitlines()
@@ -243,13 +257,24 @@ class Container:
 
 
 def try_no_folder(it) -> None:
-    """Without its folder a start fails, and says so."""
-    for unit in ["tftpd", "tftpd@6901", "tftpd.socket"]:
+    """Without its folder a start fails, and the journal says so; once the folder is there, it serves."""
+    for unit in ["tftpd", "tftpd@6901"]:
         told = it.told(f"systemctl enable --now {unit} 2>&1 || echo status $?")
-        expect("Assertion failed" in told and told.endswith("status 1\n"), True, f"whether a start fails: {told}")
-        found = [it.property(unit, name) for name in ["AssertResult", "ActiveState", "MemoryMax"]]
-        expect(found, ["no", "inactive", "infinity"], f"{unit} without a folder")
-        it.run(f"systemctl disable {unit}")
+        expect(f"Job for {unit}.service failed" in told and told.endswith("status 1\n"), True, f"whether a start fails: {told}")
+        expect("/srv/tftp: no folder" in it.log(f"{unit}.service"), True, "whether the journal has the reason")
+        found = [it.property(unit, name) for name in ["MainPID", "MemoryMax"]]
+        expect(found, ["0", "infinity"], f"{unit} without a folder")
+        it.run(f"systemctl disable --now {unit}")
+
+
+def try_settings(it) -> None:
+    """The file of settings names another folder, another address, and other options."""
+    it.run("mkdir -p /var/lib/other; cat > /var/lib/other/a", input=it.content)
+    it.begin("tftpd", ROOT="/var/lib/other", ADDRESS=SERVER, OPTIONS="--cap 1 --read-only --log")
+    until("another folder is served", it.is_served)
+    listening = [line for line in it.log("tftpd.service") if line.startswith("listening ")]
+    expect(listening[-1], f"listening {SERVER}:69", "the address that is served")
+    it.revert("tftpd")
 
 
 def try_reading(it) -> None:
@@ -309,9 +334,7 @@ def try_drain(it) -> None:
 
 def try_late_address(it) -> None:
     """It is started again and again, more often than systemd's limit of five, until its address is there."""
-    line = network.started_by("tftpd.service")
-    line[line.index("0.0.0.0:69")] = f"{LATE}:69"
-    it.begin("tftpd", f"[Service]\nExecStart=\nExecStart=/usr/local/bin/tftpd {' '.join(line)}\n")
+    it.begin("tftpd", ADDRESS=LATE)
     until("it was started seven times", lambda: int(it.property("tftpd", "NRestarts")) >= 7, 3 * PATIENCE)
     it.server.run(f"ip address add {LATE}/24 dev wire")
     until("it serves its address", lambda: it.is_served(LATE))
@@ -351,7 +374,7 @@ def try_socket(it) -> None:
 
 def takes_writes(it, unit, template, port, capabilities) -> None:
     """With the lines of the comments it takes writes, as the user whose folder it is."""
-    it.begin(unit, for_writes(template, "uploader"))
+    it.begin(unit, for_writes(template, "uploader"), OPTIONS=without_read_only(template))
     until("the port is served", lambda: it.is_served(port=port))
     expect(it.put(f"new{port}", port), f"complete {len(it.content)}\n", "the answer to a write")
     sent = subprocess.run(it.words("cat", f"/srv/tftp/new{port}"), capture_output=True, check=True).stdout
@@ -429,12 +452,6 @@ def try_package(it) -> None:
     expect(left, "", "the files that a purge leaves")
 
 
-def several(unit) -> str:
-    """The lines of `systemctl edit` that start two servers in place of one. "%t" is systemd's."""
-    words = " ".join(network.started_by(f"{unit}.service"))
-    return f"[Service]\nExecStart=\nExecStart=/usr/local/bin/tftpd {words} --servers 2\n"
-
-
 def servers_of(it, unit) -> list[str]:
     """The processes of the servers of a unit, whose main process is their supervisor."""
     main = it.property(unit, "MainPID")
@@ -454,7 +471,7 @@ def serves_by_two(it, unit) -> list[str]:
 def try_several_in(it, unit, capabilities) -> None:
     """Two servers in a unit: each has what one has, and no more. A kill of a server or of their supervisor starts them again,
     a stop drains both, and the journal has each line with its server."""
-    it.begin(unit, several(unit))
+    it.begin(unit, OPTIONS=two_servers(unit))
     for place in [0, 1, 2]:
         before = serves_by_two(it, unit)
         it.run(f"kill -KILL {before[place]}")
@@ -498,7 +515,7 @@ def try_several(it) -> None:
 def upgrades_several(it) -> None:
     """An upgrade starts two servers again that systemd hands the port to, and no request is lost."""
     it.run("systemctl stop tftpd-socket")
-    it.begin("tftpd-socket", several("tftpd-socket").replace("/usr/local/", "/usr/"))
+    it.begin("tftpd-socket", OPTIONS=two_servers("tftpd-socket"))
     expect(it.is_served(), True, "whether two servers serve the port that is handed over")
     before = [it.property("tftpd-socket", "MainPID"), *servers_of(it, "tftpd-socket")]
     expect(len(before), 3, f"how many processes there are: {before}")
@@ -506,10 +523,9 @@ def upgrades_several(it) -> None:
     expect(it.is_served(), True, "whether the port is served after an upgrade")
     after = {it.property("tftpd-socket", "MainPID"), *servers_of(it, "tftpd-socket")}
     expect((after & set(before), len(after)), (set(), 3), f"the processes after an upgrade, {before} before")
-    it.run("rm -rf /etc/systemd/system/tftpd-socket.service.d; systemctl daemon-reload")
 
 
-TRIALS = [try_no_folder, try_reading, try_kill, try_drain, try_socket, try_several, try_late_address, try_writing, try_instances, try_grade, try_package]
+TRIALS = [try_no_folder, try_settings, try_reading, try_kill, try_drain, try_socket, try_several, try_late_address, try_writing, try_instances, try_grade, try_package]
 
 
 def run(folder) -> int:

@@ -9,7 +9,8 @@ from contextlib import suppress
 from both_programs import bytes_of
 from datagrams import PATIENT, End, ack, data, error, expect, oack, rrq, wrq
 from scene import Client, first_line, preloaded
-from server_alone import CUT_FILE, CUT_SIZE, is_given_up
+from served_disk import Disk
+from server_alone import CUT_FILE, CUT_SIZE, FILE_EXISTS, is_given_up
 
 ABC = data(1, b"ABC")
 # The words of a patient transfer. A client that ends at all in a test ends before its first timeout
@@ -360,6 +361,43 @@ def test_progress_is_shown_on_a_terminal(scene) -> None:
     is_got(scene, "--progress")
 
 
+def test_progress_of_a_known_length(scene) -> None:
+    """Where the server says how long the file is (RFC 2349), the line has the share of it that is there."""
+    shown, terminal = pty.openpty()
+    requests = scene.port()
+    words = ["--no-dally", "--progress", "--tsize", *PATIENTLY]
+    client = scene.tftp("get", requests.word, "a", "local", *words, stderr=terminal)
+    os.close(terminal)
+    end = asked(scene, requests, rrq("a", **PATIENT, tsize=0))
+    end.is_answered(oack(**PATIENT, tsize=600), ack(0))
+    end.is_answered(data(1, bytes(512)), ack(1))
+    time.sleep(0.2)
+    end.is_answered(data(2, bytes(88)), ack(2))
+    client.ends(0, "complete 600\n", None)
+    text = written_to(shown).decode()
+    expect(bool(re.search(r"\r600 bytes, 100%, \d+\.\d KB/s", text)), True, f"whether all of 600 bytes are in {text!r}")
+
+
+def test_a_get_without_hard_links(scene) -> None:
+    """On a file system without hard links the file is renamed once none has its name, and never over one."""
+    disk = Disk(scene)
+    disk.orders(lacks_links=True)
+    env = preloaded(scene, "disk_calls.c", CONTROL=disk.path)
+    client, end = patient_get(scene, "--no-dally", env=env)
+    disk.forget()
+    end.is_answered(ABC, ack(1))
+    client.completes(3)
+    scene.has(local=b"ABC")
+    expect("Lm" in disk.calls().replace("o", ""), True, f"whether a rename follows the link in {disk.calls()}")
+    (scene.folder / "local").unlink()
+    client, end = patient_get(scene, "--no-dally", env=env)
+    end.is_answered(data(1, bytes(512)), ack(1))
+    scene.make("local", b"other")
+    end.is_answered(data(2, b"ABC"), FILE_EXISTS)
+    client.fails("StoreFault", "local: exists (--replace replaces it)")
+    expect((scene.folder / "local").read_bytes(), b"other", "the file that has the name")
+
+
 def test_progress_goes_by_the_clock(scene) -> None:
     """A line is shown each tenth of a second at most, and its speed is that of the bytes by the clock of their sender."""
     shown, terminal = pty.openpty()
@@ -379,12 +417,13 @@ def test_progress_goes_by_the_clock(scene) -> None:
     length = 30 * 65_464 + 3
     client.ends(0, f"complete {length}\n", None)
     lasted = time.monotonic() - begun
-    lines = re.findall(r"\r(\d+) bytes, (\d+\.\d) MB/s", written_to(shown).decode())
+    lines = re.findall(r"\r(\d+) bytes, (\d+\.\d) ([KM])B/s", written_to(shown).decode())
     # (the last one is shown in any case)
     expect(2 <= len(lines) <= lasted / 0.1 + 3, True, f"whether {len(lines)} lines are those of {lasted:.2f} s")
-    count, speed = lines[-1]
-    least, most = length / lasted / 1e6 - 0.1, length / (sent - answered) / 1e6 + 0.1
-    expect((count, least <= float(speed) <= most), (f"{length}", True), f"the bytes, and whether {speed} MB/s is their speed")
+    count, number, unit = lines[-1]
+    speed = float(number) * {"K": 1e3, "M": 1e6}[unit]
+    least, most = length / lasted - 1e5, length / (sent - answered) + 1e5
+    expect((count, least <= speed <= most), (f"{length}", True), f"the bytes, and whether {speed} bytes a second are their speed")
 
 
 def test_falls_back(scene) -> None:

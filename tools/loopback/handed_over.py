@@ -4,7 +4,7 @@ import socket
 import subprocess
 
 from datagrams import PATIENCE, PATIENT, ack, data, error, expect, free_ports, oack, rrq
-from options import UNITS
+from lib.units import arguments_of
 
 FAULT = "tftpd: socket fault\ntftpd: standard input: "
 
@@ -117,9 +117,9 @@ def test_a_client_asks_while_no_server_runs(scene) -> None:
 def test_the_unit_of_a_socket(scene) -> None:
     """The command line of the unit serves a folder to read, and refuses writes."""
     scene.make("a", b"ABC")
-    text = (UNITS / "tftpd-socket.service").read_text()
-    line = re.search(r'(?m)^ExecStart="[^"]+" /srv/tftp --listen stdin (.*)$', text)
+    root, *arguments = arguments_of("tftpd-socket.service")
+    expect((root, *arguments[:2]), ("/srv/tftp", "--listen", "stdin"), "the first arguments of the unit")
     bound = scene.port()
-    server = scene.serve_at(bound, *line[1].split())
+    server = scene.serve_at(bound, *arguments[2:])
     scene.tftp("get", server.word, "a", "got", "--no-dally").completes(3)
     scene.tftp("put", server.word, "a", "n").fails("PeerError(2)")

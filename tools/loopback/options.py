@@ -1,15 +1,12 @@
 """Each option of the two programs has the effect that its manual states."""
-import re
 import signal
 import time
-from pathlib import Path
 
 from both_programs import bytes_of
 from client_alone import PATIENTLY, asked, patient_get
 from datagrams import PATIENCE, PATIENT, End, ack, data, error, expect, oack, rrq, wrq
+from lib.units import arguments_of
 from server_alone import is_refused, opened
-
-UNITS = Path(__file__).resolve().parent.parent.parent / "packaging"
 
 
 def test_retries_of_the_server(scene) -> None:
@@ -168,10 +165,10 @@ def test_a_name_appears(scene) -> None:
 def test_units(scene) -> None:
     """The command lines of the units serve a folder to read, and refuse writes."""
     scene.make("a", b"ABC")
-    for unit in ["tftpd.service", "tftpd@.service"]:
-        line = re.search(r'(?m)^ExecStart="[^"]+" (/srv/tftp) --listen 0\.0\.0\.0:(?:69|%i) (.*)$',
-                         (UNITS / unit).read_text())
-        server = scene.serve(*line[2].split())
+    for unit, address in [("tftpd.service", "0.0.0.0:69"), ("tftpd@.service", "0.0.0.0:%i")]:
+        root, *arguments = arguments_of(unit)
+        expect((root, *arguments[:2]), ("/srv/tftp", "--listen", address), f"the first arguments of {unit}")
+        server = scene.serve(*arguments[2:])
         scene.tftp("get", server.word, "a", "got", "--no-dally").completes(3)
         scene.tftp("put", server.word, "a", "n").fails("PeerError(2)")
         (scene.folder / "got").unlink()

@@ -45,7 +45,7 @@ HERE = Path(__file__).resolve()
 OF_SERVERS = [both_programs, server_alone, server_loop, served_folder, served_disk, options, handed_over, draining,
               requests_only]
 MODULES = [*OF_SERVERS, client_alone, command_lines, several_servers, repeated_requests, at_length]
-TESTS_AT_LEAST = 225
+TESTS_AT_LEAST = 230
 AT_ONCE = 8
 # The most tests that are run again; none where LOOPBACK_ONCE is in the environment, as where a fault is to be noticed
 MOST_REPEATED = 6

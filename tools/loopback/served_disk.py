@@ -5,7 +5,7 @@ import os
 import struct
 import time
 
-from datagrams import PATIENCE, PATIENT, ack, data, expect, free_ports, oack, rrq, wrq
+from datagrams import PATIENCE, PATIENT, ack, data, error, expect, free_ports, oack, rrq, wrq
 from scene import Server, preloaded
 from served_folder import LAST, TOO_LARGE, drafts, writing
 from server_alone import ACCESS_VIOLATION, DISK_FULL, FILE_EXISTS, is_refused, opened
@@ -173,6 +173,36 @@ def test_each_kind_of_sync_that_fails(scene) -> None:
     scene.lacks("n")
     log = [line for line in server.has_logged(6) if line.startswith("closed")]
     server.logs(log, [r".* StoreFault, input or output error"] * 3)
+
+
+def test_permissions_that_are_not_synced(scene) -> None:
+    """What replaces a file takes the permissions that it has by then, and is synced once more: where that fails, the old
+    file stays."""
+    scene.make("n", b"old")
+    server, disk = serve(scene, "--overwrite")
+    end = writing(scene, server, "n")
+    (scene.folder / "n").chmod(0o604)
+    disk.orders(error=5, only="s", after=1)
+    disk.forget()
+    end.is_answered(LAST, DISK_FULL)
+    expect(disk.calls(), "wsooS", "the calls of a commit whose second sync fails")
+    expect((scene.folder / "n").read_bytes(), b"old", "the file")
+
+
+def test_a_read_that_fails(scene) -> None:
+    """A block of a file that cannot be read is told to the client, and why to the log."""
+    scene.make("a", bytes(100_000))
+    server, disk = serve(scene, "--log")
+    end = opened(scene, server, rrq("a", **PATIENT), oack(**PATIENT))
+    end.is_answered(ack(0), data(1, bytes(512)))
+    disk.orders(error=5, only="r")
+    number, answer = 0, b""
+    while answer[:2] != b"\0\5":
+        number += 1
+        answer = end.answer_to(ack(number))
+        expect(number < 100, True, "whether all that was read ahead is sent")
+    expect(answer, error(0, "file changed"), "the answer")
+    server.logs(server.has_logged(2)[1:], [r"closed .* SourceFault, input or output error"])
 
 
 def test_without_hard_links(scene) -> None:

@@ -12,6 +12,7 @@ from typing import Iterator
 from datagrams import PATIENCE, PATIENT, End, ack, data, error, expect, free_ports, oack, rrq, wrq
 from scene import Server
 from server_alone import ACCESS_VIOLATION, DISK_FULL, FILE_EXISTS, FILE_NOT_FOUND, first_block_of, is_refused, opened
+from servers import children_of
 
 LAST = data(1, b"new")
 TOO_LARGE = error(0, "file too large")
@@ -200,9 +201,12 @@ def test_the_log_has_priorities_in_the_journal(scene) -> None:
         server = scene.server_of(process)
         is_refused(scene, server, rrq("none"), FILE_NOT_FOUND)
         is_refused(scene, server, rrq("/../a"), ACCESS_VIOLATION)
-        server.logs(server.has_logged(2), [
+        end = opened(scene, server, rrq("a"), data(1, b"ABC"))
+        end.is_answered(ack(7), error(4, "illegal operation"))
+        server.logs(server.has_logged(4), [
             rf"refused {scene.address}:\d+ RRQ none octet: ERROR 1 \(file not found\)",
             rf"{mark}refused {scene.address}:\d+ RRQ /../a octet: ERROR 2 \(access violation\), name not allowed",
+            rf"opened \d+ {scene.address}:\d+ .*", rf"{mark}closed \d+ {scene.address}:\d+ .*, Illegal",
         ])
 
 
@@ -336,16 +340,32 @@ def test_the_mode_at_the_commit(scene) -> None:
     scene.has(narrower=b"new", wider=b"new", set=b"new")
 
 
+# how long servers have a processor between two renames, in nanoseconds: several times as long as from a look to the opening
+# after it, however long they wait for the processor in between
+RENAMED_EACH = 300_000
+
+
+def time_used(pids) -> int:
+    """How long processes have had a processor, in nanoseconds; where the system does not say, by the clock, a third."""
+    try:
+        return sum(int(Path(f"/proc/{pid}/schedstat").read_text().split()[0]) for pid in pids)
+    except OSError:
+        return time.monotonic_ns() // 3
+
+
 @contextmanager
-def renamed_again_and_again(path, content) -> Iterator[None]:
-    """A file that is replaced by a rename all the time, as by an atomic update."""
-    is_over = threading.Event()
+def renamed_again_and_again(path, content, pids) -> Iterator[None]:
+    """A file that is replaced by a rename all the time that servers work, as by atomic updates."""
+    is_over, count = threading.Event(), [0]
 
     def rename() -> None:
+        last = time_used(pids)
         while not is_over.is_set():
-            path.with_name("update").write_bytes(content)
-            os.rename(path.with_name("update"), path)
-            time.sleep(0.001)
+            if time_used(pids) >= last + RENAMED_EACH:
+                path.with_name("update").write_bytes(content)
+                os.rename(path.with_name("update"), path)
+                count[0], last = count[0] + 1, time_used(pids)
+            time.sleep(0.000_1)
 
     thread = threading.Thread(target=rename)
     thread.start()
@@ -354,13 +374,15 @@ def renamed_again_and_again(path, content) -> Iterator[None]:
     finally:
         is_over.set()
         thread.join()
+    expect(count[0] > 20, True, f"whether {count[0]} renames are some")
 
 
 def test_reads_meet_renames(scene) -> None:
     """A read finds a file at each moment at which another is renamed over it: none is refused."""
     scene.make("served/a", b"ABC")
     server = scene.serve("--transfers", "400", root="served")
-    with renamed_again_and_again(scene.folder / "served/a", b"ABC"):
+    servers = children_of(server.process) or [server.process.pid]
+    with renamed_again_and_again(scene.folder / "served/a", b"ABC", servers):
         for _ in range(400):
             opened(scene, server, rrq("a"), data(1, b"ABC")).send(ack(1))
     server.has_closed(*["Complete"] * 400)

@@ -230,7 +230,7 @@ def test_a_port_that_refuses_a_write_comes_after_all_others(scene) -> None:
     What stands there is a folder here; it may be a file of another user in a folder whose sticky bit is set."""
     first = free_ports(4)
     scene.make_folder(f".tftp-{first + 2}")
-    server = scene.serve("--ports", f"{first}:{first + 3}", "--transfers", "12")
+    server = scene.serve("--ports", f"{first}:{first + 3}", "--transfers", "100")
     answers = []
     for number in range(16):
         port = scene.port()

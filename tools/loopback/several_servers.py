@@ -19,9 +19,10 @@ from servers import MARKED, children_of, is_gone, wait_for_servers, wait_until
 
 # how often shares are tried
 TRIES = 8
-# how long servers may outlive their supervisor or one of them, in seconds: half of all lives less than this, since one that
-# saw it only at the end of its wait would take a second. A single life may take longer where the host is busy
-SOON = 0.7
+# how many times longer servers wait that nothing wakes; and how long they may outlive their supervisor or one of them, in
+# seconds: half of all lives less than this, since one that saw it only at the end of its wait of a second would take twice
+# as long. A single life may take longer where the host is busy
+LONGER, SOON = 40, 20
 # how many times slower the clocks of servers go in a test of what they do within milliseconds of their own, which other
 # servers have then to act in, however busy the host is: the pauses of `tftp_handed/src/share.rt`; and where shares are
 # counted, whose pauses are a tenth of a millisecond
@@ -78,9 +79,9 @@ def is_free(address) -> bool:
 
 def lives(scene, count) -> Iterator[list[Server]]:
     """Idle servers, so many at each of AT_ONCE ports, again and again."""
-    begun, lived = time.monotonic(), 0
+    begun, lived, env = time.monotonic(), 0, preloaded(scene, "long_waits.c", LONGER=LONGER)
     while lived < LIVES and (LIVES_ARE_GIVEN or time.monotonic() < begun + LIVES_SECONDS):
-        processes = [started(scene, count) for _ in range(AT_ONCE)]
+        processes = [started(scene, count, env=env) for _ in range(AT_ONCE)]
         yield [served(process, count) for process in processes]
         lived += AT_ONCE
     if lived < LIVES:
@@ -305,11 +306,11 @@ def test_several_servers_without_proc(scene) -> None:
     expect((process.returncode, printed, errors), (2, "", said), "what is said without /proc")
 
 
-def error_stream(scene, kind) -> tuple[Any, Any]:
-    """What servers write their log to, of a kind, and what reads all of it once they have ended."""
+def error_stream(scene, kind) -> tuple[Any, Any, Any]:
+    """What servers write their log to, of a kind, what reads it as far as it is written, and what does once they have ended."""
     if kind == "file":
         log = scene.folder.with_name(f"{scene.folder.name}.log")
-        return open(log, "wb"), log.read_bytes
+        return open(log, "wb"), log.read_bytes, log.read_bytes
     if kind == "pipe":
         read, write = os.pipe()
         fcntl.fcntl(read, fcntl.F_SETPIPE_SZ, 1 << 20)
@@ -331,7 +332,7 @@ def error_stream(scene, kind) -> tuple[Any, Any]:
         reader.join(PATIENCE)
         return b"".join(parts)
 
-    return open(write, "wb", buffering=0), all_of_it
+    return open(write, "wb", buffering=0), lambda: b"".join(parts), all_of_it
 
 
 def name_to_fill(length) -> bytes:
@@ -355,11 +356,13 @@ def test_no_client_writes_a_line_into_the_log(scene) -> None:
     to 1,024 bytes and beyond: each line is of one request, and begins with its server."""
     lengths = range(280, 330)
     for kind in ["file", "pipe", "stream"]:
-        errors, read_all = error_stream(scene, kind)
+        errors, read_some, read_all = error_stream(scene, kind)
         with errors:
             server = served(started(scene, 4, "--log", stderr=errors), 4)
         names = [name_to_fill(length) for length in lengths] * 12
         ask_for(scene, server, names)
+        # (a request is logged behind its answer)
+        wait_until(lambda: read_some().count(b" refused ") >= len(names), "a line of each request")
         server.process.kill()
         server.process.communicate(timeout=PATIENCE)
         lines = read_all().decode().splitlines()

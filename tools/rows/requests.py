@@ -1,10 +1,11 @@
-"""Datagrams of a stranger to the request port of a world's server, which has the file `a` of the three bytes `ABC` and the
-file `d/b` of two: what each is, its bytes, and the answer. An OACK, an ACK or a DATA is from the end that it opens, an ERROR
+"""Datagrams of a stranger to the request port of a world's server, which has the file `a` of the three bytes `ABC`, the file
+`d/b` of two and the file `long`, for which 65,535 blocks of 8 bytes are one byte too few: what each is, its bytes, and the answer. An OACK, an ACK or a DATA is from the end that it opens, an ERROR
 is from the request port, and without an answer nothing opens. The answers are written by hand from RFC 1350, section 5 and
 appendix I, RFC 2347, "Negotiation Protocol", RFC 2348 and RFC 2349."""
 from lib.packets import ack, error, rrq, request, wrq
 
-FILES = "file a 414243\nfile d/b 5859\n"
+LONG = 524_280
+FILES = f"file a 414243\nfile d/b 5859\nfile long 61*{LONG}\n"
 ILLEGAL = "ERROR 4 (illegal operation)"
 VIOLATION = "ERROR 2 (access violation)"
 REFUSED = "ERROR 8 (option refused)"
@@ -26,6 +27,7 @@ PORT = [
     ("a write, with an option twice", request(2, "a", "netascii", [("tsize", 8), ("TSIZE", "x")]), REFUSED),
     ("a write of more than the server takes", wrq("a", tsize=4290183240), "ERROR 3 (disk full)"),
     ("a read, with an option twice", request(1, "a", "octet", [("blksize", 8), ("BLKSIZE", 9)]), REFUSED),
+    ("a read of more blocks than have numbers", rrq("long", blksize=8), "ERROR 0 (file too large)"),
     ("a read, with an option", rrq("/a", "OCTET", blksize=8), "OACK blksize=8"),
     ("a read in a folder, after a slash that does not count", rrq("/d/b"), "DATA 1 2"),
 ]

@@ -510,8 +510,8 @@ end 1026 client-write peer=none size=512 number=0 complete=no PeerError(0)
 """, 1),
 ]
 
-# Datagrams of neither host, the server's 10.0.0.1 and the clients' 10.0.0.2. A stranger to a transfer gets ERROR 5 and changes nothing (RFC 1350, section 4); an ERROR is
-# not answered (RFC 1350, section 7)
+# Datagrams of neither host, the server's 10.0.0.1 and the clients' 10.0.0.2. A stranger to a transfer gets ERROR 5 and
+# changes nothing (RFC 1350, section 4); an ERROR is not answered (RFC 1350, section 7)
 STRAYS = [
     # it is no answer to the client, whose transfer then completes
     ("""\
@@ -555,6 +555,22 @@ closed 1025 Complete
 end 1024 client-read peer=none size=512 number=0 complete=no open
 end 1025 server-read peer=5000 size=512 number=1 complete=yes Complete
 """, 1),
+    # it acknowledges a block that was not sent, or sends a malformed ERROR, and the transfer is over
+    ("""\
+file a 61*600
+stray 10.0.0.9:5000 10.0.0.1:69 000161006f6374657400
+stray 10.0.0.9:5000 10.0.0.1:1024 00040002
+stray 10.0.0.9:5001 10.0.0.1:69 000161006f6374657400
+stray 10.0.0.9:5001 10.0.0.1:1025 0005
+""", """\
+#0 10.0.0.1:1024 > 10.0.0.9:5000 DATA 1 512
+#1 10.0.0.1:1024 > 10.0.0.9:5000 ERROR 4 (illegal operation)
+closed 1024 Illegal
+#2 10.0.0.1:1025 > 10.0.0.9:5001 DATA 1 512
+closed 1025 Illegal
+end 1024 server-read peer=5000 size=512 number=1 complete=no Illegal
+end 1025 server-read peer=5001 size=512 number=1 complete=no Illegal
+""", 0),
 ]
 
 

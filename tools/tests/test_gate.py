@@ -77,6 +77,10 @@ class Gate(unittest.TestCase):
         said = self.ends([SAID.format(2), "40 passed, 0 failed"], ["./some"], 1, "42 passed, 1 failed", REQUIRE_ALL="1")
         self.assertIn("skipped: ./some: some: skipped: no such tool", said)
 
+    def test_what_it_did_without_is_skipped(self) -> None:
+        self.script("some", "echo '5 of 5 passed; without atftpd'")
+        self.ends([SAID.format(2), "40 passed, 0 failed"], ["./some"], 1, "42 passed, 1 failed", REQUIRE_ALL="1")
+
 
 if __name__ == "__main__":
     unittest.main()

@@ -1,5 +1,7 @@
-"""`.ci/packages` installs what is missing where it is root: all at once, or else each that can be had. Stand-ins take the
-place of `apt-get` and `id`, and no other command is on the PATH."""
+"""`.ci/packages` installs what is missing where it is root: all at once, or else each that can be had, and again what failed.
+Its status says whether all is there in the end, and whether the host lets the checks do what they do. Stand-ins take the place
+of `apt-get`, `id`, `sleep` and of what is tried of the host, and few other commands are on the PATH."""
+import re
 import shutil
 import subprocess
 import tempfile
@@ -9,62 +11,97 @@ from pathlib import Path
 TOP = Path(__file__).resolve().parent.parent.parent
 SCRIPT = TOP / ".ci/packages"
 # what no host has in /usr/sbin or /sbin, where the script looks too, with the package of each
-MISSING = {"mandoc": "mandoc", "shellcheck": "shellcheck", "zsh": "zsh", "cc": "gcc"}
+MISSING = {"mandoc": "mandoc", "shellcheck": "shellcheck", "zsh": "zsh", "go": "golang-go"}
+TOOLS = ["timeout", "sort", "seq", "tr", "mktemp", "rm", "chmod", "sh"]
+# installs the packages that it is asked for, without those of LACKS; with a file `away` it fails once
+APT = """
+case "$*" in *" install "*) verb=install ;; *" update"*) verb=update ;; *) verb=download ;; esac
+echo "$verb $*" >> "$CALLS"
+test ! -e "$AWAY" || { rm "$AWAY"; exit 100; }
+for word; do case " $LACKS " in *" $word "*) exit 100 ;; esac; done
+for pair in %s; do
+    for word; do test "$word" != "${pair#*=}" || { echo exit > "$BIN/${pair%%=*}"; chmod +x "$BIN/${pair%%=*}"; }; done
+done
+"""
 
 
 class Packages(unittest.TestCase):
     def setUp(self) -> None:
         room = tempfile.TemporaryDirectory(prefix="packages-")
         self.addCleanup(room.cleanup)
-        self.bin, self.calls = Path(room.name) / "bin", Path(room.name) / "calls"
+        self.bin, self.calls, self.away = (Path(room.name) / name for name in ["bin", "calls", "away"])
         self.bin.mkdir()
-        (self.bin / "timeout").symlink_to(shutil.which("timeout") or "timeout")
-        # (the last word is what is asked for: a package, or `update`)
-        self.stand_in("apt-get", f'for word; do :; done; echo "$*" >> {self.calls}; case "$word" in $LACKS) exit 100 ;; esac')
-        for command in [line.split()[1] for line in SCRIPT.read_text().splitlines() if line.startswith("needs ")]:
+        for name in TOOLS:
+            (self.bin / name).symlink_to(shutil.which(name) or name)
+        pairs = " ".join(f"{command}={package}" for command, package in MISSING.items())
+        self.stand_in("apt-get", APT % pairs)
+        self.stand_in("sleep", f'echo "sleep $1" >> {self.calls}')
+        lists = re.findall(r"(?s)^(?:NEEDS|SERVERS)='(.*?)'$", SCRIPT.read_text(), re.M)
+        for command in [line.split()[0] for text in lists for line in text.splitlines()]:
             if command not in MISSING:
                 self.stand_in(command, "exit 0")
+        self.stand_in("timeout", 'case "$1" in 1) exit 124 ;; esac; shift; exec "$@"')
+        for name in ["mount", "umount", "rmdir"]:
+            self.stand_in(name, "exit 0")
 
     def stand_in(self, name: str, text: str) -> None:
+        (self.bin / name).unlink(missing_ok=True)
         (self.bin / name).write_text(f"#!/bin/sh\n{text}\n")
         (self.bin / name).chmod(0o755)
 
-    def says(self, user: int, lacks: str = "none") -> tuple[list[str], list[list[str]]]:
-        """The lines that it prints as this user, without its seconds, and the words of apt-get behind the options."""
+    def says(self, user: int = 0, lacks: str = "none", status: int = 0) -> tuple[list[str], list[str]]:
+        """The lines that it prints as this user, without its seconds, and the calls: the verb of apt-get with the packages."""
         self.stand_in("id", f"echo {user}")
         bash = shutil.which("bash") or "bash"
-        done = subprocess.run([bash, SCRIPT], env={"PATH": str(self.bin), "LACKS": lacks}, capture_output=True, text=True,
-                              timeout=60)
-        self.assertEqual((done.returncode, done.stderr), (0, ""))
-        calls = [line.split() for line in self.calls.read_text().splitlines()] if self.calls.exists() else []
-        lines = [line.partition(", in ")[0] for line in done.stdout.splitlines()]
-        return lines, [[word for word in call if not word.startswith("-") and "::" not in word] for call in calls]
+        env = {"PATH": str(self.bin), "LACKS": lacks, "CALLS": str(self.calls), "AWAY": str(self.away), "BIN": str(self.bin)}
+        done = subprocess.run([bash, SCRIPT], env=env, capture_output=True, text=True, timeout=60)
+        self.assertEqual((done.returncode, done.stderr), (status, ""), done.stdout)
+        calls = self.calls.read_text().splitlines() if self.calls.exists() else []
+        kept = [[word for word in call.split() if not word.startswith("-") and "::" not in word] for call in calls]
+        return ([line.partition(", in ")[0] for line in done.stdout.splitlines()],
+                [" ".join(word for at, word in enumerate(call) if at == 0 or word != call[0]) for call in kept])
 
     def test_all_at_once(self) -> None:
-        packages = [*MISSING.values()]
-        lines, calls = self.says(0)
-        self.assertEqual(lines, [f"packages: installed: {' '.join(packages)}"])
-        self.assertEqual(calls, [["update"], ["install", *packages]])
+        packages = " ".join(sorted(MISSING.values()))
+        lines, calls = self.says()
+        self.assertEqual(lines, [f"packages: asked for: {packages} "])
+        self.assertEqual(calls, ["update", f"install {packages}"])
 
     def test_one_cannot_be_had(self) -> None:
-        """`gcc` is the last of the list, so that the install of all fails, too."""
-        packages = [*MISSING.values()]
-        lines, calls = self.says(0, lacks="gcc")
-        self.assertEqual(lines, ["packages: not installed: gcc", f"packages: installed: {' '.join(packages[:-1])}"])
-        self.assertEqual(calls[2:], [["install", package] for package in packages])
+        """`zsh` is the last of the list, so that the install of all fails, too."""
+        packages = sorted(MISSING.values())
+        lines, calls = self.says(lacks="zsh", status=1)
+        self.assertEqual(lines[-1], "packages: not installed: zsh")
+        self.assertEqual(calls[2:6], [f"install {package}" for package in packages])
+        self.assertEqual([call for call in calls if call.startswith("sleep")], ["sleep 15", "sleep 30"])
+
+    def test_the_network_is_away_for_a_moment(self) -> None:
+        self.away.touch()
+        packages = " ".join(sorted(MISSING.values()))
+        lines, calls = self.says()
+        self.assertEqual(lines, [f"packages: asked for: {packages} "])
+        self.assertEqual(calls, ["update", "sleep 15", "update", f"install {packages}"])
 
     def test_no_list_can_be_had(self) -> None:
-        lines, _ = self.says(0, lacks="update")
+        lines, _ = self.says(lacks="update", status=0)
         self.assertEqual(lines[0], "packages: apt-get update has failed")
 
     def test_another_user(self) -> None:
-        lines, calls = self.says(1_000)
-        self.assertEqual((lines, calls), ([f"packages: not installed: {' '.join(MISSING.values())}"], []))
+        lines, calls = self.says(1_000, status=1)
+        self.assertEqual(lines, [f"packages: not installed: {' '.join(sorted(MISSING.values()))}",
+                                 "packages: this host may not act as root"])
+        self.assertEqual(calls, [])
 
     def test_nothing_is_missing(self) -> None:
         for command in MISSING:
             self.stand_in(command, "exit 0")
-        self.assertEqual(self.says(0), ([], []))
+        self.assertEqual(self.says(), ([], []))
+
+    def test_a_host_forbids_something(self) -> None:
+        for command in MISSING:
+            self.stand_in(command, "exit 0")
+        self.stand_in("strace", "exit 1")
+        self.assertEqual(self.says(status=1), (["packages: this host may not trace"], []))
 
 
 if __name__ == "__main__":

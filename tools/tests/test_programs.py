@@ -14,7 +14,6 @@ TOOLS = Path(__file__).resolve().parent.parent
 sys.path[:0] = [str(TOOLS)]
 
 from lib import programs
-from lib.packets import request
 
 PATIENCE = 300
 # Reads and writes in both modes, with and without options, two writes of one name, and drawn events
@@ -31,17 +30,6 @@ put m octet 43*1024 blksize=8 tsize
 random 7 10000
 """
 DIGEST = "7a4791433036927cd41efffa6302f35a17a977853c4fe9a7042f598a93c81c18"
-# Reads of a file of three bytes, with these options, and the answer: each in the order of the request and in lower case
-# (RFC 2347), blocks of 1,428 bytes at most, and no option that is out of its range or written otherwise (RFC 2348)
-OPTIONS = [
-    ([("BLKSIZE", 1428), ("timeout", 3)], "OACK blksize=1428 timeout=3"),
-    ([("timeout", 3), ("BLKSIZE", 1428)], "OACK timeout=3 blksize=1428"),
-    ([("blksize", 65464)], "OACK blksize=1428"),
-    ([("blksize", 7)], "DATA 1 3"),
-    ([("blksize", "08")], "DATA 1 3"),
-    ([("blksize", 512), ("BLKSIZE", 512)], "ERROR 8 (option refused)"),
-    ([("tsize", 0)], "OACK tsize=3"),
-]
 
 
 class Program(unittest.TestCase):
@@ -64,40 +52,6 @@ class Play(Program):
         self.assertEqual(self.ran("file a 61*100000000\n"), (0, "", ""))
         status, printed, errors = self.ran("file a 61*100000001\n")
         self.assertEqual((status, printed, errors.splitlines()[:1]), (2, "", ["line 1: fault"]))
-
-    def answered(self, script: str) -> list[str]:
-        """What is printed of a script whose last line is an event, without the ends."""
-        status, printed, errors = self.ran(script)
-        self.assertEqual((status in (0, 1), errors), (True, ""))
-        return [line for line in printed.splitlines() if not line.startswith("end ")]
-
-    def test_option_rows(self) -> None:
-        """Requests with options, and reads of the length of a block, of no byte and of the most blocks there are."""
-        for options, answer in OPTIONS:
-            asked = request(1, "boot.img", "octet", options).hex()
-            lines = self.answered(f"file boot.img 414243\nstray 10.0.0.9:5000 10.0.0.1:69 {asked}\n")
-            port = 69 if "ERROR" in answer else 1024
-            self.assertEqual(lines, [f"#0 10.0.0.1:{port} > 10.0.0.9:5000 {answer}"], options)
-        # a read of no byte: its length is known in octet alone (RFC 2349)
-        for mode, answer in [("octet", "OACK tsize=0"), ("netascii", "DATA 1 0")]:
-            lines = self.answered(f"file a -\nget a {mode} tsize\ndeliver 0\n")
-            self.assertEqual(lines[1:], [f"#1 10.0.0.1:1025 > 10.0.0.2:1024 {answer}"])
-        # a full block is followed by an empty one; with options come an OACK and ACK 0
-        for options, count in [("", 5), (" blksize=512", 7)]:
-            lines = self.answered(f"file a 00*512\nget a octet{options}\nsettle 0\n")
-            self.assertEqual(sum(line.startswith("#") for line in lines), count, options)
-            self.assertIn(f"#{count - 2} 10.0.0.1:1025 > 10.0.0.2:1024 DATA 2 0", lines)
-
-    def test_option_rows_of_the_most_blocks(self) -> None:
-        """65,534 blocks of 8 bytes and one of 7 are as many as have numbers: a request, its OACK and ACK 0, and a DATA and
-        an ACK of each block. One byte more is refused."""
-        most = self.ran("file a 61*524279\nget a octet blksize=8\nsettle 0\n")[1].splitlines()
-        self.assertEqual(sum(line.startswith("#") for line in most), 131_073)
-        self.assertIn("#131071 10.0.0.1:1025 > 10.0.0.2:1024 DATA 65535 7", most)
-        self.assertEqual(most[-2:], ["end 1024 client-read peer=1025 size=8 number=65535 complete=yes open",
-                                     "end 1025 server-read peer=1024 size=8 number=65535 complete=yes Complete"])
-        more = self.answered("file a 61*524280\nget a octet blksize=8\nsettle 0\n")
-        self.assertEqual(more[1:], ["#1 10.0.0.1:69 > 10.0.0.2:1024 ERROR 0 (file too large)", "closed 1024 PeerError(0)"])
 
     def test_settle_is_cut(self) -> None:
         """A `settle` delivers 1,000,000 datagrams at most. Eight clients read 65,535 blocks of 8 bytes each: a request, an

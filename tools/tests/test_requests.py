@@ -1,6 +1,6 @@
 """The rows that were named first, each under its name: what the programs print for a script or a line, and what the request
-port of `tftpd` answers, byte for byte. What of them needs a call of the library stands in the crates of tests, under the
-names that `tools/lint.py` lists. Over the programs of bin/, or else those of `rt ci`; skipped without them."""
+port of `tftpd` answers, byte for byte. What of them needs a call of the library stands in the crates of tests, under the same
+name or those that `tools/lint.py` lists. Over the programs of bin/, or else those of `rt ci`; skipped without them."""
 import re
 import socket
 import subprocess
@@ -16,7 +16,7 @@ from test_rows import PATIENCE, Rows
 
 from lib import programs
 from lib.addresses import own_address
-from lib.packets import ack, data, error, oack, rrq, wrq
+from lib.packets import ack, data, error, oack, request, rrq, wrq
 from lib.process import Server
 from rows import lines, requests, transfers
 
@@ -86,6 +86,50 @@ end 1025 server-write peer=1024 size=512 number=1 complete=yes open
 end 1026 client-write peer=1027 size=512 number=1 complete=no PeerError(6)
 end 1027 server-write peer=1026 size=512 number=0 complete=no StoreFault
 """, 1)
+# the same if files may be replaced, and a put of a file that is read
+TWO_PUTS_THAT_REPLACE = ("set overwrite yes\n" + TWO_PUTS[0], """\
+#0 10.0.0.2:1024 > 10.0.0.1:69 WRQ n octet
+#1 10.0.0.1:1025 > 10.0.0.2:1024 ACK 0
+#2 10.0.0.2:1026 > 10.0.0.1:69 WRQ n octet
+#3 10.0.0.1:1027 > 10.0.0.2:1026 ACK 0
+#4 10.0.0.2:1024 > 10.0.0.1:1025 DATA 1 1
+#5 10.0.0.2:1026 > 10.0.0.1:1027 DATA 1 1
+#6 10.0.0.1:1025 > 10.0.0.2:1024 ACK 1
+#7 10.0.0.1:1027 > 10.0.0.2:1026 ACK 1
+closed 1026 Complete
+closed 1024 Complete
+end 1024 client-write peer=1025 size=512 number=1 complete=yes Complete
+end 1025 server-write peer=1024 size=512 number=1 complete=yes open
+end 1026 client-write peer=1027 size=512 number=1 complete=yes Complete
+end 1027 server-write peer=1026 size=512 number=1 complete=yes open
+""", 0)
+PUT_DURING_A_GET = ("""\
+set overwrite yes
+file a 61*600
+get a octet
+deliver 0
+put a octet 42
+deliver 2
+deliver 3
+deliver 4
+deliver 1
+deliver 6
+deliver 7
+""", """\
+#0 10.0.0.2:1024 > 10.0.0.1:69 RRQ a octet
+#1 10.0.0.1:1025 > 10.0.0.2:1024 DATA 1 512
+#2 10.0.0.2:1026 > 10.0.0.1:69 WRQ a octet
+#3 10.0.0.1:1027 > 10.0.0.2:1026 ACK 0
+#4 10.0.0.2:1026 > 10.0.0.1:1027 DATA 1 1
+#5 10.0.0.1:1027 > 10.0.0.2:1026 ACK 1
+#6 10.0.0.2:1024 > 10.0.0.1:1025 ACK 1
+#7 10.0.0.1:1025 > 10.0.0.2:1024 DATA 2 88
+#8 10.0.0.2:1024 > 10.0.0.1:1025 ACK 2
+end 1024 client-read peer=1025 size=512 number=2 complete=yes open
+end 1025 server-read peer=1024 size=512 number=2 complete=no open
+end 1026 client-write peer=1027 size=512 number=1 complete=no open
+end 1027 server-write peer=1026 size=512 number=1 complete=yes open
+""", 1)
 # the third block of a put is refused: one of four bytes, and one of none, by which the file would be stored
 REFUSED = [(f"put n octet 41*{length} blksize=8\ndeliver 0\ndeliver 1\ndeliver 2\ndeliver 3\ndeliver 4\ndeliver 5\nrefuse 1025\n"
             "deliver 6\ndeliver 7\n", f"""\
@@ -105,6 +149,22 @@ end 1025 server-write peer=1024 size=8 number=2 complete=no StoreFault
 """, 1) for length in (20, 16)]
 # One byte more than 65,535 blocks of 512 bytes hold
 TOO_LONG = 33_553_920
+# Requests with options, and the answer, in hexadecimal: in the order of the request and in lower case (RFC 2347), blocks of
+# 1,428 bytes at most, and no option that is out of its range or written otherwise, or twice (RFC 2348); the length of an
+# empty file (RFC 2349); and a file for which 65,535 blocks of 8 bytes are too few
+OPTIONS = [
+    (request(1, "a", "octet", [("BLKSIZE", 1428), ("timeout", 3)]), "0006626c6b73697a6500313432380074696d656f7574003300"),
+    (request(1, "a", "octet", [("timeout", 3), ("BLKSIZE", 1428)]), "000674696d656f7574003300626c6b73697a65003134323800"),
+    (rrq("a", blksize=65464), "0006626c6b73697a65003134323800"),
+    (rrq("a", blksize=7), "00030001414243"),
+    (rrq("a", blksize="08"), "00030001414243"),
+    (request(1, "a", "octet", [("blksize", 512), ("BLKSIZE", 512)]), "000500086f7074696f6e207265667573656400"),
+    (rrq("empty", tsize=0), "00067473697a65003000"),
+    (rrq("empty", "netascii", tsize=0), "00030001"),
+    (rrq("long", blksize=8), "0005000066696c6520746f6f206c6172676500"),
+]
+# Reads in netascii: the content, as a script has it, the length of each block on the wire
+TEXTS = [("0D0A41", [5]), ("0A*256", [512, 0]), (511 * "41" + "0A", [512, 1])]
 
 
 class Port:
@@ -186,12 +246,14 @@ class Requests(Rows):
             printed, said = client.communicate(timeout=PATIENCE)
         self.assertEqual((client.returncode, printed, said.splitlines()[0]), (1, "", "tftp: TooLarge"))
 
-    def served(self, host: str) -> Server:
+    def served(self, host: str, cap: int = 64) -> Server:
         """A server of the files that the rows speak of."""
         (self.folder / "served/d").mkdir(parents=True, exist_ok=True)
         (self.folder / "served/a").write_bytes(b"ABC")
         (self.folder / "served/d/b").write_bytes(b"XY")
-        words = ["--cap", "64", "--forever", "--retries", "10"]
+        (self.folder / "served/empty").touch()
+        (self.folder / "served/long").write_bytes(b"a" * requests.LONG)
+        words = ["--cap", f"{cap}", "--forever", "--retries", "10"]
         return Server(programs.program("tftpd"), host, self.folder, words, PATIENCE, root="served")
 
     def answers(self, server: Server, port: Port, row: tuple[str, bytes, str]) -> None:
@@ -208,13 +270,52 @@ class Requests(Rows):
         self.assertEqual(sender == server.address, expected[1] == 5, what)
 
     def test_port_rows(self) -> None:
-        """Each request of a client of its own, by a server and by the player; then a server that is full."""
+        """Each request of a client of its own; then a server that is full, by a server and by the player."""
         host = own_address()
         with self.served(host) as server:
             for row in [*requests.PORT, *requests.READS, *requests.WRITES]:
                 with Port(host) as port:
                     self.answers(server, port, row)
+        with self.served(host, cap=1) as server, Port(host) as first, Port(host) as second:
+            self.answers(server, first, ("the first", rrq("a"), "DATA 1 3"))
+            self.answers(server, second, ("the second", rrq("a"), "ERROR 0 (server busy)"))
         self.is_row(transfers.READS, BUSY)
+
+    def sent(self, script: str) -> list[str]:
+        """The datagrams that a script prints."""
+        status, printed, errors = self.ran(script)
+        self.assertEqual((status in (0, 1), errors), (True, ""))
+        return [line for line in printed.splitlines() if line.startswith("#")]
+
+    def test_option_rows(self) -> None:
+        """Requests with options by a server, byte for byte. In the player, reads of a full block, which an empty one follows,
+        and of the most blocks there are: with options a request, its OACK and ACK 0, and a DATA and an ACK of each block."""
+        host = own_address()
+        with self.served(host) as server:
+            for datagram, answer in OPTIONS:
+                with Port(host) as port:
+                    port.socket.sendto(datagram, server.address)
+                    self.assertEqual(port.received()[0].hex(), answer, datagram)
+        for options, count in [("", 5), (" blksize=512", 7)]:
+            lines = self.sent(f"file a 00*512\nget a octet{options}\nsettle 0\n")
+            self.assertEqual((len(lines), lines[-2]), (count, f"#{count - 2} 10.0.0.1:1025 > 10.0.0.2:1024 DATA 2 0"))
+        most = self.sent("file a 61*524279\nget a octet blksize=8\nsettle 0\n")
+        self.assertEqual((len(most), most[-2]), (131_073, "#131071 10.0.0.1:1025 > 10.0.0.2:1024 DATA 65535 7"))
+
+    def test_netascii_rows(self) -> None:
+        """Reads of texts. Those of an empty file are among the rows of options; what is stored, in the crates of tests."""
+        for content, lengths in TEXTS:
+            lines = self.sent(f"file a {content}\nget a netascii\nsettle 0\n")
+            blocks = [f"DATA {at} {length}" for at, length in enumerate(lengths, 1)]
+            self.assertEqual([line.split(" > 10.0.0.2:1024 ")[1] for line in lines[1::2]], blocks)
+            self.assertEqual(len(lines), 1 + 2 * len(blocks))
+
+    def test_overwrite_rows(self) -> None:
+        """Two puts of one name where the last commit counts, a put during a get of that name, and two puts as they are without
+        the setting."""
+        self.is_printed(*TWO_PUTS_THAT_REPLACE)
+        self.is_printed(*PUT_DURING_A_GET)
+        self.is_printed(*TWO_PUTS)
 
     def test_loopback(self) -> None:
         """Both programs: a file, a missing name, one that is there, a LOCAL that is there, and a fallback."""

@@ -1,0 +1,29 @@
+"""The crates of the repository as the toolchain has them, and what it has built of them."""
+import shutil
+import sys
+from pathlib import Path
+from typing import Any
+
+from lib.programs import TOP
+
+
+def kit() -> Path:
+    """The folder of the toolchain. Its module `rtlib` can be imported from then on."""
+    found = Path(shutil.which("rt") or sys.exit("rt is not on the PATH")).resolve().parent
+    if str(found) not in sys.path:
+        sys.path.append(str(found))
+    return found.parent
+
+
+def crates() -> dict[str, Any]:
+    """The crates by their names."""
+    kit()
+    import rtlib
+    return {crate.name: crate for crate in rtlib.crates_below(str(TOP))}
+
+
+def has_libraries(crate: Any) -> bool:
+    """Whether all libraries below are those of `rt ci`, which have no stamp, or all of the text as it stands."""
+    stamps = [Path(it.folder, "out/rlib/stamp").is_file() for it in crate.below()]
+    is_there = all(Path(it.rlib, "format").is_file() for it in crate.below())
+    return is_there and (not any(stamps) or all(it.is_built() for it in crate.below()))
