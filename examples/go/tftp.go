@@ -159,5 +159,23 @@ func (client *Client) Abort(code uint16, why string) (Event, error) {
 		size(client.reply), &client.event))
 }
 
+// Info is what a client and its peer have agreed: the length of the file and the timeout, where they were answered.
+type Info struct {
+	Length    uint64
+	HasLength bool
+	Timeout   time.Duration
+}
+
+// Info of a client that is open.
+func (client *Client) Info() (Info, error) {
+	var info C.struct_tftp_info
+	info.size = C.size_t(unsafe.Sizeof(info))
+	if fault := C.tftp_end_info(&client.end, &info); fault != C.TFTP_OK {
+		return Info{}, Fault(fault)
+	}
+	return Info{Length: uint64(info.length), HasLength: bool(info.has_length),
+		Timeout: time.Duration(info.timeout) * time.Second}, nil
+}
+
 // Close frees the client. Closing twice is allowed.
 func (client *Client) Close() { C.tftp_close_end(&client.end) }

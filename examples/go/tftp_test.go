@@ -4,6 +4,7 @@ import (
 	"bytes"
 	"net"
 	"testing"
+	"time"
 )
 
 var (
@@ -32,6 +33,26 @@ func TestGet(t *testing.T) {
 	}
 	same(t, "the file", block[:event.Moved], []byte("abc"))
 	same(t, "the ACK", event.Send, []byte("\x00\x04\x00\x01"))
+}
+
+func TestInfo(t *testing.T) {
+	client, _, fault := Get(server, "a", Options{Timeout: 3, AsksTsize: true})
+	if fault != nil {
+		t.Fatal(fault)
+	}
+	if info, fault := client.Info(); fault != nil || info != (Info{}) {
+		t.Fatal(fault, info)
+	}
+	if _, fault = client.Receive(peer, []byte("\x00\x06tsize\x000\x00timeout\x003\x00"), make([]byte, 512)); fault != nil {
+		t.Fatal(fault)
+	}
+	if info, fault := client.Info(); fault != nil || info != (Info{HasLength: true, Timeout: 3 * time.Second}) {
+		t.Fatal(fault, info)
+	}
+	client.Close()
+	if _, fault = client.Info(); fault == nil {
+		t.Fatal("the info of a closed client")
+	}
 }
 
 func TestPut(t *testing.T) {

@@ -25,7 +25,7 @@ OUTCOMES = ["open", "complete", "timed out", "peer's error", "illegal packet", "
 FAULTS = ["success", "the handle is closed", "the request is not allowed", "out of memory", "the transfer is over",
           "the end does not go this way", "the file has more than 65,535 blocks", "the options of the request are refused",
           "the first block is not there", "no such transfer is open", "a transfer has this number",
-          "the options have no size"]
+          "the options or the info have no size"]
 
 
 class Endpoint(ctypes.Structure):
@@ -53,6 +53,14 @@ class Event(ctypes.Structure):
     _fields_ = [("send_len", c_size_t), ("file_len", c_size_t), ("to", Endpoint), ("peer_code", c_uint16),
                 ("number", c_uint16), ("block_size", c_uint16), ("outcome", c_uint8), ("interval", c_uint8),
                 ("progress", c_bool), ("complete", c_bool)]
+
+
+class Info(ctypes.Structure):
+    """What the client and its peer have agreed: `length` counts where `has_length`, and a `timeout` of 0 is none."""
+    _fields_ = [("size", c_size_t), ("length", c_uint64), ("timeout", c_uint8), ("has_length", c_bool)]
+
+    def __init__(self) -> None:
+        super().__init__(ctypes.sizeof(type(self)))
 
 
 class End(ctypes.Structure):
@@ -83,6 +91,7 @@ def _library() -> ctypes.CDLL:
             "tftp_send": [end, at, *read, *read, *room, event],
             "tftp_timeout": [end, *room, event],
             "tftp_abort": [end, c_uint16, *read, *room, event],
+            "tftp_end_info": [end, POINTER(Info)],
             "tftp_decode": [*read, POINTER(Packet)]}.items():
         call = getattr(library, name)
         call.argtypes, call.restype = words, c_uint8
@@ -122,6 +131,13 @@ class Client:
     @property
     def is_open(self) -> bool:
         return bool(self._end.is_open) and self.event.outcome == 0
+
+    @property
+    def length(self) -> Optional[int]:
+        """The length of the file that the server has stated."""
+        info = Info()
+        fault = _TFTP.tftp_end_info(byref(self._end), byref(info))
+        return info.length if not fault and info.has_length else None
 
     def _sent(self, fault) -> bytes:
         if fault:

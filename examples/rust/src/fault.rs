@@ -51,7 +51,7 @@ impl fmt::Display for Fault {
             Fault::NoSource => "the first block is not there",
             Fault::NoTransfer => "no such transfer is open",
             Fault::InUse => "a transfer has this number",
-            Fault::BadOptions => "the options have no size",
+            Fault::BadOptions => "the options or the info have no size",
             Fault::Other(number) => return write!(f, "fault {number}"),
         };
         f.write_str(text)

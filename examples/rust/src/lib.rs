@@ -42,6 +42,15 @@ pub use fault::Fault;
 pub use raw::{Endpoint, Event, Options};
 pub use server::{Question, Server};
 
+/// What an end and its peer have agreed.
+#[derive(Clone, Copy, Debug, PartialEq, Eq)]
+pub struct Info {
+    /// The length of the file that was answered (`tsize`), in bytes of wire text.
+    pub length: Option<u64>,
+    /// The agreed timeout in seconds.
+    pub timeout: Option<u8>,
+}
+
 /// A client that gets a file, or puts one.
 pub struct Client {
     end: raw::Handle,
@@ -122,6 +131,18 @@ impl Client {
             raw::tftp_abort(end, code, text.as_ptr(), text.len(), reply.as_mut_ptr(), reply.len(), &mut event)
         };
         done(fault, event)
+    }
+
+    /// What the client and its peer have agreed, once it has answered.
+    pub fn info(&mut self) -> Result<Info, Fault> {
+        let mut info = raw::RawInfo { size: size_of::<raw::RawInfo>(), length: 0, timeout: 0, has_length: false };
+        match unsafe { raw::tftp_end_info(&mut self.end, &mut info) } {
+            0 => Ok(Info {
+                length: info.has_length.then_some(info.length),
+                timeout: (info.timeout > 0).then_some(info.timeout),
+            }),
+            fault => Err(Fault::of(fault)),
+        }
     }
 
     /// The datagram that the last call wrote, for `event.to`; empty if there is none.

@@ -63,6 +63,16 @@ pub struct Event {
     pub complete: bool,
 }
 
+/// What an end and its peer have agreed.
+#[repr(C)]
+#[derive(Clone, Copy)]
+pub struct RawInfo {
+    pub size: usize,
+    pub length: u64,
+    pub timeout: u8,
+    pub has_length: bool,
+}
+
 #[repr(C)]
 #[derive(Default)]
 pub struct RawQuestion {
@@ -98,6 +108,7 @@ unsafe extern "C" {
     pub fn tftp_timeout(end: *mut Handle, reply: *mut u8, reply_len: usize, event: *mut Event) -> u8;
     pub fn tftp_abort(end: *mut Handle, code: u16, text: *const u8, text_len: usize, reply: *mut u8, reply_len: usize,
         event: *mut Event) -> u8;
+    pub fn tftp_end_info(end: *mut Handle, info: *mut RawInfo) -> u8;
     pub fn tftp_close_end(end: *mut Handle);
     pub fn tftp_server_open(server: *mut Handle, options: *const Options, transfers: u8) -> u8;
     pub fn tftp_server_request(server: *mut Handle, from: *const Endpoint, datagram: *const u8, datagram_len: usize,

@@ -1,5 +1,5 @@
 //! A client and a server of this crate, over datagrams in memory.
-use tftp::{Client, Endpoint, Fault, Options, Question, Server};
+use tftp::{Client, Endpoint, Fault, Info, Options, Question, Server};
 
 const CLIENT: Endpoint = Endpoint { ip: [127, 0, 0, 1], port: 1024 };
 const SERVER: Endpoint = Endpoint { ip: [127, 0, 0, 1], port: 69 };
@@ -23,6 +23,16 @@ fn gets_what_the_server_has() -> Result<(), Fault> {
     }
     assert_eq!(got, file);
     assert!(event.complete && server.give_up(7) && !server.give_up(7));
+    Ok(())
+}
+
+#[test]
+fn tells_what_was_agreed() -> Result<(), Fault> {
+    let options = Options { timeout: 3, asks_tsize: true, ..Options::default() };
+    let (mut client, _) = Client::get(SERVER, b"a", &options)?;
+    assert_eq!(client.info()?, Info { length: None, timeout: None });
+    let event = client.on_data(SERVER, b"\0\x06tsize\x000\0timeout\x003\0", &mut [0; 512])?;
+    assert_eq!((client.info()?, event.interval), (Info { length: Some(0), timeout: Some(3) }, 3));
     Ok(())
 }
 
