@@ -1,8 +1,8 @@
 #!/usr/bin/env python3
 """The calls of tftpd and tftp on the files of transfers, as strace shows them: disk_trace.py [TFTP TFTPD]
 
-Each call that touches ROOT, or the folder of LOCAL, is one that `tftp_disk/src/calls.rt` makes and notes: `CALLS` says which
-call of the system each function there is, with its flags. The calls of a get, a put, an overwrite, puts and gets that fail,
+Each call that touches ROOT, or the folder of LOCAL, is one that the two trusted files of `tftp_disk` make and note: `CALLS`
+says which call of the system each function there is, with its flags. The calls of a get, a put, an overwrite, puts and gets that fail,
 and texts are then those of the tables below, with these paths and results and in this order, and no others; what is read
 and written are the bytes of the file. Between them stands where the last ACK is sent: behind all that a commit does. It is
 skipped without strace. The status is 1 if a call is missing or beside them.
@@ -23,7 +23,8 @@ from typing import NamedTuple, Optional
 from lib.addresses import own_address
 from lib.programs import TOP, programs
 
-TRUSTED = TOP / "crates/tftp_disk/src/calls.rt"
+# The trusted files, and what a function in them looks like that makes a call
+TRUSTED = {"system_disk.rt": r"^    fn (?!view\b)(\w+)", "disk_file.rt": r"^    (?:pub fn|fn(?= read\b| seek\b)) (?!journal\b)(\w+)"}
 HOST = own_address()
 PATIENCE = 60
 # A file of several blocks, and a text of as many bytes
@@ -45,7 +46,7 @@ CALLS = {
     "seek": ("lseek", ""),
     "sync_data": ("fdatasync", ""),
     "sync_all": ("fsync", ""),
-    "sync": ("fsync", "of a folder"),
+    "sync_folder": ("fsync", "of a folder"),
     "set_mode": ("fchmod", ""),
     "link": ("link", ""),
     "rename": ("rename", ""),
@@ -113,7 +114,7 @@ look ROOT/sub: folder
 look ROOT/sub: folder
 examine DRAFT: file
 look ROOT/sub/new: file
-sync ROOT/sub: ok
+sync_folder ROOT/sub: ok
 """
 # What is to be replaced may be written, at the request and at the end, and the draft has its mode
 BEGUN_OVER = """
@@ -136,7 +137,7 @@ rename DRAFT ROOT/old: ok
 look ROOT: folder
 examine ROOT/old: file
 look ROOT/old: file
-sync ROOT: ok
+sync_folder ROOT: ok
 """
 # The client: its folder is opened before it asks, and LOCAL.part is made once the server has answered
 ASKED = """
@@ -153,7 +154,7 @@ sync_all HERE/got.part: ok
 examine HERE/got.part: file
 look HERE/got.part: file
 link HERE/got.part HERE/got: ok
-sync HERE: ok
+sync_folder HERE: ok
 remove HERE/got.part: ok
 send the last ACK
 """
@@ -172,7 +173,7 @@ look HERE/file.part: file
 look HERE/file: file
 examine HERE/file.part: file
 rename HERE/file.part HERE/file: ok
-sync HERE: ok
+sync_folder HERE: ok
 send the last ACK
 """
 OFFERED = """
@@ -244,7 +245,7 @@ class Trace:
         return path
 
     def function_of(self, call: str, words: str, path: str) -> Optional[str]:
-        """The function of calls.rt that makes such a call."""
+        """The trusted function that makes such a call."""
         flags = {"statx": r"AT_STATX[\w|]*", "openat": r"O_[\w|]*(?:, 0\d+)?"}
         found = re.search(flags[call], words) if call in flags else None
         asked = found[0] if found else ""
@@ -337,10 +338,10 @@ def differences(title: str, found: list[str], expected: str) -> list[str]:
 
 
 def untold() -> list[str]:
-    """The functions of the trusted file that have no row above, and those above that it has not."""
-    there = set(re.findall(r"^ *pub fn (\w+)|^    fn (read|seek)\b", TRUSTED.read_text(), re.M))
-    names = {one or other for one, other in there}
-    return [f"calls.rt and the table differ in {name}" for name in sorted(names ^ set(CALLS))]
+    """The functions of the trusted files that have no row above, and those above that they have not."""
+    source = TOP / "crates/tftp_disk/src"
+    names = {name for file, form in TRUSTED.items() for name in re.findall(form, (source / file).read_text(), re.M)}
+    return [f"the trusted files and the table differ in {name}" for name in sorted(names ^ set(CALLS))]
 
 
 def faults(tftp: str, tftpd: str) -> list[str]:
