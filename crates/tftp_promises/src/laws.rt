@@ -102,12 +102,12 @@ pub fn a_client_takes_one_answer<G: Source, K: Sink>()
     ensures { ClientsTakeOne G.meaning K.meaning }
 {}
 
-/// The premises of the laws over both ends can be met, by a real exchange: a client reads a file by
-/// an OACK, and its last acknowledgement is lost, so that the block is sent again; another writes a
-/// file, which is committed; a stranger sends a datagram between. At the end another program reads
-/// at the port that the first client's transfer had: a stranger, and for the law over each client
-/// apart a client. And two servers share an address: both open a transfer for the first client's
-/// request, which takes one, and passes over the other (RFC 1350, sections 2, 4 and 6).
+/// The premises of the laws over both ends can be met, by a real exchange: a client reads a file of
+/// one block by an OACK, and both ends are complete; a stranger sends a datagram between. At the
+/// end another program reads at the port that the first client's transfer had: a stranger, and for
+/// the law over each client apart a client. And two servers share an address: both open a transfer
+/// for the first client's request, which takes one, and passes over the other. Memory is all that
+/// the files are in, and no file is written to a server (RFC 1350, sections 2, 4 and 6).
 pub fn some_programs_are_joined()
     ensures joined { SomeAreJoined }
     ensures served { SomeAreServed }
