@@ -7,8 +7,8 @@ use Rattle.std.proofs.Math.Seq.{take-add}
 use Rattle.tftp_wire.specs.declared.mode.Mode.{Mode}
 use Rattle.tftp_wire.specs.declared.mode.Mode.TheVariants as mode
 use Rattle.tftp_file.specs.Netascii.{wire_byte, wire_text, netascii_text}
-use Rattle.tftp_disk.specs.DiskJournal.{DiskEvent}
-use Rattle.tftp_disk.specs.DiskJournal.DiskEvent.{Given}
+use Rattle.tftp_disk.specs.DiskTrace.{DiskEvent}
+use Rattle.tftp_disk.specs.DiskTrace.DiskEvent.{Given}
 use Rattle.tftp_disk.specs.Given.{Reads}
 use Rattle.tftp_disk.specs.DiskSource.{pending, source_calls, source_mode, AppendsRead, GivesPiece, HoldsAhead, Passes}
 use Rattle.tftp_disk.specs.declared.disk_file.DiskFile.{DiskFile}
@@ -126,7 +126,7 @@ module _ {F : Type 0} where
         bytes = [];
         reads =
             subst (λ (events : List DiskEvent). Reads (source_calls before) events [])
-            (sym (ap (λ (f : DiskFile F). f.journal.events) file)) (reads_nothing (source_calls before));
+            (sym (ap (λ (f : DiskFile F). f.trace.events) file)) (reads_nothing (source_calls before));
         text = λ sound. (
           sym error ∙ sound,
           no_text (source_mode before) (pending before) ∙ left ∙ ap (λ l. l ++ pending after) (sym none),
@@ -150,7 +150,7 @@ module _ {F : Type 0} where
         bytes = p.bytes;
         reads =
             subst (λ (events : List DiskEvent). Reads (source_calls before) events p.bytes)
-            (sym (ap (λ (f : DiskFile F). f.journal.events) file)) p.reads;
+            (sym (ap (λ (f : DiskFile F). f.trace.events) file)) p.reads;
         text = λ none. (
           sym error ∙ none,
           p.text ∙ ap (λ l. p.piece ++ (after.ahead ++ l)) (sym buffer) ∙ ap (λ l. l ++ pending after) (sym piece),

@@ -3,8 +3,8 @@ use Rattle.std.proofs.Common.{◌≡◌, ◌≤◌, ◌<◌, ◌+◌, ◌*◌, �
 use Rattle.std.proofs.Common.{refl, ap, ◌∙◌, arith, length-append}
 use Rattle.std.proofs.lemmas.Bool.Decides.{nat_tests}
 use Rattle.std.proofs.lemmas.Grind.{flat_map-append}
-use Rattle.tftp_disk.specs.DiskJournal.{DiskEvent}
-use Rattle.tftp_disk.specs.DiskJournal.DiskEvent.{Given}
+use Rattle.tftp_disk.specs.DiskTrace.{DiskEvent}
+use Rattle.tftp_disk.specs.DiskTrace.DiskEvent.{Given}
 use Rattle.tftp_disk.specs.Given.{Reads}
 use Rattle.tftp_file.specs.Length.{up_to}
 use Rattle.tftp_file.specs.Netascii.{netascii_text, wire_byte}

@@ -3,8 +3,8 @@ use Rattle.std.specs.Prelude.{ℕ, List, Result, Ok, Err, take}
 use Rattle.std.specs.Path.{path_buf_bytes}
 use Rattle.std.specs.declared.io.Error.{Error}
 use Rattle.std.specs.declared.path.PathBuf.{PathBuf}
-use Rattle.tftp_disk.specs.DiskJournal.{DiskEvent}
-use Rattle.tftp_disk.specs.DiskJournal.DiskEvent.{Given, Not_given, Written, Not_written}
+use Rattle.tftp_disk.specs.DiskTrace.{DiskEvent}
+use Rattle.tftp_disk.specs.DiskTrace.DiskEvent.{Given, Not_given, Written, Not_written}
 
 -- the text of the path that a resolution returned
 abbrev pub path_text : {A : Type 0} → Result (PathBuf A) Error → Result (List ℕ) Error

@@ -1,10 +1,10 @@
--- The calls of a disk journal that change something of the disk (ours).
+-- The calls of a disk trace that change something of the disk (ours).
 use Rattle.std.specs.Prelude.{◌≡◌, ◌⊎◌, ⊤, List, [], ◌∷◌, Ok, Err}
 use Rattle.std.specs.IoError.{error_kind}
 use Rattle.std.specs.declared.io.ErrorKind.TheVariants as kinds
-use Rattle.tftp_disk.specs.DiskJournal.{DiskEvent, Done}
-use Rattle.tftp_disk.specs.DiskJournal.DiskEvent.{Made, Linked, Renamed, Removed}
-use Rattle.tftp_disk.specs.DiskJournal.DiskEvent.{Folder_opened, Folder_synced}
+use Rattle.tftp_disk.specs.DiskTrace.{DiskEvent, Done}
+use Rattle.tftp_disk.specs.DiskTrace.DiskEvent.{Made, Linked, Renamed, Removed}
+use Rattle.tftp_disk.specs.DiskTrace.DiskEvent.{Folder_opened, Folder_synced}
 
 -- the calls that make, name or remove a file, and those that open and sync a folder, whatever their
 -- answer; all others only look, open a file and read

@@ -4,8 +4,8 @@ use Rattle.std.specs.declared.io.Error.{Error}
 use Rattle.tftp_wire.specs.declared.mode.Mode.{Mode}
 use Rattle.tftp_file.specs.Block.{IsPrefixOf}
 use Rattle.tftp_file.specs.Netascii.{wire_text}
-use Rattle.tftp_disk.specs.DiskJournal.{DiskEvent}
-use Rattle.tftp_disk.specs.DiskJournal.DiskEvent.{Given}
+use Rattle.tftp_disk.specs.DiskTrace.{DiskEvent}
+use Rattle.tftp_disk.specs.DiskTrace.DiskEvent.{Given}
 use Rattle.tftp_disk.specs.Given.{given, Reads}
 use Rattle.tftp_disk.specs.declared.disk_source.DiskSource.{DiskSource}
 
@@ -39,7 +39,7 @@ pub record HoldsAhead (mode : Mode) (left ahead left_after : List ℕ) (before a
 module _ {F : Type 0} where
   -- the calls on the open file of a source
   abbrev pub source_calls : DiskSource F → List DiskEvent
-  source_calls source = source.file.journal.events
+  source_calls source = source.file.trace.events
 
   -- the error of a failed read: after it the source gives nothing
   abbrev pub source_error : DiskSource F → Option Error

@@ -1,12 +1,12 @@
 -- What a writer of a file was handed, and what its writes leave (ours).
 use Rattle.std.specs.Prelude.{ℕ, ◌≡◌, ⊤, List, [], ◌∷◌, ◌++◌}
-use Rattle.tftp_disk.specs.DiskJournal.{DiskEvent, made_at, made_when, written, sync_failed}
-use Rattle.tftp_disk.specs.DiskJournal.DiskEvent.{Written, Not_written}
+use Rattle.tftp_disk.specs.DiskTrace.{DiskEvent, made_at, made_when, written, sync_failed}
+use Rattle.tftp_disk.specs.DiskTrace.DiskEvent.{Written, Not_written}
 use Rattle.tftp_disk.specs.declared.disk_writer.DiskWriter.{DiskWriter}
 
 -- the calls that a file has seen
 abbrev pub calls_of : {F : Type 0} → DiskWriter F → List DiskEvent
-calls_of writer = writer.file.journal.events
+calls_of writer = writer.file.trace.events
 
 -- the bytes that a writer was handed: those in the file, and then those in its buffer
 abbrev pub handed : {F : Type 0} → DiskWriter F → List ℕ

@@ -3,8 +3,8 @@ use Rattle.std.specs.Prelude.{ℕ, ◌≡◌, Bool, true, false, ◌==◌, if◌
 use Rattle.std.specs.Prelude.{Option, Some, None, Ok}
 use Rattle.std.specs.declared.io.SeekFrom.{SeekFrom}
 use Rattle.std.specs.declared.io.SeekFrom.TheVariants.{Start}
-use Rattle.tftp_disk.specs.DiskJournal.{DiskEvent}
-use Rattle.tftp_disk.specs.DiskJournal.DiskEvent.{Opened, Examined, Given, Sought, Written}
+use Rattle.tftp_disk.specs.DiskTrace.{DiskEvent}
+use Rattle.tftp_disk.specs.DiskTrace.DiskEvent.{Opened, Examined, Given, Sought, Written}
 use Rattle.tftp_disk.specs.declared.found.Found.{Found}
 
 -- the path of the open file of these calls

@@ -2,7 +2,7 @@ pub mod Calls
 pub mod Changes
 pub mod DiskEventRef
 pub mod DiskFault
-pub mod DiskJournal
+pub mod DiskTrace
 pub mod DiskSource
 pub mod DiskSourceLaws
 pub mod DiskWriter

@@ -4,7 +4,7 @@ use Rattle.tftp_wire.specs.declared.mode.Mode.TheVariants.{Netascii}
 use Rattle.tftp_file.specs.Length.{up_to}
 use Rattle.tftp_file.specs.Netascii.{wire_text}
 use Rattle.tftp_file.specs.declared.length.TheConstants.{MAX_WIRE}
-use Rattle.tftp_disk.specs.DiskJournal.{DiskEvent}
+use Rattle.tftp_disk.specs.DiskTrace.{DiskEvent}
 use Rattle.tftp_disk.specs.Given.{IsAtEnd, Reads, examined, opened_at}
 use Rattle.tftp_disk.specs.declared.disk_file.DiskFile.{DiskFile}
 use Rattle.tftp_disk.specs.declared.measuring.TextLength.{TextLength}
@@ -12,7 +12,7 @@ use Rattle.tftp_disk.specs.declared.measuring.TextLength.{TextLength}
 module _ {F : Type 0} where
   -- the calls on an open file
   abbrev pub calls_on : DiskFile F → List DiskEvent
-  calls_on file = file.journal.events
+  calls_on file = file.trace.events
 
   -- calls on an open file, after which it is the same, and what was last said of it too
   pub record StaysOpen (before after : DiskFile F) : Type 0 where

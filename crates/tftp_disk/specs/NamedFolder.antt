@@ -5,8 +5,8 @@ use Rattle.std.specs.IoError.{error_kind}
 use Rattle.std.specs.declared.io.Error.{Error}
 use Rattle.std.specs.declared.io.ErrorKind.TheVariants as kinds
 use Rattle.tftp_disk.specs.Changes.{IsSynced}
-use Rattle.tftp_disk.specs.DiskJournal.{DiskEvent, Done, folder_at}
-use Rattle.tftp_disk.specs.DiskJournal.DiskEvent.{Folder_opened, Folder_synced}
+use Rattle.tftp_disk.specs.DiskTrace.{DiskEvent, Done, folder_at}
+use Rattle.tftp_disk.specs.DiskTrace.DiskEvent.{Folder_opened, Folder_synced}
 use Rattle.tftp_disk.specs.Folder.{IsFolderOf}
 use Rattle.tftp_disk.specs.declared.disk_file.DiskFolder.{DiskFolder}
 
@@ -22,7 +22,7 @@ MayNotSync path calls =
 abbrev pub OpensFolder : {F : Type 0} → List ℕ → Option (DiskFolder F) → List DiskEvent
     → List DiskEvent → Type 0
 OpensFolder path (Some folder) before after =
-    (at : List ℕ) × IsFolderOf path at × (folder_at folder.journal.events ≡ Some at)
+    (at : List ℕ) × IsFolderOf path at × (folder_at folder.trace.events ≡ Some at)
     × (after ≡ Folder_opened at (Ok tt) ∷ before)
 OpensFolder path None before after =
     (at : List ℕ) × (refusal : Error) × IsFolderOf path at
@@ -32,7 +32,7 @@ OpensFolder path None before after =
 -- the folder is that of the path, or one of these calls was to open it, and was refused
 abbrev pub IsFolderFor : {F : Type 0} → List ℕ → Option (DiskFolder F) → List DiskEvent → Type 0
 IsFolderFor path (Some folder) calls =
-    (at : List ℕ) × IsFolderOf path at × (folder_at folder.journal.events ≡ Some at)
+    (at : List ℕ) × IsFolderOf path at × (folder_at folder.trace.events ≡ Some at)
 IsFolderFor path None calls = MayNotSync path calls
 
 -- the folder was not opened
@@ -44,21 +44,21 @@ OpensNoFolder path before after =
 -- the path by which the folder was opened
 abbrev pub path_in : {F : Type 0} → Option (DiskFolder F) → Option (List ℕ)
 path_in None = None
-path_in (Some folder) = folder_at folder.journal.events
+path_in (Some folder) = folder_at folder.trace.events
 
 -- the folder was synced, unless its file system syncs none or it may not be opened
 abbrev pub SyncsFolder : {F : Type 0} → Option (DiskFolder F) → List DiskEvent → List DiskEvent
     → Type 0
 SyncsFolder (Some folder) before after =
     (answer : Done) × IsSynced answer
-    × (after ≡ Folder_synced (folder_at folder.journal.events) answer ∷ before)
+    × (after ≡ Folder_synced (folder_at folder.trace.events) answer ∷ before)
 SyncsFolder None before after = after ≡ before
 
 -- the folder could not be synced
 abbrev pub SyncsNoFolder : {F : Type 0} → Option (DiskFolder F) → List DiskEvent → Error
     → List DiskEvent → Type 0
 SyncsNoFolder (Some folder) before error after =
-    after ≡ Folder_synced (folder_at folder.journal.events) (Err error) ∷ before
+    after ≡ Folder_synced (folder_at folder.trace.events) (Err error) ∷ before
 SyncsNoFolder None before error after = ⊥
 
 -- the folder of the path was synced, unless its file system syncs none or the user may not read it

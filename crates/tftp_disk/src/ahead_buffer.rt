@@ -101,9 +101,9 @@ impl AheadBuffer {
         size: usize,
     ) -> Option<io::Error>
         ensures ok { result ≡ None → HoldsAhead mode buffer.old self.new buffer.new
-            file.old.journal.events file.new.journal.events }
-        ensures failed { IsSome result → ReadsSome file.old.journal.events
-            file.new.journal.events }
+            file.old.trace.events file.new.trace.events }
+        ensures failed { IsSome result → ReadsSome file.old.trace.events
+            file.new.trace.events }
     {
         self.text.clear();
         self.at = 0;

@@ -1,19 +1,19 @@
-//! The calls of a disk, and the history that they make.
+//! The calls of a disk, and the trace that they make.
 //!
-//! The history is a ghost member of the disk's own trait. Code that is generic over [`Disk`] can make
+//! The trace is a ghost member of the disk's own trait. Code that is generic over [`Disk`] can make
 //! no disk, no view and no open file, and can take none of them apart: it reaches the system by these
-//! calls alone, and each puts what was asked and answered on the one history of its disk or view. An
-//! open file has the history of its own calls (`DiskFile`).
+//! calls alone, and each puts what was asked and answered on the one trace of its disk or view. An
+//! open file has the trace of its own calls (`DiskFile`).
 //!
-//! A history has what was asked and answered, not what a disk then has: a path that another process
+//! A trace has what was asked and answered, not what a disk then has: a path that another process
 //! exchanges between two calls leads elsewhere, and no event says so.
 
 ghost use Rattle.std.specs.Prelude.{◌≡◌, ◌∷◌, [], List, IfOk, length};
 ghost use Rattle.tftp_disk.specs.Calls.{path_text};
-ghost use Rattle.tftp_disk.specs.DiskJournal.{DiskEvent, done, folder_at, state_of};
-ghost use Rattle.tftp_disk.specs.DiskJournal.DiskEvent.{Created, Followed, Looked, Opened, Resolved};
-ghost use Rattle.tftp_disk.specs.DiskJournal.DiskEvent.{Folder_opened, Folder_synced, Tried};
-ghost use Rattle.tftp_disk.specs.DiskJournal.DiskEvent.{Linked, Made, Removed, Renamed};
+ghost use Rattle.tftp_disk.specs.DiskTrace.{DiskEvent, done, folder_at, state_of};
+ghost use Rattle.tftp_disk.specs.DiskTrace.DiskEvent.{Created, Followed, Looked, Opened, Resolved};
+ghost use Rattle.tftp_disk.specs.DiskTrace.DiskEvent.{Folder_opened, Folder_synced, Tried};
+ghost use Rattle.tftp_disk.specs.DiskTrace.DiskEvent.{Linked, Made, Removed, Renamed};
 
 use crate::disk_file::{DiskFile, DiskFolder};
 use crate::found::Found;
@@ -48,7 +48,7 @@ pub trait View: Looks + Drop {
     /// Opens a file to be read.
     fn open(&mut self, path: &str) -> io::Result<DiskFile<Self::File>>
         ensures noted { Self.log self.new ≡ Opened path.now (done result) ∷ Self.log self.old }
-        ensures file { IfOk result (λ file. file.journal.events
+        ensures file { IfOk result (λ file. file.trace.events
             ≡ Opened path.now (Ok tt) ∷ []) };
 }
 
@@ -60,7 +60,7 @@ pub trait Disk: Looks + Drop {
     /// A view of the disk.
     type View: View;
 
-    /// A view of the disk as it is, with a history of its own. Whoever has the disk by `&` alone has no
+    /// A view of the disk as it is, with a trace of its own. Whoever has the disk by `&` alone has no
     /// other way to it.
     fn view(&self) -> Self::View
         ensures { Self.View.log result ≡ [] };
@@ -72,19 +72,19 @@ pub trait Disk: Looks + Drop {
     /// Makes a file, to be written, where none is.
     fn make(&mut self, path: &str) -> io::Result<DiskFile<Self::File>>
         ensures noted { Self.log self.new ≡ Made path.now (done result) ∷ Self.log self.old }
-        ensures file { IfOk result (λ file. file.journal.events
+        ensures file { IfOk result (λ file. file.trace.events
             ≡ Created path.now (length (Self.log self.old)) ∷ []) };
 
     /// Gives the file at a path a second name, if no file has that.
     fn link(&mut self, file: &DiskFile<Self::File>, from: &str, to: &str) -> io::Result<()>
         ensures { Self.log self.new
-            ≡ Linked (state_of file.now.journal.events) from.now to.now result
+            ≡ Linked (state_of file.now.trace.events) from.now to.now result
             ∷ Self.log self.old };
 
     /// Exchanges the path of a file for another, over any file that has that.
     fn rename(&mut self, file: &DiskFile<Self::File>, from: &str, to: &str) -> io::Result<()>
         ensures { Self.log self.new
-            ≡ Renamed (state_of file.now.journal.events) from.now to.now result
+            ≡ Renamed (state_of file.now.trace.events) from.now to.now result
             ∷ Self.log self.old };
 
     /// Removes a name.
@@ -95,11 +95,11 @@ pub trait Disk: Looks + Drop {
     fn open_folder(&mut self, path: &str) -> io::Result<DiskFolder<Self::File>>
         ensures noted { Self.log self.new ≡ Folder_opened path.now (done result)
             ∷ Self.log self.old }
-        ensures folder { IfOk result (λ folder. folder.journal.events
+        ensures folder { IfOk result (λ folder. folder.trace.events
             ≡ Folder_opened path.now (Ok tt) ∷ []) };
 
     /// Syncs a folder.
     fn sync_folder(&mut self, folder: &DiskFolder<Self::File>) -> io::Result<()>
-        ensures { Self.log self.new ≡ Folder_synced (folder_at folder.now.journal.events) result
+        ensures { Self.log self.new ≡ Folder_synced (folder_at folder.now.trace.events) result
             ∷ Self.log self.old };
 }

@@ -2,7 +2,7 @@
 
 ghost use Rattle.std.specs.Prelude.{◌≡◌, ◌≤◌, ◌<◌, ◌+◌, ◌++◌, [], Ok, Err, IfOk, OnErr, ◌∷◌};
 ghost use Rattle.std.specs.Prelude.{length, take, drop, replicate, vec_len, vec_capacity};
-ghost use Rattle.tftp_disk.specs.DiskJournal.DiskEvent.{Given};
+ghost use Rattle.tftp_disk.specs.DiskTrace.DiskEvent.{Given};
 ghost use Rattle.tftp_disk.specs.Given.{Reads, IsAtEnd};
 ghost use Rattle.tftp_disk.specs.ReadBuffer.{ReadsSome};
 ghost use Rattle.tftp_disk.specs.DiskSource.{Passes, AppendsRead, IsUnread};
@@ -43,7 +43,7 @@ impl<F: Drop> DiskSource<F> {
         capacity: usize,
     ) -> Result<DiskSource<F>, AllocError>
         ensures unread { IfOk result (IsUnread mode) }
-        ensures calls { IfOk result (λ source. source_calls source ≡ file.journal.events) }
+        ensures calls { IfOk result (λ source. source_calls source ≡ file.trace.events) }
     {
         Ok(DiskSource {
             file,
@@ -143,12 +143,12 @@ fn fill_after<F: Read>(
 ) -> Result<usize, Failure>
     requires { length ahead.old ≤ want }
     ensures ok { IfOk result (Passes mode (ahead.old ++ buffer.old) (ahead.new ++ buffer.new)
-        file.old.journal.events file.new.journal.events out.old.items out.new.items) }
+        file.old.trace.events file.new.trace.events out.old.items out.new.items) }
     ensures bound { IfOk result (λ n. n ≤ want) }
-    ensures end { IfOk result (λ n. n < want → IsAtEnd file.new.journal.events) }
+    ensures end { IfOk result (λ n. n < want → IsAtEnd file.new.trace.events) }
     ensures capacity { vec_capacity out.old ≤ vec_capacity out.new }
     ensures err { OnErr result (out.new.items ≡ out.old.items) }
-    ensures failed { OnErr result (ReadsSome file.old.journal.events file.new.journal.events) }
+    ensures failed { OnErr result (ReadsSome file.old.trace.events file.new.trace.events) }
     ensures memory { result ≡ Err Failure.Memory → (file.new ≡ file.old)
         × (buffer.new ≡ buffer.old) × (ahead.new ≡ ahead.old) }
 {
@@ -178,12 +178,12 @@ pub(crate) fn fill_from<F: Read>(
     out: &mut Vec<u8>,
 ) -> Result<usize, Failure>
     ensures ok { IfOk result (Passes mode buffer.old buffer.new
-        file.old.journal.events file.new.journal.events out.old.items out.new.items) }
+        file.old.trace.events file.new.trace.events out.old.items out.new.items) }
     ensures bound { IfOk result (λ n. n ≤ want) }
-    ensures end { IfOk result (λ n. n < want → IsAtEnd file.new.journal.events) }
+    ensures end { IfOk result (λ n. n < want → IsAtEnd file.new.trace.events) }
     ensures capacity { vec_capacity out.old ≤ vec_capacity out.new }
     ensures err { OnErr result (out.new.items ≡ out.old.items) }
-    ensures failed { OnErr result (ReadsSome file.old.journal.events file.new.journal.events) }
+    ensures failed { OnErr result (ReadsSome file.old.trace.events file.new.trace.events) }
     ensures memory { result ≡ Err Failure.Memory → (file.new ≡ file.old)
         × (buffer.new ≡ buffer.old) }
 {
@@ -217,12 +217,12 @@ fn give_some<F: Read>(
     requires some { 0 < room }
     requires room { vec_len out.old + room ≤ vec_capacity out.old }
     ensures ok { IfOk result (Passes mode buffer.old buffer.new
-        file.old.journal.events file.new.journal.events out.old.items out.new.items) }
+        file.old.trace.events file.new.trace.events out.old.items out.new.items) }
     ensures bound { IfOk result (λ n. n ≤ room) }
-    ensures end { IfOk result (λ n. n ≡ 0 → IsAtEnd file.new.journal.events) }
+    ensures end { IfOk result (λ n. n ≡ 0 → IsAtEnd file.new.trace.events) }
     ensures capacity { vec_capacity out.old ≤ vec_capacity out.new }
     ensures err { OnErr result (out.new.items ≡ out.old.items) }
-    ensures failed { OnErr result (ReadsSome file.old.journal.events file.new.journal.events) }
+    ensures failed { OnErr result (ReadsSome file.old.trace.events file.new.trace.events) }
 {
     if mode == Mode::Octet && buffer.len() == 0 && room >= buffer.capacity() {
         return read_into(file, room, out);
@@ -241,12 +241,12 @@ fn give_buffered<F: Read>(
     requires some { 0 < room }
     requires room { vec_len out.old + room ≤ vec_capacity out.old }
     ensures ok { IfOk result (Passes mode buffer.old buffer.new
-        file.old.journal.events file.new.journal.events out.old.items out.new.items) }
+        file.old.trace.events file.new.trace.events out.old.items out.new.items) }
     ensures bound { IfOk result (λ n. n ≤ room) }
-    ensures end { IfOk result (λ n. n ≡ 0 → IsAtEnd file.new.journal.events) }
+    ensures end { IfOk result (λ n. n ≡ 0 → IsAtEnd file.new.trace.events) }
     ensures capacity { vec_capacity out.old ≤ vec_capacity out.new }
     ensures err { OnErr result (out.new.items ≡ out.old.items) }
-    ensures failed { OnErr result (ReadsSome file.old.journal.events file.new.journal.events) }
+    ensures failed { OnErr result (ReadsSome file.old.trace.events file.new.trace.events) }
 {
     match buffer.refill(file, mode) {
         Ok(()) => {
@@ -262,12 +262,12 @@ fn give_buffered<F: Read>(
 /// Reads once, at most so many bytes, to the end of `out`. Its capacity is enough.
 fn read_into<F: Read>(file: &mut DiskFile<F>, room: usize, out: &mut Vec<u8>) -> io::Result<usize>
     requires { vec_len out.old + room ≤ vec_capacity out.old }
-    ensures ok { IfOk result (AppendsRead file.old.journal.events file.new.journal.events
+    ensures ok { IfOk result (AppendsRead file.old.trace.events file.new.trace.events
         out.old.items out.new.items) }
     ensures bound { IfOk result (λ n. n ≤ room) }
     ensures capacity { vec_capacity out.old ≤ vec_capacity out.new }
     ensures err { OnErr result (out.new.items ≡ out.old.items) }
-    ensures failed { OnErr result (ReadsSome file.old.journal.events file.new.journal.events) }
+    ensures failed { OnErr result (ReadsSome file.old.trace.events file.new.trace.events) }
 {
     let start = out.len();
     append_zeros(room, out);
@@ -288,9 +288,9 @@ fn read_at<F: Read>(file: &mut DiskFile<F>, buffer: &mut [u8], at: usize) -> io:
     requires { at ≤ length buffer.old }
     ensures front { take at buffer.new ≡ take at buffer.old }
     ensures bound { IfOk result (λ n. at + n ≤ length buffer.new) }
-    ensures noted { IfOk result (λ n. file.new.journal.events
-        ≡ Given (take n (drop at buffer.new)) ∷ file.old.journal.events) }
-    ensures failed { OnErr result (ReadsSome file.old.journal.events file.new.journal.events) }
+    ensures noted { IfOk result (λ n. file.new.trace.events
+        ≡ Given (take n (drop at buffer.new)) ∷ file.old.trace.events) }
+    ensures failed { OnErr result (ReadsSome file.old.trace.events file.new.trace.events) }
 {
     match file.read(&mut buffer[at..]) {
         Ok(count) => Ok(count),

@@ -2,8 +2,8 @@
 
 ghost use Rattle.std.specs.Prelude.{◌≡◌, ◌≢◌, ◌<◌, ◌≤◌, ◌-◌, ◌++◌, ◌∷◌, [], IfOk, OnOk, OnErr};
 ghost use Rattle.std.specs.Prelude.{length, take, drop, vec_len};
-ghost use Rattle.tftp_disk.specs.DiskJournal.{written};
-ghost use Rattle.tftp_disk.specs.DiskJournal.DiskEvent.{Examined, Synced, Mode_set};
+ghost use Rattle.tftp_disk.specs.DiskTrace.{written};
+ghost use Rattle.tftp_disk.specs.DiskTrace.DiskEvent.{Examined, Synced, Mode_set};
 ghost use Rattle.tftp_disk.specs.DiskWriter.{calls_of, handed, IsRefused, NoSyncs};
 
 use crate::disk_file::DiskFile;
@@ -142,13 +142,13 @@ impl<F: OpenFile> DiskWriter<F> {
 /// Writes some of the bytes, again while a signal interrupts the call.
 fn write_again<F: Write>(file: &mut DiskFile<F>, bytes: &[u8]) -> io::Result<usize>
     ensures bound { IfOk result (λ count. count ≤ length bytes.now) }
-    ensures ok { IfOk result (λ count. written file.new.journal.events
-        ≡ written file.old.journal.events ++ take count bytes.now) }
-    ensures err { OnErr result (written file.new.journal.events
-        ≡ written file.old.journal.events) }
-    ensures none { IfOk result (λ count. count ≡ 0 → IsRefused file.new.journal.events) }
-    ensures refused { OnErr result (IsRefused file.new.journal.events) }
-    ensures same { NoSyncs file.old.journal.events file.new.journal.events }
+    ensures ok { IfOk result (λ count. written file.new.trace.events
+        ≡ written file.old.trace.events ++ take count bytes.now) }
+    ensures err { OnErr result (written file.new.trace.events
+        ≡ written file.old.trace.events) }
+    ensures none { IfOk result (λ count. count ≡ 0 → IsRefused file.new.trace.events) }
+    ensures refused { OnErr result (IsRefused file.new.trace.events) }
+    ensures same { NoSyncs file.old.trace.events file.new.trace.events }
 {
     for _try in 1..MOST_TRIES {
         match file.write(bytes) {

@@ -1,10 +1,15 @@
 //! What the system says of a file.
+//!
+//! Its kind, its length and its mode are what std returned (`IsOf`). Its device, its number and the
+//! time of its last change are so by reading: std has no clause on them.
 
 ghost use Rattle.std.specs.Prelude.{◌≡◌, ◌↔◌, ◌==◌, ◌&&◌, IsTrue};
-ghost use Rattle.tftp_disk.specs.Found.{is_same_file};
+ghost use Rattle.std.specs.Fs.{file_type};
+ghost use Rattle.tftp_disk.specs.Found.{is_same_file, FoundBy, IsKind, IsOf};
 
 use std::fs::Metadata;
-use std::os::unix::fs::MetadataExt;
+use std::io;
+use std::os::unix::fs::{MetadataExt, PermissionsExt};
 
 /// A file or a folder of the system, whatever its name.
 #[derive(Clone, Copy, Debug, PartialEq, Eq, Hash)]
@@ -56,7 +61,9 @@ pub struct Found {
 
 impl Found {
     /// What the system says of a file, as std returns it.
-    pub(crate) fn of(metadata: &Metadata) -> Found {
+    fn of(metadata: &Metadata) -> Found
+        ensures { IsOf metadata.now result }
+    {
         Found {
             kind: kind_of(metadata),
             id: FileId {
@@ -64,15 +71,27 @@ impl Found {
                 inode: metadata.ino(),
             },
             bytes: metadata.len(),
-            mode: metadata.mode(),
+            mode: metadata.permissions().mode(),
             changed: metadata.ctime(),
             changed_nanos: metadata.ctime_nsec(),
         }
     }
 }
 
+/// What the system says of a file, if it answers.
+pub(crate) fn found_of(answer: io::Result<Metadata>) -> io::Result<Found>
+    ensures { FoundBy answer result }
+{
+    match answer {
+        Ok(metadata) => Ok(Found::of(&metadata)),
+        Err(error) => Err(error),
+    }
+}
+
 /// The kind of the file with this metadata.
-fn kind_of(metadata: &Metadata) -> Kind {
+fn kind_of(metadata: &Metadata) -> Kind
+    ensures { IsKind result (file_type metadata.now) }
+{
     if metadata.is_file() {
         Kind::Regular
     } else if metadata.is_dir() {

@@ -4,7 +4,7 @@ ghost use Rattle.std.specs.Prelude.{◌∷◌, Err, ◌≡◌, ◌⊎◌, ◌↔
 ghost use Rattle.tftp_disk.specs.Changes.{changes, renames};
 ghost use Rattle.tftp_disk.specs.NamedFolder.{OpensFolder, OpensNoFolder, IsFolderFor, SyncsFolder};
 ghost use Rattle.tftp_disk.specs.NamedFolder.{SyncsNoFolder, path_in, OpensAlone, SyncsAlone};
-ghost use Rattle.tftp_disk.specs.DiskJournal.DiskEvent.{Folder_synced};
+ghost use Rattle.tftp_disk.specs.DiskTrace.DiskEvent.{Folder_synced};
 
 use crate::disk::Disk;
 use crate::disk_file::DiskFolder;

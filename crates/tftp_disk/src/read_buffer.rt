@@ -1,7 +1,7 @@
 //! The wire text of a file's bytes that were read and not yet taken.
 
 ghost use Rattle.std.specs.Prelude.{ℕ, ◌≡◌, ◌≤◌, List, ◌∷◌, [], length, drop, IfOk, OnOk, OnErr};
-ghost use Rattle.tftp_disk.specs.DiskJournal.DiskEvent.{Given};
+ghost use Rattle.tftp_disk.specs.DiskTrace.DiskEvent.{Given};
 ghost use Rattle.tftp_disk.specs.ReadBuffer.{Refills, ReadsSome};
 ghost use Rattle.tftp_file.specs.Netascii.{netascii_text};
 ghost use Rattle.tftp_wire.specs.declared.mode.Mode.TheVariants.{Octet, Netascii};
@@ -85,9 +85,9 @@ impl ReadBuffer {
     /// Reads once if nothing is left. It also fails when out of memory, and then what was read is
     /// lost.
     pub(crate) fn refill<F: Read>(&mut self, file: &mut DiskFile<F>, mode: Mode) -> io::Result<()>
-        ensures ok { OnOk result (Refills mode file.old.journal.events file.new.journal.events
+        ensures ok { OnOk result (Refills mode file.old.trace.events file.new.trace.events
             self.old self.new) }
-        ensures err { OnErr result (ReadsSome file.old.journal.events file.new.journal.events) }
+        ensures err { OnErr result (ReadsSome file.old.trace.events file.new.trace.events) }
     {
         if self.at < self.end {
             return Ok(());
@@ -101,9 +101,9 @@ impl ReadBuffer {
     /// The same in octet, where nothing is left.
     fn refill_octet<F: Read>(&mut self, file: &mut DiskFile<F>) -> io::Result<()>
         requires { self.old ≡ [] }
-        ensures ok { OnOk result (Refills Octet file.old.journal.events file.new.journal.events
+        ensures ok { OnOk result (Refills Octet file.old.trace.events file.new.trace.events
             self.old self.new) }
-        ensures err { OnErr result (ReadsSome file.old.journal.events file.new.journal.events) }
+        ensures err { OnErr result (ReadsSome file.old.trace.events file.new.trace.events) }
     {
         match file.read(self.text.as_mut_slice()) {
             Ok(count) => {
@@ -118,9 +118,9 @@ impl ReadBuffer {
     /// The same in netascii.
     fn refill_netascii<F: Read>(&mut self, file: &mut DiskFile<F>) -> io::Result<()>
         requires { self.old ≡ [] }
-        ensures ok { OnOk result (Refills Netascii file.old.journal.events
-            file.new.journal.events self.old self.new) }
-        ensures err { OnErr result (ReadsSome file.old.journal.events file.new.journal.events) }
+        ensures ok { OnOk result (Refills Netascii file.old.trace.events
+            file.new.trace.events self.old self.new) }
+        ensures err { OnErr result (ReadsSome file.old.trace.events file.new.trace.events) }
     {
         self.at = 0;
         self.end = 0;
@@ -148,8 +148,8 @@ fn read_lines<F: Read>(
     text: &mut Vec<u8>,
 ) -> io::Result<()>
     ensures ok { OnOk result ((read : List ℕ) × (text.new.items ≡ netascii_text read)
-        × (file.new.journal.events ≡ Given read ∷ file.old.journal.events)) }
-    ensures err { OnErr result (ReadsSome file.old.journal.events file.new.journal.events) }
+        × (file.new.trace.events ≡ Given read ∷ file.old.trace.events)) }
+    ensures err { OnErr result (ReadsSome file.old.trace.events file.new.trace.events) }
 {
     text.clear();
     match file.read(bytes.as_mut_slice()) {

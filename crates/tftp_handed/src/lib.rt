@@ -1,5 +1,5 @@
-//! The request port of a server as a socket that another program bound, and handed over as standard
-//! input: systemd and inetd do so (RFC 1350, section 4).
+//! Socket activation: the request port of a server is a socket that another program bound, and passed
+//! as standard input. systemd and inetd do so (RFC 1350, section 4).
 //!
 //! It receives and sends by the device that it wraps.
 //!

@@ -5,19 +5,25 @@ ghost use Rattle.std.specs.Prelude.{◌≡◌, ◌≢◌, Err, IfErr, IfOk, OnOk
 use crate::fault::HandedFault;
 use std::net::{TcpStream, UdpSocket};
 use std::os::fd::{AsFd, OwnedFd};
+use std::rt::Stdin;
 use tftp_ends::Endpoint;
 use tftp_sockets::endpoint_of;
 
-/// What a process was started with as standard input, or why that is nothing.
-pub type Input = Result<OwnedFd, HandedFault>;
+/// What a process was started with as standard input, or why that is nothing. Only
+/// [`standard_input`] makes one.
+#[derive(Drop)]
+pub struct Input {
+    fd: Result<OwnedFd, HandedFault>,
+}
 
 /// Duplicates standard input. Called before anything is opened, it finds one that was closed: else
 /// the next file could have got its number.
-pub fn standard_input(stdin: &impl AsFd) -> Input {
-    match stdin.as_fd().try_clone_to_owned() {
+pub fn standard_input(stdin: &Stdin) -> Input {
+    let fd = match stdin.as_fd().try_clone_to_owned() {
         Ok(fd) => Ok(fd),
         Err(error) => Err(HandedFault::of(&error)),
-    }
+    };
+    Input { fd }
 }
 
 /// A UDP socket over IPv4 that another program bound to a port.
@@ -33,15 +39,15 @@ impl HandedSocket {
     /// own; a raw socket is not told apart.
     pub fn new(input: Input) -> Result<HandedSocket, HandedFault>
         ensures port { IfOk result (λ socket. socket.endpoint.port ≢ 0) }
-        ensures fault { IfErr input (λ fault. result ≡ Err fault) }
+        ensures fault { IfErr input.fd (λ fault. result ≡ Err fault) }
     {
-        match input {
+        match input.fd {
             Ok(fd) => of_descriptor(fd),
             Err(fault) => Err(fault),
         }
     }
 
-    /// The descriptor of the socket, to be handed over to other servers.
+    /// The descriptor of the socket, to be passed to other servers.
     pub fn into_descriptor(self) -> OwnedFd {
         OwnedFd::from(self.udp)
     }

@@ -19,7 +19,7 @@ use tftp_sockets::{
 const WARNING: &str = "<4>";
 
 /// A device of a server that may have been handed its request port, and may be one of several. Its
-/// history is that of the device that it wraps.
+/// trace is that of the device that it wraps.
 #[derive(Drop)]
 pub struct HandedUdp<N> {
     net: N,

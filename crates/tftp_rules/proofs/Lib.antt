@@ -28,5 +28,4 @@ pub mod EndTurns
 pub mod Granted
 pub mod FirstSent
 pub mod EndOpenings
-pub mod KnownSteps
 mod StandardFacts

@@ -1,10 +1,8 @@
 -- Files of known content: the wire text that a source has left, and what a sink holds. A read may
 -- fail, and a call of a sink may be refused.
-use Rattle.std.specs.Prelude.{◌≡◌, ◌⊎◌, List, ℕ, Some, ⊤}
+use Rattle.std.specs.Prelude.{List, ℕ, Some, ⊤}
 use Rattle.tftp_file.specs.Source.{SourceMeaning}
 use Rattle.tftp_file.specs.Sink.{Holding, SinkMeaning}
-use Rattle.tftp_file.specs.declared.files.Files.{Files}
-use Rattle.tftp_file.specs.declared.files.Files.TheVariants.{Source, Sink}
 
 -- a source whose text is known; each fill may return Read, and none must
 abbrev pub known_source : SourceMeaning (List ℕ)
@@ -28,15 +26,3 @@ known_sink =
       after_append = λ before bytes after fault. ⊤;
       after_commit = λ before after fault. ⊤;
     }
-
--- a source has this text left, or each fill of it returns Read
-abbrev pub HasLeft : {S : Type 0} → SourceMeaning S → S → List ℕ → Type 0
-HasLeft sources source left =
-    (sources.left source ≡ Some left) ⊎ ((want : ℕ) → sources.fails source want)
-
-module _ {S K : Type 0} (sources : SourceMeaning S) (sinks : SinkMeaning K) where
-  -- files whose content is known to be this, but for a source that must fail
-  abbrev pub HaveContent : Files S K → Files (List ℕ) Holding → Type 0
-  HaveContent (Source source) (Source left) = HasLeft sources source left
-  HaveContent (Sink sink) (Sink holding) = sinks.held sink ≡ Some holding
-  HaveContent files content = ⊥

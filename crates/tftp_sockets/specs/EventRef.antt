@@ -1,10 +1,11 @@
--- The events that the sockets note, as events of a journal (ours).
+-- The events that the sockets note, as events of a trace (ours).
+use Rattle.std.specs.Prelude.{[]}
 use Rattle.tftp_lines.specs.ClientOutcome.{end_text}
 use Rattle.tftp_lines.specs.Printed.{line_text}
-use Rattle.tftp_sockets.specs.Journal.{SocketEvent}
-use Rattle.tftp_sockets.specs.Journal.SocketEvent.{Received, Sent, Watched, Elapsed, Printed, Quiet}
-use Rattle.tftp_sockets.specs.Journal.QuietEvent.{Empty, Failed, New_socket, No_socket, Out_of_memory}
-use Rattle.tftp_sockets.specs.Journal.QuietEvent.{Slept, Woke, No_reader, Drain_signalled}
+use Rattle.tftp_sockets.specs.Trace.{SocketEvent}
+use Rattle.tftp_sockets.specs.Trace.SocketEvent.{Received, Sent, Watched, Elapsed, Printed, Quiet}
+use Rattle.tftp_sockets.specs.Trace.QuietEvent.{Empty, Failed, New_socket, No_socket, Out_of_memory}
+use Rattle.tftp_sockets.specs.Trace.QuietEvent.{Slept, Woke, No_reader, Drain_signalled}
 use Rattle.tftp_sockets.specs.declared.event_ref.EventRef.{EventRef}
 use Rattle.tftp_sockets.specs.declared.event_ref.EventRef.TheVariants as refs
 
@@ -12,9 +13,10 @@ use Rattle.tftp_sockets.specs.declared.event_ref.EventRef.TheVariants as refs
 abbrev pub event_of : EventRef → SocketEvent
 event_of (refs.Received port from bytes) = Received port from bytes.now
 event_of (refs.Sent port to bytes) = Sent port to bytes.now
-event_of (refs.Watched time) = Watched time
+event_of (refs.Watched watch) = Watched watch
 event_of (refs.Elapsed port time) = Elapsed port time
 event_of (refs.End end) = Printed (end_text end)
+event_of refs.Refused = Printed []
 event_of (refs.Line line) = Printed (line_text line)
 event_of (refs.Empty port) = Quiet (Empty port)
 event_of (refs.Failed port) = Quiet (Failed port)

@@ -1,7 +1,8 @@
 pub mod Address
 pub mod Bound
 pub mod EventRef
-pub mod Journal
+pub mod Output
+pub mod Trace
 pub mod Quiet
 pub mod Receipt
 pub mod Watch

@@ -1,10 +1,10 @@
--- What a journal states of waits, and of the ports that were read between them (ours).
+-- What a trace states of waits, and of the ports that were read between them (ours).
 use Rattle.std.specs.Prelude.{ℕ, ◌+◌, ◌==◌, ◌&&◌, ◌||◌, not, Bool, true, false, List, [], ◌∷◌}
 use Rattle.std.specs.List.{list_any}
-use Rattle.tftp_sockets.specs.Journal.{SocketEvent, QuietEvent}
-use Rattle.tftp_sockets.specs.Journal.SocketEvent.{Received, Sent, Watched, Elapsed, Printed, Quiet}
-use Rattle.tftp_sockets.specs.Journal.QuietEvent.{Empty, Failed, New_socket, No_socket, Out_of_memory}
-use Rattle.tftp_sockets.specs.Journal.QuietEvent.{Slept, Woke, No_reader, Drain_signalled}
+use Rattle.tftp_sockets.specs.Trace.{SocketEvent, QuietEvent}
+use Rattle.tftp_sockets.specs.Trace.SocketEvent.{Received, Sent, Watched, Elapsed, Printed, Quiet}
+use Rattle.tftp_sockets.specs.Trace.QuietEvent.{Empty, Failed, New_socket, No_socket, Out_of_memory}
+use Rattle.tftp_sockets.specs.Trace.QuietEvent.{Slept, Woke, No_reader, Drain_signalled}
 
 -- whether the port is one of these
 abbrev pub is_among : ℕ → List ℕ → Bool
@@ -27,7 +27,7 @@ abbrev pub is_drained : ℕ → List SocketEvent → Bool
 is_drained port [] = false
 is_drained port (Received p from bytes ∷ events) = not (p == port) && is_drained port events
 is_drained port (Sent p to bytes ∷ events) = is_drained port events
-is_drained port (Watched time ∷ events) = is_drained port events
+is_drained port (Watched watch ∷ events) = is_drained port events
 is_drained port (Elapsed p time ∷ events) = is_drained port events
 is_drained port (Printed line ∷ events) = is_drained port events
 is_drained port (Quiet event ∷ events) = drained_by port event (is_drained port events)
@@ -49,7 +49,7 @@ abbrev pub was_tried : ℕ → List SocketEvent → Bool
 was_tried port [] = false
 was_tried port (Received p from bytes ∷ events) = (p == port) || was_tried port events
 was_tried port (Sent p to bytes ∷ events) = was_tried port events
-was_tried port (Watched time ∷ events) = was_tried port events
+was_tried port (Watched watch ∷ events) = was_tried port events
 was_tried port (Elapsed p time ∷ events) = was_tried port events
 was_tried port (Printed line ∷ events) = was_tried port events
 was_tried port (Quiet event ∷ events) = tried_by port event (was_tried port events)
@@ -71,7 +71,7 @@ abbrev pub waits : List SocketEvent → ℕ
 waits [] = 0
 waits (Received p from bytes ∷ events) = waits events
 waits (Sent p to bytes ∷ events) = waits events
-waits (Watched time ∷ events) = waits events
+waits (Watched watch ∷ events) = waits events
 waits (Elapsed p time ∷ events) = waits events
 waits (Printed line ∷ events) = waits events
 waits (Quiet event ∷ events) = waits_in event + waits events
@@ -93,7 +93,7 @@ abbrev pub has_woken : List SocketEvent → Bool
 has_woken [] = false
 has_woken (Received p from bytes ∷ events) = false
 has_woken (Sent p to bytes ∷ events) = false
-has_woken (Watched time ∷ events) = false
+has_woken (Watched watch ∷ events) = false
 has_woken (Elapsed p time ∷ events) = false
 has_woken (Printed line ∷ events) = false
 has_woken (Quiet event ∷ events) = ends_wait event

@@ -2,9 +2,9 @@
 use Rattle.std.specs.Prelude.{ℕ, ◌≡◌, ◌⊎◌, ◌≤◌, ⊤, List, length, take}
 use Rattle.std.specs.declared.io.ErrorKind.{ErrorKind}
 use Rattle.std.specs.declared.io.ErrorKind.TheVariants as kinds
-use Rattle.tftp_sockets.specs.Journal.{SocketEvent}
-use Rattle.tftp_sockets.specs.Journal.SocketEvent.{Received, Quiet}
-use Rattle.tftp_sockets.specs.Journal.QuietEvent.{Empty, Failed as Failure}
+use Rattle.tftp_sockets.specs.Trace.{SocketEvent}
+use Rattle.tftp_sockets.specs.Trace.SocketEvent.{Received, Quiet}
+use Rattle.tftp_sockets.specs.Trace.QuietEvent.{Empty, Failed as Failure}
 use Rattle.tftp_sockets.specs.declared.receipt.Receipt.{Receipt}
 use Rattle.tftp_sockets.specs.declared.receipt.Receipt.TheVariants.{Datagram, Nothing, Failed}
 

@@ -1,14 +1,34 @@
-//! How a server's sockets are bound.
+//! How sockets are bound.
 
 ghost use Rattle.std.specs.Prelude.{◌≡◌, ◌≢◌, IfOk, IsTrue};
 ghost use Rattle.tftp_sockets.specs.Bound.{IsBoundTo};
+ghost use Rattle.tftp_sockets.specs.declared.watch.TheConstants.{LONGEST_WAIT};
 
 use crate::address::address_of;
-use crate::sockets::ServerSocket;
+use crate::sockets::{ClientSocket, ServerSocket};
+use crate::watch::LONGEST_WAIT;
 use mio::net::UdpSocket as ReadySocket;
 use std::io::{self, ErrorKind};
 use std::net::{Net, UdpSocket};
+use std::time::Duration;
 use tftp_ends::Endpoint;
+
+/// Binds a socket of a client to the address and a port that the system chooses. Its read timeout is
+/// the longest wait.
+pub(crate) fn client_socket<N: Net>(net: &N, ip: [u8; 4]) -> io::Result<ClientSocket>
+    ensures ip { IfOk result (λ socket. socket.ip ≡ ip) }
+    ensures wait { IfOk result (λ socket. socket.wait ≡ LONGEST_WAIT) }
+{
+    let udp = UdpSocket::bind(net, address_of(Endpoint { ip, port: 0 }))?;
+    let port = udp.local_addr()?.port();
+    udp.set_read_timeout(Some(Duration::from_millis(LONGEST_WAIT)))?;
+    Ok(ClientSocket {
+        ip,
+        port,
+        udp,
+        wait: LONGEST_WAIT,
+    })
+}
 
 /// Binds a socket to the endpoint; the system chooses a port for 0.
 pub(crate) fn bound_socket<N: Net>(net: &N, at: Endpoint) -> io::Result<ServerSocket>

@@ -1,5 +1,6 @@
-//! The events of a journal, as values of the code.
+//! The events of a trace, as values of the code.
 
+use crate::watch::Watch;
 use tftp_ends::Endpoint;
 use tftp_lines::{ClientOutcome, Printed};
 
@@ -10,13 +11,15 @@ pub(crate) enum EventRef<'a> {
     Received(u16, Endpoint, &'a [u8]),
     /// A datagram is sent: the port, its destination and its bytes.
     Sent(u16, Endpoint, &'a [u8]),
-    /// A reading of the watch, in milliseconds.
-    Watched(u64),
+    /// The clock was read: the watch since then.
+    Watched(Watch),
     /// A timeout is delivered to the transfer at the port, at this time of the watch, in
     /// milliseconds.
     Elapsed(u16, u64),
     /// The last line of `tftp`.
     End(ClientOutcome),
+    /// The system refused that line.
+    Refused,
     /// A line of `tftpd`.
     Line(Printed),
     /// A receive at the port found nothing.

@@ -1,5 +1,5 @@
 //! What a program over UDP has of its host: sockets (RFC 1350, section 4), addresses, the clock, and
-//! printed lines. A device has them all, and keeps the history of its calls, which only contracts
+//! printed lines. A device has them all, and keeps the trace of its calls, which only contracts
 //! read.
 //!
 //! Begin with [`ServerUdp`] and [`ClientUdp`]; [`Watch`] is a program's time.
@@ -10,7 +10,6 @@ mod bound;
 mod clock;
 mod error_lines;
 mod event_ref;
-mod journal;
 mod load;
 mod port;
 mod port_poll;
@@ -20,6 +19,7 @@ mod received;
 mod signal;
 mod sockets;
 mod system_udp;
+mod trace;
 mod udp;
 mod watch;
 

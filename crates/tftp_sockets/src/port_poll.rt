@@ -1,15 +1,32 @@
 //! The poll of a server's sockets, and what a wait reports.
 
-ghost use Rattle.std.specs.Prelude.{◌≡◌, ◌≢◌, [], true, IfOk};
+ghost use Rattle.std.specs.Prelude.{◌≡◌, ◌≢◌, [], true, false, IfOk};
+ghost use Rattle.tftp_sockets.specs.Trace.{polled};
 
+use crate::event_ref::EventRef;
+use crate::trace::Trace;
 use mio::{Events, Poll};
 use std::alloc::{AllocError, Global};
+use std::io;
+use std::net::Net;
 use std::time::Duration;
+
+/// The number of polls before a wait: some 25 microseconds.
+pub(crate) const POLLS: u32 = 64;
 
 /// A poll of non-blocking sockets.
 #[derive(Drop)]
 pub struct PortPoll {
     pub(crate) poll: Poll,
+}
+
+impl PortPoll {
+    /// A poll of no socket yet.
+    pub(crate) fn new<N: Net>(net: &N) -> io::Result<PortPoll> {
+        Ok(PortPoll {
+            poll: Poll::new(net)?,
+        })
+    }
 }
 
 /// The ports that a wait reports: datagrams may be there.
@@ -18,7 +35,7 @@ pub struct Reports {
     events: Events,
     ports: Vec<u16>,
     /// Whether they are of a poll without a wait that is not noted yet.
-    pub(crate) is_unnoted: bool,
+    is_unnoted: bool,
 }
 
 impl Reports {
@@ -55,6 +72,19 @@ impl Reports {
         self.poll(poll, 0);
         self.is_unnoted = self.has_port();
         self.is_unnoted
+    }
+
+    /// Notes a poll that took no time and reported these ports, once.
+    pub(crate) fn note_poll(&mut self, trace: &mut Trace)
+        ensures noted { trace.new.events ≡ polled self.old.is_unnoted self.old.ports.items
+            trace.old.events }
+        ensures once { self.new ≡ record self.old { is_unnoted = false } }
+    {
+        if self.is_unnoted {
+            trace.note(&EventRef::Slept(0));
+            trace.note(&EventRef::Woke(self.ports()));
+        }
+        self.is_unnoted = false;
     }
 
     /// Polls for at most `millis` milliseconds. An interrupted poll reports no port.

@@ -3,7 +3,7 @@
 use crate::port_poll::PortPoll;
 use mio::event::Event;
 use mio::unix::SourceFd;
-use mio::{Events, Interest, Poll, Token};
+use mio::{Events, Interest, Token};
 use std::alloc::Global;
 use std::io::{self, ErrorKind};
 use std::net::Net;
@@ -31,9 +31,7 @@ pub(crate) struct OutputReader {
 impl OutputReader {
     /// The reader of standard output.
     pub(crate) fn new<N: Net>(net: &N, alloc: Global) -> io::Result<OutputReader> {
-        let poll = PortPoll {
-            poll: Poll::new(net)?,
-        };
+        let poll = PortPoll::new(net)?;
         watch_output(&poll)?;
         Ok(OutputReader {
             poll,

@@ -1,56 +1,59 @@
-//! What the system returned of a receive or a send.
+//! What the system returned of a receive, a send or a bind.
 
-ghost use Rattle.std.specs.Prelude.{◌≡◌, ◌≤◌, ◌∷◌, ◌↔◌, length, IfOk, IsTrue};
+ghost use Rattle.std.specs.Prelude.{◌≡◌, ◌≤◌, ◌∷◌, ◌↔◌, length, IfOk, IsTrue, OnErr};
 ghost use Rattle.std.specs.IoError.{error_kind};
 ghost use Rattle.tftp_sockets.specs.Receipt.{FindsNothing, Fits, receive_event};
+ghost use Rattle.tftp_sockets.specs.Trace.SocketEvent.{Quiet};
+ghost use Rattle.tftp_sockets.specs.Trace.QuietEvent.{New_socket, No_socket};
 
 use crate::address::endpoint_of;
 use crate::event_ref::EventRef;
-use crate::journal::Journal;
 use crate::receipt::Receipt;
+use crate::sockets::ServerSocket;
+use crate::trace::Trace;
 use std::io::{self, ErrorKind};
 use std::net::SocketAddr;
 use tftp_lines::{Reason, reason_of};
 
 /// Notes the result of a receive at the port.
 pub(crate) fn note_receipt(
-    journal: &mut Journal,
+    trace: &mut Trace,
     port: u16,
     answer: io::Result<(usize, SocketAddr)>,
     buffer: &[u8],
 ) -> Receipt
     requires { IfOk answer (λ datagram. datagram.0 ≤ length buffer.now) }
-    ensures noted { journal.new.events ≡ receive_event port buffer.now result
-        ∷ journal.old.events }
+    ensures noted { trace.new.events ≡ receive_event port buffer.now result
+        ∷ trace.old.events }
     ensures fits { Fits buffer.now result }
 {
     match answer {
         Ok((count, address)) => match endpoint_of(address) {
             Some(from) => {
-                journal.note(&EventRef::Received(port, from, &buffer[..count]));
+                trace.note(&EventRef::Received(port, from, &buffer[..count]));
                 Receipt::Datagram(from, count)
             }
             None => {
-                journal.note(&EventRef::Failed(port));
+                trace.note(&EventRef::Failed(port));
                 Receipt::Failed
             }
         },
-        Err(error) => note_error(journal, port, &error, buffer),
+        Err(error) => note_error(trace, port, &error, buffer),
     }
 }
 
 /// Notes a receive at the port that returned an error.
-fn note_error(journal: &mut Journal, port: u16, error: &io::Error, buffer: &[u8]) -> Receipt
-    ensures noted { journal.new.events ≡ receive_event port buffer.now result
-        ∷ journal.old.events }
+fn note_error(trace: &mut Trace, port: u16, error: &io::Error, buffer: &[u8]) -> Receipt
+    ensures noted { trace.new.events ≡ receive_event port buffer.now result
+        ∷ trace.old.events }
     ensures fits { Fits buffer.now result }
     ensures nothing { result ≡ Receipt.Nothing ↔ FindsNothing (error_kind error.now) }
 {
     if finds_nothing(error) {
-        journal.note(&EventRef::Empty(port));
+        trace.note(&EventRef::Empty(port));
         Receipt::Nothing
     } else {
-        journal.note(&EventRef::Failed(port));
+        trace.note(&EventRef::Failed(port));
         Receipt::Failed
     }
 }
@@ -68,5 +71,28 @@ pub(crate) fn sent(answer: io::Result<usize>) -> Result<(), Reason> {
     match answer {
         Ok(_) => Ok(()),
         Err(error) => Err(reason_of(&error)),
+    }
+}
+
+/// Notes the result of a bind to this port, or to any for 0.
+pub(crate) fn note_bound(
+    trace: &mut Trace,
+    port: u16,
+    bound: io::Result<ServerSocket>,
+) -> io::Result<ServerSocket>
+    ensures same { result ≡ bound }
+    ensures ok { IfOk result (λ socket. trace.new.events ≡ Quiet (New_socket socket.port)
+        ∷ trace.old.events) }
+    ensures err { OnErr result (trace.new.events ≡ Quiet (No_socket port) ∷ trace.old.events) }
+{
+    match bound {
+        Ok(socket) => {
+            trace.note(&EventRef::NewSocket(socket.port));
+            Ok(socket)
+        }
+        Err(error) => {
+            trace.note(&EventRef::NoSocket(port));
+            Err(error)
+        }
     }
 }

@@ -13,22 +13,21 @@
 
 ghost use Rattle.std.specs.Prelude.{◌≡◌, []};
 
-use crate::address::{address_of, endpoint_of};
-use crate::bound::{bound_socket, same_socket};
+use crate::address::address_of;
+use crate::bound::{bound_socket, client_socket, same_socket};
 use crate::clock::{micros, read_clock};
 use crate::error_lines::{ErrorLines, WholeLines};
 use crate::event_ref::EventRef;
-use crate::journal::Journal;
 use crate::load::Load;
-use crate::port_poll::{PortPoll, Reports};
+use crate::port_poll::{POLLS, PortPoll, Reports};
 use crate::reader::{OutputReader, has_gone, watch_output};
 use crate::receipt::Receipt;
-use crate::received::{note_receipt, sent};
+use crate::received::{note_bound, note_receipt, sent};
 use crate::signal::DrainSignal;
 use crate::sockets::{ClientSocket, ServerSocket};
+use crate::trace::Trace;
 use crate::udp::{ClientUdp, ServerUdp, Udp};
-use crate::watch::{LONGEST_WAIT, Watch};
-use mio::Poll;
+use crate::watch::Watch;
 use rand::make_rng;
 use rand::rngs::StdRng;
 use std::alloc::Global;
@@ -36,12 +35,9 @@ use std::fmt::Display;
 use std::io;
 use std::net::{Net, UdpSocket};
 use std::random::RandomSource;
-use std::time::{Clock, Duration};
+use std::time::Clock;
 use tftp_ends::Endpoint;
 use tftp_lines::{ClientOutcome, Printed, Reason};
-
-/// The number of polls before a wait: some 25 microseconds.
-const POLLS: u32 = 64;
 
 /// UDP, the clock and the printer of the system. A program makes one.
 #[derive(Drop)]
@@ -49,7 +45,7 @@ pub struct SystemUdp<'a, R> {
     rt: &'a R,
     /// The reader of standard output, if it is watched.
     reader: Option<OutputReader>,
-    journal: Journal,
+    trace: Trace,
 }
 
 impl<'a, R: Clock> SystemUdp<'a, R> {
@@ -60,78 +56,63 @@ impl<'a, R: Clock> SystemUdp<'a, R> {
         SystemUdp {
             rt,
             reader: None,
-            journal: Journal::new(),
+            trace: Trace::new(),
         }
     }
 }
 
 impl<R: Clock> Udp for SystemUdp<'_, R> {
-    ghost log = { λ udp. udp.journal.events };
+    ghost log = { λ udp. udp.trace.events };
 
     fn start_watch(&self) -> Watch {
         Watch::new(read_clock(self.rt, 0))
     }
 
     fn elapsed(&mut self, port: u16, time: u64) {
-        self.journal.note(&EventRef::Elapsed(port, time));
+        self.trace.note(&EventRef::Elapsed(port, time));
     }
 }
 
 impl<R: Net + Clock + Print> ClientUdp for SystemUdp<'_, R> {
     fn bind(&self, ip: [u8; 4]) -> io::Result<ClientSocket> {
-        let udp = UdpSocket::bind(self.rt, address_of(Endpoint { ip, port: 0 }))?;
-        let port = udp.local_addr()?.port();
-        udp.set_read_timeout(Some(Duration::from_millis(LONGEST_WAIT)))?;
-        Ok(ClientSocket {
-            ip,
-            port,
-            udp,
-            wait: LONGEST_WAIT,
-        })
+        client_socket(self.rt, ip)
     }
 
     fn receive(&mut self, socket: &mut ClientSocket, wait: u64, buffer: &mut [u8]) -> Receipt {
         let wait = wait.max(1);
-        self.journal.note(&EventRef::Slept(wait));
-        if !set_wait(socket, wait) {
-            self.journal.note(&EventRef::Failed(socket.port));
+        self.trace.note(&EventRef::Slept(wait));
+        if !socket.set_wait(wait) {
+            self.trace.note(&EventRef::Failed(socket.port));
             return Receipt::Failed;
         }
         let received = socket.udp.recv_from(buffer);
-        note_receipt(&mut self.journal, socket.port, received, buffer)
+        note_receipt(&mut self.trace, socket.port, received, buffer)
     }
 
     fn send(&mut self, socket: &ClientSocket, to: Endpoint, bytes: &[u8]) -> Result<(), Reason> {
-        self.journal.note(&EventRef::Sent(socket.port, to, bytes));
+        self.trace.note(&EventRef::Sent(socket.port, to, bytes));
         sent(socket.udp.send_to(bytes, address_of(to)))
     }
 
     fn read_watch(&mut self, watch: &mut Watch) -> u64 {
         let reading = read_clock(self.rt, watch.reading);
         let time = watch.advance(reading);
-        self.journal.note(&EventRef::Watched(time));
+        self.trace.note(&EventRef::Watched(*watch));
         time
     }
 
     fn print_end(&mut self, end: ClientOutcome) -> io::Result<()> {
-        self.journal.note(&EventRef::End(end));
-        self.rt.println(end)
+        match self.rt.println(end) {
+            Ok(()) => {
+                self.trace.note(&EventRef::End(end));
+                Ok(())
+            }
+            Err(error) => {
+                self.trace.note(&EventRef::Refused);
+                Err(error)
+            }
+        }
     }
-}
-
-/// Sets the read timeout of a socket, if it changes. False if the system refuses.
-fn set_wait(socket: &mut ClientSocket, wait: u64) -> bool
-    ensures { socket.new.port ≡ socket.old.port }
-{
-    if wait == socket.wait {
-        return true;
-    }
-    let time = Some(Duration::from_millis(wait));
-    let is_set = socket.udp.set_read_timeout(time).is_ok();
-    if is_set {
-        socket.wait = wait;
-    }
-    is_set
 }
 
 impl<R: Net + Clock + Print + RandomSource> ServerUdp for SystemUdp<'_, R> {
@@ -144,21 +125,13 @@ impl<R: Net + Clock + Print + RandomSource> ServerUdp for SystemUdp<'_, R> {
     }
 
     fn bind_noted(&mut self, at: Endpoint) -> io::Result<ServerSocket> {
-        match bound_socket(self.rt, at) {
-            Ok(socket) => {
-                self.journal.note(&EventRef::NewSocket(socket.port));
-                Ok(socket)
-            }
-            Err(error) => {
-                self.journal.note(&EventRef::NoSocket(at.port));
-                Err(error)
-            }
-        }
+        let bound = bound_socket(self.rt, at);
+        note_bound(&mut self.trace, at.port, bound)
     }
 
     fn receive(&mut self, socket: &ServerSocket, buffer: &mut [u8]) -> Receipt {
         let received = socket.udp.recv_from(buffer);
-        note_receipt(&mut self.journal, socket.port, received, buffer)
+        note_receipt(&mut self.trace, socket.port, received, buffer)
     }
 
     /// A server alone leaves nothing.
@@ -168,31 +141,25 @@ impl<R: Net + Clock + Print + RandomSource> ServerUdp for SystemUdp<'_, R> {
         _load: Load,
         buffer: &mut [u8],
     ) -> Receipt {
-        let received = requests.udp.recv_from(buffer);
-        note_receipt(&mut self.journal, requests.port, received, buffer)
+        ServerUdp::receive(self, requests, buffer)
     }
 
     fn first_sender(&self, socket: &ServerSocket) -> Option<Endpoint> {
-        match socket.udp.peek_from(&mut [0u8; 1]) {
-            Ok((_, address)) => endpoint_of(address),
-            Err(_) => None,
-        }
+        socket.first_sender()
     }
 
     fn leave(&mut self, requests: &ServerSocket, _load: Load) -> Receipt {
-        self.journal.note(&EventRef::Failed(requests.port));
+        self.trace.note(&EventRef::Failed(requests.port));
         Receipt::Failed
     }
 
     fn send(&mut self, socket: &ServerSocket, peer: Endpoint, bytes: &[u8]) -> Result<(), Reason> {
-        self.journal.note(&EventRef::Sent(socket.port, peer, bytes));
+        self.trace.note(&EventRef::Sent(socket.port, peer, bytes));
         sent(socket.udp.send_to(bytes, address_of(peer)))
     }
 
     fn poll(&self) -> io::Result<PortPoll> {
-        let poll = PortPoll {
-            poll: Poll::new(self.rt)?,
-        };
+        let poll = PortPoll::new(self.rt)?;
         if self.reader.is_some() {
             watch_output(&poll)?;
         }
@@ -204,11 +171,11 @@ impl<R: Net + Clock + Print + RandomSource> ServerUdp for SystemUdp<'_, R> {
     }
 
     fn wait(&mut self, poll: &mut PortPoll, reports: &mut Reports, millis: u64, polls: u32) {
-        self.journal.note(&EventRef::Slept(millis));
+        self.trace.note(&EventRef::Slept(millis));
         if !reports.poll_often(poll, polls) {
             reports.poll(poll, millis);
         }
-        self.journal.note(&EventRef::Woke(reports.ports()));
+        self.trace.note(&EventRef::Woke(reports.ports()));
     }
 
     fn poll_now(&self, poll: &mut PortPoll, reports: &mut Reports) -> bool {
@@ -216,17 +183,13 @@ impl<R: Net + Clock + Print + RandomSource> ServerUdp for SystemUdp<'_, R> {
     }
 
     fn note_poll(&mut self, reports: &mut Reports) {
-        if reports.is_unnoted {
-            self.journal.note(&EventRef::Slept(0));
-            self.journal.note(&EventRef::Woke(reports.ports()));
-        }
-        reports.is_unnoted = false;
+        reports.note_poll(&mut self.trace);
     }
 
     fn read_watch_within(&mut self, watch: &mut Watch, limit: u64) -> u64 {
         let reading = read_clock(self.rt, watch.reading);
         let time = watch.advance_within(reading, limit);
-        self.journal.note(&EventRef::Watched(time));
+        self.trace.note(&EventRef::Watched(*watch));
         time
     }
 
@@ -235,11 +198,11 @@ impl<R: Net + Clock + Print + RandomSource> ServerUdp for SystemUdp<'_, R> {
     }
 
     fn out_of_memory(&mut self) {
-        self.journal.note(&EventRef::OutOfMemory);
+        self.trace.note(&EventRef::OutOfMemory);
     }
 
     fn print_line(&mut self, line: Printed) -> io::Result<()> {
-        self.journal.note(&EventRef::Line(line));
+        self.trace.note(&EventRef::Line(line));
         self.rt.println(line)
     }
 
@@ -252,7 +215,7 @@ impl<R: Net + Clock + Print + RandomSource> ServerUdp for SystemUdp<'_, R> {
         if !has_gone(&mut self.reader) {
             return false;
         }
-        self.journal.note(&EventRef::NoReader);
+        self.trace.note(&EventRef::NoReader);
         true
     }
 
@@ -260,7 +223,7 @@ impl<R: Net + Clock + Print + RandomSource> ServerUdp for SystemUdp<'_, R> {
         if !signal.is_given() {
             return false;
         }
-        self.journal.note(&EventRef::DrainSignalled);
+        self.trace.note(&EventRef::DrainSignalled);
         true
     }
 

@@ -1,7 +1,7 @@
-//! The calls of a program over UDP, and the history that they make.
+//! The calls of a program over UDP, and the trace that they make.
 //!
 //! Code that is generic over one of these traits, and has no other bound that reaches the system, can
-//! make no second device and note nothing of its own: each call says what it puts on the history. A
+//! make no second device and note nothing of its own: each call says what it puts on the trace. A
 //! call without an event takes `&self`, and changes nothing of it.
 
 use crate::load::Load;
@@ -17,11 +17,11 @@ use std::net::UdpSocket;
 use tftp_ends::Endpoint;
 use tftp_lines::{ClientOutcome, Printed, Reason};
 
-/// What the programs over UDP share: their history, and their time.
+/// What the programs over UDP share: their trace, and their time.
 pub trait Udp {
     ghost use Rattle.std.specs.Prelude.{◌≡◌, ◌∷◌, List};
-    ghost use Rattle.tftp_sockets.specs.Journal.{SocketEvent};
-    ghost use Rattle.tftp_sockets.specs.Journal.SocketEvent.{Elapsed};
+    ghost use Rattle.tftp_sockets.specs.Trace.{SocketEvent};
+    ghost use Rattle.tftp_sockets.specs.Trace.SocketEvent.{Elapsed};
 
     /// What was done, the newest event first.
     ghost log: { Self → List SocketEvent };
@@ -40,9 +40,11 @@ pub trait Udp {
 pub trait ClientUdp: Udp {
     ghost use Rattle.std.specs.Prelude.{◌≡◌, ◌≤◌, ◌+◌, ◌∷◌, IfOk, length, max};
     ghost use Rattle.tftp_lines.specs.ClientOutcome.{end_text};
-    ghost use Rattle.tftp_sockets.specs.Journal.SocketEvent.{Sent, Watched, Printed as Line, Quiet};
-    ghost use Rattle.tftp_sockets.specs.Journal.QuietEvent.{Slept};
+    ghost use Rattle.tftp_sockets.specs.Trace.SocketEvent.{Sent, Watched, Printed as Line, Quiet};
+    ghost use Rattle.tftp_sockets.specs.Trace.QuietEvent.{Slept};
+    ghost use Rattle.tftp_sockets.specs.Output.{taken};
     ghost use Rattle.tftp_sockets.specs.Receipt.{Fits, receive_event};
+    ghost use Rattle.tftp_sockets.specs.Watch.{later_by};
     ghost use Rattle.tftp_sockets.specs.declared.address.TheConstants.{DATAGRAM_BUFFER};
     ghost use Rattle.tftp_sockets.specs.declared.watch.TheConstants.{LONGEST_WAIT};
 
@@ -64,16 +66,19 @@ pub trait ClientUdp: Udp {
     fn send(&mut self, socket: &ClientSocket, to: Endpoint, bytes: &[u8]) -> Result<(), Reason>
         ensures { Self.log self.new ≡ Sent socket.now.port to bytes.now ∷ Self.log self.old };
 
-    /// Reads the clock, and returns the new time of the watch, in milliseconds.
+    /// Reads the clock, and returns the new time of the watch, in milliseconds. It advances as much
+    /// as the clock, at most by [`LONGEST_WAIT`](crate::LONGEST_WAIT).
     fn read_watch(&mut self, watch: &mut Watch) -> u64
-        ensures noted { Self.log self.new ≡ Watched result ∷ Self.log self.old }
+        ensures noted { Self.log self.new ≡ Watched watch.new ∷ Self.log self.old }
         ensures time { watch.new.now ≡ result }
+        ensures reading { result ≡ later_by watch.old watch.new.reading }
         ensures forward { watch.old.now ≤ result }
         ensures soon { result ≤ watch.old.now + LONGEST_WAIT };
 
-    /// Prints how `tftp` ended, on standard output.
+    /// Prints how `tftp` ended, on standard output. If the system refuses the line, an empty one is
+    /// noted.
     fn print_end(&mut self, end: ClientOutcome) -> io::Result<()>
-        ensures { Self.log self.new ≡ Line (end_text end) ∷ Self.log self.old };
+        ensures { Self.log self.new ≡ Line (taken result (end_text end)) ∷ Self.log self.old };
 }
 
 /// The UDP sockets of a server, its waits, its clock and its lines.
@@ -82,12 +87,13 @@ pub trait ServerUdp: Udp {
     ghost use Rattle.std.specs.Prelude.{max};
     ghost use Rattle.tftp_lines.specs.Printed.{line_text};
     ghost use Rattle.tftp_sockets.specs.Bound.{IsBoundTo};
-    ghost use Rattle.tftp_sockets.specs.Journal.SocketEvent.{Sent, Watched, Printed as Line, Quiet};
-    ghost use Rattle.tftp_sockets.specs.Journal.QuietEvent.{Failed, New_socket, No_socket};
-    ghost use Rattle.tftp_sockets.specs.Journal.{looked, polled};
-    ghost use Rattle.tftp_sockets.specs.Journal.QuietEvent.{Out_of_memory, Slept, Woke};
-    ghost use Rattle.tftp_sockets.specs.Journal.QuietEvent.{No_reader, Drain_signalled};
+    ghost use Rattle.tftp_sockets.specs.Trace.SocketEvent.{Sent, Watched, Printed as Line, Quiet};
+    ghost use Rattle.tftp_sockets.specs.Trace.QuietEvent.{Failed, New_socket, No_socket};
+    ghost use Rattle.tftp_sockets.specs.Trace.{looked, polled};
+    ghost use Rattle.tftp_sockets.specs.Trace.QuietEvent.{Out_of_memory, Slept, Woke};
+    ghost use Rattle.tftp_sockets.specs.Trace.QuietEvent.{No_reader, Drain_signalled};
     ghost use Rattle.tftp_sockets.specs.Receipt.{Fits, receive_event};
+    ghost use Rattle.tftp_sockets.specs.Watch.{later_within};
     ghost use Rattle.tftp_sockets.specs.declared.address.TheConstants.{DATAGRAM_BUFFER};
 
     /// Binds a non-blocking socket to the endpoint; the system chooses a port for 0. It fails with
@@ -169,8 +175,9 @@ pub trait ServerUdp: Udp {
     /// Reads the clock, for a time that advances to `limit` at most, and returns the new time of the
     /// watch, in milliseconds.
     fn read_watch_within(&mut self, watch: &mut Watch, limit: u64) -> u64
-        ensures noted { Self.log self.new ≡ Watched result ∷ Self.log self.old }
+        ensures noted { Self.log self.new ≡ Watched watch.new ∷ Self.log self.old }
         ensures time { watch.new.now ≡ result }
+        ensures reading { result ≡ later_within watch.old watch.new.reading limit }
         ensures forward { watch.old.now ≤ result }
         ensures soon { result ≤ max watch.old.now limit };
 

@@ -2,9 +2,11 @@
 
 ghost use Rattle.std.specs.Prelude.{◌≡◌, ◌≤◌, ◌+◌, ◌↔◌, IsTrue, max};
 ghost use Rattle.std.specs.Duration.{as_nanos};
-ghost use Rattle.tftp_sockets.specs.Watch.{deadline_of, later_by, later_within, whole_millis};
+ghost use Rattle.tftp_sockets.specs.Watch.{deadline_of, later_by, later_within, reading_of};
+ghost use Rattle.tftp_sockets.specs.Watch.{whole_millis};
 ghost use Rattle.tftp_sockets.specs.declared.watch.TheConstants.{LONGEST_WAIT};
 
+use std::io;
 use std::time::Duration;
 
 const MILLIS_PER_SECOND: u64 = 1_000;
@@ -79,8 +81,18 @@ pub fn is_due(now: u64, deadline: u64) -> bool
     deadline <= now
 }
 
+/// A time of the clock in milliseconds, or `last` if it could not be read.
+pub(crate) fn reading_of(time: io::Result<Duration>, last: u64) -> u64
+    ensures { result ≡ reading_of time last }
+{
+    match time {
+        Ok(time) => millis_of(time),
+        Err(_) => last,
+    }
+}
+
 /// A time in whole milliseconds.
-pub(crate) fn millis_of(time: Duration) -> u64
+fn millis_of(time: Duration) -> u64
     ensures { result ≡ whole_millis (as_nanos time) }
 {
     u64::try_from(time.as_millis()).unwrap_or(u64::MAX)

@@ -1,4 +1,4 @@
-//! The calls by which a supervisor reaches its servers and its output, and the history that they
+//! The calls by which a supervisor reaches its servers and its output, and the trace that they
 //! make.
 
 ghost use Rattle.std.specs.Prelude.{◌≡◌, ◌∷◌, List, map, IfNone, IfOk, IfSome, OnErr, OnOk};
@@ -14,7 +14,7 @@ use std::process::ExitStatus;
 /// and each has the next number.
 ///
 /// Code that is generic over this trait reaches the system by these calls alone, and each says what
-/// it puts on the history.
+/// it puts on the trace.
 pub(crate) trait ServerProcesses {
     /// What was done, the newest first.
     ghost log: { Self → List ProcessEvent };

@@ -19,7 +19,7 @@ pub trait Supervise {
     /// What was done with the servers, and what was printed, the newest first.
     ghost supervised: { Self.History → List ProcessEvent };
 
-    /// A UDP socket that is bound there, to be handed over to servers.
+    /// A UDP socket that is bound there, to be passed to servers.
     fn bind_shared(&self, at: SocketAddr) -> io::Result<OwnedFd>;
 
     /// Starts a server for each of these command lines, whose first word is the program's name,

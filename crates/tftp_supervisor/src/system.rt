@@ -1,32 +1,29 @@
 //! **Trusted by reading**: the servers of a supervisor as processes of the system, the pipes that
-//! they print to, and standard output, with a history of what was done.
+//! they print to, and standard output, with a trace of what was done.
 //!
-//! Review alone shows that the history is true: processes, pipes and the printer of std have no
+//! Review alone shows that the trace is true: processes, pipes and the printer of std have no
 //! model. Each call is for the server of the number that it was passed, and has the event that its
 //! clauses in [`ServerProcesses`] say. Nothing else here starts a process, reads a pipe or prints.
 
 ghost use Rattle.std.specs.Prelude.{◌≡◌, [], IfOk};
 
 mod event_ref;
-mod journal;
+mod reports;
+mod trace;
 
 use crate::fault::SupervisorFault;
 use crate::processes::ServerProcesses;
 use crate::supervise::Supervise;
 use crate::supervisor;
 use event_ref::EventRef;
-use journal::Journal;
-use mio::unix::SourceFd;
-use mio::{Events, Interest, Poll, Token};
+use reports::Reports;
 use std::env;
 use std::io::{self, ErrorKind, Read};
 use std::net::{SocketAddr, UdpSocket};
-use std::os::fd::{AsRawFd, OwnedFd};
+use std::os::fd::OwnedFd;
 use std::path::PathBuf;
-use std::process::{Child, ChildStdout, Command, ExitStatus, Stdio};
-
-/// The most outputs that one wait reports.
-const MOST_REPORTS: usize = 64;
+use std::process::{Child, Command, ExitStatus, Stdio};
+use trace::Trace;
 
 /// Servers of this program, which have a socket as their standard input.
 #[derive(Drop)]
@@ -35,18 +32,14 @@ struct SystemProcesses {
     program: PathBuf,
     socket: OwnedFd,
     children: Vec<Child>,
-    poll: Poll,
-    /// What the last wait reported.
-    events: Events,
-    /// How many of the servers have their outputs reported.
-    registered: usize,
-    journal: Journal,
+    reports: Reports,
+    trace: Trace,
 }
 
 impl SystemProcesses {
     /// No server.
     fn new(rt: HostRuntime, socket: &OwnedFd) -> Result<SystemProcesses, SupervisorFault>
-        ensures { IfOk result (λ processes. processes.journal.events ≡ []) }
+        ensures { IfOk result (λ processes. processes.trace.events ≡ []) }
     {
         let program = match env::current_exe(&rt) {
             Ok(program) => program,
@@ -64,17 +57,15 @@ impl SystemProcesses {
         program: PathBuf,
         socket: &OwnedFd,
     ) -> io::Result<SystemProcesses>
-        ensures { IfOk result (λ processes. processes.journal.events ≡ []) }
+        ensures { IfOk result (λ processes. processes.trace.events ≡ []) }
     {
         Ok(SystemProcesses {
             rt,
             program,
             socket: socket.try_clone()?,
             children: Vec::new(rt.alloc()),
-            poll: Poll::new(&rt)?,
-            events: Events::with_capacity(rt.alloc(), MOST_REPORTS)?,
-            registered: 0,
-            journal: Journal::new(),
+            reports: Reports::new(&rt)?,
+            trace: Trace::new(),
         })
     }
 
@@ -88,51 +79,21 @@ impl SystemProcesses {
         command.stdout(Stdio::piped());
         command.spawn(&self.rt)
     }
-
-    /// Has the outputs be reported: those of servers that were started since the last wait, and
-    /// again those that it reported, since one read, which cannot wait, follows each report.
-    fn register(&mut self) -> io::Result<()>
-        ensures { self.new.journal ≡ self.old.journal }
-    {
-        let registry = self.poll.registry();
-        for event in self.events.iter() {
-            if let Some(pipe) = pipe_of(self.children.as_slice(), event.token()) {
-                let fd = pipe.as_raw_fd();
-                registry.reregister(&mut SourceFd(&fd), event.token(), Interest::READABLE)?;
-            }
-        }
-        for index in self.registered..self.children.len() {
-            if let Some(pipe) = pipe_of(self.children.as_slice(), Token(index)) {
-                let fd = pipe.as_raw_fd();
-                registry.register(&mut SourceFd(&fd), Token(index), Interest::READABLE)?;
-            }
-        }
-        self.registered = self.children.len();
-        Ok(())
-    }
 }
 
 impl ServerProcesses for SystemProcesses {
-    ghost log = { λ processes. processes.journal.events };
+    ghost log = { λ processes. processes.trace.events };
 
     fn start(&mut self, line: &[String]) -> io::Result<()> {
         self.children.reserve(1)?;
         let child = self.spawn(line)?;
         self.children.push(child)?;
-        self.journal.note(&EventRef::Started(line));
+        self.trace.note(&EventRef::Started(line));
         Ok(())
     }
 
     fn wait(&mut self, reported: &mut Vec<u8>) -> io::Result<()> {
-        self.register()?;
-        self.poll.poll(&mut self.events, None)?;
-        reported.clear();
-        for event in self.events.iter() {
-            if let Ok(server) = u8::try_from(event.token().0.saturating_add(1)) {
-                reported.push(server)?;
-            }
-        }
-        Ok(())
+        self.reports.wait(self.children.as_slice(), reported)
     }
 
     fn read<'b>(&mut self, server: u8, buffer: &'b mut [u8]) -> io::Result<Option<&'b [u8]>> {
@@ -143,22 +104,22 @@ impl ServerProcesses for SystemProcesses {
         let count = pipe.read(buffer)?;
         if count == 0 {
             child.stdout = None;
-            self.journal.note(&EventRef::Closed(server));
+            self.trace.note(&EventRef::Closed(server));
             return Ok(None);
         }
         let bytes = &buffer[..count];
-        self.journal.note(&EventRef::Gave(server, bytes));
+        self.trace.note(&EventRef::Gave(server, bytes));
         Ok(Some(bytes))
     }
 
     fn end(&mut self, server: u8) -> io::Result<ExitStatus> {
         let answer = ended(self.children.as_mut_slice(), server);
-        self.journal.note(&EventRef::Ended(server, answer));
+        self.trace.note(&EventRef::Ended(server, answer));
         answer
     }
 
     fn print(&mut self, text: &[u8]) -> io::Result<()> {
-        self.journal.note(&EventRef::Printed(text));
+        self.trace.note(&EventRef::Printed(text));
         self.rt.write_all(text)
     }
 }
@@ -171,11 +132,6 @@ fn child_of(children: &mut [Child], server: u8) -> io::Result<&mut Child> {
         .ok_or(io::Error::from(ErrorKind::NotFound))
 }
 
-/// The pipe of the process under this token, until it is closed.
-fn pipe_of(children: &[Child], token: Token) -> Option<&ChildStdout> {
-    children.get(token.0)?.stdout.as_ref()
-}
-
 /// Kills the process of a server, if it has not ended, and waits for it.
 fn ended(children: &mut [Child], server: u8) -> io::Result<ExitStatus> {
     let child = child_of(children, server)?;
@@ -186,13 +142,13 @@ fn ended(children: &mut [Child], server: u8) -> io::Result<ExitStatus> {
 /// What a supervisor did. Only clauses read it.
 #[derive(Drop)]
 pub struct History {
-    journal: Journal,
+    trace: Trace,
 }
 
 impl Supervise for HostRuntime {
     type History = History;
 
-    ghost supervised = { λ history. history.journal.events };
+    ghost supervised = { λ history. history.trace.events };
 
     fn bind_shared(&self, at: SocketAddr) -> io::Result<OwnedFd> {
         Ok(OwnedFd::from(UdpSocket::bind(self, at)?))
@@ -206,12 +162,12 @@ impl Supervise for HostRuntime {
         match SystemProcesses::new(*self, socket) {
             Ok(mut processes) => {
                 let ended = supervisor::supervise(&mut processes, self.alloc(), servers);
-                let SystemProcesses { journal, .. } = processes;
-                (ended, History { journal })
+                let SystemProcesses { trace, .. } = processes;
+                (ended, History { trace })
             }
             Err(fault) => {
-                let journal = Journal::new();
-                (Err(fault), History { journal })
+                let trace = Trace::new();
+                (Err(fault), History { trace })
             }
         }
     }

@@ -1,4 +1,4 @@
-//! The events of a history, as values of the code.
+//! The events of a trace, as values of the code.
 
 use std::io;
 use std::process::ExitStatus;

@@ -9,7 +9,7 @@ invariant-loop-count g l = record {
   start : l.start ≡ vec_len l.fn.out;
   capacity : vec_capacity l.fn.out ≤ vec_capacity l.out;
   room : vec_len l.out + (l.want - l.count) ≤ vec_capacity l.out;
-  passes : Passes l.mode l.fn.buffer l.buffer l.fn.file.journal.events l.file.journal.events l.fn.out.items l.out.items
+  passes : Passes l.mode l.fn.buffer l.buffer l.fn.file.trace.events l.file.trace.events l.fn.out.items l.out.items
       l.count;
 }
 

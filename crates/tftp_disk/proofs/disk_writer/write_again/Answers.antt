@@ -2,8 +2,8 @@
 use Rattle.std.proofs.Common.{◌≡◌, ℕ, List, ◌∷◌, take, Result, Ok, Err, IfOk, sym, ap, ◌∙◌, subst}
 use Rattle.std.specs.declared.io.Error.{Error}
 use Rattle.tftp_disk.specs.Calls.{write_event}
-use Rattle.tftp_disk.specs.DiskJournal.{DiskEvent}
-use Rattle.tftp_disk.specs.DiskJournal.DiskEvent.{Written}
+use Rattle.tftp_disk.specs.DiskTrace.{DiskEvent}
+use Rattle.tftp_disk.specs.DiskTrace.DiskEvent.{Written}
 use Rattle.tftp_disk.specs.DiskWriter.{IsRefused}
 use Rattle.tftp_disk.proofs.disk_writer.write_again.Goals as goal
 
@@ -16,4 +16,4 @@ wrote_none (Err error) bytes before after is = tt
 
 pub returns-clause-none : goal.returns-clause-none
 returns-clause-none g c =
-    wrote_none c.write-2.result c.args.bytes.now _ c.write-2.new.self.journal.events c.write-2.ensures.noted
+    wrote_none c.write-2.result c.args.bytes.now _ c.write-2.new.self.trace.events c.write-2.ensures.noted

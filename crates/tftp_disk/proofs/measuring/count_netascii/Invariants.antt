@@ -11,7 +11,7 @@ invariant-loop-total g l = record {
   same : StaysOpen l.fn.file l.file;
   small : l.total.wire_bytes ≤ MAX_WIRE + MOST_IN_CHUNK;
   few : l.total.bytes ≤ l.total.wire_bytes;
-  counted : Counted l.fn.file.journal.events l.file.journal.events l.total;
+  counted : Counted l.fn.file.trace.events l.file.trace.events l.total;
 }
 
 abbrev pub decreases-loop-total : goal.decreases-loop-total

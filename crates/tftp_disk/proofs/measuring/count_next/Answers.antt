@@ -13,5 +13,5 @@ returns-in-Ok-clause-counts g c =
 
 pub returns-in-Ok-clause-few : goal.returns-in-Ok-clause-few
 returns-in-Ok-clause-few g c =
-    few_bytes c.args.file.now.journal.events c.read.new.self.journal.events _
+    few_bytes c.args.file.now.trace.events c.read.new.self.trace.events _
     (returns-in-Ok-clause-counts g c)

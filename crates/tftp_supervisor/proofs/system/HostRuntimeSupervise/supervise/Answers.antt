@@ -6,5 +6,5 @@ use Rattle.tftp_supervisor.proofs.system.HostRuntimeSupervise.supervise.Goals as
 
 pub returns-in-Err-clause-started : goal.returns-in-Err-clause-started
 returns-in-Err-clause-started c =
-    first_of_none (map (λ line. map string_bytes line.items) c.args.servers.now) c.new-journal.result.events
-    c.new-journal.ensures
+    first_of_none (map (λ line. map string_bytes line.items) c.args.servers.now) c.new-trace.result.events
+    c.new-trace.ensures

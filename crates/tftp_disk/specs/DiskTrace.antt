@@ -6,9 +6,9 @@ use Rattle.std.specs.declared.io.Error.{Error}
 use Rattle.std.specs.declared.io.SeekFrom.{SeekFrom}
 use Rattle.tftp_disk.specs.declared.found.Found.{Found}
 
--- what an open file is, by the calls on it: where it was made, if it was, and how many calls its disk
--- had seen by then; the bytes that were written to it; whether a sync succeeded after the last write;
--- and whether a sync failed
+-- what an open file is, by the calls on it: where it was made, if it was, and how many calls its
+-- disk had seen by then; the bytes that were written to it; whether a sync succeeded after the last
+-- write; and whether a sync failed
 pub record FileState : Type 0 where
   pub made_at : Option (List ℕ)
   pub made_when : Option ℕ

@@ -29,18 +29,18 @@ use denote.Triple.Spec.{Meets, triple_of}
 use denote.Triple.Table.{entered}
 use denote.Triple.Walked.{says, Stays, stay_ref, stay_none_ref, walk_of, AllGo, Goes-ref, Goes-none_ref, Walks, ends_at}
 use denote.Triple.Walked.{walked, walk_Meets}
-use Rattle.tftp_disk.specs.DiskEventRef.{event_of}
-use Rattle.tftp_disk.specs.declared.disk_journal.DiskJournal.{DiskJournal}
-use Rattle.tftp_disk.specs.declared.disk_event_ref.DiskEventRef.{DiskEventRef}
-use Rattle.tftp_disk.specs.contracts.disk_journal.DiskJournal as T
-use Rattle.tftp_disk.specs.contracts.disk_event_ref.DiskEventRef as E
-use Rattle.tftp_disk.specs.contracts.disk_journal.DiskJournal.note.Key.{name as #it}
-use Rattle.tftp_disk.specs.contracts.disk_journal.DiskJournal.note as it
-use Rattle.tftp_disk.proofs.disk_journal.DiskJournal.note.Statement as stated
-use Rattle.tftp_disk.proofs.disk_journal.DiskJournal.note.Code as code
+use Rattle.tftp_supervisor.specs.EventRef.{event_of}
+use Rattle.tftp_supervisor.specs.declared.system.trace.Trace.{Trace}
+use Rattle.tftp_supervisor.specs.declared.system.event_ref.EventRef.{EventRef}
+use Rattle.tftp_supervisor.specs.contracts.system.trace.Trace as T
+use Rattle.tftp_supervisor.specs.contracts.system.event_ref.EventRef as E
+use Rattle.tftp_supervisor.specs.contracts.system.trace.Trace.note.Key.{name as #it}
+use Rattle.tftp_supervisor.specs.contracts.system.trace.Trace.note as it
+use Rattle.tftp_supervisor.proofs.system.trace.Trace.note.Statement as stated
+use Rattle.tftp_supervisor.proofs.system.trace.Trace.note.Code as code
 
 abbrev Arg : Type 0
-Arg = MutBor DiskJournal × (Bor DiskEventRef × Unit {0})
+Arg = MutBor Trace × (Bor EventRef × Unit {0})
 
 -- the event has a lifetime of its own, after those of the two references
 abbrev event_row : Lfts 3 → RattleType
@@ -50,14 +50,14 @@ abbrev stayed : Stays (it.ended).signature.params (it.ended).kept
 stayed = (stay_ref (0 ∷ []) tt (plain (λ _. T.the_row)), (stay_none_ref (1 ∷ []) tt (plain event_row) yes, tt))
 
 module _ {M : Type 1} {𝓤 : Ura M} (𝓛 : Logic 𝓤) (at_mem : Memory → SProp 𝓤) (run : Routine → Fun 𝓤) (κs : Lfts 3)
-    (outlive : AllOutlive 3 (it.signature).outlives κs) (q q' q'' : Share) (b o : ℕ) (γ : GName) (h : DiskJournal)
-    (k : Bor DiskEventRef) where
+    (outlive : AllOutlive 3 (it.signature).outlives κs) (q q' q'' : Share) (b o : ℕ) (γ : GName) (h : Trace)
+    (k : Bor EventRef) where
   open 𝓛 use {H, A}
 
   abbrev x : Arg
   x = (record { ref_ptr = (b, o); ghost_name = γ; now = h }, (k, tt))
 
-  abbrev h' : DiskJournal
+  abbrev h' : Trace
   h' = record { marker = h.marker; events = event_of k.now ∷ h.events }
 
   abbrev at : List Val × (List Val × Unit {0})

@@ -21,17 +21,17 @@ use denote.Triple.Entry.{on_entry}
 use denote.Triple.Spec.{Meets, triple_of}
 use denote.Triple.Table.{entered}
 use denote.Triple.Walked.{says, ends_at, walked, walk_Meets}
-use Rattle.tftp_disk.specs.declared.disk_journal.DiskJournal.{DiskJournal}
-use Rattle.tftp_disk.specs.contracts.disk_journal.DiskJournal as T
-use Rattle.tftp_disk.specs.contracts.disk_journal.DiskJournal.new.Key.{name as #it}
-use Rattle.tftp_disk.specs.contracts.disk_journal.DiskJournal.new as it
-use Rattle.tftp_disk.proofs.disk_journal.DiskJournal.new.Statement as stated
-use Rattle.tftp_disk.proofs.disk_journal.DiskJournal.new.Code as code
+use Rattle.tftp_disk.specs.declared.disk_trace.DiskTrace.{DiskTrace}
+use Rattle.tftp_disk.specs.contracts.disk_trace.DiskTrace as T
+use Rattle.tftp_disk.specs.contracts.disk_trace.DiskTrace.new.Key.{name as #it}
+use Rattle.tftp_disk.specs.contracts.disk_trace.DiskTrace.new as it
+use Rattle.tftp_disk.proofs.disk_trace.DiskTrace.new.Statement as stated
+use Rattle.tftp_disk.proofs.disk_trace.DiskTrace.new.Code as code
 
 abbrev v : Val
 v = vstruct (vcons (vstruct vnil) vnil)
 
-abbrev r : DiskJournal
+abbrev r : DiskTrace
 r = record { marker = record {}; events = [] }
 
 meets : {M : Type 1} {𝓤 : Ura M} (𝓛 : Logic 𝓤) → (at_mem : Memory → SProp 𝓤) (run : Routine → Fun 𝓤) (𝓣 : Tables 𝓤 𝓛.H)

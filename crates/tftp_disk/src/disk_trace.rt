@@ -1,32 +1,32 @@
-//! The history of a disk, of a view, or of an open file. Only clauses read it: it uses no memory, and
+//! The trace of a disk, of a view, or of an open file. Only clauses read it: it uses no memory, and
 //! a note does nothing. No other crate can make one, or note in one.
 
 ghost use Rattle.std.specs.Prelude.{◌≡◌, List, [], ◌∷◌};
 ghost use Rattle.std.specs.Borrow.{ftrue};
-ghost use Rattle.tftp_disk.specs.DiskJournal.{DiskEvent};
+ghost use Rattle.tftp_disk.specs.DiskTrace.{DiskEvent};
 
 use crate::disk_event_ref::DiskEventRef;
 use std::marker::{Model, PhantomData};
 
 /// What was asked of a disk or of one open file, and what was answered, the newest event first.
 #[derive(Drop)]
-pub struct DiskJournal {
+pub struct DiskTrace {
     marker: PhantomData<u8>,
     pub ghost events: { List DiskEvent },
 }
 
-impl Model for DiskJournal {
+impl Model for DiskTrace {
     ghost also_owns = { λ _. ftrue };
 }
 
-impl DiskJournal {
+impl DiskTrace {
     ghost use Rattle.tftp_disk.specs.DiskEventRef.{event_of};
 
-    /// A journal without an event.
-    pub(crate) fn new() -> DiskJournal
+    /// A trace without an event.
+    pub(crate) fn new() -> DiskTrace
         ensures { result.events ≡ [] }
     {
-        DiskJournal {
+        DiskTrace {
             marker: PhantomData,
         }
     }

@@ -3,28 +3,28 @@
 ghost use Rattle.std.specs.Prelude.{◌≡◌, List, [], ◌∷◌};
 ghost use Rattle.std.specs.Borrow.{ftrue};
 ghost use Rattle.tftp_sockets.specs.EventRef.{event_of};
-ghost use Rattle.tftp_sockets.specs.Journal.{SocketEvent};
+ghost use Rattle.tftp_sockets.specs.Trace.{SocketEvent};
 
 use crate::event_ref::EventRef;
 use std::marker::{Model, PhantomData};
 
 /// What a device did, the newest event first.
 #[derive(Drop)]
-pub(crate) struct Journal {
+pub(crate) struct Trace {
     marker: PhantomData<u8>,
     pub ghost events: { List SocketEvent },
 }
 
-impl Model for Journal {
+impl Model for Trace {
     ghost also_owns = { λ _. ftrue };
 }
 
-impl Journal {
-    /// A journal of a device that has done nothing yet.
-    pub(crate) fn new() -> Journal
+impl Trace {
+    /// A trace of a device that has done nothing yet.
+    pub(crate) fn new() -> Trace
         ensures { result.events ≡ [] }
     {
-        Journal {
+        Trace {
             marker: PhantomData,
         }
     }

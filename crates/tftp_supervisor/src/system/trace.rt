@@ -10,23 +10,23 @@ use std::marker::{Model, PhantomData};
 
 /// What was done, the newest event first.
 #[derive(Drop)]
-pub(super) struct Journal {
+pub(super) struct Trace {
     marker: PhantomData<u8>,
     pub(super) ghost events: { List ProcessEvent },
 }
 
-impl Model for Journal {
+impl Model for Trace {
     ghost also_owns = { λ _. ftrue };
 }
 
-impl Journal {
+impl Trace {
     ghost use Rattle.tftp_supervisor.specs.EventRef.{event_of};
 
-    /// A journal without an event.
-    pub(super) fn new() -> Journal
+    /// A trace without an event.
+    pub(super) fn new() -> Trace
         ensures { result.events ≡ [] }
     {
-        Journal {
+        Trace {
             marker: PhantomData,
         }
     }

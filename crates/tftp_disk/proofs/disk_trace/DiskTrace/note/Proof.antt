@@ -29,18 +29,18 @@ use denote.Triple.Spec.{Meets, triple_of}
 use denote.Triple.Table.{entered}
 use denote.Triple.Walked.{says, Stays, stay_ref, stay_none_ref, walk_of, AllGo, Goes-ref, Goes-none_ref, Walks, ends_at}
 use denote.Triple.Walked.{walked, walk_Meets}
-use Rattle.tftp_sockets.specs.EventRef.{event_of}
-use Rattle.tftp_sockets.specs.declared.journal.Journal.{Journal}
-use Rattle.tftp_sockets.specs.declared.event_ref.EventRef.{EventRef}
-use Rattle.tftp_sockets.specs.contracts.journal.Journal as T
-use Rattle.tftp_sockets.specs.contracts.event_ref.EventRef as E
-use Rattle.tftp_sockets.specs.contracts.journal.Journal.note.Key.{name as #it}
-use Rattle.tftp_sockets.specs.contracts.journal.Journal.note as it
-use Rattle.tftp_sockets.proofs.journal.Journal.note.Statement as stated
-use Rattle.tftp_sockets.proofs.journal.Journal.note.Code as code
+use Rattle.tftp_disk.specs.DiskEventRef.{event_of}
+use Rattle.tftp_disk.specs.declared.disk_trace.DiskTrace.{DiskTrace}
+use Rattle.tftp_disk.specs.declared.disk_event_ref.DiskEventRef.{DiskEventRef}
+use Rattle.tftp_disk.specs.contracts.disk_trace.DiskTrace as T
+use Rattle.tftp_disk.specs.contracts.disk_event_ref.DiskEventRef as E
+use Rattle.tftp_disk.specs.contracts.disk_trace.DiskTrace.note.Key.{name as #it}
+use Rattle.tftp_disk.specs.contracts.disk_trace.DiskTrace.note as it
+use Rattle.tftp_disk.proofs.disk_trace.DiskTrace.note.Statement as stated
+use Rattle.tftp_disk.proofs.disk_trace.DiskTrace.note.Code as code
 
 abbrev Arg : Type 0
-Arg = MutBor Journal × (Bor EventRef × Unit {0})
+Arg = MutBor DiskTrace × (Bor DiskEventRef × Unit {0})
 
 -- the event has a lifetime of its own, after those of the two references
 abbrev event_row : Lfts 3 → RattleType
@@ -50,14 +50,14 @@ abbrev stayed : Stays (it.ended).signature.params (it.ended).kept
 stayed = (stay_ref (0 ∷ []) tt (plain (λ _. T.the_row)), (stay_none_ref (1 ∷ []) tt (plain event_row) yes, tt))
 
 module _ {M : Type 1} {𝓤 : Ura M} (𝓛 : Logic 𝓤) (at_mem : Memory → SProp 𝓤) (run : Routine → Fun 𝓤) (κs : Lfts 3)
-    (outlive : AllOutlive 3 (it.signature).outlives κs) (q q' q'' : Share) (b o : ℕ) (γ : GName) (h : Journal)
-    (k : Bor EventRef) where
+    (outlive : AllOutlive 3 (it.signature).outlives κs) (q q' q'' : Share) (b o : ℕ) (γ : GName) (h : DiskTrace)
+    (k : Bor DiskEventRef) where
   open 𝓛 use {H, A}
 
   abbrev x : Arg
   x = (record { ref_ptr = (b, o); ghost_name = γ; now = h }, (k, tt))
 
-  abbrev h' : Journal
+  abbrev h' : DiskTrace
   h' = record { marker = h.marker; events = event_of k.now ∷ h.events }
 
   abbrev at : List Val × (List Val × Unit {0})

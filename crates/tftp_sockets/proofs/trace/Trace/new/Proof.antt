@@ -21,17 +21,17 @@ use denote.Triple.Entry.{on_entry}
 use denote.Triple.Spec.{Meets, triple_of}
 use denote.Triple.Table.{entered}
 use denote.Triple.Walked.{says, ends_at, walked, walk_Meets}
-use Rattle.tftp_supervisor.specs.declared.system.journal.Journal.{Journal}
-use Rattle.tftp_supervisor.specs.contracts.system.journal.Journal as T
-use Rattle.tftp_supervisor.specs.contracts.system.journal.Journal.new.Key.{name as #it}
-use Rattle.tftp_supervisor.specs.contracts.system.journal.Journal.new as it
-use Rattle.tftp_supervisor.proofs.system.journal.Journal.new.Statement as stated
-use Rattle.tftp_supervisor.proofs.system.journal.Journal.new.Code as code
+use Rattle.tftp_sockets.specs.declared.trace.Trace.{Trace}
+use Rattle.tftp_sockets.specs.contracts.trace.Trace as T
+use Rattle.tftp_sockets.specs.contracts.trace.Trace.new.Key.{name as #it}
+use Rattle.tftp_sockets.specs.contracts.trace.Trace.new as it
+use Rattle.tftp_sockets.proofs.trace.Trace.new.Statement as stated
+use Rattle.tftp_sockets.proofs.trace.Trace.new.Code as code
 
 abbrev v : Val
 v = vstruct (vcons (vstruct vnil) vnil)
 
-abbrev r : Journal
+abbrev r : Trace
 r = record { marker = record {}; events = [] }
 
 meets : {M : Type 1} {𝓤 : Ura M} (𝓛 : Logic 𝓤) → (at_mem : Memory → SProp 𝓤) (run : Routine → Fun 𝓤) (𝓣 : Tables 𝓤 𝓛.H)

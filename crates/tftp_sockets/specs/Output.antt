@@ -1,0 +1,7 @@
+-- What standard output took of a line (ours).
+use Rattle.std.specs.Prelude.{ℕ, List, [], Result, Ok, Err}
+
+-- by what the system answered: all of it, or nothing, if it refused the line
+abbrev pub taken : {A B : Type 0} → Result A B → List ℕ → List ℕ
+taken (Ok done) line = line
+taken (Err refusal) line = []
