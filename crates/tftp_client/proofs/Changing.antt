@@ -3,8 +3,8 @@ use Rattle.std.proofs.Common.{◌≡◌, List, ◌∷◌, Option, Some, None, Re
 use Rattle.std.specs.declared.io.Error.{Error}
 use Rattle.std.proofs.Common.{ℕ}
 use Rattle.std.proofs.Math.Logic.{∥∥₁_map}
-use Rattle.tftp_disk.specs.DiskJournal.{DiskEvent, FileState, folder_at}
-use Rattle.tftp_disk.specs.DiskJournal.DiskEvent.{Folder_synced, Linked, Looked, Removed}
+use Rattle.tftp_disk.specs.DiskTrace.{DiskEvent, FileState, folder_at}
+use Rattle.tftp_disk.specs.DiskTrace.DiskEvent.{Folder_synced, Linked, Looked, Removed}
 use Rattle.tftp_disk.specs.NamedFolder.{SyncsFolder}
 use Rattle.tftp_disk.specs.declared.found.Found.{Found}
 use Rattle.tftp_disk.specs.declared.disk_file.DiskFolder.{DiskFolder}
@@ -63,7 +63,7 @@ then_keeps a b c before middle after first rest =
 synced_keeps : {F : Type 0} (folder : Option (DiskFolder F)) (paths : Paths) (before after : List DiskEvent)
     → SyncsFolder folder before after → Keeps paths before after
 synced_keeps (Some folder) paths before after synced =
-    own_change paths (Folder_synced (folder_at folder.journal.events) synced.0) before after tt synced.2
+    own_change paths (Folder_synced (folder_at folder.trace.events) synced.0) before after tt synced.2
 synced_keeps None paths before after synced = same_changes paths before after synced
 
 kept_one : {F : Type 0} (folder : Option (DiskFolder F)) (paths : Paths) (before after : List DiskEvent)

@@ -11,10 +11,10 @@ use Rattle.tftp_file.specs.Sink.{SinkMeaning}
 use Rattle.tftp_file.specs.Source.{SourceMeaning}
 use Rattle.tftp_file.specs.declared.files.Files.{Files}
 use Rattle.tftp_file.specs.declared.files.Files.TheVariants.{Source, Sink}
-use Rattle.tftp_disk.specs.DiskJournal.{DiskEvent}
+use Rattle.tftp_disk.specs.DiskTrace.{DiskEvent}
 use Rattle.tftp_disk.specs.declared.disk.Looks as looks
 use Rattle.tftp_disk.specs.declared.disk_source.DiskSource.{DiskSource}
-use Rattle.tftp_sockets.specs.Journal.{SocketEvent}
+use Rattle.tftp_sockets.specs.Trace.{SocketEvent}
 use Rattle.tftp_sockets.specs.Quiet.{waits}
 use Rattle.tftp_client.specs.declared.local.LocalFile.{LocalFile}
 use Rattle.tftp_client.specs.declared.transfer.Job.{Job}
@@ -50,11 +50,11 @@ keeps_got job before after is keeps =
 
 module _ {F K : Type 0} (sources : SourceMeaning (DiskSource F)) (sinks : SinkMeaning K) where
   -- ---- of a job
-  pub end_job : {most : ℕ} (job : Job) {kind : Kind} {before after : List SocketEvent} {calls : List DiskEvent}
-      → job.kind ≡ kind → EndStores sources sinks most kind job before after calls
-      → EndStores sources sinks most job.kind job before after calls
-  end_job {most} job {kind} {before} {after} {calls} is stores =
-      subst (λ (k : Kind). EndStores sources sinks most k job before after calls) (sym is) stores
+  pub end_job : {status most : ℕ} (job : Job) {kind : Kind} {before after : List SocketEvent} {calls : List DiskEvent}
+      → job.kind ≡ kind → EndStores sources sinks status most kind job before after calls
+      → EndStores sources sinks status most job.kind job before after calls
+  end_job {status} {most} job {kind} {before} {after} {calls} is stores =
+      subst (λ (k : Kind). EndStores sources sinks status most k job before after calls) (sym is) stores
 
   -- a file that is sent is on the disk
   put_on_disk : (job : Job) (files : Files (DiskSource F) K) (bytes : List ℕ) (calls : List DiskEvent)
@@ -62,9 +62,9 @@ module _ {F K : Type 0} (sources : SourceMeaning (DiskSource F)) (sinks : SinkMe
   put_on_disk job (Source source) bytes calls side = tt
   put_on_disk job (Sink sink) bytes calls side = absurd side
 
-  pub put_stores : {most : ℕ} (job : Job) {before after : List SocketEvent} (calls : List DiskEvent)
-      → Concludes sources sinks most kinds.Write job before after
-      → EndStores sources sinks most kinds.Write job before after calls
+  pub put_stores : {status most : ℕ} (job : Job) {before after : List SocketEvent} (calls : List DiskEvent)
+      → Concludes sources sinks status most kinds.Write job before after
+      → EndStores sources sinks status most kinds.Write job before after calls
   put_stores job calls done = (
     done,
     put_on_disk job done.files (run_moves done.run.0.runs.converses nothing_moved).bytes calls
@@ -72,9 +72,9 @@ module _ {F K : Type 0} (sources : SourceMeaning (DiskSource F)) (sinks : SinkMe
   )
 
   -- at once
-  pub first_stores : {most : ℕ} (job : Job) {before after : List SocketEvent} {calls : List DiskEvent}
-      → EndStores sources sinks most job.kind job before after calls
-      → JobStores sources sinks most job before after calls
+  pub first_stores : {status most : ℕ} (job : Job) {before after : List SocketEvent} {calls : List DiskEvent}
+      → EndStores sources sinks status most job.kind job before after calls
+      → JobStores sources sinks status most job before after calls
   first_stores job stores =
       let done = stores.0 in (
         record {
@@ -96,13 +96,13 @@ module _ {F K : Type 0} (sources : SourceMeaning (DiskSource F)) (sinks : SinkMe
   disk_plain job (Sink sink) bytes calls stored = stored
 
   -- without the options that were refused
-  pub again_stores : {most most' : ℕ} (job other : Job) {before : List SocketEvent} (middle : List SocketEvent)
+  pub again_stores : {status most most' : ℕ} (job other : Job) {before : List SocketEvent} (middle : List SocketEvent)
       {after : List SocketEvent} {calls : List DiskEvent} → Refused sources sinks most job before middle
-      → other ≡ plain job → most' ≡ most → EndStores sources sinks most' other.kind other middle after calls
-      → JobStores sources sinks most job before after calls
-  again_stores {most} {most'} job other middle {after} {calls} refused is same stores =
-      let Of : Job → Type 0 = λ j. EndStores sources sinks most j.kind j middle after calls in
-      let Within : ℕ → Type 0 = λ m. EndStores sources sinks m other.kind other middle after calls in
+      → other ≡ plain job → most' ≡ most → EndStores sources sinks status most' other.kind other middle after calls
+      → JobStores sources sinks status most job before after calls
+  again_stores {status} {most} {most'} job other middle {after} {calls} refused is same stores =
+      let Of : Job → Type 0 = λ j. EndStores sources sinks status most j.kind j middle after calls in
+      let Within : ℕ → Type 0 = λ m. EndStores sources sinks status m other.kind other middle after calls in
       let again = subst Of is (subst Within same stores) in
       let done = again.0 in (
         record {
@@ -131,12 +131,12 @@ module _ {D F V G : Type 0} {logs : looks.Ghosts D} {writes : write.Ghosts F} {v
   Local = LocalFile D F V G logs writes views reads seeks
 
   -- the run of an end from its request on
-  abbrev concluded : (job : Job) (kind : Kind) (sent length most : ℕ) (before after : List SocketEvent) {port : ℕ}
+  abbrev concluded : {status : ℕ} (job : Job) (kind : Kind) (sent length most : ℕ) (before after : List SocketEvent) {port reading : ℕ}
       (file files : Files (DiskSource G) Local) → MayOpen kind job length → IsNew sources sinks file
       → IsFileOf sources sinks kind file → (job.mode ≡ Octet → sent ≡ length)
-      → (r : Reaches sources sinks job.dallies most port (begun port (opens kind job length) before) file sent after files)
-      → BeginsAt job (count_of sent r.files) length file → Concludes sources sinks most kind job before after
-  concluded job kind sent length most before after {port} file files may new side octet r begins =
+      → (r : Reaches sources sinks status job.dallies most port (begun port reading (opens kind job length) before) file sent after files)
+      → BeginsAt job (count_of sent r.files) length file → Concludes sources sinks status most kind job before after
+  concluded job kind sent length most before after {port} {reading} file files may new side octet r begins =
       record {
         port = port;
         last = r.last;
@@ -144,7 +144,7 @@ module _ {D F V G : Type 0} {logs : looks.Ghosts D} {writes : write.Ghosts F} {v
         count = count_of sent r.files;
         run = (
           runs_as sources sinks known job kind sent length may
-              (record { file = file; new = new; converses = r.converses }) side octet refl,
+              (record { reading = reading; file = file; new = new; converses = r.converses }) side octet refl,
           begins,
         );
         complete = r.complete;
@@ -153,32 +153,32 @@ module _ {D F V G : Type 0} {logs : looks.Ghosts D} {writes : write.Ghosts F} {v
       }
 
   -- a request is no wait
-  pub concludes : (job : Job) (kind : Kind) (sent length most : ℕ) (before after : List SocketEvent) {port : ℕ}
+  pub concludes : {status : ℕ} (job : Job) (kind : Kind) (sent length most : ℕ) (before after : List SocketEvent) {port reading : ℕ}
       {first : State} (file files : Files (DiskSource G) Local) → MayOpen kind job length
-      → first ≡ begun port (opens kind job length) before → IsNew sources sinks file → IsFileOf sources sinks kind file
+      → first ≡ begun port reading (opens kind job length) before → IsNew sources sinks file → IsFileOf sources sinks kind file
       → (job.mode ≡ Octet → sent ≡ length)
-      → (r : Reaches sources sinks job.dallies (most + waits first.events) port first file sent after files)
+      → (r : Reaches sources sinks status job.dallies (most + waits first.events) port first file sent after files)
       → BeginsAt job (count_of sent r.files) length file
-      → Concludes sources sinks (most + waits before) kind job before after
-  concludes job kind sent length most before after {port} {first} file files may is new side octet r begins =
+      → Concludes sources sinks status (most + waits before) kind job before after
+  concludes {status} job kind sent length most before after {port} {reading} {first} file files may is new side octet r begins =
       let From : State → Type 0 =
-      λ s. (r : Reaches sources sinks job.dallies (most + waits s.events) port s file sent after files)
+      λ s. (r : Reaches sources sinks status job.dallies (most + waits s.events) port s file sent after files)
       × BeginsAt job (count_of sent r.files) length file in
       let at = subst From is (r, begins) in
       concluded job kind sent length (most + waits before) before after file files may new side octet at.0 at.1
 
   pub stores : ((before after : Local) (committed : Bool) → sinks.becomes before after committed
       → KeepsPlace (paths_in before) (paths_in after) (log_in before) (log_in after))
-      → (job : Job) (kind : Kind) (sent length most : ℕ) (before after : List SocketEvent) (disk : D) {port : ℕ}
+      → {status : ℕ} (job : Job) (kind : Kind) (sent length most : ℕ) (before after : List SocketEvent) (disk : D) {port reading : ℕ}
       {first : State} (file files : Files (DiskSource G) Local) → MayOpen kind job length
-      → first ≡ begun port (opens kind job length) before → IsNew sources sinks file → IsFileOf sources sinks kind file
+      → first ≡ begun port reading (opens kind job length) before → IsNew sources sinks file → IsFileOf sources sinks kind file
       → (job.mode ≡ Octet → sent ≡ length) → IsFor job file → HasDisk files disk
-      → (r : Reaches sources sinks job.dallies (most + waits first.events) port first file sent after files)
+      → (r : Reaches sources sinks status job.dallies (most + waits first.events) port first file sent after files)
       → BeginsAt job (count_of sent r.files) length file
-      → EndStores sources sinks (most + waits before) kind job before after (logs.log disk)
-  stores becomes job kind sent length most before after disk {port} {first} file files may is new side octet for has r begins =
+      → EndStores sources sinks status (most + waits before) kind job before after (logs.log disk)
+  stores becomes {status} job kind sent length most before after disk {port} {reading} {first} file files may is new side octet for has r begins =
       let From : State → Type 0 =
-      λ s. (r : Reaches sources sinks job.dallies (most + waits s.events) port s file sent after files)
+      λ s. (r : Reaches sources sinks status job.dallies (most + waits s.events) port s file sent after files)
       × BeginsAt job (count_of sent r.files) length file in
       let at = subst From is (r, begins) in
       let done = concluded job kind sent length (most + waits before) before after file files may new side octet at.0 at.1 in (

@@ -1,5 +1,5 @@
 -- What a client does at an event, from the facts of its calls, and runs one after another.
-use Rattle.std.proofs.Common.{◌≡◌, ℕ, Bool, true, false, List, ◌∷◌, Option, Some, None, Result, Ok}
+use Rattle.std.proofs.Common.{arith, ◌≡◌, ◌≤◌, ℕ, Bool, true, false, List, ◌∷◌, Option, Some, None, Result, Ok}
 use Rattle.std.proofs.Common.{Err, IsErrOf, IsSome, ◌↔◌, inl, inr, refl, sym, ap, subst, ◌∙◌}
 use Rattle.std.proofs.Common.{option_map}
 use Rattle.std.specs.Prelude.{◌==◌, if◌then◌else◌}
@@ -24,16 +24,17 @@ use Rattle.tftp_ends.specs.declared.phase.Dally.TheVariants.{Fresh, Waited}
 use Rattle.tftp_ends.specs.declared.phase.Phase.{Phase}
 use Rattle.tftp_ends.specs.declared.phase.Phase.TheVariants as phases
 use Rattle.tftp_ends.specs.declared.phase.Terms.{Terms}
-use Rattle.tftp_sockets.specs.Watch.{deadline_of}
+use Rattle.tftp_sockets.specs.Watch.{deadline_of, later_by}
+use Rattle.tftp_sockets.specs.declared.watch.Watch.{Watch}
 use Rattle.tftp_client.specs.declared.transfer.Job.{Job}
 use Rattle.tftp_client.specs.Converses.{AnswersReceived, Converses, HandlesReceived, IsLost, IsOpen, MayElapse}
-use Rattle.tftp_client.specs.Converses.{State, deadline_at}
+use Rattle.tftp_client.specs.Converses.{IsReadBy, State, deadline_at, watch_of}
 use Rattle.tftp_client.specs.Converses.HandlesReceived.{Answers, Loses}
 use Rattle.tftp_client.specs.Converses.MayElapse.{Stays, Elapses}
 use Rattle.tftp_client.specs.Converses.Converses.{Begins, Receives, Waits, Times, Rests}
 use Rattle.tftp_client.specs.Runs.{begun, opens}
-use Rattle.tftp_sockets.specs.Journal.{SocketEvent, answered, replied}
-use Rattle.tftp_sockets.specs.Journal.SocketEvent.{Elapsed, Sent}
+use Rattle.tftp_sockets.specs.Trace.{SocketEvent, answered, replied}
+use Rattle.tftp_sockets.specs.Trace.SocketEvent.{Elapsed, Sent}
 use Rattle.tftp_sockets.specs.Quiet.{waits}
 
 -- the answer that a call lends was sent to its destination
@@ -49,16 +50,16 @@ replies port (Some reply) {to} {bytes} {events} sent goes lends noted =
     ∙ ap (λ (es : List SocketEvent). Sent port reply.to reply.bytes ∷ es) noted))
 
 -- a state with these fields is that state
-pub state_is : {e e' : EndState} {now now' due due' : ℕ} {events events' : List SocketEvent} → e ≡ e' → now ≡ now'
-    → due ≡ due' → events ≡ events'
-    → ◌≡◌ {A = State} (record { end = e; now = now; deadline = due; events = events })
-    (record { end = e'; now = now'; deadline = due'; events = events' })
-state_is {e} {e'} {now} {now'} {due} {due'} {events} {events'} p q r t =
-    let at_end : EndState → State = λ x. record { end = x; now = now; deadline = due; events = events } in
-    let at_now : ℕ → State = λ x. record { end = e'; now = x; deadline = due; events = events } in
-    let at_due : ℕ → State = λ x. record { end = e'; now = now'; deadline = x; events = events } in
-    let at_events : List SocketEvent → State = λ x. record { end = e'; now = now'; deadline = due'; events = x } in
-    ap at_end p ∙ (ap at_now q ∙ (ap at_due r ∙ ap at_events t))
+pub state_is : {e e' : EndState} {now now' read read' due due' : ℕ} {events events' : List SocketEvent} → e ≡ e'
+    → now ≡ now' → read ≡ read' → due ≡ due' → events ≡ events'
+    → ◌≡◌ {A = State} (record { end = e; now = now; reading = read; deadline = due; events = events })
+    (record { end = e'; now = now'; reading = read'; deadline = due'; events = events' })
+state_is p q o r t = λ i. record { end = p i; now = q i; reading = o i; deadline = r i; events = t i }
+
+-- a reading of the clock
+pub read_by : (s : State) (watch : Watch) {time : ℕ} → watch.now ≡ time → time ≡ later_by (watch_of s) watch.reading
+    → s.now ≤ time → IsReadBy s watch
+read_by s watch {time} is by forward = record { time = is ∙ by; forward = omega (arith, is, forward) }
 
 -- a call that succeeded was not refused
 pub not_refused : {R F P : Type 0} (answer : R) (fault : F) → (IsErrOf {T = R} (Ok answer) fault ↔ P) → P → ⊥
@@ -126,13 +127,13 @@ opens_open Read job length closed = true≢false (sym closed)
 opens_open Write job length closed = true≢false (sym closed)
 
 -- and then a wait begins
-pub begun_open : {s : State} (port : ℕ) (e : EndState) (before : List SocketEvent) → s ≡ begun port e before → IsOpen e
-    → IsOpen s.end
-begun_open port e before is is_open = let Of : State → Type 0 = λ t. IsOpen t.end in subst Of (sym is) is_open
+pub begun_open : {s : State} (port reading : ℕ) (e : EndState) (before : List SocketEvent)
+    → s ≡ begun port reading e before → IsOpen e → IsOpen s.end
+begun_open port reading e before is is_open = let Of : State → Type 0 = λ t. IsOpen t.end in subst Of (sym is) is_open
 
-pub begun_ready : {s : State} (port : ℕ) (e : EndState) (before : List SocketEvent) → s ≡ begun port e before
-    → s.deadline ≡ deadline_at s.now s.end
-begun_ready port e before is = let Of : State → Type 0 = λ t. t.deadline ≡ deadline_at t.now t.end in subst Of (sym is) refl
+pub begun_ready : {s : State} (port reading : ℕ) (e : EndState) (before : List SocketEvent)
+    → s ≡ begun port reading e before → s.deadline ≡ deadline_at s.now s.end
+begun_ready port reading e before is = let Of : State → Type 0 = λ t. t.deadline ≡ deadline_at t.now t.end in subst Of (sym is) refl
 
 -- a timeout that was refused: the end is closed
 pub is_closed : {R P : Type 0} (fault : EndFault) → (IsErrOf {T = R} (Err fault) Closed ↔ P)

@@ -23,7 +23,7 @@ use Rattle.tftp_ends.specs.Action.{datagram_action}
 use Rattle.tftp_ends.specs.End.{EndState, is_complete, outcome_of}
 use Rattle.tftp_ends.specs.Files.{KeepsFiles, KeepsHolding}
 use Rattle.tftp_ends.specs.Step.{Acts, Appended, DatagramStep, Done, GoesOn, Turn, after_turn}
-use Rattle.tftp_sockets.specs.Journal.{SocketEvent}
+use Rattle.tftp_sockets.specs.Trace.{SocketEvent}
 use Rattle.tftp_client.specs.declared.transfer.Job.{Job}
 use Rattle.tftp_client.specs.Converses.{Converses, HandlesReceived, MayElapse, State, WorksOnFile}
 use Rattle.tftp_client.specs.Converses.Converses.{Begins, Receives, Waits, Times, Rests}

@@ -31,7 +31,7 @@ use Rattle.tftp_disk.specs.declared.disk.Looks as looks
 use Rattle.tftp_lines.specs.ClientOutcome.{status_of}
 use Rattle.tftp_lines.specs.declared.client_outcome.ClientOutcome.{ClientOutcome}
 use Rattle.tftp_lines.specs.declared.client_outcome.ClientOutcome.TheVariants as ends
-use Rattle.tftp_sockets.specs.Journal.{SocketEvent}
+use Rattle.tftp_sockets.specs.Trace.{SocketEvent}
 use Rattle.tftp_sockets.specs.Quiet.{waits}
 use Rattle.tftp_client.specs.declared.local.LocalFile.{LocalFile}
 use Rattle.tftp_client.specs.declared.transfer.Job.{Job}
@@ -278,12 +278,12 @@ module _ {S : Type 0} {D F V G : Type 0} {logs : looks.Ghosts D} {writes : write
 
     -- a run that began by its request, with a new file of the job, stopped; a request is no wait
     pub leaves : (most : ℕ) (end : ClientOutcome) (kind : Kind) (job : Job) (length : ℕ) (before after : List SocketEvent)
-        {port : ℕ} {first : State} (file : Files S Local)
-        → MayOpen kind job length → first ≡ begun port (opens kind job length) before
+        {port reading : ℕ} {first : State} (file : Files S Local)
+        → MayOpen kind job length → first ≡ begun port reading (opens kind job length) before
         → StopsOut sources sinks (most + waits first.events) port first file after end
         → IsFileOf sources sinks kind file → IsNew sources sinks file → IsFor job file
         → LeavesEnd sources sinks (most + waits before) kind job length before after end
-    leaves most end kind job length before after {port} {first} file may is stopped side new for =
+    leaves most end kind job length before after {port} {reading} {first} file may is stopped side new for =
         let outcome = stopped.0 in
         let From : State → Type 0 =
         λ s. (stops : StopsBy sources sinks (most + waits s.events) port s file after outcome) × IsOut stops.files in
@@ -291,7 +291,7 @@ module _ {S : Type 0} {D F V G : Type 0} {logs : looks.Ghosts D} {writes : write
         let At : ClientOutcome → Type 0 =
         λ e. LeavesEnd sources sinks (most + waits before) kind job length before after e in
         subst At (sym stopped.1) (
-          record { may = may; fails = record { port = port; file = file; stops = s.0 }; side = side },
+          record { may = may; fails = record { port = port; reading = reading; file = file; stops = s.0 }; side = side },
           left job s.0.last.end.position.phase s.0.files (run_moves s.0.converses nothing_moved).bytes
               (still_for job file s.0.files (kept sources sinks becomes file s.0.files s.0.converses) for) s.1 (took_from sources sinks s.0.converses new),
         )

@@ -1,3 +1,4 @@
+pub mod ByTheClock
 pub mod Changing
 pub mod Commands
 pub mod Committing

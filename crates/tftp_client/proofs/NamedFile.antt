@@ -4,8 +4,8 @@ use Rattle.std.proofs.Common.{[], length, arith, inl, inr, sym, ap, ◌∙◌, s
 use Rattle.std.proofs.Math.Logic.{∥∥₁_map}
 use Rattle.std.specs.declared.io.Error.{Error}
 use Rattle.tftp_disk.specs.Changes.{changes}
-use Rattle.tftp_disk.specs.DiskJournal.{DiskEvent, Done, FileState, folder_at}
-use Rattle.tftp_disk.specs.DiskJournal.DiskEvent.{Folder_synced, Linked, Removed, Renamed}
+use Rattle.tftp_disk.specs.DiskTrace.{DiskEvent, Done, FileState, folder_at}
+use Rattle.tftp_disk.specs.DiskTrace.DiskEvent.{Folder_synced, Linked, Removed, Renamed}
 use Rattle.tftp_disk.specs.NamedFolder.{SyncsAlone, SyncsFolder, path_in}
 use Rattle.tftp_disk.specs.Still.{IsStillAt}
 use Rattle.tftp_disk.specs.declared.disk_file.DiskFolder.{DiskFolder}
@@ -45,10 +45,10 @@ pub synced_all : {F : Type 0} (folder : Option (DiskFolder F)) (before after : L
     → SyncsAlone folder before after → SyncsFolder folder (changes before) (changes after)
     → SyncsFolder folder before after
 synced_all (Some folder) before after (inl same) syncs =
-    absurd (no_longer (Folder_synced (folder_at folder.journal.events) syncs.0) (changes before) (changes after) syncs.2
+    absurd (no_longer (Folder_synced (folder_at folder.trace.events) syncs.0) (changes before) (changes after) syncs.2
     (ap changes same))
 synced_all (Some folder) before after (inr (answer, noted)) syncs =
-    let at = folder_at folder.journal.events in
+    let at = folder_at folder.trace.events in
     let one : ◌≡◌ {A = List DiskEvent} (Folder_synced at answer ∷ changes before) (Folder_synced at syncs.0 ∷ changes before) =
     sym (ap changes noted) ∙ syncs.2 in
     let same : answer ≡ syncs.0 = cc one in

@@ -11,10 +11,10 @@ use Rattle.tftp_file.specs.Source.{SourceMeaning}
 use Rattle.tftp_file.specs.declared.files.Files.{Files}
 use Rattle.tftp_file.specs.declared.files.Files.TheVariants.{Source, Sink}
 use Rattle.tftp_arguments.specs.Fault.{AskForText}
-use Rattle.tftp_disk.specs.DiskJournal.{DiskEvent}
+use Rattle.tftp_disk.specs.DiskTrace.{DiskEvent}
 use Rattle.tftp_disk.specs.declared.disk.Looks as looks
 use Rattle.tftp_disk.specs.declared.disk_source.DiskSource.{DiskSource}
-use Rattle.tftp_sockets.specs.Journal.{SocketEvent}
+use Rattle.tftp_sockets.specs.Trace.{SocketEvent}
 use Rattle.tftp_client.specs.declared.command_line.CommandLine.{CommandLine}
 use Rattle.tftp_client.specs.declared.command_line.CommandLine.TheVariants as lines
 use Rattle.tftp_client.specs.declared.local.LocalFile.{LocalFile}
@@ -117,7 +117,7 @@ module _ {S : Type 0} {D F V G : Type 0} {logs : looks.Ghosts D} {writes : write
 module _ {D F V G : Type 0} {logs : looks.Ghosts D} {writes : write.Ghosts F} {views : looks.Ghosts V}
     {reads : read.Ghosts G} {seeks : seek.Ghosts G}
     (sources : SourceMeaning (DiskSource G)) (sinks : SinkMeaning (LocalFile D F V G logs writes views reads seeks)) where
-  -- a job was run, or there is none and nothing was done
+  -- a job was run, or nothing was done
   pub does_words : {before after : List SocketEvent} {calls calls' : List DiskEvent} (words : List (List ℕ)) {status : ℕ}
       (line : CommandLine)
       → IfRun line (λ job. WordsName words job)

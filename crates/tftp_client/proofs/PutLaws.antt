@@ -9,7 +9,7 @@ use Rattle.tftp_file.specs.Source.{SourceMeaning}
 use Rattle.tftp_file.specs.declared.files.Files.{Files}
 use Rattle.tftp_file.specs.declared.files.Files.TheVariants.{Source, Sink}
 use Rattle.tftp_ends.specs.End.{is_complete}
-use Rattle.tftp_sockets.specs.Journal.{SocketEvent}
+use Rattle.tftp_sockets.specs.Trace.{SocketEvent}
 use Rattle.tftp_client.specs.declared.transfer.Job.{Job}
 use Rattle.tftp_client.specs.Converses.{Converses, State}
 use Rattle.tftp_client.specs.Moved.{nothing_moved, run_moves}
@@ -42,9 +42,9 @@ module _ {S K : Type 0} (sources : SourceMeaning S) (sinks : SinkMeaning K) wher
       absurd (let e : ◌≡◌ {A = Mode} Netascii Octet = octet in cc)
 
   -- of the run of a put
-  put_counted : {port : ℕ} (job : Job) (size count : ℕ) (mode : Mode) {before : List SocketEvent} {s : State}
+  put_counted : {port reading : ℕ} (job : Job) (size count : ℕ) (mode : Mode) {before : List SocketEvent} {s : State}
       (file files : Files S K)
-      (run : Converses sources sinks port (begun port (opens kinds.Write job size) before) file s files)
+      (run : Converses sources sinks port (begun port reading (opens kinds.Write job size) before) file s files)
       → IsFileOf sources sinks kinds.Write file → is_complete s.end.position.phase ≡ true → mode ≡ Octet
       → IsCountOf sources sinks files mode size count → count ≡ length (run_moves run nothing_moved).bytes
   put_counted job size count mode file (Sink sink) run side done octet counts =
@@ -53,9 +53,9 @@ module _ {S K : Type 0} (sources : SourceMeaning S) (sinks : SinkMeaning K) wher
       octet_count source mode size count counts octet
       ∙ sym (sent_all sources sinks size run refl refl refl done)
 
-  run_counted : {port : ℕ} (kind : Kind) (job : Job) (size count : ℕ) (mode : Mode) {before : List SocketEvent} {s : State}
+  run_counted : {port reading : ℕ} (kind : Kind) (job : Job) (size count : ℕ) (mode : Mode) {before : List SocketEvent} {s : State}
       (file files : Files S K)
-      (run : Converses sources sinks port (begun port (opens kind job size) before) file s files)
+      (run : Converses sources sinks port (begun port reading (opens kind job size) before) file s files)
       → IsFileOf sources sinks kind file → is_complete s.end.position.phase ≡ true → kind ≡ kinds.Write → mode ≡ Octet
       → IsCountOf sources sinks files mode size count → count ≡ length (run_moves run nothing_moved).bytes
   run_counted kinds.Read job size count mode file files run side done writes octet counts =

@@ -17,7 +17,7 @@ use Rattle.tftp_disk.specs.DiskSource.{source_calls, wire_read}
 use Rattle.tftp_disk.specs.DiskSourceLaws.{GivesInOrder}
 use Rattle.tftp_disk.specs.Given.{given}
 use Rattle.tftp_disk.specs.declared.disk_source.DiskSource.{DiskSource}
-use Rattle.tftp_sockets.specs.Journal.{SocketEvent}
+use Rattle.tftp_sockets.specs.Trace.{SocketEvent}
 use Rattle.tftp_client.specs.declared.transfer.Job.{Job}
 use Rattle.tftp_client.specs.Converses.{Converses, State}
 use Rattle.tftp_client.specs.Moved.{nothing_moved, run_moves}
@@ -72,9 +72,9 @@ module _ {F K : Type 0} where
 
   module _ (sources : SourceMeaning (DiskSource F)) (sinks : SinkMeaning K) where
     -- a file that was sent
-    sent : GivesInOrder sources → {port : ℕ} (job : Job) (kind : Kind) (size count : ℕ) {before : List SocketEvent} {s : State}
+    sent : GivesInOrder sources → {port reading : ℕ} (job : Job) (kind : Kind) (size count : ℕ) {before : List SocketEvent} {s : State}
         (first source : DiskSource F)
-        (run : Converses sources sinks port (begun port (opens kind job size) before) (Source first) s (Source source))
+        (run : Converses sources sinks port (begun port reading (opens kind job size) before) (Source first) s (Source source))
         → IsFileOf sources sinks kind (Source first) → is_complete s.end.position.phase ≡ true
         → BeginsAt {K = K} job count size (Source first) → IsSent job source count (run_moves run nothing_moved).bytes
     sent in_order job kinds.Read size count first source run side done begins = absurd side
@@ -91,9 +91,9 @@ module _ {F K : Type 0} where
               (sent_all sources sinks size run refl refl refl done) begins.1;
         }
 
-    run_sent : GivesInOrder sources → {port : ℕ} (job : Job) (kind : Kind) (size count : ℕ) {before : List SocketEvent}
+    run_sent : GivesInOrder sources → {port reading : ℕ} (job : Job) (kind : Kind) (size count : ℕ) {before : List SocketEvent}
         {s : State} (file files : Files (DiskSource F) K)
-        (run : Converses sources sinks port (begun port (opens kind job size) before) file s files)
+        (run : Converses sources sinks port (begun port reading (opens kind job size) before) file s files)
         → IsFileOf sources sinks kind file → is_complete s.end.position.phase ≡ true → BeginsAt job count size file
         → IsSentFrom job files count (run_moves run nothing_moved).bytes
     run_sent in_order job kind size count file (Sink sink) run side done begins = tt

@@ -6,8 +6,8 @@ use Rattle.std.proofs.lemmas.Option.{same_Some}
 use Rattle.std.specs.declared.io.SeekFrom.TheVariants.{Start, End, Current}
 use Rattle.tftp_wire.specs.declared.mode.Mode.{Mode}
 use Rattle.tftp_wire.specs.declared.mode.Mode.TheVariants.{Octet, Netascii}
-use Rattle.tftp_disk.specs.DiskJournal.{DiskEvent}
-use Rattle.tftp_disk.specs.DiskJournal.DiskEvent.{Opened, Given, Sought, Written}
+use Rattle.tftp_disk.specs.DiskTrace.{DiskEvent}
+use Rattle.tftp_disk.specs.DiskTrace.DiskEvent.{Opened, Given, Sought, Written}
 use Rattle.tftp_disk.specs.Given.{examined, given, is_at_end, is_at_start, passed}
 use Rattle.tftp_disk.specs.Measuring.{CountsPass}
 use Rattle.tftp_disk.specs.declared.measuring.TextLength.{TextLength}

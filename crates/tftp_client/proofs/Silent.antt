@@ -22,8 +22,9 @@ use Rattle.tftp_ends.specs.declared.outcome.Outcome.TheVariants.{TimedOut}
 use Rattle.tftp_ends.specs.declared.phase.Phase.{Phase}
 use Rattle.tftp_ends.specs.declared.phase.Phase.TheVariants.{Waiting}
 use Rattle.tftp_sockets.specs.Watch.{deadline_of, last_moment}
-use Rattle.tftp_sockets.specs.Journal.{SocketEvent, QuietEvent}
-use Rattle.tftp_sockets.specs.Journal.QuietEvent.{Empty, Failed}
+use Rattle.tftp_sockets.specs.declared.watch.Watch.{Watch}
+use Rattle.tftp_sockets.specs.Trace.{SocketEvent, QuietEvent}
+use Rattle.tftp_sockets.specs.Trace.QuietEvent.{Empty, Failed}
 use Rattle.tftp_sockets.specs.Quiet.{waits, waits_in}
 use Rattle.tftp_client.specs.declared.transfer.Job.{Job}
 use Rattle.tftp_client.specs.Converses.{Converses, IsOpen, MayElapse, MayWait, State, deadline_at}
@@ -48,7 +49,7 @@ abbrev Silent : ℕ → State → Type 0
 Silent most s = (outcome_of s.end.position.phase ≡ Some TimedOut) ⊎ Unanswered most s
 
 -- its deadline is a second away
-second : (now : ℕ) (e : EndState) (asked : Asked) (limit : ℕ) → e.position.phase ≡ Waiting asked limit
+pub second : (now : ℕ) (e : EndState) (asked : Asked) (limit : ℕ) → e.position.phase ≡ Waiting asked limit
     → deadline_at now e ≡ min (now + 1000) last_moment
 second now e asked limit is = ap (λ (p : Phase). deadline_of now (interval_of (terms_of p))) is
 
@@ -73,7 +74,7 @@ timed_out false response to e more is = inr (
   ap (λ (r : Response). after r to e) is,
 )
 
-times_out : (e : EndState) (asked : Asked) (limit : ℕ) → e.position.phase ≡ Waiting asked limit
+pub times_out : (e : EndState) (asked : Asked) (limit : ℕ) → e.position.phase ≡ Waiting asked limit
     → (outcome_of (after_turn e (timeout_turn e)).position.phase ≡ Some TimedOut)
     ⊎ ((0 < e.position.retries_left)
     × ((after_turn e (timeout_turn e)).position ≡ record e.position { retries_left = e.position.retries_left - 1 }))
@@ -83,18 +84,18 @@ times_out e asked limit is =
     (ap (λ (p : Phase). timeout_response e.position.retries_left p) is)
 
 -- an open end has no outcome
-closed_not : (e : EndState) (outcome : Outcome) → outcome_of e.position.phase ≡ Some outcome → IsOpen e → ⊥
+pub closed_not : (e : EndState) (outcome : Outcome) → outcome_of e.position.phase ≡ Some outcome → IsOpen e → ⊥
 closed_not e outcome is is_open = let Not : Option Outcome → Type 0 = λ o. IsSome o → ⊥ in subst Not is is_open refl
 
 -- after a wait that lasted as long as it was to, the end is due for a timeout
-after_wait : (most : ℕ) {port : ℕ} (s : State) (event : QuietEvent) (time : ℕ) → Unanswered most s → MayWait s
+after_wait : (most : ℕ) {port : ℕ} (s : State) (event : QuietEvent) (watch : Watch) → Unanswered most s → MayWait s
     → (event ≡ Empty port) ⊎ (event ≡ Failed port)
-    → s.now + wait_at s ≤ time → time < last_moment → Unanswered most (waited event time s)
-after_wait most s event time h may quiet lasts ends =
+    → s.now + wait_at s ≤ watch.now → watch.now < last_moment → Unanswered most (waited event watch s)
+after_wait most s event watch h may quiet lasts ends =
     let length : wait_at s ≡ max (min (s.deadline - s.now) 1000) 1 = refl in
     let before : s.now < s.deadline = lt_of_not-le (λ late. let is = may.due late
     ∙ second s.now s.end h.asked h.limit h.waiting in absurd (omega (arith, is, late, lasts, ends))) in
-    let due : s.deadline ≤ time = omega (arith, length, before, h.near, lasts) in
+    let due : s.deadline ≤ watch.now = omega (arith, length, before, h.near, lasts) in
     let none = no_wait event quiet in
     let early = h.early before in
     record {
@@ -146,10 +147,11 @@ module _ {S K : Type 0} {sources : SourceMeaning S} {sinks : SinkMeaning K} wher
       → IsSilent run → Silent most first → s.now < last_moment → Silent most s
   silent most Begins quiet h ends = h
   silent most (Receives run may time answers) quiet h ends = absurd quiet
-  silent most (Waits {s} {event = event} {time = time} run may nothing later) quiet h ends =
-      elim (silent most run quiet.0 h (omega (arith, later, ends))) [
+  silent most (Waits {s} {event = event} {watch = watch} run may nothing later) quiet h ends =
+      let forward = later.forward in
+      elim (silent most run quiet.0 h (omega (arith, forward, ends))) [
         | inl closed ↦ absurd (closed_not s.end TimedOut closed may.not_closed)
-        | inr unanswered ↦ inr (after_wait most s event time unanswered may nothing quiet.1 ends)
+        | inr unanswered ↦ inr (after_wait most s event watch unanswered may nothing quiet.1 ends)
       ]
   silent most {port} (Times {s} {next} run timed) quiet h ends =
       let Before : ℕ → Type 0 = λ n. n < last_moment in
@@ -157,9 +159,9 @@ module _ {S K : Type 0} {sources : SourceMeaning S} {sinks : SinkMeaning K} wher
       elapses most port timed early (silent most run quiet h early)
   silent most (Rests run works) quiet h ends = silent most run quiet h ends
 
-begins : (port : ℕ) (kind : Kind) (job : Job) (length : ℕ) (before : List SocketEvent)
-    → Silent (job.retries + waits before) (begun port (opens kind job length) before)
-begins port Read job length before =
+begins : (port reading : ℕ) (kind : Kind) (job : Job) (length : ℕ) (before : List SocketEvent)
+    → Silent (job.retries + waits before) (begun port reading (opens kind job length) before)
+begins port reading Read job length before =
     inr (record {
       asked = job.asked;
       limit = _;
@@ -168,7 +170,7 @@ begins port Read job length before =
       early = λ _. omega arith;
       few = omega arith;
     })
-begins port Write job length before =
+begins port reading Write job length before =
     inr (record {
       asked = _;
       limit = _;
@@ -180,15 +182,15 @@ begins port Write job length before =
 
 module _ {S K : Type 0} (sources : SourceMeaning S) (sinks : SinkMeaning K) where
   pub waits_for_each_sending : WaitsForEachSending sources sinks
-  waits_for_each_sending port kind job length before file s files run quiet ends is_open =
-      elim (silent (job.retries + waits before) run quiet (begins port kind job length before) ends) [
+  waits_for_each_sending port reading kind job length before file s files run quiet ends is_open =
+      elim (silent (job.retries + waits before) run quiet (begins port reading kind job length before) ends) [
         | inl closed ↦ absurd (closed_not s.end TimedOut closed is_open)
         | inr h ↦ let few = h.few in omega (arith, few)
       ]
 
   pub times_out_alone : TimesOut sources sinks
-  times_out_alone port kind job length before file s files outcome run quiet ends is =
-      elim (silent (job.retries + waits before) run quiet (begins port kind job length before) ends) [
+  times_out_alone port reading kind job length before file s files outcome run quiet ends is =
+      elim (silent (job.retries + waits before) run quiet (begins port reading kind job length before) ends) [
         | inl closed ↦ same_Some outcome TimedOut (sym is ∙ closed)
         | inr h ↦ absurd (none-some outcome (sym (ap outcome_of h.waiting) ∙ is))
       ]

@@ -22,7 +22,7 @@ use Rattle.tftp_ends.specs.Action.{datagram_action, garbled_response, packet_act
 use Rattle.tftp_ends.specs.End.{EndState, is_complete}
 use Rattle.tftp_ends.specs.Receiver.{dally_response}
 use Rattle.tftp_ends.specs.Step.{Acts, Turn, after_turn, response_turn}
-use Rattle.tftp_sockets.specs.Journal.{SocketEvent}
+use Rattle.tftp_sockets.specs.Trace.{SocketEvent}
 use Rattle.tftp_client.specs.Converses.{Converses, HandlesReceived, MayElapse, State}
 use Rattle.tftp_client.specs.Converses.Converses.{Begins, Receives, Waits, Times, Rests}
 use Rattle.tftp_client.specs.Converses.HandlesReceived.{Answers, Loses}

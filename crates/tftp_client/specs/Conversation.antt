@@ -2,18 +2,19 @@
 use Rattle.std.specs.Prelude.{ℕ, ◌≡◌, ◌≤◌, List, [], ◌∷◌}
 use Rattle.tftp_client.specs.declared.transfer.conversation.Conversation.{Conversation}
 use Rattle.tftp_client.specs.Converses.{IsOpen, State, deadline_at}
-use Rattle.tftp_sockets.specs.Journal.{SocketEvent}
+use Rattle.tftp_sockets.specs.Trace.{SocketEvent}
 
 -- every address of this host
 abbrev pub any_address : List ℕ
 any_address = 0 ∷ 0 ∷ 0 ∷ 0 ∷ []
 
--- the state of a client whose program has this journal
+-- the state of a client whose program has this trace
 abbrev pub state_of : Conversation → List SocketEvent → State
 state_of conversation events =
     record {
       end = conversation.end;
       now = conversation.watch.now;
+      reading = conversation.watch.reading;
       deadline = conversation.deadline;
       events = events;
     }

@@ -14,11 +14,12 @@ use Rattle.tftp_ends.specs.Step.{DatagramStep, Turn, UsesFile, after_turn, timeo
 use Rattle.tftp_ends.specs.declared.endpoint.Endpoint.{Endpoint}
 use Rattle.tftp_ends.specs.declared.outcome.Outcome.{Outcome}
 use Rattle.tftp_ends.specs.declared.outcome.Outcome.TheVariants.{TimedOut}
-use Rattle.tftp_sockets.specs.Watch.{deadline_of}
+use Rattle.tftp_sockets.specs.Watch.{deadline_of, later_by}
+use Rattle.tftp_sockets.specs.declared.watch.Watch.{Watch}
 use Rattle.tftp_sockets.specs.declared.watch.TheConstants.{LONGEST_WAIT}
-use Rattle.tftp_sockets.specs.Journal.{SocketEvent, QuietEvent, answered}
-use Rattle.tftp_sockets.specs.Journal.SocketEvent.{Received, Watched, Elapsed, Quiet}
-use Rattle.tftp_sockets.specs.Journal.QuietEvent.{Empty, Failed, Slept}
+use Rattle.tftp_sockets.specs.Trace.{SocketEvent, QuietEvent, answered}
+use Rattle.tftp_sockets.specs.Trace.SocketEvent.{Received, Watched, Elapsed, Quiet}
+use Rattle.tftp_sockets.specs.Trace.QuietEvent.{Empty, Failed, Slept}
 use Rattle.tftp_sockets.specs.Quiet.{waits}
 use Rattle.tftp_client.specs.declared.transfer.conversation.TheConstants.{MAX_WAITS}
 
@@ -27,9 +28,21 @@ pub record State : Type 0 where
   pub end : EndState
   -- the time of the watch, in milliseconds
   pub now : ℕ
+  -- the newest reading of the clock, in milliseconds
+  pub reading : ℕ
   -- when the end is due for a timeout
   pub deadline : ℕ
   pub events : List SocketEvent
+
+-- the watch of a client
+abbrev pub watch_of : State → Watch
+watch_of s = record { now = s.now; reading = s.reading }
+
+-- the watch after a reading of the clock: its time is what the reading makes of the watch before. So
+-- it never goes back
+pub record IsReadBy (s : State) (watch : Watch) : Type 0 where
+  pub time : watch.now ≡ later_by (watch_of s) watch.reading
+  pub forward : s.now ≤ watch.now
 
 -- the end is not closed
 abbrev pub IsOpen : EndState → Type 0
@@ -67,19 +80,21 @@ pub record MayWait (s : State) : Type 0 where
   pub due : s.deadline ≤ s.now → s.deadline ≡ deadline_at s.now s.end
 
 -- a wait without a datagram was over, by this event, and then the clock was read
-abbrev pub waited : QuietEvent → ℕ → State → State
-waited event time s =
+abbrev pub waited : QuietEvent → Watch → State → State
+waited event watch s =
     record s {
-      now = time;
-      events = Watched time ∷ Quiet event ∷ Quiet (Slept (wait_at s)) ∷ s.events;
+      now = watch.now;
+      reading = watch.reading;
+      events = Watched watch ∷ Quiet event ∷ Quiet (Slept (wait_at s)) ∷ s.events;
     }
 
 -- a wait was over by a datagram, and then the clock was read
-abbrev pub received : ℕ → Endpoint → List ℕ → ℕ → State → State
-received port from bytes time s =
+abbrev pub received : ℕ → Endpoint → List ℕ → Watch → State → State
+received port from bytes watch s =
     record s {
-      now = time;
-      events = Watched time ∷ Received port from bytes ∷ Quiet (Slept (wait_at s)) ∷ s.events;
+      now = watch.now;
+      reading = watch.reading;
+      events = Watched watch ∷ Received port from bytes ∷ Quiet (Slept (wait_at s)) ∷ s.events;
     }
 
 -- the end made this step at a datagram, and its answer was sent from the port to the endpoint of
@@ -89,20 +104,23 @@ turned port turn s =
     record {
       end = after_turn s.end turn;
       now = s.now;
+      reading = s.reading;
       deadline = s.deadline;
       events = answered port turn.reply s.events;
     }
 
 -- once a datagram was handled, which may have used the file, the clock was read again: after
 -- progress the deadline counts from then
-abbrev pub renewed : Bool → ℕ → State → State
-renewed progress time s =
+abbrev pub renewed : Bool → Watch → State → State
+renewed progress watch s =
     record {
       end = s.end;
-      now = time;
+      now = watch.now;
+      reading = watch.reading;
       deadline =
-          deadline_after progress time (interval_of (terms_of s.end.position.phase)) s.deadline;
-      events = Watched time ∷ s.events;
+          deadline_after progress watch.now (interval_of (terms_of s.end.position.phase))
+          s.deadline;
+      events = Watched watch ∷ s.events;
     }
 
 -- the end handled a timeout, and its answer was sent
@@ -111,6 +129,7 @@ elapsed port s =
     record {
       end = after_turn s.end (timeout_turn s.end);
       now = s.now;
+      reading = s.reading;
       deadline = deadline_at s.now s.end;
       events = answered port (timeout_turn s.end).reply (Elapsed port s.now ∷ s.events);
     }
@@ -121,7 +140,7 @@ pub data MayElapse (port : ℕ) (s : State) : State → Type 0 where
   Stays : (s.now < s.deadline) ⊎ IsSome (outcome_of s.end.position.phase) → MayElapse port s s
   Elapses : s.deadline ≤ s.now → IsOpen s.end → MayElapse port s (elapsed port s)
 
--- a datagram has no step: the end is closed, or handling it needs memory, and there is none
+-- a datagram has no step: the end is closed, or there is no memory to handle it
 abbrev pub IsLost : Endpoint → List ℕ → EndState → Type 0
 IsLost from bytes end =
     IsSome (outcome_of end.position.phase)
@@ -165,9 +184,9 @@ module _ {S K : Type 0} (sources : SourceMeaning S) (sinks : SinkMeaning K) wher
   pub record AnswersReceived (port : ℕ) (from : Endpoint) (bytes : List ℕ) (s : State)
       (files : Files S K) (after : State) (files' : Files S K) : Type 0 where
     pub next : State
-    pub again : ℕ
+    pub again : Watch
     pub handles : HandlesReceived port from bytes s files next files'
-    pub later : next.now ≤ again
+    pub later : IsReadBy next again
     pub is : after ≡ renewed (progress_of handles) again next
 
   -- what a client did from one state to another: nothing is sent but the answers of the steps of
@@ -177,15 +196,15 @@ module _ {S K : Type 0} (sources : SourceMeaning S) (sinks : SinkMeaning K) wher
     Begins : Converses port first file first file
     -- a datagram was received and handled, and then the clock was read again
     Receives : {s after : State} {files files' : Files S K}
-        {from : Endpoint} {bytes : List ℕ} {time : ℕ}
-        → Converses port first file s files → MayWait s → s.now ≤ time
-        → AnswersReceived port from bytes (received port from bytes time s) files after files'
+        {from : Endpoint} {bytes : List ℕ} {watch : Watch}
+        → Converses port first file s files → MayWait s → IsReadBy s watch
+        → AnswersReceived port from bytes (received port from bytes watch s) files after files'
         → Converses port first file after files'
-    -- none was received until this time: the port was empty, or the receive failed
-    Waits : {s : State} {files : Files S K} {event : QuietEvent} {time : ℕ}
+    -- none was received until the clock was read: the port was empty, or the receive failed
+    Waits : {s : State} {files : Files S K} {event : QuietEvent} {watch : Watch}
         → Converses port first file s files → MayWait s
-        → (event ≡ Empty port) ⊎ (event ≡ Failed port) → s.now ≤ time
-        → Converses port first file (waited event time s) files
+        → (event ≡ Empty port) ⊎ (event ≡ Failed port) → IsReadBy s watch
+        → Converses port first file (waited event watch s) files
     -- a timeout was due
     Times : {s next : State} {files : Files S K}
         → Converses port first file s files → MayElapse port s next

@@ -5,9 +5,9 @@ use Rattle.std.specs.IoError.{error_kind}
 use Rattle.std.specs.declared.io.Error.{Error}
 use Rattle.std.specs.declared.io.ErrorKind.TheVariants as kinds
 use Rattle.tftp_disk.specs.Changes.{IsSynced}
-use Rattle.tftp_disk.specs.DiskJournal.{DiskEvent, Done, FileState}
-use Rattle.tftp_disk.specs.DiskJournal.DiskEvent.{Looked, Made, Linked, Renamed, Removed}
-use Rattle.tftp_disk.specs.DiskJournal.DiskEvent.{Folder_opened, Folder_synced}
+use Rattle.tftp_disk.specs.DiskTrace.{DiskEvent, Done, FileState}
+use Rattle.tftp_disk.specs.DiskTrace.DiskEvent.{Looked, Made, Linked, Renamed, Removed}
+use Rattle.tftp_disk.specs.DiskTrace.DiskEvent.{Folder_opened, Folder_synced}
 use Rattle.tftp_disk.specs.Folder.{IsFolderOf}
 use Rattle.tftp_disk.specs.Still.{IsStillAt}
 use Rattle.tftp_disk.specs.declared.found.Found.{Found}
@@ -39,8 +39,8 @@ abbrev pub IsBarred : List ℕ → List DiskEvent → Type 0
 IsBarred path [] = ⊥
 IsBarred path (event ∷ events) = Bars path event ⊎ IsBarred path events
 
--- the folder was synced, unless its file system syncs none, or the user may not read it, as one of
--- all these calls was told
+-- the folder was synced, unless its file system syncs none, or the system answered one of all these
+-- calls that the user may not read it
 abbrev pub SyncsIn : List ℕ → List DiskEvent → List DiskEvent → List DiskEvent → Type 0
 SyncsIn path all before after =
     ((at : List ℕ) × (answer : Done) × IsFolderOf path at × IsSynced answer

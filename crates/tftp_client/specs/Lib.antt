@@ -11,6 +11,7 @@ pub mod OnDisk
 pub mod Ordered
 pub mod Outbound
 pub mod Runs
+pub mod Seconds
 pub mod Sent
 pub mod Silence
 pub mod Stored

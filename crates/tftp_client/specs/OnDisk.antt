@@ -15,11 +15,11 @@ use Rattle.tftp_ends.specs.End.{is_complete, outcome_of}
 use Rattle.tftp_ends.specs.declared.outcome.Outcome.{Outcome}
 use Rattle.tftp_ends.specs.declared.outcome.Outcome.TheVariants.{StoreFault}
 use Rattle.tftp_ends.specs.declared.phase.Phase.{Phase}
-use Rattle.tftp_disk.specs.DiskJournal.{DiskEvent}
+use Rattle.tftp_disk.specs.DiskTrace.{DiskEvent}
 use Rattle.tftp_disk.specs.declared.disk.Looks as looks
 use Rattle.tftp_lines.specs.declared.client_outcome.ClientOutcome.{ClientOutcome}
 use Rattle.tftp_lines.specs.declared.client_outcome.ClientOutcome.TheVariants as ends
-use Rattle.tftp_sockets.specs.Journal.{SocketEvent}
+use Rattle.tftp_sockets.specs.Trace.{SocketEvent}
 use Rattle.tftp_client.specs.declared.local.LocalFile.{LocalFile}
 use Rattle.tftp_client.specs.declared.transfer.Job.{Job}
 use Rattle.tftp_client.specs.Converses.{Converses, State, WorksOnFile, most_waits}
@@ -27,7 +27,7 @@ use Rattle.tftp_client.specs.Fetched.{AreOwn, IsNamed, KeepsPlace, Paths}
 use Rattle.tftp_client.specs.Moved.{nothing_moved, run_moves}
 use Rattle.tftp_client.specs.Ordered.{RunsOrder, RunsWords}
 use Rattle.tftp_client.specs.Runs.{DalliesTo, FailsBy, FailsEnd, FailsTransfer, StopsBy}
-use Rattle.tftp_client.specs.Runs.{moved_by, plain, printed}
+use Rattle.tftp_client.specs.Runs.{line_by, moved_by, plain, printed}
 use Rattle.tftp_client.specs.Stored.{count_of}
 use Rattle.tftp_client.specs.Written.{HasNoRest, IsWrittenAt, bytes_in, paths_for, paths_of}
 
@@ -113,8 +113,8 @@ module _ {S : Type 0} {D F V G : Type 0} {logs : looks.Ghosts D} {writes : write
       × (stops : StopsBy sources sinks most port first file after outcome) × IsOut stops.files
 
   -- the run of an end from that state on is complete; then its line was printed, with N of the
-  -- file, and it went on to that file
-  pub record Reaches (dallies : Bool) (most port : ℕ) (first : State)
+  -- file, or refused, as the status says, and it went on to that file
+  pub record Reaches (status : ℕ) (dallies : Bool) (most port : ℕ) (first : State)
       (file : Files S (LocalFile D F V G logs writes views reads seeks)) (sent : ℕ)
       (after : List SocketEvent)
       (files' : Files S (LocalFile D F V G logs writes views reads seeks)) : Type 0 where
@@ -122,8 +122,8 @@ module _ {S : Type 0} {D F V G : Type 0} {logs : looks.Ghosts D} {writes : write
     pub files : Files S (LocalFile D F V G logs writes views reads seeks)
     pub converses : Converses sources sinks port first file last files
     pub complete : is_complete last.end.position.phase ≡ true
-    pub stays : DalliesTo sources sinks dallies most port (printed (count_of sent files) last)
-        files after files'
+    pub stays : DalliesTo sources sinks dallies most port
+        (printed (line_by status (count_of sent files)) last) files after files'
     pub kept : KeepsFile files files'
 
   -- what moved in the run of a failed end is left
@@ -181,8 +181,8 @@ module _ {S : Type 0} {D F V G : Type 0} {logs : looks.Ghosts D} {writes : write
   WordsOnDisk words status before after calls calls' (inr did) =
       OrderOnDisk did.0 status before after calls' did.2 × KeepsDisk did.0 calls calls'
 
-  -- a job was run for these words, between these calls of the disk: what moved is on the disk if it
-  -- is complete, and left if it failed
+  -- a job was run for these arguments, between these calls of the disk: what moved is on the disk
+  -- if the job is complete, and left if it failed
   abbrev pub StoresWords : List (List ℕ) → ℕ → List SocketEvent → List SocketEvent → List DiskEvent
       → List DiskEvent → Type 0
   StoresWords words status before after calls calls' =

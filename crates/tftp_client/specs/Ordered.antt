@@ -5,18 +5,19 @@ use Rattle.tftp_file.specs.Source.{SourceMeaning}
 use Rattle.tftp_arguments.specs.Fault.{AskForText}
 use Rattle.tftp_lines.specs.ClientOutcome.{status_of}
 use Rattle.tftp_lines.specs.declared.client_outcome.ClientOutcome.{ClientOutcome}
-use Rattle.tftp_sockets.specs.Journal.{SocketEvent}
+use Rattle.tftp_sockets.specs.Trace.{SocketEvent}
 use Rattle.tftp_client.specs.Converses.{most_waits}
 use Rattle.tftp_client.specs.Runs.{Completes, FailsTransfer}
 use Rattle.tftp_client.specs.declared.transfer.Job.{Job}
 use Rattle.tftp_client.specs.Words.{WordsName, tftp_app}
 
 module _ {S K : Type 0} (sources : SourceMeaning S) (sinks : SinkMeaning K) where
-  -- a job was run, and the program ends with this status: the job is complete, and the status is 0,
-  -- or 2 if a line could not be printed; or it failed, and the status is that of its end, or that 2
+  -- a job was run, and the program ends with this status: the job is complete, and the status is 0
+  -- if its line was printed, and 2 if the system refused that; or the job failed, and the status is
+  -- that of its end, or 2 if a line could not be printed
   abbrev pub RunsOrder : Job → ℕ → List SocketEvent → List SocketEvent → Type 0
   RunsOrder job status before after =
-      (((status ≡ 0) ⊎ (status ≡ 2)) × Completes sources sinks job before after)
+      (((status ≡ 0) ⊎ (status ≡ 2)) × Completes sources sinks status job before after)
       ⊎ ((1 ≤ status) × (end : ClientOutcome) × ((status ≡ status_of end) ⊎ (status ≡ 2))
       × FailsTransfer sources sinks (most_waits before) job before after end)
 

@@ -1,6 +1,7 @@
 -- What the program did for a job: the run of one end from its request on, or of a second one, where
 -- options were refused.
-use Rattle.std.specs.Prelude.{ℕ, ◌≡◌, ◌≤◌, ◌⊎◌, Bool, true, List, ◌∷◌, length as list_length}
+use Rattle.std.specs.Prelude.{ℕ, ◌≡◌, ◌==◌, ◌≤◌, ◌⊎◌, Bool, true, false, if◌then◌else◌}
+use Rattle.std.specs.Prelude.{List, [], ◌∷◌, length as list_length}
 use Rattle.std.specs.Prelude.{Some, None, IsSome, option_map}
 use Rattle.std.proofs.Common.{inl, inr}
 use Rattle.tftp_wire.specs.declared.mode.Mode.{Mode}
@@ -21,26 +22,29 @@ use Rattle.tftp_lines.specs.ClientOutcome.{end_text}
 use Rattle.tftp_client.specs.Fallback.{FallsBack}
 use Rattle.tftp_lines.specs.declared.client_outcome.ClientOutcome.{ClientOutcome}
 use Rattle.tftp_lines.specs.declared.client_outcome.ClientOutcome.TheVariants as ends
-use Rattle.tftp_sockets.specs.Journal.{SocketEvent}
-use Rattle.tftp_sockets.specs.Journal.SocketEvent.{Printed, Sent}
+use Rattle.tftp_sockets.specs.Trace.{SocketEvent}
+use Rattle.tftp_sockets.specs.Trace.SocketEvent.{Printed, Sent}
 use Rattle.tftp_sockets.specs.Quiet.{waits}
 use Rattle.tftp_client.specs.declared.transfer.Job.{Job}
 use Rattle.tftp_client.specs.Converses.{Converses, EndsBy, State, deadline_at, most_waits}
 use Rattle.tftp_client.specs.Moved.{Moved, nothing_moved, run_moves}
 use Rattle.tftp_client.specs.Taken.{nothing}
 
--- a client whose end opened, once its request was sent from the port (RFC 1350, section 4)
-abbrev pub sent_from : ℕ → EndState → Endpoint → List ℕ → List SocketEvent → State
-sent_from port end to bytes before =
+-- a client whose end opened, once its request was sent from the port (RFC 1350, section 4). Its watch
+-- starts at this reading of the clock
+abbrev pub sent_from : (port reading : ℕ) → EndState → Endpoint → List ℕ → List SocketEvent → State
+sent_from port reading end to bytes before =
     record {
       end = end;
       now = 0;
+      reading = reading;
       deadline = deadline_at 0 end;
       events = Sent port to bytes ∷ before;
     }
 
-abbrev pub begun : ℕ → EndState → List SocketEvent → State
-begun port end before = sent_from port end end.position.last_sent_to end.position.last_sent before
+abbrev pub begun : (port reading : ℕ) → EndState → List SocketEvent → State
+begun port reading end before =
+    sent_from port reading end end.position.last_sent_to end.position.last_sent before
 
 -- the options that a job asks, where the file has that length
 -- (RFC 2349, "Transfer Size Option Specification")
@@ -63,9 +67,14 @@ abbrev pub MayOpen : Kind → Job → ℕ → Type 0
 MayOpen Read job length = MayGet job.name.now job.mode job.asked
 MayOpen Write job length = MayPut job.name.now job.mode (measured job.asked length) length
 
--- the line of a complete transfer was printed
-abbrev pub printed : ℕ → State → State
-printed count s = record s { events = Printed (end_text (ends.Complete count)) ∷ s.events }
+-- a line was printed
+abbrev pub printed : List ℕ → State → State
+printed line s = record s { events = Printed line ∷ s.events }
+
+-- what standard output took of the line of a complete transfer, which ends with this status: all of
+-- it if that is 0, and else nothing, since the system refused it
+abbrev pub line_by : ℕ → ℕ → List ℕ
+line_by status count = if status == 0 then end_text (ends.Complete count) else []
 
 -- a job without options
 abbrev pub plain : Job → Job
@@ -93,9 +102,11 @@ module _ {S K : Type 0} (sources : SourceMeaning S) (sinks : SinkMeaning K) wher
   -- the program did this for an end at the port, from its request on; a received file is new then
   pub record Runs (port : ℕ) (end : EndState) (before : List SocketEvent) (s : State)
       (files : Files S K) : Type 0 where
+    -- the reading of the clock at which its watch starts
+    pub reading : ℕ
     pub file : Files S K
     pub new : IsNew file
-    pub converses : Converses sources sinks port (begun port end before) file s files
+    pub converses : Converses sources sinks port (begun port reading end before) file s files
 
   -- the run of an end from that state stopped, and is not complete; there may be so many waits
   pub record StopsBy (most port : ℕ) (first : State) (file : Files S K) (after : List SocketEvent)
@@ -104,14 +115,16 @@ module _ {S K : Type 0} (sources : SourceMeaning S) (sinks : SinkMeaning K) wher
     pub files : Files S K
     pub converses : Converses sources sinks port first file last files
     pub events : last.events ≡ after
+    pub incomplete : is_complete last.end.position.phase ≡ false
     pub ends : EndsBy most last outcome
 
   -- the run of an end from its request on stopped, and is not complete
   pub record Fails (most : ℕ) (end : EndState) (before after : List SocketEvent)
       (outcome : Outcome) : Type 0 where
     pub port : ℕ
+    pub reading : ℕ
     pub file : Files S K
-    pub stops : StopsBy most port (begun port end before) file after outcome
+    pub stops : StopsBy most port (begun port reading end before) file after outcome
 
   -- the run of an end of this kind, as a job opens it, stopped
   pub record FailsAs (most : ℕ) (kind : Kind) (job : Job) (length : ℕ)
@@ -197,18 +210,21 @@ module _ {S K : Type 0} (sources : SourceMeaning S) (sinks : SinkMeaning K) wher
     pub converses : Converses sources sinks port first file last files
     pub events : last.events ≡ after
 
-  -- it dallied, if it was to, until its end was closed or it had made so many waits
-  abbrev pub HasDallied : Bool → ℕ → State → List SocketEvent → Type 0
-  HasDallied dallies most last after =
-      dallies ≡ true → IsSome (outcome_of last.end.position.phase) ⊎ (most ≤ waits after)
+  -- from that state it dallied, if it was to, until its end was closed or it had made so many waits;
+  -- and if it was not to, it did nothing more
+  pub record HasDallied (dallies : Bool) (most : ℕ) (first last : State)
+      (after : List SocketEvent) : Type 0 where
+    pub stayed : dallies ≡ true
+        → IsSome (outcome_of last.end.position.phase) ⊎ (most ≤ waits after)
+    pub left : dallies ≡ false → after ≡ first.events
 
-  -- the client went on from that state to that file, and dallied if it was to
+  -- the client went on from that state to that file, and dallied just if it was to
   pub record DalliesTo (dallies : Bool) (most port : ℕ) (first : State) (file : Files S K)
       (after : List SocketEvent) (files : Files S K) : Type 0 where
     pub last : State
     pub converses : Converses sources sinks port first file last files
     pub events : last.events ≡ after
-    pub over : HasDallied dallies most last after
+    pub over : HasDallied dallies most first last after
 
   abbrev pub dallied : {dallies : Bool} {most port : ℕ} {first : State} {file : Files S K}
       {after : List SocketEvent} {files : Files S K}
@@ -222,8 +238,9 @@ module _ {S K : Type 0} (sources : SourceMeaning S) (sinks : SinkMeaning K) wher
       }
 
   -- a job is complete: its end is, and a received file holds the bytes that moved in the run; then
-  -- its line was printed, with N of the file, and from then on its end stayed (RFC 1350, section 6)
-  pub record Completes (job : Job) (before after : List SocketEvent) : Type 0 where
+  -- its line was printed, with N of the file, or the system refused it, as the status says; and from
+  -- then on its end stayed (RFC 1350, section 6)
+  pub record Completes (status : ℕ) (job : Job) (before after : List SocketEvent) : Type 0 where
     pub port : ℕ
     pub last : State
     pub files : Files S K
@@ -232,11 +249,12 @@ module _ {S K : Type 0} (sources : SourceMeaning S) (sinks : SinkMeaning K) wher
     pub complete : is_complete last.end.position.phase ≡ true
     pub side : IsFileOf job.kind files
     pub whole : IsWhole files count (moved_by transfers).bytes
-    pub stays : Dallies port (printed count last) files after
+    pub stays : Dallies port (printed (line_by status count) last) files after
     -- it stays complete, and nothing moves
     pub stayed : is_complete stays.last.end.position.phase ≡ true
     pub still : (moved : Moved) → run_moves stays.converses moved ≡ moved
-    -- it dallied, if it was to
-    pub over : HasDallied job.dallies (most_waits before) stays.last after
+    -- it dallied just if it was to
+    pub over : HasDallied job.dallies (most_waits before) (printed (line_by status count) last)
+        stays.last after
     -- all its runs and what it did after them make so many waits at most
     pub within : waits after ≤ most_waits before

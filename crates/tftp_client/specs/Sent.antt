@@ -4,7 +4,7 @@ use Rattle.std.proofs.Common.{inl, inr}
 use Rattle.std.specs.declared.io.traits.Read as read
 use Rattle.std.specs.declared.io.traits.Write as write
 use Rattle.std.specs.declared.io.traits.Seek as seek
-use Rattle.tftp_disk.specs.DiskJournal.{DiskEvent}
+use Rattle.tftp_disk.specs.DiskTrace.{DiskEvent}
 use Rattle.tftp_disk.specs.declared.disk.Looks as looks
 use Rattle.tftp_wire.specs.declared.mode.Mode.{Mode}
 use Rattle.tftp_wire.specs.declared.mode.Mode.TheVariants.{Netascii}
@@ -19,7 +19,7 @@ use Rattle.tftp_ends.specs.End.{is_complete}
 use Rattle.tftp_disk.specs.DiskSource.{HasGiven, IsUnread, source_calls, source_mode}
 use Rattle.tftp_disk.specs.Given.{given, is_at_start, opened_at, passed}
 use Rattle.tftp_disk.specs.declared.disk_source.DiskSource.{DiskSource}
-use Rattle.tftp_sockets.specs.Journal.{SocketEvent}
+use Rattle.tftp_sockets.specs.Trace.{SocketEvent}
 use Rattle.tftp_client.specs.declared.local.LocalFile.{LocalFile}
 use Rattle.tftp_client.specs.declared.transfer.Job.{Job}
 use Rattle.tftp_client.specs.Converses.{State}
@@ -27,7 +27,7 @@ use Rattle.tftp_client.specs.Moved.{nothing_moved, run_moves}
 use Rattle.tftp_client.specs.OnDisk.{IsOnDisk, KeepsDisk, OrderOnDisk, WordsOnDisk}
 use Rattle.tftp_client.specs.Ordered.{RunsOrder, RunsWords}
 use Rattle.tftp_client.specs.Outbound.{HasLength}
-use Rattle.tftp_client.specs.Runs.{Dallies, HasDallied, RunsAs, Transfers, moved_by, printed}
+use Rattle.tftp_client.specs.Runs.{Dallies, HasDallied, RunsAs, Transfers, line_by, moved_by, printed}
 
 module _ {F : Type 0} where
   -- a file to send in this mode, as it was opened at the path: nothing was read of it since, or
@@ -91,8 +91,9 @@ module _ {F K : Type 0} (sources : SourceMeaning (DiskSource F)) (sinks : SinkMe
       × BeginsFor transfers
 
   -- the run of an end of this kind, as a job opens it, from the file of the job on, is complete;
-  -- then its line was printed, with N of the file, and the client went on
-  pub record Concludes (most : ℕ) (kind : Kind) (job : Job) (before after : List SocketEvent)
+  -- then its line was printed, with N of the file, or refused, as the status says, and the client
+  -- went on
+  pub record Concludes (status most : ℕ) (kind : Kind) (job : Job) (before after : List SocketEvent)
       : Type 0 where
     pub port : ℕ
     pub last : State
@@ -100,30 +101,33 @@ module _ {F K : Type 0} (sources : SourceMeaning (DiskSource F)) (sinks : SinkMe
     pub count : ℕ
     pub run : RunsFor port kind job before last files count
     pub complete : is_complete last.end.position.phase ≡ true
-    pub stays : Dallies sources sinks port (printed count last) files after
-    pub over : HasDallied sources sinks job.dallies most stays.last after
+    pub stays : Dallies sources sinks port (printed (line_by status count) last) files after
+    pub over : HasDallied sources sinks job.dallies most (printed (line_by status count) last)
+        stays.last after
 
   -- the same, and what moved in it is on the disk, which has these calls
-  abbrev pub EndStores : ℕ → Kind → Job → List SocketEvent → List SocketEvent → List DiskEvent
-      → Type 0
-  EndStores most kind job before after calls =
-      (done : Concludes most kind job before after)
+  abbrev pub EndStores : ℕ → ℕ → Kind → Job → List SocketEvent → List SocketEvent
+      → List DiskEvent → Type 0
+  EndStores status most kind job before after calls =
+      (done : Concludes status most kind job before after)
       × IsOnDisk job done.files (run_moves done.run.0.runs.converses nothing_moved).bytes calls
 
   -- the same of a job, which may have been run without its options, once these were refused
-  pub record Finishes (most : ℕ) (job : Job) (before after : List SocketEvent) : Type 0 where
+  pub record Finishes (status most : ℕ) (job : Job) (before after : List SocketEvent) : Type 0 where
     pub port : ℕ
     pub last : State
     pub files : Files (DiskSource F) K
     pub count : ℕ
     pub transfers : TransfersFor most port job before last files count
     pub complete : is_complete last.end.position.phase ≡ true
-    pub stays : Dallies sources sinks port (printed count last) files after
-    pub over : HasDallied sources sinks job.dallies most stays.last after
+    pub stays : Dallies sources sinks port (printed (line_by status count) last) files after
+    pub over : HasDallied sources sinks job.dallies most (printed (line_by status count) last)
+        stays.last after
 
-  abbrev pub JobStores : ℕ → Job → List SocketEvent → List SocketEvent → List DiskEvent → Type 0
-  JobStores most job before after calls =
-      (done : Finishes most job before after)
+  abbrev pub JobStores : ℕ → ℕ → Job → List SocketEvent → List SocketEvent → List DiskEvent
+      → Type 0
+  JobStores status most job before after calls =
+      (done : Finishes status most job before after)
       × IsOnDisk job done.files (moved_by sources sinks done.transfers.0).bytes calls
 
   -- what moved in the run of a complete put was read of its file

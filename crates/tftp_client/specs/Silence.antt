@@ -8,7 +8,7 @@ use Rattle.tftp_ends.specs.End.{outcome_of}
 use Rattle.tftp_ends.specs.declared.outcome.Outcome.{Outcome}
 use Rattle.tftp_ends.specs.declared.outcome.Outcome.TheVariants.{TimedOut}
 use Rattle.tftp_sockets.specs.Watch.{last_moment}
-use Rattle.tftp_sockets.specs.Journal.{SocketEvent}
+use Rattle.tftp_sockets.specs.Trace.{SocketEvent}
 use Rattle.tftp_sockets.specs.Quiet.{waits}
 use Rattle.tftp_client.specs.declared.transfer.Job.{Job}
 use Rattle.tftp_client.specs.Converses.{Converses, IsOpen, State, wait_at}
@@ -21,7 +21,8 @@ module _ {S K : Type 0} {sources : SourceMeaning S} {sinks : SinkMeaning K} wher
       {files : Files S K} → Converses sources sinks port first file s files → Type 0
   IsSilent Begins = Unit {0}
   IsSilent (Receives run may time answers) = ⊥
-  IsSilent (Waits {s} {time = time} run may event later) = IsSilent run × (s.now + wait_at s ≤ time)
+  IsSilent (Waits {s} {watch = watch} run may event later) =
+      IsSilent run × (s.now + wait_at s ≤ watch.now)
   IsSilent (Times run elapses) = IsSilent run
   IsSilent (Rests run works) = IsSilent run
 
@@ -29,17 +30,19 @@ module _ {S K : Type 0} (sources : SourceMeaning S) (sinks : SinkMeaning K) wher
   -- in silence a client whose end is open has waited at most once more than it may retransmit
   abbrev pub WaitsForEachSending : Type 0
   WaitsForEachSending =
-      (port : ℕ) (kind : Kind) (job : Job) (length : ℕ) (before : List SocketEvent)
+      (port reading : ℕ) (kind : Kind) (job : Job) (length : ℕ) (before : List SocketEvent)
       (file : Files S K) (s : State) (files : Files S K)
-      (run : Converses sources sinks port (begun port (opens kind job length) before) file s files)
+      (run : Converses sources sinks port (begun port reading (opens kind job length) before)
+      file s files)
       → IsSilent run → s.now < last_moment → IsOpen s.end
       → waits s.events ≤ job.retries + 1 + waits before
 
   -- and if it is closed, it timed out
   abbrev pub TimesOut : Type 0
   TimesOut =
-      (port : ℕ) (kind : Kind) (job : Job) (length : ℕ) (before : List SocketEvent)
+      (port reading : ℕ) (kind : Kind) (job : Job) (length : ℕ) (before : List SocketEvent)
       (file : Files S K) (s : State) (files : Files S K) (outcome : Outcome)
-      (run : Converses sources sinks port (begun port (opens kind job length) before) file s files)
+      (run : Converses sources sinks port (begun port reading (opens kind job length) before)
+      file s files)
       → IsSilent run → s.now < last_moment → outcome_of s.end.position.phase ≡ Some outcome
       → outcome ≡ TimedOut

@@ -5,7 +5,7 @@ use Rattle.std.specs.String.{string_bytes}
 use Rattle.tftp_file.specs.Sink.{Holding}
 use Rattle.tftp_disk.specs.declared.existing.Existing.{Existing}
 use Rattle.tftp_disk.specs.DiskFault.{is_replaced}
-use Rattle.tftp_disk.specs.DiskJournal.{DiskEvent, folder_at, made_at, made_when, state_of}
+use Rattle.tftp_disk.specs.DiskTrace.{DiskEvent, folder_at, made_at, made_when, state_of}
 use Rattle.tftp_disk.specs.DiskWriter.{calls_of, handed, IsRefused}
 use Rattle.tftp_disk.specs.Folder.{IsFolderOf}
 use Rattle.tftp_disk.specs.Still.{IsStillAt}
@@ -80,5 +80,5 @@ module _ {F : Type 0} where
   -- the folder is that of the path, or the user may not read that
   abbrev pub IsFolderIn : List ℕ → Option (DiskFolder F) → List DiskEvent → Type 0
   IsFolderIn path (Some folder) log =
-      (at : List ℕ) × IsFolderOf path at × (folder_at folder.journal.events ≡ Some at)
+      (at : List ℕ) × IsFolderOf path at × (folder_at folder.trace.events ≡ Some at)
   IsFolderIn path None log = IsBarred path log

@@ -389,7 +389,7 @@ fn with_reports<'a>(alloc: Global, command: Command<'a>) -> anyhow::Result<Comma
     let verbose = flag(
         alloc,
         "verbose",
-        "Accepted; the cause of a failure is printed without it",
+        "No effect: the cause of a failure is always printed",
     );
     Ok(command.arg(verbose.short('v'))?)
 }

@@ -2,6 +2,7 @@
 
 ghost use Rattle.tftp_client.specs.Given.{CountsWhatItSent, SendsWhatItsFileGave};
 ghost use Rattle.tftp_client.specs.Sent.{SendsTheTextWhole, SendsWhatReadsReturned};
+ghost use Rattle.tftp_client.specs.Seconds.{PassesWithTheClock, TimesOutByTheClock};
 ghost use Rattle.tftp_client.specs.Silence.{TimesOut, WaitsForEachSending};
 
 use std::io::Read;
@@ -17,6 +18,16 @@ use tftp_file::{Sink, Source};
 pub fn a_client_alone_times_out<S: Source, K: Sink>()
     ensures waits { WaitsForEachSending S.meaning K.meaning }
     ensures outcome { TimesOut S.meaning K.meaning }
+{}
+
+/// A client's time is what its clock read. Between two states of a run it advances at least as much
+/// as the readings of the clock, if none of these is more than a second later than the one before.
+/// So a client to whom nothing comes times out by the clock: once the readings have advanced by a
+/// second for its request and for each retry, and by a second more for each, by which the reading
+/// that finds a timeout due may be late (RFC 1350, section 2).
+pub fn a_client_times_out_by_the_clock<S: Source, K: Sink>()
+    ensures passes { PassesWithTheClock S.meaning K.meaning }
+    ensures outcome { TimesOutByTheClock S.meaning K.meaning }
 {}
 
 /// What moved in the run of a complete put is what its source gave, in order and each byte once,

@@ -1,7 +1,7 @@
 //! The local file of a client. A fetched file is written under another name, and gets its name at
 //! the commit, once it is on the disk.
 //!
-//! Clauses state by which calls of the system, as the history of a disk has them: not what a disk
+//! Clauses state by which calls of the system, as the trace of a disk has them: not what a disk
 //! then holds.
 
 ghost use Rattle.std.specs.Prelude.{◌≡◌, ◌≢◌, true, false, length};

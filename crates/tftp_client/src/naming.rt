@@ -3,8 +3,8 @@
 ghost use Rattle.std.specs.Prelude.{◌≡◌, ◌∷◌, Err, List, IfErr, OnOk, OnErr};
 ghost use Rattle.std.specs.String.{string_bytes};
 ghost use Rattle.tftp_disk.specs.declared.existing.Existing.TheVariants.{Refused, Replaced};
-ghost use Rattle.tftp_disk.specs.DiskJournal.{DiskEvent, Done, made_when, state_of};
-ghost use Rattle.tftp_disk.specs.DiskJournal.DiskEvent.{Folder_synced, Linked, Removed};
+ghost use Rattle.tftp_disk.specs.DiskTrace.{DiskEvent, Done, made_when, state_of};
+ghost use Rattle.tftp_disk.specs.DiskTrace.DiskEvent.{Folder_synced, Linked, Removed};
 ghost use Rattle.tftp_disk.specs.DiskWriter.{calls_of, handed};
 ghost use Rattle.tftp_disk.specs.NamedFolder.{SyncsFolder, path_in};
 ghost use Rattle.tftp_disk.specs.Still.{IsStillAt};

@@ -63,8 +63,8 @@ impl<F: Read + Seek + OpenFile + Drop> Outbound<F> {
 /// Fails if a file that states a length of 0 has a byte.
 fn check_known<F: Read>(file: &mut DiskFile<F>, host_bytes: u64) -> Result<(), LocalError>
     ensures stays { StaysOpen file.old file.new }
-    ensures start { OnOk result (is_at_start file.new.journal.events
-        ≡ is_at_start file.old.journal.events) }
+    ensures start { OnOk result (is_at_start file.new.trace.events
+        ≡ is_at_start file.old.trace.events) }
 {
     if host_bytes > 0 {
         return Ok(());

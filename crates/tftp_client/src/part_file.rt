@@ -3,7 +3,7 @@
 ghost use Rattle.std.specs.Prelude.{◌≡◌, ◌≢◌, ◌++◌, [], false, Some, IsSome, IfOk, OnOk, OnErr};
 ghost use Rattle.std.specs.Prelude.{codes};
 ghost use Rattle.std.specs.String.{string_bytes};
-ghost use Rattle.tftp_disk.specs.DiskJournal.{made_at, made_when};
+ghost use Rattle.tftp_disk.specs.DiskTrace.{made_at, made_when};
 ghost use Rattle.tftp_disk.specs.DiskWriter.{calls_of, handed};
 ghost use Rattle.tftp_disk.specs.Still.{IsStillAt};
 ghost use Rattle.tftp_client.specs.Fetched.{Keeps, WasNamed};

@@ -52,12 +52,12 @@ pub fn tftp_words<R: Runtime + AllocGlobal + Net, S: AsStr, E: IsTerminal>(
     status
 }
 
-/// As [`tftp_words`], over devices that keep their own histories; it hands the disk back. It did
+/// As [`tftp_words`], over devices that keep their own traces; it hands the disk back. It did
 /// nothing, as for `--help`, or the job that the words name: its direction, its endpoint, its
-/// names, its mode and its options. With a status of 0 that job is complete, or the words ask for
-/// the help or the version; with another one it failed, or its line could not be printed. All its
-/// runs and its dally make 1,000,000 waits at most. On the disk it changed no other name than LOCAL
-/// and LOCAL.part, and none if it sends a file.
+/// names, its mode and its options. The status is 0 just if the words ask for the help or the
+/// version, or that job is complete and its line was printed. It is 2 if the system refused that
+/// line, and 1 or 2 if the job failed. All its runs and its dally make 1,000,000 waits at most. On
+/// the disk it changed no other name than LOCAL and LOCAL.part, and none if it sends a file.
 pub fn tftp_on<P: Print + Eprint, N: ClientUdp, D: Disk, S: AsStr, E: IsTerminal>(
     rt: &P,
     net: &mut N,

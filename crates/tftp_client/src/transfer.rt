@@ -6,9 +6,10 @@ mod conversation;
 mod failure;
 mod notes;
 
-ghost use Rattle.std.specs.Prelude.{ℕ, ◌≡◌, ◌≤◌, ◌+◌, ◌⊎◌, IfOk, IfErr, IsTrue};
+ghost use Rattle.std.specs.Prelude.{ℕ, ◌≡◌, ◌≤◌, ◌+◌, ◌⊎◌, IfOk, IfErr, IsTrue, false};
 ghost use Rattle.tftp_negotiate.specs.declared.known.Kind.TheVariants.{Read, Write};
 ghost use Rattle.tftp_disk.specs.DiskSource.{source_calls};
+ghost use Rattle.tftp_ends.specs.End.{is_complete};
 ghost use Rattle.tftp_ends.specs.Files.{AreFilesOf};
 ghost use Rattle.tftp_lines.specs.declared.client_outcome.ClientOutcome.TheVariants as ends;
 ghost use Rattle.tftp_sockets.specs.Quiet.{waits as waits_in};
@@ -97,8 +98,8 @@ pub(crate) fn transfer<E: Eprint, N: ClientUdp, D: Disk>(
     waits: &mut u32,
 ) -> (Result<u8, Failure>, D)
     ensures ends { IfOk result.0 (λ status. (status ≡ 0) ⊎ (status ≡ 2)) }
-    ensures ok { IfOk result.0 (λ _. JobStores
-        ⟦<SourceOf<D> as Source>⟧.meaning ⟦<LocalFile<D> as Sink>⟧.meaning
+    ensures ok { IfOk result.0 (λ status. JobStores
+        ⟦<SourceOf<D> as Source>⟧.meaning ⟦<LocalFile<D> as Sink>⟧.meaning status
         (waits.old + waits_in (N.log net.old)) job.now (N.log net.old) (N.log net.new)
         (D.log result.1)) }
     ensures err { IfErr result.0 (λ failure. LeavesTransfer
@@ -153,8 +154,8 @@ fn transfer_once<E: Eprint, N: ClientUdp, D: Disk>(
     waits: &mut u32,
 ) -> (Result<u8, Failure>, D)
     ensures ends { IfOk result.0 (λ status. (status ≡ 0) ⊎ (status ≡ 2)) }
-    ensures ok { IfOk result.0 (λ _. EndStores
-        ⟦<SourceOf<D> as Source>⟧.meaning ⟦<LocalFile<D> as Sink>⟧.meaning
+    ensures ok { IfOk result.0 (λ status. EndStores
+        ⟦<SourceOf<D> as Source>⟧.meaning ⟦<LocalFile<D> as Sink>⟧.meaning status
         (waits.old + waits_in (N.log net.old)) job.now.kind job.now
         (N.log net.old) (N.log net.new) (D.log result.1)) }
     ensures err { IfErr result.0 (λ failure. LeavesBy
@@ -185,8 +186,8 @@ fn get<E: Eprint, N: ClientUdp, D: Disk>(
     waits: &mut u32,
 ) -> (Result<u8, Failure>, D)
     ensures ends { IfOk result.0 (λ status. (status ≡ 0) ⊎ (status ≡ 2)) }
-    ensures ok { IfOk result.0 (λ _. EndStores
-        ⟦<SourceOf<D> as Source>⟧.meaning ⟦<LocalFile<D> as Sink>⟧.meaning
+    ensures ok { IfOk result.0 (λ status. EndStores
+        ⟦<SourceOf<D> as Source>⟧.meaning ⟦<LocalFile<D> as Sink>⟧.meaning status
         (waits.old + waits_in (N.log net.old)) Read job.now
         (N.log net.old) (N.log net.new) (D.log result.1)) }
     ensures err { IfErr result.0 (λ failure. LeavesEnd
@@ -219,8 +220,8 @@ fn get_into<E: Eprint, N: ClientUdp, D: Disk>(
     requires empty { held_of local.part.written local.committed ≡ nothing }
     requires paths { paths_of local.part.names local.part.existing ≡ job_paths job.now }
     ensures ends { IfOk result.0 (λ status. (status ≡ 0) ⊎ (status ≡ 2)) }
-    ensures ok { IfOk result.0 (λ _. EndStores
-        ⟦<SourceOf<D> as Source>⟧.meaning ⟦<LocalFile<D> as Sink>⟧.meaning
+    ensures ok { IfOk result.0 (λ status. EndStores
+        ⟦<SourceOf<D> as Source>⟧.meaning ⟦<LocalFile<D> as Sink>⟧.meaning status
         (waits.old + waits_in (N.log net.old)) Read job.now
         (N.log net.old) (N.log net.new) (D.log result.1)) }
     ensures err { IfErr result.0 (λ failure. LeavesEnd
@@ -262,8 +263,8 @@ fn put<E: Eprint, N: ClientUdp, D: Disk>(
     waits: &mut u32,
 ) -> Result<u8, Failure>
     ensures ends { IfOk result (λ status. (status ≡ 0) ⊎ (status ≡ 2)) }
-    ensures ok { IfOk result (λ _. Concludes
-        ⟦<SourceOf<D> as Source>⟧.meaning ⟦<LocalFile<D> as Sink>⟧.meaning
+    ensures ok { IfOk result (λ status. Concludes
+        ⟦<SourceOf<D> as Source>⟧.meaning ⟦<LocalFile<D> as Sink>⟧.meaning status
         (waits.old + waits_in (N.log net.old)) Write job.now
         (N.log net.old) (N.log net.new)) }
     ensures err { IfErr result (λ failure. (length : ℕ) × LeavesEnd
@@ -293,8 +294,8 @@ fn put_from<E: Eprint, N: ClientUdp, D: Disk>(
     requires long { outbound.length.wire_bytes ≤ MAX_WIRE → HasLength job.now.mode
         outbound.length.bytes outbound.length.wire_bytes (source_calls outbound.source) }
     ensures ends { IfOk result (λ status. (status ≡ 0) ⊎ (status ≡ 2)) }
-    ensures ok { IfOk result (λ _. Concludes
-        ⟦<SourceOf<D> as Source>⟧.meaning ⟦<LocalFile<D> as Sink>⟧.meaning
+    ensures ok { IfOk result (λ status. Concludes
+        ⟦<SourceOf<D> as Source>⟧.meaning ⟦<LocalFile<D> as Sink>⟧.meaning status
         (waits.old + waits_in (N.log net.old)) Write job.now
         (N.log net.old) (N.log net.new)) }
     ensures err { IfErr result (λ failure. LeavesEnd
@@ -328,10 +329,11 @@ fn converse<E: Eprint, N: ClientUdp, D: Disk>(
 ) -> Result<u8, Failure>
     requires files { AreFilesOf conversation.end.role.side files.old }
     requires not_closed { IsOpen conversation.end }
+    requires incomplete { is_complete conversation.end.position.phase ≡ false }
     requires ready { IsReady conversation }
     ensures ends { IfOk result (λ status. (status ≡ 0) ⊎ (status ≡ 2)) }
-    ensures ok { IfOk result (λ _. Reaches
-        ⟦<SourceOf<D> as Source>⟧.meaning ⟦<LocalFile<D> as Sink>⟧.meaning
+    ensures ok { IfOk result (λ status. Reaches
+        ⟦<SourceOf<D> as Source>⟧.meaning ⟦<LocalFile<D> as Sink>⟧.meaning status
         job.now.dallies (waits.old + waits_in (N.log net.old)) conversation.socket.port
         (state_of conversation (N.log net.old)) files.old sent (N.log net.new) files.new) }
     ensures err { IfErr result (λ failure. StopsOut

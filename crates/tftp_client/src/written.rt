@@ -1,8 +1,8 @@
 //! The open file of a fetch.
 
 ghost use Rattle.std.specs.Prelude.{◌≡◌, ◌++◌, [], None, true, false, OnOk, OnErr};
-ghost use Rattle.tftp_disk.specs.DiskJournal.{made_at, made_when, written, is_synced, sync_failed};
-ghost use Rattle.tftp_disk.specs.DiskJournal.{state_of};
+ghost use Rattle.tftp_disk.specs.DiskTrace.{made_at, made_when, written, is_synced, sync_failed};
+ghost use Rattle.tftp_disk.specs.DiskTrace.{state_of};
 ghost use Rattle.tftp_disk.specs.DiskWriter.{calls_of, handed, IsRefused};
 
 use std::fs::OpenFile;
@@ -27,7 +27,7 @@ pub(crate) struct Written<F> {
     unsynced: u64,
     /// The error of a sync, after which no commit succeeds: the system reports it once.
     sync_error: Option<io::Error>,
-    ghost sound: { sync_error ≡ None → sync_failed writer.file.journal.events ≡ false },
+    ghost sound: { sync_error ≡ None → sync_failed writer.file.trace.events ≡ false },
 }
 
 impl<F: Write> Written<F> {
@@ -35,7 +35,7 @@ impl<F: Write> Written<F> {
 
     /// A file with nothing written. The buffer's bytes are lost.
     pub(crate) fn new(file: DiskFile<F>, buffer: Vec<u8>) -> Written<F>
-        requires sound { sync_failed file.journal.events ≡ false }
+        requires sound { sync_failed file.trace.events ≡ false }
         ensures file { result.writer.file ≡ file }
         ensures empty { result.writer.buffer.items ≡ [] }
     {

@@ -163,6 +163,7 @@ impl End {
     }
 
     /// How the end handles a packet from its peer, or from the server while the peer is unknown.
+    #[inline(always)]
     fn packet_action(&self, from: Endpoint, decoded: &Option<PacketRef<'_>>) -> Action
         ensures action { result
             ≡ packet_action self.now from (option_map owned decoded.now) self.now.position.phase }
@@ -195,6 +196,7 @@ impl End {
     }
 
     /// How the end handles a datagram: it tests the sender first, and then for a malformed ERROR.
+    #[inline(always)]
     fn datagram_action(&self, from: Endpoint, bytes: &[u8]) -> Action
         ensures action { (decoded : Option Packet) × Decodes bytes.now decoded
             × (result ≡ datagram_action self.now from bytes.now decoded) }

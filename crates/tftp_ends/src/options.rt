@@ -11,6 +11,7 @@ use tftp_wire::append_option;
 
 /// The encoded length of an option, in bytes: its name, its value and two zero bytes (RFC 2347,
 /// "Packet Formats").
+#[inline(never)]
 fn option_len(option: Known) -> usize
     ensures { result ≡ length (option_bytes (known_option option)) }
 {

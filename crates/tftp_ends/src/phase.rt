@@ -78,6 +78,7 @@ pub enum Phase {
 
 impl Phase {
     /// The parameters of the transfer, once the peer is known.
+    #[inline(always)]
     pub(crate) fn terms(self) -> Option<Terms>
         ensures { result ≡ terms_of self }
     {
@@ -91,6 +92,7 @@ impl Phase {
     }
 
     /// A sender's newest DATA number, or how many blocks a receiver has stored.
+    #[inline(always)]
     pub(crate) fn number(self) -> u16
         ensures { result ≡ number_of self }
     {
@@ -104,6 +106,7 @@ impl Phase {
     }
 
     /// Whether the whole file was acknowledged, or stored and committed.
+    #[inline(always)]
     pub(crate) fn is_complete(self) -> bool
         ensures { result ≡ is_complete self }
     {
@@ -115,6 +118,7 @@ impl Phase {
     }
 
     /// How the end closed, once it is closed.
+    #[inline(always)]
     pub(crate) fn outcome(self) -> Option<Outcome>
         ensures { result ≡ outcome_of self }
     {
@@ -125,6 +129,7 @@ impl Phase {
     }
 
     /// Whether the peer became known, the number rose or the end became complete in `next`.
+    #[inline(always)]
     pub(crate) fn is_progress(self, next: Phase) -> bool
         ensures { result ≡ is_progress self next }
     {
@@ -134,6 +139,7 @@ impl Phase {
     }
 
     /// How many retries are left in `next`: progress restores them all.
+    #[inline(always)]
     pub(crate) fn retries_left(self, next: Phase, retries: u8, left: u8) -> u8
         ensures { result ≡ (if is_progress self next then retries else left) }
     {
@@ -144,6 +150,7 @@ impl Phase {
     }
 
     /// The step from here to `next`, with the destination of its datagram.
+    #[inline(always)]
     pub(crate) fn step_to(self, next: Phase, to: Option<Endpoint>) -> Step
         ensures { result ≡ step_of self next to }
     {

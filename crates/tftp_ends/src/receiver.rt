@@ -18,6 +18,7 @@ use tftp_file::NetDecoder;
 use tftp_wire::{Mode, PacketRef};
 
 /// Whether a piece continues the text so far. A piece shorter than a block ends the text.
+#[inline(always)]
 fn is_readable(mode: Mode, decoder: NetDecoder, piece: &[u8], size: u16) -> bool
     ensures { result ≡ is_readable mode decoder piece.now (nat_lt (length piece.now) size) }
 {
@@ -36,6 +37,7 @@ fn is_readable(mode: Mode, decoder: NetDecoder, piece: &[u8], size: u16) -> bool
 }
 
 /// The next block is stored, if it is a block of this transfer.
+#[inline(always)]
 fn next_action(mode: Mode, decoder: NetDecoder, terms: Terms, number: u16, bytes: &[u8]) -> Action
     ensures action { result ≡ next_action mode decoder terms number bytes.now }
     ensures fits { FitsReceiver result }
@@ -62,6 +64,7 @@ fn next_action(mode: Mode, decoder: NetDecoder, terms: Terms, number: u16, bytes
 }
 
 /// The newest block is acknowledged again, an older one is ignored, and none may be skipped.
+#[inline(always)]
 fn data_action(
     mode: Mode,
     decoder: NetDecoder,
@@ -86,6 +89,7 @@ fn data_action(
 }
 
 /// How a receiver that has stored `stored` blocks handles a packet.
+#[inline(always)]
 pub(crate) fn receiver_action(
     side: Side,
     mode: Mode,

@@ -15,6 +15,7 @@ use tftp_negotiate::{Asked, Kind, laws};
 use tftp_wire::{HEADER, MAX_REQUEST, Mode, append_read, append_write, is_text};
 
 /// The length of the request in bytes, or the greatest `usize` if it is more.
+#[inline(never)]
 fn request_len(name: &[u8], mode: Mode, asked: &Asked) -> usize
     ensures len { result
         ≡ min (length (canonical (Read (request_of name.now mode asked.now)))) (2 ^ 64 - 1) }

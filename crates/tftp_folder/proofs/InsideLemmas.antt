@@ -5,8 +5,8 @@ use Rattle.std.specs.Prelude.{codes, IfSome}
 use Rattle.std.specs.String.{string_bytes}
 use Rattle.std.specs.declared.io.Error.{Error}
 use Rattle.std.proofs.lemmas.List.{append_assoc, get_or_at, length-append, take_all}
-use Rattle.tftp_disk.specs.DiskJournal.{DiskEvent, Done, FileState}
-use Rattle.tftp_disk.specs.DiskJournal.DiskEvent.{Looked, Renamed}
+use Rattle.tftp_disk.specs.DiskTrace.{DiskEvent, Done, FileState}
+use Rattle.tftp_disk.specs.DiskTrace.DiskEvent.{Looked, Renamed}
 use Rattle.tftp_disk.specs.Folder.{HasNoSlash, IsFolderOf, folder_or_root}
 use Rattle.tftp_disk.specs.Folder.IsFolderOf.{Before, Here}
 use Rattle.tftp_disk.specs.NamedFolder.{IsFolderFor, OpensAlone, SyncsAlone, path_in}

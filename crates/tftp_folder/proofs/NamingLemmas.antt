@@ -3,10 +3,10 @@ use Rattle.std.proofs.Common.{◌≡◌, ◌∙◌, ◌∷◌, ℕ, Bool, true, 
 use Rattle.std.specs.IoError.{error_kind}
 use Rattle.std.specs.String.{string_bytes}
 use Rattle.tftp_disk.specs.Changes.{changes, renames}
-use Rattle.tftp_disk.specs.DiskJournal.{DiskEvent, Done, FileState, state_of}
+use Rattle.tftp_disk.specs.DiskTrace.{DiskEvent, Done, FileState, state_of}
 use Rattle.std.specs.declared.io.Error.{Error}
 use Rattle.std.specs.declared.io.ErrorKind.TheVariants as kinds
-use Rattle.tftp_disk.specs.DiskJournal.DiskEvent.{Looked, Made, Removed, Renamed}
+use Rattle.tftp_disk.specs.DiskTrace.DiskEvent.{Looked, Made, Removed, Renamed}
 use Rattle.tftp_disk.specs.DiskWriter.{calls_of}
 use Rattle.tftp_folder.specs.Commit.{lock_of, IsFreeLocked, LooksThenRenames, MayRemove, MayRename, Names}
 use Rattle.tftp_folder.specs.Draft.{LooksForOwn, NamesDraft, StaysDone, TakesBack}

@@ -2,10 +2,10 @@
 use Rattle.std.proofs.Common.{◌≡◌, ◌≢◌, ◌∙◌, ℕ, List, [], ◌∷◌, ◌++◌, Option, Some, Ok, Err, inl, inr, length, ap, refl, subst, sym}
 use Rattle.std.specs.Prelude.{◌⊎◌}
 use Rattle.std.specs.String.{string_bytes}
-use Rattle.tftp_disk.specs.DiskJournal.{DiskEvent, Done, FileState, made_when}
-use Rattle.tftp_disk.specs.DiskJournal.DiskEvent.{Looked, Followed, Resolved, Opened, Tried, Created, Made, Linked, Renamed, Removed}
-use Rattle.tftp_disk.specs.DiskJournal.DiskEvent.{Folder_opened, Folder_synced, Examined, Given, Not_given, Sought}
-use Rattle.tftp_disk.specs.DiskJournal.DiskEvent.{Written, Not_written, Synced, Mode_set}
+use Rattle.tftp_disk.specs.DiskTrace.{DiskEvent, Done, FileState, made_when}
+use Rattle.tftp_disk.specs.DiskTrace.DiskEvent.{Looked, Followed, Resolved, Opened, Tried, Created, Made, Linked, Renamed, Removed}
+use Rattle.tftp_disk.specs.DiskTrace.DiskEvent.{Folder_opened, Folder_synced, Examined, Given, Not_given, Sought}
+use Rattle.tftp_disk.specs.DiskTrace.DiskEvent.{Written, Not_written, Synced, Mode_set}
 use Rattle.tftp_disk.specs.Still.{AllLeave, IsStillAt, LeavesPath}
 use Rattle.tftp_disk.specs.DiskWriter.{calls_of}
 use Rattle.tftp_disk.specs.NamedFolder.{OpensAlone, SyncsAlone}
@@ -150,14 +150,14 @@ module _ {F : Type 0} where
   pub new_draft_there : (draft : FolderDraft F) (name target at : List ℕ) (writer : DiskWriter F) (file : DiskFile F)
       (log : List DiskEvent) → string_bytes draft.draft ≡ name → string_bytes draft.target ≡ target
       → name ≢ lock_of target → at ≡ name → draft.writer ≡ writer → writer.file ≡ file
-      → IsNew at file.journal.events log → IsThere draft log
+      → IsNew at file.trace.events log → IsThere draft log
   new_draft_there draft name target at writer file log is_name is_target apart place wrote opened new = record {
     apart = λ same. apart (sym is_name ∙ same ∙ ap (λ (t : List ℕ). lock_of t) is_target);
     still = subst (λ (p : List ℕ). IsStillAt p (made_when (calls_of draft.writer)) log) (place ∙ sym is_name)
         (subst (λ (w : Option ℕ). IsStillAt at w log)
         (sym (ap (λ (w : DiskWriter F). made_when (calls_of w)) wrote
-        ∙ ap (λ (f : DiskFile F). made_when f.journal.events) opened))
-        (new_there at file.journal.events log new));
+        ∙ ap (λ (f : DiskFile F). made_when f.trace.events) opened))
+        (new_there at file.trace.events log new));
   }
 
   still_as : (draft : FolderDraft F) (file : FileState) (from : List ℕ) (before looked : List DiskEvent)
@@ -223,8 +223,8 @@ module _ {F : Type 0} where
 
   -- its open file was made when the draft says
   pub same_making : (draft : FolderDraft F) (file : DiskFile F) → file ≡ draft.writer.file
-      → made_when file.journal.events ≡ made_when (calls_of draft.writer)
-  same_making draft file same = ap (λ (f : DiskFile F). made_when f.journal.events) same
+      → made_when file.trace.events ≡ made_when (calls_of draft.writer)
+  same_making draft file same = ap (λ (f : DiskFile F). made_when f.trace.events) same
 
   -- the folder is synced
   pub syncs_placed : (folder : Option (DiskFolder F)) (before after : List DiskEvent) → SyncsAlone folder before after

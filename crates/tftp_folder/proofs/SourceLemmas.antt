@@ -1,10 +1,10 @@
 -- What a source of a folder gives is what its text gives.
 use Rattle.std.proofs.Common.{◌≡◌, ◌∙◌, ℕ, Bool, true, false, if◌then◌else◌, List, [], ◌∷◌, Ok, Err, append-nil, refl, subst, sym}
 use Rattle.std.specs.declared.io.SeekFrom.TheVariants.{Start, End, Current}
-use Rattle.tftp_disk.specs.DiskJournal.{DiskEvent}
-use Rattle.tftp_disk.specs.DiskJournal.DiskEvent.{Looked, Followed, Resolved, Opened, Tried, Created, Made, Linked, Renamed, Removed}
-use Rattle.tftp_disk.specs.DiskJournal.DiskEvent.{Folder_opened, Folder_synced, Examined, Given, Not_given, Sought}
-use Rattle.tftp_disk.specs.DiskJournal.DiskEvent.{Written, Not_written, Synced, Mode_set}
+use Rattle.tftp_disk.specs.DiskTrace.{DiskEvent}
+use Rattle.tftp_disk.specs.DiskTrace.DiskEvent.{Looked, Followed, Resolved, Opened, Tried, Created, Made, Linked, Renamed, Removed}
+use Rattle.tftp_disk.specs.DiskTrace.DiskEvent.{Folder_opened, Folder_synced, Examined, Given, Not_given, Sought}
+use Rattle.tftp_disk.specs.DiskTrace.DiskEvent.{Written, Not_written, Synced, Mode_set}
 use Rattle.tftp_disk.specs.Given.{given, is_at_start}
 use Rattle.tftp_file.specs.Source.{GivesInTurn, SourceMeaning}
 use Rattle.tftp_file.specs.Source.GivesInTurn.{Gave_more, Gave_nothing}

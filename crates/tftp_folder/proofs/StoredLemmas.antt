@@ -3,8 +3,8 @@ use Rattle.std.proofs.Common.{◌≡◌, ◌∙◌, ℕ, Bool, true, false, List
 use Rattle.std.specs.Prelude.{Contains}
 use Rattle.std.specs.String.{string_bytes}
 use Rattle.lru.proofs.Splits.{Contains-head, Contains-tail}
-use Rattle.tftp_disk.specs.DiskJournal.{DiskEvent, FileState, made_when, state_of}
-use Rattle.tftp_disk.specs.DiskJournal.DiskEvent.{Folder_opened, Folder_synced, Linked, Made, Renamed}
+use Rattle.tftp_disk.specs.DiskTrace.{DiskEvent, FileState, made_when, state_of}
+use Rattle.tftp_disk.specs.DiskTrace.DiskEvent.{Folder_opened, Folder_synced, Linked, Made, Renamed}
 use Rattle.tftp_disk.specs.DiskWriter.{calls_of}
 use Rattle.tftp_disk.specs.Still.{IsStillAt}
 use Rattle.tftp_store.specs.Drafts.{TakesInTurn}

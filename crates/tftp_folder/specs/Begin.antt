@@ -1,8 +1,8 @@
 -- The calls by which a store over a folder begins a draft (ours).
 use Rattle.std.specs.Prelude.{ℕ, ◌≡◌, ◌⊎◌, List, [], ◌∷◌, ◌++◌, length, Ok, codes}
 use Rattle.std.specs.Fmt.{decimal}
-use Rattle.tftp_disk.specs.DiskJournal.{DiskEvent, Done}
-use Rattle.tftp_disk.specs.DiskJournal.DiskEvent.{Created, Made, Removed}
+use Rattle.tftp_disk.specs.DiskTrace.{DiskEvent, Done}
+use Rattle.tftp_disk.specs.DiskTrace.DiskEvent.{Created, Made, Removed}
 
 -- the path of the draft of the transfer at this port, in this folder
 abbrev pub draft_name : List ℕ → ℕ → List ℕ

@@ -3,9 +3,9 @@ use Rattle.std.specs.Prelude.{ℕ, ◌≡◌, ◌⊎◌, ⊤, Bool, true, false,
 use Rattle.std.specs.String.{string_bytes}
 use Rattle.tftp_file.specs.Path.{IsPath}
 use Rattle.tftp_disk.specs.Changes.{changes}
-use Rattle.tftp_disk.specs.DiskJournal.{DiskEvent}
-use Rattle.tftp_disk.specs.DiskJournal.DiskEvent.{Made, Linked, Renamed, Removed}
-use Rattle.tftp_disk.specs.DiskJournal.DiskEvent.{Folder_opened, Folder_synced}
+use Rattle.tftp_disk.specs.DiskTrace.{DiskEvent}
+use Rattle.tftp_disk.specs.DiskTrace.DiskEvent.{Made, Linked, Renamed, Removed}
+use Rattle.tftp_disk.specs.DiskTrace.DiskEvent.{Folder_opened, Folder_synced}
 use Rattle.tftp_store.specs.Drafts.{CallsKeep}
 use Rattle.tftp_store.specs.Store.{StoreMeaning}
 use Rattle.tftp_folder.specs.Begin.{draft_name, BeginsNone}
@@ -18,8 +18,8 @@ use Rattle.tftp_folder.specs.Uploads.{IsBelow, path_below}
 use Rattle.tftp_folder.specs.declared.folder_draft.FolderDraft.{FolderDraft}
 use Rattle.tftp_folder.specs.declared.folder_store.FolderStore.{FolderStore}
 
--- where a store may change files: its root, the folder of its drafts, whether it refuses writes, and
--- the folder below the root that takes all writes, if one does
+-- where a store may change files: its root, the folder of its drafts, whether it refuses writes,
+-- and the folder below the root that takes all writes, if one does
 pub record Limits : Type 0 where
   pub root : List ℕ
   pub drafts : List ℕ
@@ -71,10 +71,10 @@ pub record Admits (limits : Limits) (Change : Type 0) : Type 0 where
   pub admitted : limits.read_only ≡ false
   pub change : Change
 
--- a call after these others, the newest first, that changes something: a draft is made or removed, or
--- is given a name that a client can spell, a name that was asked for is removed, and the lock of one
--- is made, and removed if it was made; no other file is made, removed or renamed. Folders are opened
--- and synced for such a name alone
+-- a call after these others, the newest first, that changes something: a draft is made or removed,
+-- or is given a name that a client can spell, a name that was asked for is removed, and the lock of
+-- one is made, and removed if it was made; no other file is made, removed or renamed. Folders are
+-- opened and synced for such a name alone
 abbrev pub IsChange : Limits → DiskEvent → List DiskEvent → Type 0
 IsChange limits (Made path answer) before =
     Admits limits (IsDraftIn limits.drafts path ⊎ IsLock limits path)
@@ -100,8 +100,8 @@ pub record IsOwn (limits : Limits) (draft target : List ℕ) : Type 0 where
   pub is_draft : IsDraftIn limits.drafts draft
   pub is_target : IsTarget limits target
 
--- a call that begins no draft, or one at its path, changes nothing else, and in a store that refuses
--- writes nothing
+-- a call that begins no draft, or one at its path, changes nothing else, and in a store that
+-- refuses writes nothing
 abbrev pub BeginStaysWithin : Type 0
 BeginStaysWithin =
     (limits : Limits) (port : ℕ) (before after : List DiskEvent)

@@ -4,8 +4,8 @@ use Rattle.std.specs.IoError.{error_kind}
 use Rattle.std.specs.declared.io.Error.{Error}
 use Rattle.std.specs.declared.io.ErrorKind.TheVariants as kinds
 use Rattle.tftp_disk.specs.Changes.{renames}
-use Rattle.tftp_disk.specs.DiskJournal.{DiskEvent, Done, FileState}
-use Rattle.tftp_disk.specs.DiskJournal.DiskEvent.{Made, Linked, Renamed, Removed, Looked, Tried}
+use Rattle.tftp_disk.specs.DiskTrace.{DiskEvent, Done, FileState}
+use Rattle.tftp_disk.specs.DiskTrace.DiskEvent.{Made, Linked, Renamed, Removed, Looked, Tried}
 use Rattle.tftp_disk.specs.declared.found.Found.{Found}
 use Rattle.tftp_disk.specs.declared.found.Kind.TheVariants.{Regular}
 
@@ -37,8 +37,8 @@ RefusesLocked file draft target before after =
     ∷ Made (lock_of target) (Ok tt) ∷ before))
 
 -- the changes by which a draft, with this file, got its name: where it may replace a file, by a
--- rename; else by a link, which never replaces one, or, if the system refused that, by a rename under
--- the lock of the name
+-- rename; else by a link, which never replaces one, or, if the system refused that, by a rename
+-- under the lock of the name
 abbrev pub Names : FileState → (draft target : List ℕ) → List DiskEvent → Bool → List DiskEvent
     → Type 0
 Names file draft target before true after = after ≡ Renamed file draft target (Ok tt) ∷ before

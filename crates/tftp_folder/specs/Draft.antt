@@ -3,14 +3,14 @@ use Rattle.std.specs.Prelude.{ℕ, ◌≡◌, ◌≢◌, ◌⊎◌, Bool, true, 
 use Rattle.std.specs.Prelude.{Err}
 use Rattle.std.specs.declared.io.Error.{Error}
 use Rattle.std.specs.String.{string_bytes}
-use Rattle.tftp_disk.specs.DiskJournal.{DiskEvent, Done, made_at, made_when, is_synced}
-use Rattle.tftp_disk.specs.DiskJournal.{sync_failed, state_of, written}
+use Rattle.tftp_disk.specs.DiskTrace.{DiskEvent, Done, made_at, made_when, is_synced}
+use Rattle.tftp_disk.specs.DiskTrace.{sync_failed, state_of, written}
 use Rattle.tftp_disk.specs.DiskWriter.{calls_of, handed}
 use Rattle.tftp_disk.specs.NamedFolder.{OpensFolder, OpensNoFolder, SyncsFolder, SyncsNoFolder}
 use Rattle.tftp_disk.specs.declared.disk_file.DiskFolder.{DiskFolder}
 use Rattle.tftp_disk.specs.Changes.{changes}
 use Rattle.tftp_disk.specs.Still.{IsStillAt}
-use Rattle.tftp_disk.specs.DiskJournal.DiskEvent.{Renamed}
+use Rattle.tftp_disk.specs.DiskTrace.DiskEvent.{Renamed}
 use Rattle.tftp_folder.specs.Begin.{MakesDraft}
 use Rattle.tftp_folder.specs.Commit.{Names, RefusesName, RenamesLocked, RefusesLocked}
 use Rattle.tftp_folder.specs.Commit.{lock_of, MayRemove, MayRemoveNew}
@@ -117,8 +117,8 @@ module _ {F : Type 0} where
       LooksFor (string_bytes draft'.target) (calls_of draft.writer) (calls_of draft'.writer) before
       after finds
 
-  -- after calls that change nothing the name of a draft was looked at, and the next call removed it,
-  -- if that found the draft's own file there; else it is left
+  -- after calls that change nothing the name of a draft was looked at, and the next call removed
+  -- it, if that found the draft's own file there; else it is left
   pub record TakesBack (draft draft' : FolderDraft F) (before after : List DiskEvent)
       : Type 0 where
     pub between : List DiskEvent

@@ -7,7 +7,7 @@ use Rattle.tftp_file.specs.declared.fault.StoreFault.{StoreFault}
 use Rattle.tftp_file.specs.declared.fault.StoreFault.TheVariants.{Io}
 use Rattle.tftp_disk.specs.Changes.{changes}
 use Rattle.tftp_disk.specs.DiskFault.{MayNotBegin, MayNotName, MayNotOpen, MayNotStore}
-use Rattle.tftp_disk.specs.DiskJournal.{DiskEvent}
+use Rattle.tftp_disk.specs.DiskTrace.{DiskEvent}
 use Rattle.tftp_store.specs.Store.{StoreMeaning}
 use Rattle.tftp_folder.specs.Begin.{draft_name, BeginsNone}
 use Rattle.tftp_folder.specs.Commit.{LooksThenRenames}
@@ -42,8 +42,8 @@ module _ {D G H K F : Type 0} (log : D → List DiskEvent) where
   -- has refused it, and changed nothing; it was begun only for a path that a client can name, below
   -- the folder of uploads, if there is one. It was made for that place of the root, and is empty;
   -- if it was refused, nothing else changed. Its file is at its path, and what was still at another
-  -- path is there. No path outside the root was passed to the system, if the folder of the drafts is
-  -- inside it
+  -- path is there. No path outside the root was passed to the system, if the folder of the drafts
+  -- is inside it
   pub record HasBegun (path : List ℕ) (before after : FolderStore D G H K)
       (result : Result (FolderDraft F) StoreFault) : Type 0 where
     pub settings : SameSettings before after
@@ -74,10 +74,10 @@ module _ {D G H K F : Type 0} (log : D → List DiskEvent) where
     pub kept : OnSome fault (bytes_of draft' ≡ bytes_of draft)
 
   -- a draft was committed: by then all that it was handed was in its file and synced, and then it
-  -- got its name; or that was refused, and it got none, or lost it. If its file was still at its path
-  -- before, it was so when it was to get the name. A rename to the name
-  -- came just after a look at what had it. The settings stay. No path outside the root was passed to
-  -- the system, if those of the draft are below it
+  -- got its name; or that was refused, and it got none, or lost it. If its file was still at its
+  -- path before, it was so when it was to get the name. A rename to the name came just after a look
+  -- at what had it. The settings stay. No path outside the root was passed to the system, if those
+  -- of the draft are below it
   pub record HasCommitted (before : FolderStore D G H K) (draft : FolderDraft F) (replaces : Bool)
       (after : FolderStore D G H K) (draft' : FolderDraft F) (fault : Option StoreFault)
       : Type 0 where

@@ -1,8 +1,8 @@
 -- A look whether a path is that of an open file, and a removal by it (ours).
 use Rattle.std.specs.Prelude.{ℕ, ◌≡◌, Bool, true, false, List, ◌∷◌, Result, Ok, Err}
 use Rattle.std.specs.declared.io.Error.{Error}
-use Rattle.tftp_disk.specs.DiskJournal.{DiskEvent, Done}
-use Rattle.tftp_disk.specs.DiskJournal.DiskEvent.{Examined, Looked, Removed}
+use Rattle.tftp_disk.specs.DiskTrace.{DiskEvent, Done}
+use Rattle.tftp_disk.specs.DiskTrace.DiskEvent.{Examined, Looked, Removed}
 use Rattle.tftp_disk.specs.Found.{is_same_file}
 use Rattle.tftp_disk.specs.declared.found.Found.{Found}
 

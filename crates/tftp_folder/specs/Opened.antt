@@ -1,8 +1,8 @@
 -- How a store over a folder finds and opens a file to be read (ours).
 use Rattle.std.specs.Prelude.{ℕ, ◌≡◌, ◌≤◌, ◌⊎◌, true, max, List, []}
 use Rattle.std.specs.Prelude.{◌∷◌, length, Option, Some, IfSome, Ok}
-use Rattle.tftp_disk.specs.DiskJournal.{DiskEvent}
-use Rattle.tftp_disk.specs.DiskJournal.DiskEvent.{Looked, Followed, Resolved, Opened}
+use Rattle.tftp_disk.specs.DiskTrace.{DiskEvent}
+use Rattle.tftp_disk.specs.DiskTrace.DiskEvent.{Looked, Followed, Resolved, Opened}
 use Rattle.tftp_disk.specs.Given.{examined, opened_at}
 use Rattle.tftp_disk.specs.Folder.{IsFolderOf}
 use Rattle.tftp_disk.specs.Found.{is_same_file}

@@ -1,7 +1,7 @@
 -- Which file has the path of a draft when it gets its name, by the calls of a store (ours).
 use Rattle.std.specs.Prelude.{ℕ, ◌≢◌, ⊤, List, [], ◌∷◌, Option}
-use Rattle.tftp_disk.specs.DiskJournal.{DiskEvent}
-use Rattle.tftp_disk.specs.DiskJournal.DiskEvent.{Made, Linked, Renamed, Removed}
+use Rattle.tftp_disk.specs.DiskTrace.{DiskEvent}
+use Rattle.tftp_disk.specs.DiskTrace.DiskEvent.{Made, Linked, Renamed, Removed}
 use Rattle.tftp_disk.specs.Still.{IsStillAt}
 
 -- the calls up to each that makes, names or removes a file, whatever its answer: the newest first

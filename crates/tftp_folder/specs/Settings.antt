@@ -1,7 +1,7 @@
 -- The settings of a store over a folder (ours).
 use Rattle.std.specs.Prelude.{◌≡◌, List}
 use Rattle.std.specs.String.{string_bytes}
-use Rattle.tftp_disk.specs.DiskJournal.{DiskEvent}
+use Rattle.tftp_disk.specs.DiskTrace.{DiskEvent}
 use Rattle.tftp_folder.specs.declared.folder_store.FolderStore.{FolderStore}
 
 module _ {D G H K : Type 0} where

@@ -4,7 +4,7 @@ use Rattle.std.specs.Option.{option_map_or}
 use Rattle.tftp_wire.specs.declared.mode.Mode.{Mode}
 use Rattle.tftp_wire.specs.declared.mode.Mode.TheVariants.{Octet, Netascii}
 use Rattle.tftp_disk.specs.Changes.{changes}
-use Rattle.tftp_disk.specs.DiskJournal.{DiskEvent}
+use Rattle.tftp_disk.specs.DiskTrace.{DiskEvent}
 use Rattle.tftp_disk.specs.DiskSource.{IsUnread, source_calls}
 use Rattle.tftp_disk.specs.DiskSourceLaws.{GivenInOrder}
 use Rattle.tftp_disk.specs.Given.{examined, is_at_start}

@@ -1,8 +1,8 @@
 -- A file that was put into a folder, by the calls of the system on it (ours).
 use Rattle.std.specs.Prelude.{ℕ, ◌≡◌, Bool, true, false, List, ◌∷◌, Some, None, Ok}
 use Rattle.tftp_disk.specs.Changes.{changes}
-use Rattle.tftp_disk.specs.DiskJournal.{DiskEvent, Done, FileState}
-use Rattle.tftp_disk.specs.DiskJournal.DiskEvent.{Folder_opened}
+use Rattle.tftp_disk.specs.DiskTrace.{DiskEvent, Done, FileState}
+use Rattle.tftp_disk.specs.DiskTrace.DiskEvent.{Folder_opened}
 use Rattle.tftp_disk.specs.Folder.{IsFolderOf}
 use Rattle.tftp_disk.specs.NamedFolder.{SyncsAfter}
 use Rattle.tftp_disk.specs.Still.{IsStillAt}

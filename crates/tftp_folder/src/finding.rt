@@ -5,8 +5,8 @@ ghost use Rattle.std.specs.Prelude.{◌≡◌, ◌⊎◌, ◌∷◌, [], true, O
 ghost use Rattle.std.specs.String.{string_bytes};
 ghost use Rattle.tftp_file.specs.Path.{IsPath};
 ghost use Rattle.tftp_disk.specs.Changes.{changes};
-ghost use Rattle.tftp_disk.specs.DiskJournal.{Done};
-ghost use Rattle.tftp_disk.specs.DiskJournal.DiskEvent.{Looked, Opened, Examined};
+ghost use Rattle.tftp_disk.specs.DiskTrace.{Done};
+ghost use Rattle.tftp_disk.specs.DiskTrace.DiskEvent.{Looked, Opened, Examined};
 ghost use Rattle.tftp_disk.specs.Found.{is_same_file};
 ghost use Rattle.tftp_disk.specs.declared.found.Found.{Found};
 ghost use Rattle.tftp_folder.specs.Opened.{FindsAt, FollowsTo, LooksLast, IsStill, OpensAt, follows};
@@ -247,8 +247,8 @@ impl ServedFolder {
     ) -> Result<OpenedFile<V::File>, StoreFault>
         ensures fault { IfErr result MayNotOpen }
         ensures opens { IfOk result (λ opened. OpensAt (string_bytes self.now.root) path.now
-            opened.found (V.log view.new) opened.file.journal.events) }
-        ensures start { IfOk result (λ opened. is_at_start opened.file.journal.events
+            opened.found (V.log view.new) opened.file.trace.events) }
+        ensures start { IfOk result (λ opened. is_at_start opened.file.trace.events
             ≡ true) }
         ensures looks { changes (V.log view.new) ≡ changes (V.log view.old) }
         ensures inside { StaysInside (string_bytes self.now.root) (V.log view.old)
@@ -275,9 +275,9 @@ impl ServedFolder {
         ensures fault { IfErr result MayNotOpen }
         ensures opens { IfOk result (λ opened. IfSome opened (λ file. OpensAt
             (string_bytes self.now.root) path.now file.found (V.log view.new)
-            file.file.journal.events)) }
+            file.file.trace.events)) }
         ensures start { IfOk result (λ opened. IfSome opened (λ file.
-            is_at_start file.file.journal.events ≡ true)) }
+            is_at_start file.file.trace.events ≡ true)) }
         ensures looks { changes (V.log view.new) ≡ changes (V.log view.old) }
         ensures inside { StaysInside (string_bytes self.now.root) (V.log view.old)
             (V.log view.new) }
@@ -304,7 +304,7 @@ impl ServedFolder {
         ensures opens { IfOk result (λ opened. IfSome opened (λ file. OpensSeen
             (string_bytes self.now.root) path.now seen file.found (V.log view.old)
             (V.log view.new))) }
-        ensures file { IfOk result (λ opened. IfSome opened (λ file. file.file.journal.events
+        ensures file { IfOk result (λ opened. IfSome opened (λ file. file.file.trace.events
             ≡ Examined (Ok file.found) ∷ Opened path.now (Ok tt) ∷ [])) }
         ensures looks { changes (V.log view.new) ≡ changes (V.log view.old) }
         ensures inside { IsBelow (string_bytes self.now.root) path.now
@@ -489,7 +489,7 @@ impl ServedFolder {
         draft: &str,
     ) -> Result<DiskFile<D::File>, StoreFault>
         ensures fault { IfErr result MayNotStore }
-        ensures ok { IfOk result (λ file. IsNew draft.now file.journal.events (D.log disk.new)
+        ensures ok { IfOk result (λ file. IsNew draft.now file.trace.events (D.log disk.new)
             × MakesDraft draft.now (changes (D.log disk.old)) (Ok tt)
             (changes (D.log disk.new))) }
         ensures err { OnErr result ((answer : Done) × MakesDraft draft.now
@@ -508,7 +508,7 @@ impl ServedFolder {
 
 /// Creates a draft file, after removing an old one of that name.
 fn make_again<D: Disk>(disk: &mut D, draft: &str) -> io::Result<DiskFile<D::File>>
-    ensures ok { IfOk result (λ file. IsNew draft.now file.journal.events (D.log disk.new)
+    ensures ok { IfOk result (λ file. IsNew draft.now file.trace.events (D.log disk.new)
         × MakesDraft draft.now (changes (D.log disk.old)) (Ok tt)
         (changes (D.log disk.new))) }
     ensures err { IfErr result (λ error. MakesDraft draft.now (changes (D.log disk.old))

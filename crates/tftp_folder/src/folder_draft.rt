@@ -4,7 +4,7 @@ ghost use Rattle.std.specs.Prelude.{ℕ, ◌≡◌, ◌≢◌, List, ◌++◌, [
 ghost use Rattle.std.specs.Prelude.{IfOk, OnErr};
 ghost use Rattle.std.specs.String.{string_bytes};
 ghost use Rattle.tftp_disk.specs.Changes.{changes, renames};
-ghost use Rattle.tftp_disk.specs.DiskJournal.{made_at, is_synced, sync_failed, state_of};
+ghost use Rattle.tftp_disk.specs.DiskTrace.{made_at, is_synced, sync_failed, state_of};
 ghost use Rattle.tftp_disk.specs.DiskWriter.{calls_of, handed};
 ghost use Rattle.tftp_folder.specs.Commit.{lock_of};
 ghost use Rattle.tftp_folder.specs.Looked.{LooksFor, is_found};
@@ -47,8 +47,8 @@ pub struct FolderDraft<F> {
     unsynced: u64,
     /// The first failure, which each later call returns.
     failure: Option<io::Error>,
-    ghost placed: { made_at writer.file.journal.events ≡ Some (string_bytes draft) },
-    ghost sound: { failure ≡ None → sync_failed writer.file.journal.events ≡ false },
+    ghost placed: { made_at writer.file.trace.events ≡ Some (string_bytes draft) },
+    ghost sound: { failure ≡ None → sync_failed writer.file.trace.events ≡ false },
 }
 
 impl<F: Write> FolderDraft<F> {

@@ -76,7 +76,7 @@ impl<V: View> FolderSource<V> {
         reason: SharedReason,
     ) -> Result<FolderSource<V>, AllocError>
         ensures unread { IfOk result (λ source. IsUnread mode (text_of source)) }
-        ensures calls { IfOk result (λ source. calls_of source ≡ file.journal.events) }
+        ensures calls { IfOk result (λ source. calls_of source ≡ file.trace.events) }
         ensures found { IfOk result (λ source. source.found ≡ found) }
         ensures stated { IfOk result (λ source. source.stated.value ≡ length.now) }
     {

@@ -314,7 +314,9 @@ impl<D: Disk> ServedStore<Reason> for FolderStore<D> {
     }
 
     fn set_longest(&mut self, bytes: u64)
-        ensures { AsksNothing D.log self.old self.new }
+        ensures settings { AsksNothing D.log self.old self.new }
+        ensures port { self.new.port ≡ self.old.port }
+        ensures longest { self.new.lengths.longest ≡ bytes }
     {
         self.lengths.set_longest(bytes);
     }

@@ -10,7 +10,7 @@ ghost use Rattle.tftp_folder.specs.Counted.{IsUnchanged, length_counted};
 
 use std::io::{self, Read};
 use std::snapshot::Snapshot;
-use tftp_disk::{DiskFile, DiskJournal, FileId, Found, TextLength, count_netascii};
+use tftp_disk::{DiskFile, DiskTrace, FileId, Found, TextLength, count_netascii};
 use tftp_file::MAX_WIRE;
 
 /// How long the text of a file is in netascii, as one pass over it counted.
@@ -21,7 +21,7 @@ pub(crate) struct Measured {
     /// The length in bytes, or `MAX_WIRE + 1` if it is longer.
     bytes: u64,
     /// The calls on the file, until the pass had ended. Only clauses read them: they use no memory.
-    calls: Snapshot<DiskJournal>,
+    calls: Snapshot<DiskTrace>,
     ghost told: { examined calls.value.events ≡ Some found } by { is_set (option found-code) _ _ },
     ghost counted: { bytes ≡ length_counted (given calls.value.events) },
     ghost whole: { bytes ≤ MAX_WIRE → is_at_end calls.value.events ≡ true },
@@ -63,7 +63,7 @@ impl Measured {
             Ok(text) => Ok(Measured {
                 found: *found,
                 bytes: bytes_of(text),
-                calls: Snapshot::of(file.journal()),
+                calls: Snapshot::of(file.trace()),
             }),
             Err(error) => Err(error),
         }

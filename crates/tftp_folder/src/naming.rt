@@ -2,7 +2,7 @@
 
 ghost use Rattle.std.specs.Prelude.{ℕ, ◌≡◌, List, ◌∷◌, true, false, Ok, OnOk, OnErr, IfSome};
 ghost use Rattle.tftp_disk.specs.Changes.{changes, renames};
-ghost use Rattle.tftp_disk.specs.DiskJournal.DiskEvent.{Looked};
+ghost use Rattle.tftp_disk.specs.DiskTrace.DiskEvent.{Looked};
 ghost use Rattle.tftp_disk.specs.declared.found.Found.{Found};
 ghost use Rattle.tftp_folder.specs.Opened.{AreFolders, follows};
 ghost use Rattle.tftp_folder.specs.Placed.{StaysThere, placed};

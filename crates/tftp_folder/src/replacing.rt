@@ -3,7 +3,7 @@
 ghost use Rattle.std.specs.Prelude.{ℕ, ◌≡◌, List, ◌∷◌, true, Ok, OnOk, OnErr};
 ghost use Rattle.std.specs.String.{string_bytes};
 ghost use Rattle.tftp_disk.specs.Changes.{changes, renames};
-ghost use Rattle.tftp_disk.specs.DiskJournal.DiskEvent.{Tried};
+ghost use Rattle.tftp_disk.specs.DiskTrace.DiskEvent.{Tried};
 ghost use Rattle.tftp_folder.specs.Commit.{MayBeReplaced, LooksThenRenames};
 ghost use Rattle.tftp_folder.specs.Draft.{IsDone, IsDraftBelow, KeepsDone, NamesDraft, RefusesDraft};
 ghost use Rattle.tftp_folder.specs.Draft.{IsThere, SameNames};

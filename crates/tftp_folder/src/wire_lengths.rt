@@ -40,7 +40,9 @@ impl WireLengths {
     }
 
     /// Sets the longest length that can be sent.
-    pub(crate) fn set_longest(&mut self, bytes: u64) {
+    pub(crate) fn set_longest(&mut self, bytes: u64)
+        ensures { self.new ≡ record self.old { longest = bytes } }
+    {
         self.longest = bytes;
     }
 

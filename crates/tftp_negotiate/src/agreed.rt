@@ -91,6 +91,7 @@ impl Agreed {
     }
 
     /// Appends an option.
+    #[inline(never)]
     pub(crate) fn with(mut self, option: Known) -> Agreed
         requires { IsAgreement (self ++ option ∷ []) }
         ensures { result ≡ self ++ option ∷ [] }

@@ -72,6 +72,7 @@ impl Asked {
 }
 
 /// Appends an option, if there is one.
+#[inline(never)]
 fn with_option(mut options: ArrayVec<Known, 3>, option: Option<Known>) -> ArrayVec<Known, 3>
     requires { array_vec_len options < 3 }
     ensures items { result.items ≡ options.items ++ known_if option }

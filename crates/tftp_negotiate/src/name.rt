@@ -30,6 +30,7 @@ impl Name {
     }
 
     /// The known option of this name, in any case (RFC 2347, "Packet Formats").
+    #[inline(never)]
     pub fn of(text: &[u8]) -> Option<Name>
         ensures { result ≡ name_of text.now }
     {

@@ -53,6 +53,7 @@ pub(crate) fn negotiate_slice(options: &[RawOption], policy: &Policy) -> Result<
 }
 
 /// Adds the judgement of an option to the outcome: the first refusal stays.
+#[inline(never)]
 fn kept_after(
     outcome: Result<Agreed, Refusal>,
     judgement: Result<Option<Known>, Refusal>,

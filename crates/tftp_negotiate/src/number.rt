@@ -8,6 +8,7 @@ use itoa::Buffer;
 
 /// The number below 2^64 whose decimal digits are this text: no sign, no space, and no leading zero
 /// except in `0`. The RFCs require only ASCII; by our own choice one spelling is valid.
+#[inline(never)]
 pub(crate) fn number_of(text: &[u8]) -> Option<u64>
     ensures { result ≡ number_of text.now }
 {

@@ -35,6 +35,7 @@ pub(crate) enum Policy {
 
 impl Policy {
     /// Judges an option: it is agreed with a value, ignored or refused.
+    #[inline(never)]
     pub(crate) fn judge(&self, option: OptionRef<'_>) -> Result<Option<Known>, Refusal>
         ensures { result ≡ judged self.now (owned_option option.entry) }
     {

@@ -21,7 +21,8 @@ pub(super) fn ask_to_get<N: ClientUdp>(
     job: &Job<'_>,
 ) -> Result<Conversation, Failure>
     ensures begins { IfOk result (λ conversation. state_of conversation (N.log net.new)
-        ≡ begun conversation.socket.port (opens Read job.now 0) (N.log net.old)) }
+        ≡ begun conversation.socket.port conversation.watch.reading (opens Read job.now 0)
+        (N.log net.old)) }
     ensures may { OnOk result (MayOpen Read job.now 0) }
     ensures err { IfErr result (λ failure. (status_of failure.end ≡ 2)
         × (N.log net.new ≡ N.log net.old)) }
@@ -60,7 +61,8 @@ pub(super) fn ask_to_put<N: ClientUdp>(
     length: u64,
 ) -> Result<Conversation, Failure>
     ensures begins { IfOk result (λ conversation. state_of conversation (N.log net.new)
-        ≡ begun conversation.socket.port (opens Write job.now length) (N.log net.old)) }
+        ≡ begun conversation.socket.port conversation.watch.reading (opens Write job.now length)
+        (N.log net.old)) }
     ensures fits { OnOk result (length ≤ MAX_WIRE) }
     ensures may { OnOk result (MayOpen Write job.now length) }
     ensures err { IfErr result (λ failure. (status_of failure.end ≡ 2)
@@ -133,8 +135,8 @@ fn begin<N: ClientUdp>(
     opened: Opened<'_>,
 ) -> Result<Conversation, Failure>
     ensures begins { IfOk result (λ conversation. state_of conversation (N.log net.new)
-        ≡ sent_from conversation.socket.port opened.entry.end job.now.server
-        opened.entry.request.now (N.log net.old)) }
+        ≡ sent_from conversation.socket.port conversation.watch.reading opened.entry.end
+        job.now.server opened.entry.request.now (N.log net.old)) }
     ensures err { IfErr result (λ failure. (status_of failure.end ≡ 2)
         × (N.log net.new ≡ N.log net.old)) }
 {

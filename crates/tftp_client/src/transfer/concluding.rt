@@ -3,12 +3,10 @@
 ghost use Rattle.std.specs.Prelude.{◌≡◌, ◌≤◌, ◌+◌, ◌⊎◌, ◌∷◌, true};
 ghost use Rattle.tftp_ends.specs.End.{is_complete};
 ghost use Rattle.tftp_ends.specs.Files.{AreFilesOf};
-ghost use Rattle.tftp_lines.specs.ClientOutcome.{end_text};
-ghost use Rattle.tftp_lines.specs.declared.client_outcome.ClientOutcome.TheVariants as ends;
-ghost use Rattle.tftp_sockets.specs.Journal.SocketEvent.{Printed as Line};
+ghost use Rattle.tftp_sockets.specs.Trace.SocketEvent.{Printed as Line};
 ghost use Rattle.tftp_sockets.specs.Quiet.{waits as waits_in};
 ghost use Rattle.tftp_client.specs.Conversation.{IsReady, state_of};
-ghost use Rattle.tftp_client.specs.Runs.{DalliesTo, printed};
+ghost use Rattle.tftp_client.specs.Runs.{DalliesTo, line_by, printed};
 
 use crate::transfer::Job;
 use crate::transfer::conversation::Conversation;
@@ -35,8 +33,8 @@ pub(super) fn conclude<E: Eprint, N: ClientUdp, S: Source, K: Sink>(
     ensures ends { (result ≡ 0) ⊎ (result ≡ 2) }
     ensures goes { DalliesTo S.meaning K.meaning job.now.dallies
         (waits + waits_in (N.log net.old)) conversation.socket.port
-        (printed count (state_of conversation (N.log net.old))) files.old (N.log net.new)
-        files.new }
+        (printed (line_by result count) (state_of conversation (N.log net.old))) files.old
+        (N.log net.new) files.new }
     ensures waits { waits_in (N.log net.new) ≤ waits + waits_in (N.log net.old) }
 {
     let status = print_complete(rt, net, count);
@@ -47,10 +45,10 @@ pub(super) fn conclude<E: Eprint, N: ClientUdp, S: Source, K: Sink>(
     status
 }
 
-/// Prints that a transfer is complete, and returns the status.
+/// Prints that a transfer is complete, and returns the status: 2 if the system refuses the line.
 fn print_complete<E: Eprint, N: ClientUdp>(rt: &E, net: &mut N, count: u64) -> u8
     ensures ends { (result ≡ 0) ⊎ (result ≡ 2) }
-    ensures noted { N.log net.new ≡ Line (end_text (ends.Complete count)) ∷ N.log net.old }
+    ensures noted { N.log net.new ≡ Line (line_by result count) ∷ N.log net.old }
 {
     match net.print_end(ClientOutcome::Complete(count)) {
         Ok(()) => 0,

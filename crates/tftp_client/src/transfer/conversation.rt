@@ -7,11 +7,12 @@ ghost use Rattle.std.specs.Prelude.{take, Some, None, IsSome, IfSome, IfNone, If
 ghost use Rattle.tftp_ends.specs.End.{is_complete, outcome_of};
 ghost use Rattle.tftp_ends.specs.Files.{AreFilesOf};
 ghost use Rattle.tftp_sockets.specs.declared.address.TheConstants.{DATAGRAM_BUFFER};
-ghost use Rattle.tftp_sockets.specs.Journal.SocketEvent.{Quiet};
-ghost use Rattle.tftp_sockets.specs.Journal.QuietEvent.{Slept};
-ghost use Rattle.tftp_sockets.specs.Journal.{replied};
+ghost use Rattle.tftp_sockets.specs.Trace.SocketEvent.{Quiet};
+ghost use Rattle.tftp_sockets.specs.Trace.QuietEvent.{Slept};
+ghost use Rattle.tftp_sockets.specs.Trace.{replied};
 ghost use Rattle.tftp_sockets.specs.Quiet.{waits as waits_in};
 ghost use Rattle.tftp_sockets.specs.Receipt.{Fits, receive_event};
+ghost use Rattle.tftp_sockets.specs.Watch.{later_by};
 ghost use Rattle.tftp_client.specs.Converses.{Converses, MayElapse, WorksOnFile, renewed};
 ghost use Rattle.tftp_client.specs.Converses.{AnswersReceived, HandlesAs};
 ghost use Rattle.tftp_client.specs.Converses.{EndsBy, IsOpen, deadline_at, deadline_after};
@@ -122,6 +123,7 @@ impl Conversation {
     ) -> Result<(), Outcome>
         requires files { AreFilesOf self.old.end.role.side files.old }
         requires not_closed { IsOpen self.old.end }
+        requires incomplete { is_complete self.old.end.position.phase ≡ false }
         requires ready { IsReady self.old }
         ensures converses { Converses S.meaning K.meaning self.old.socket.port
             (state_of self.old (N.log net.old)) files.old
@@ -130,6 +132,8 @@ impl Conversation {
         ensures complete { OnOk result (is_complete self.new.end.position.phase ≡ true) }
         ensures failed { IfErr result (λ outcome. EndsBy (waits.old + waits_in (N.log net.old))
             (state_of self.new (N.log net.new)) outcome) }
+        ensures incomplete { IfErr result (λ _.
+            is_complete self.new.end.position.phase ≡ false) }
         ensures files { AreFilesOf self.new.end.role.side files.new }
         ensures ready { OnOk result (IsReady self.new) }
         ensures counted { waits.new + waits_in (N.log net.new)
@@ -262,8 +266,9 @@ impl Conversation {
     /// Reads the clock. After a step with progress the deadline counts from then.
     fn renew<N: ClientUdp>(&mut self, net: &mut N, step: &Step)
         ensures renewed { state_of self.new (N.log net.new)
-            ≡ renewed step.now.progress self.new.watch.now
+            ≡ renewed step.now.progress self.new.watch
             (state_of self.old (N.log net.old)) }
+        ensures reading { self.new.watch.now ≡ later_by self.old.watch self.new.watch.reading }
         ensures forward { self.old.watch.now ≤ self.new.watch.now }
         ensures port { self.new.socket.port ≡ self.old.socket.port }
         ensures end { self.new.end ≡ self.old.end }
@@ -366,7 +371,7 @@ impl Conversation {
     /// Shows the progress, if that is due.
     fn show<E: Eprint>(&mut self, rt: &E)
         ensures end { self.new.end ≡ self.old.end }
-        ensures now { self.new.watch.now ≡ self.old.watch.now }
+        ensures watch { self.new.watch ≡ self.old.watch }
         ensures deadline { self.new.deadline ≡ self.old.deadline }
         ensures port { self.new.socket.port ≡ self.old.socket.port }
     {
@@ -422,6 +427,8 @@ fn ended(end: &End) -> Option<Result<(), Outcome>>
         (is_complete end.now.position.phase ≡ true)) }
     ensures closed { IfSome result (λ ended. IfErr ended (λ outcome.
         outcome_of end.now.position.phase ≡ Some outcome)) }
+    ensures incomplete { IfSome result (λ ended. IfErr ended (λ _.
+        is_complete end.now.position.phase ≡ false)) }
     ensures open { IfNone result ((is_complete end.now.position.phase ≡ false)
         × (outcome_of end.now.position.phase ≡ None)) }
 {

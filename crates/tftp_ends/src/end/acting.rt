@@ -49,6 +49,7 @@ impl End {
     }
 
     /// Enters a phase and acknowledges its block. It allocates no memory.
+    #[inline(always)]
     pub(crate) fn acknowledge(&mut self, phase: Phase, from: Endpoint) -> Outgoing
         requires fits { PhaseFits self.old phase }
         requires receiver { is_sender self.old.role.side ≡ false }
@@ -143,6 +144,7 @@ impl End {
 
     /// A receiver carries out an action for a datagram of these bytes. Returns the destination and
     /// the datagram to send.
+    #[inline(always)]
     pub(crate) fn act_as_receiver<K: Sink>(
         &mut self,
         action: Action,

@@ -56,6 +56,7 @@ impl End {
     }
 
     /// As [`End::handle_datagram`], for a receiver alone: `sink` is its file.
+    #[inline(always)]
     pub fn handle_datagram_as_receiver<K: Sink>(
         &mut self,
         sink: &mut K,

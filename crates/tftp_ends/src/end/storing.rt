@@ -32,6 +32,7 @@ enum BlockKind {
 }
 
 /// Which block this data is (RFC 1350, section 6).
+#[inline(always)]
 fn block_kind(piece: &[u8], size: u16) -> BlockKind
     ensures { is_last result ≡ nat_lt (length piece.now) size }
 {
@@ -56,6 +57,7 @@ enum BlockStored {
 }
 
 /// Appends a block's bytes to the sink, if there are any.
+#[inline(always)]
 fn append_block<K: Sink>(sink: &mut K, piece: &[u8]) -> Result<(), StoreFault>
     ensures appended { Appended K.meaning piece.now sink.old sink.new result }
     ensures same { K.is_same sink.old sink.new }
@@ -89,6 +91,7 @@ fn commit<K: Sink>(sink: &mut K) -> BlockStored
 }
 
 /// Appends a block's bytes to the sink, and commits the file after the last block.
+#[inline(always)]
 fn store_block<K: Sink>(
     sink: &mut K,
     piece: &[u8],
@@ -136,6 +139,7 @@ fn decode_into(
 
 /// Stores the host bytes of a piece, and returns the decoder after it. The buffer is for the
 /// decoded bytes.
+#[inline(always)]
 fn store_through<K: Sink>(
     sink: &mut K,
     mode: Mode,
@@ -167,6 +171,7 @@ fn store_through<K: Sink>(
 }
 
 /// Stores the host bytes of a piece, returns the decoder after it, and leaves the buffer empty.
+#[inline(always)]
 fn store_piece<K: Sink>(
     sink: &mut K,
     mode: Mode,
@@ -193,6 +198,7 @@ fn store_piece<K: Sink>(
 impl End {
     /// Stores the received data and acknowledges it: the last block only after the commit. If the
     /// sink refuses, it sends an ERROR and closes.
+    #[inline(always)]
     pub(crate) fn store<K: Sink>(
         &mut self,
         terms: Terms,

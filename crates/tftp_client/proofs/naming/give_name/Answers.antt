@@ -2,8 +2,8 @@
 use Rattle.std.proofs.Common.{List, ℕ, ◌++◌, ◌≡◌, sym, ap, subst}
 use Rattle.std.proofs.Math.Logic.{∥∥₁_map}
 use Rattle.std.specs.String.{string_bytes}
-use Rattle.tftp_disk.specs.DiskJournal.{FileState, state_of}
-use Rattle.tftp_disk.specs.DiskJournal.DiskEvent.{Looked}
+use Rattle.tftp_disk.specs.DiskTrace.{FileState, state_of}
+use Rattle.tftp_disk.specs.DiskTrace.DiskEvent.{Looked}
 use Rattle.tftp_disk.specs.DiskWriter.{calls_of, handed}
 use Rattle.tftp_disk.specs.NamedFolder.{SyncsFolder}
 use Rattle.tftp_client.specs.Fetched.{Keeps, NamesBytes}

@@ -1,8 +1,8 @@
 -- The folder was not synced, and then the name was removed.
 use Rattle.std.proofs.Common.{List, ◌∷◌, ap, ◌∙◌}
 use Rattle.std.specs.Prelude.{string_bytes}
-use Rattle.tftp_disk.specs.DiskJournal.{DiskEvent}
-use Rattle.tftp_disk.specs.DiskJournal.DiskEvent.{Removed}
+use Rattle.tftp_disk.specs.DiskTrace.{DiskEvent}
+use Rattle.tftp_disk.specs.DiskTrace.DiskEvent.{Removed}
 use Rattle.tftp_disk.specs.NamedFolder.{path_in}
 use Rattle.tftp_client.proofs.naming.keep_one.Goals as goal
 

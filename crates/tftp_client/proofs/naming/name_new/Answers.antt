@@ -1,6 +1,6 @@
 -- The file got its name by a link, or by a rename where the system made none.
 use Rattle.std.proofs.Common.{inr}
-use Rattle.tftp_disk.specs.DiskJournal.{state_of}
+use Rattle.tftp_disk.specs.DiskTrace.{state_of}
 use Rattle.tftp_disk.specs.DiskWriter.{calls_of, handed}
 use Rattle.tftp_disk.specs.NamedFolder.{SyncsFolder}
 use Rattle.tftp_disk.specs.declared.existing.Existing.TheVariants.{Refused}

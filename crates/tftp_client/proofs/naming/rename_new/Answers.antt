@@ -1,6 +1,6 @@
 -- Nothing was found at the name.
 use Rattle.std.proofs.Common.{ℕ, List, ◌∷◌, refl, ap, ◌∙◌}
-use Rattle.tftp_disk.specs.DiskJournal.DiskEvent.{Looked}
+use Rattle.tftp_disk.specs.DiskTrace.DiskEvent.{Looked}
 use Rattle.tftp_disk.specs.declared.existing.Existing.TheVariants.{Refused}
 use Rattle.tftp_client.specs.Written.{paths_of}
 use Rattle.tftp_client.proofs.Changing.{renamed_keeps}

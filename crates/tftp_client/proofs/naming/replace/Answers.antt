@@ -1,8 +1,8 @@
 -- The file was renamed over what had the name.
 use Rattle.std.proofs.Common.{inl, refl, sym, ap, subst}
 use Rattle.std.specs.String.{string_bytes}
-use Rattle.tftp_disk.specs.DiskJournal.{FileState, state_of}
-use Rattle.tftp_disk.specs.DiskJournal.DiskEvent.{Looked}
+use Rattle.tftp_disk.specs.DiskTrace.{FileState, state_of}
+use Rattle.tftp_disk.specs.DiskTrace.DiskEvent.{Looked}
 use Rattle.tftp_disk.specs.DiskWriter.{calls_of, handed}
 use Rattle.tftp_disk.specs.declared.existing.Existing.TheVariants.{Replaced}
 use Rattle.tftp_client.specs.Fetched.{IsWholeAt}

@@ -1,8 +1,8 @@
 -- Nothing has its path but it.
 use Rattle.std.proofs.Common.{ℕ, List, ◌∷◌, Ok, ap, ◌∙◌}
 use Rattle.std.specs.String.{string_bytes}
-use Rattle.tftp_disk.specs.DiskJournal.{FileState, made_when}
-use Rattle.tftp_disk.specs.DiskJournal.DiskEvent.{Made}
+use Rattle.tftp_disk.specs.DiskTrace.{FileState, made_when}
+use Rattle.tftp_disk.specs.DiskTrace.DiskEvent.{Made}
 use Rattle.tftp_disk.specs.DiskWriter.{calls_of}
 use Rattle.tftp_client.proofs.StillThere.{just_made}
 use Rattle.tftp_client.proofs.part_file.make_part.Goals as goal
@@ -14,4 +14,4 @@ returns-clause-still g c =
     (g.D.Looks.log c.make.new.self)
     (c.in_ok-file.ensures.noted ∙ ap (λ (path : List ℕ). Made path (Ok tt) ∷ before) c.as_str-3.ensures.value)
     (ap (λ (file : FileState). file.made_when) c.keep_permissions.ensures.state
-    ∙ ((λ k. made_when ((c.new-written.ensures.file k).journal.events)) ∙ ap made_when c.in_ok-file.ensures.file)) ∣₁
+    ∙ ((λ k. made_when ((c.new-written.ensures.file k).trace.events)) ∙ ap made_when c.in_ok-file.ensures.file)) ∣₁

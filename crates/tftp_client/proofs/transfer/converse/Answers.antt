@@ -1,7 +1,7 @@
 -- A run that is complete, and then its line; or one that stopped, and then its file was written.
 use Rattle.std.proofs.Common.{arith, refl, ap, ℕ}
 use Rattle.tftp_client.specs.Conversation.{state_of}
-use Rattle.tftp_client.specs.Runs.{printed}
+use Rattle.tftp_client.specs.Runs.{line_by, printed}
 use Rattle.tftp_client.proofs.LeftBytes.{written_out}
 use Rattle.tftp_client.proofs.NamedOnDisk.{kept, kept_then}
 use Rattle.tftp_client.proofs.Running.{goes_on}
@@ -20,7 +20,8 @@ returns-in-Ok-clause-ok g c =
       complete = c.in-Ok.ensures.complete;
       stays =
           goes_on _ _ c.run-ended.ensures.counted c.run-ended.ensures.port
-          (ap (λ (n : ℕ). printed n last) c.count_of-count.ensures) c.conclude.ensures.goes;
+          (ap (λ (n : ℕ). printed (line_by c.conclude.result n) last) c.count_of-count.ensures)
+          c.conclude.ensures.goes;
       kept =
           kept _ _ (λ before after committed same. same) c.run-ended.new.files c.conclude.new.files
           c.conclude.ensures.goes.converses;
@@ -45,6 +46,7 @@ returns-in-Err-clause-err g c = (
     files = c.write_out.new.files;
     converses = written_out _ _ c.write_out.new.files c.write_out.ensures.works c.run-ended.ensures.converses;
     events = refl;
+    incomplete = c.in-Err.ensures.incomplete;
     ends = c.in-Err.ensures.failed;
   },
   c.write_out.ensures.out,

@@ -1,6 +1,6 @@
 -- The looks of its place, and then its calls.
 use Rattle.std.proofs.Common.{List, subst}
-use Rattle.tftp_disk.specs.DiskJournal.{DiskEvent}
+use Rattle.tftp_disk.specs.DiskTrace.{DiskEvent}
 use Rattle.tftp_client.specs.Fetched.{Keeps}
 use Rattle.tftp_client.specs.OnDisk.{job_paths}
 use Rattle.tftp_client.proofs.Changing.{and_then}

@@ -1,7 +1,7 @@
 -- The file is made at this path alone.
 use Rattle.std.proofs.Common.{◌∙◌, ◌∷◌, List, Ok, Err, ap, refl}
-use Rattle.tftp_disk.specs.DiskJournal.{DiskEvent}
-use Rattle.tftp_disk.specs.DiskJournal.DiskEvent.{Made}
+use Rattle.tftp_disk.specs.DiskTrace.{DiskEvent}
+use Rattle.tftp_disk.specs.DiskTrace.DiskEvent.{Made}
 use Rattle.tftp_folder.proofs.PlacedLemmas.{makes_other}
 use Rattle.tftp_folder.proofs.finding.make_again.Goals as goal
 

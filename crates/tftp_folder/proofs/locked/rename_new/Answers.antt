@@ -1,6 +1,6 @@
 -- No file was found at the name just before, whose lock was made just before that.
 use Rattle.std.proofs.Common.{false, Ok, Err, inr, subst, sym}
-use Rattle.tftp_disk.specs.DiskJournal.{state_of}
+use Rattle.tftp_disk.specs.DiskTrace.{state_of}
 use Rattle.tftp_folder.specs.Uploads.{IsBelow}
 use Rattle.tftp_folder.proofs.InsideLemmas.{rename_inside}
 use Rattle.tftp_folder.proofs.NamingLemmas.{free_locked, renamed}
@@ -9,7 +9,7 @@ use Rattle.tftp_folder.proofs.locked.rename_new.Goals as goal
 
 pub returns-in-Ok-rename-clause-over : goal.returns-in-Ok-rename-clause-over
 returns-in-Ok-rename-clause-over g c =
-    renamed false _ (g.D.Looks.log c.args.disk.now) (g.D.Looks.log c.check_free.new.looks) _ (state_of c.file.result.now.journal.events)
+    renamed false _ (g.D.Looks.log c.args.disk.now) (g.D.Looks.log c.check_free.new.looks) _ (state_of c.file.result.now.trace.events)
     c.as_str-path.result.now c.as_str-target.result.now (Ok tt) c.in-Ok.ensures.renames
     (free_locked _ c.as_str-target.result.now (g.D.Looks.log c.args.disk.now) (g.D.Looks.log c.check_free.new.looks)
     c.as_str-target.ensures.value c.requires.locked c.in-Ok.ensures.free)
@@ -17,7 +17,7 @@ returns-in-Ok-rename-clause-over g c =
 
 pub returns-in-Err-rename-clause-over : goal.returns-in-Err-rename-clause-over
 returns-in-Err-rename-clause-over g c =
-    renamed false _ (g.D.Looks.log c.args.disk.now) (g.D.Looks.log c.check_free.new.looks) _ (state_of c.file.result.now.journal.events)
+    renamed false _ (g.D.Looks.log c.args.disk.now) (g.D.Looks.log c.check_free.new.looks) _ (state_of c.file.result.now.trace.events)
     c.as_str-path.result.now c.as_str-target.result.now (Err c.in-Err-rename.error) c.in-Ok.ensures.renames
     (free_locked _ c.as_str-target.result.now (g.D.Looks.log c.args.disk.now) (g.D.Looks.log c.check_free.new.looks)
     c.as_str-target.ensures.value c.requires.locked c.in-Ok.ensures.free)
@@ -30,7 +30,7 @@ returns-in-Err-clause-inside g c = λ root below.
 
 pub returns-in-Ok-rename-clause-inside : goal.returns-in-Ok-rename-clause-inside
 returns-in-Ok-rename-clause-inside g c = λ root below all.
-    rename_inside root c.args.draft.now (state_of c.file.result.now.journal.events) c.as_str-path.result.now
+    rename_inside root c.args.draft.now (state_of c.file.result.now.trace.events) c.as_str-path.result.now
     c.as_str-target.result.now (Ok tt) (g.D.Looks.log c.check_free.new.looks) _ c.as_str-path.ensures.value
     c.as_str-target.ensures.value c.in-Ok-rename.ensures below
     (c.check_free.ensures.inside root
@@ -38,7 +38,7 @@ returns-in-Ok-rename-clause-inside g c = λ root below all.
 
 pub returns-in-Err-rename-clause-inside : goal.returns-in-Err-rename-clause-inside
 returns-in-Err-rename-clause-inside g c = λ root below all.
-    rename_inside root c.args.draft.now (state_of c.file.result.now.journal.events) c.as_str-path.result.now
+    rename_inside root c.args.draft.now (state_of c.file.result.now.trace.events) c.as_str-path.result.now
     c.as_str-target.result.now (Err c.in-Err-rename.error) (g.D.Looks.log c.check_free.new.looks) _ c.as_str-path.ensures.value
     c.as_str-target.ensures.value c.in-Err-rename.ensures below
     (c.check_free.ensures.inside root
@@ -50,7 +50,7 @@ returns-in-Err-clause-there g c = λ there.
 
 pub returns-in-Ok-rename-clause-there : goal.returns-in-Ok-rename-clause-there
 returns-in-Ok-rename-clause-there g c =
-    rename_there c.args.draft.now (state_of c.file.result.now.journal.events) c.as_str-path.result.now
+    rename_there c.args.draft.now (state_of c.file.result.now.trace.events) c.as_str-path.result.now
     c.as_str-target.result.now (Ok tt) (g.D.Looks.log c.args.disk.now) (g.D.Looks.log c.check_free.new.looks)
     (g.D.Looks.log c.rename.new.self) c.check_free.ensures.placed
     (same_making c.args.draft.now c.file.result.now c.file.ensures) c.as_str-path.ensures.value
@@ -58,7 +58,7 @@ returns-in-Ok-rename-clause-there g c =
 
 pub returns-in-Err-rename-clause-there : goal.returns-in-Err-rename-clause-there
 returns-in-Err-rename-clause-there g c =
-    rename_there c.args.draft.now (state_of c.file.result.now.journal.events) c.as_str-path.result.now
+    rename_there c.args.draft.now (state_of c.file.result.now.trace.events) c.as_str-path.result.now
     c.as_str-target.result.now (Err c.in-Err-rename.error) (g.D.Looks.log c.args.disk.now)
     (g.D.Looks.log c.check_free.new.looks) (g.D.Looks.log c.rename.new.self) c.check_free.ensures.placed
     (same_making c.args.draft.now c.file.result.now c.file.ensures) c.as_str-path.ensures.value

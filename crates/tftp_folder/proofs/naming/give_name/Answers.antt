@@ -2,7 +2,7 @@
 use Rattle.std.proofs.Common.{◌∙◌, ℕ, List, ap, inr, refl, subst, sym}
 use Rattle.std.specs.String.{string_bytes}
 use Rattle.tftp_disk.specs.Changes.{changes}
-use Rattle.tftp_disk.specs.DiskJournal.{DiskEvent}
+use Rattle.tftp_disk.specs.DiskTrace.{DiskEvent}
 use Rattle.tftp_disk.specs.NamedFolder.{OpensFolder}
 use Rattle.tftp_folder.proofs.InsideLemmas.{above_inside, folder_fits, opens_inside, stays_below}
 use Rattle.tftp_folder.proofs.NamingLemmas.{looks_as, then_renames}

@@ -1,6 +1,6 @@
 -- The path is no longer than the root, or it is a folder, and those above it follow.
 use Rattle.std.proofs.Common.{◌∙◌, ◌≤◌, ◌<◌, ℕ, List, length, refl, subst}
-use Rattle.tftp_disk.specs.DiskJournal.{DiskEvent}
+use Rattle.tftp_disk.specs.DiskTrace.{DiskEvent}
 use Rattle.tftp_folder.specs.Opened.{AreFolders}
 use Rattle.tftp_folder.specs.Opened.AreFolders.{Above, Then}
 use Rattle.tftp_folder.proofs.InsideLemmas.{above_inside, longer_below}

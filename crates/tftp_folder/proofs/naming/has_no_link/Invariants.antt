@@ -4,7 +4,7 @@ use Rattle.std.proofs.Common.{◌≡◌, List}
 use denote.Shadow.{shadow}
 use denote.Text.{Utf8}
 use Rattle.tftp_disk.specs.Changes.{changes, renames}
-use Rattle.tftp_disk.specs.DiskJournal.{DiskEvent}
+use Rattle.tftp_disk.specs.DiskTrace.{DiskEvent}
 use Rattle.tftp_folder.specs.Inside.{IsInside, StaysInside}
 use Rattle.tftp_folder.specs.Opened.{AreFolders, follows}
 use Rattle.tftp_folder.specs.Placed.{placed}

@@ -1,6 +1,6 @@
 -- The draft had got its name, as it is now.
 use Rattle.std.proofs.Common.{◌∙◌, List, inl, inr, subst}
-use Rattle.tftp_disk.specs.DiskJournal.{DiskEvent}
+use Rattle.tftp_disk.specs.DiskTrace.{DiskEvent}
 use Rattle.tftp_disk.specs.NamedFolder.{SyncsNoFolder}
 use Rattle.tftp_disk.specs.Changes.{changes}
 use Rattle.tftp_disk.specs.DiskFault.{is_replaced}

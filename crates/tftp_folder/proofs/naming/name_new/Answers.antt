@@ -4,8 +4,8 @@ use Rattle.tftp_folder.specs.Inside.{AreInside}
 use Rattle.tftp_folder.specs.Uploads.{IsBelow}
 use Rattle.tftp_folder.proofs.PlacedLemmas.{link_there, past_there, same_making}
 use Rattle.tftp_folder.specs.Placed.{NamesThere}
-use Rattle.tftp_disk.specs.DiskJournal.{state_of}
-use Rattle.tftp_disk.specs.DiskJournal.DiskEvent.{Linked}
+use Rattle.tftp_disk.specs.DiskTrace.{state_of}
+use Rattle.tftp_disk.specs.DiskTrace.DiskEvent.{Linked}
 use Rattle.tftp_folder.proofs.naming.name_new.Goals as goal
 
 pub returns-in-Ok-rename_locked-clause-inside : goal.returns-in-Ok-rename_locked-clause-inside
@@ -33,10 +33,10 @@ returns-in-Err-rename_locked-clause-inside g c = λ root below all.
 pub returns-in-Ok-rename_locked-clause-there : goal.returns-in-Ok-rename_locked-clause-there
 returns-in-Ok-rename_locked-clause-there g c = λ there names.
     c.rename_locked.ensures.there
-    (past_there c.args.draft.now (Linked (state_of c.file.result.now.journal.events) c.as_str-path.result.now
+    (past_there c.args.draft.now (Linked (state_of c.file.result.now.trace.events) c.as_str-path.result.now
     c.as_str-target.result.now (Err c.in-Err.error)) (g.D.Looks.log c.args.disk.now) (g.D.Looks.log c.link.new.self) tt
     c.in-Err.ensures there)
-    (link_there c.args.draft.now (state_of c.file.result.now.journal.events) c.as_str-path.result.now
+    (link_there c.args.draft.now (state_of c.file.result.now.trace.events) c.as_str-path.result.now
     c.as_str-target.result.now _ (g.D.Looks.log c.args.disk.now) (g.D.Looks.log c.link.new.self)
     (same_making c.args.draft.now c.file.result.now c.file.ensures) c.as_str-path.ensures.value
     c.link.ensures there names)
@@ -44,10 +44,10 @@ returns-in-Ok-rename_locked-clause-there g c = λ there names.
 pub returns-in-Err-rename_locked-clause-there : goal.returns-in-Err-rename_locked-clause-there
 returns-in-Err-rename_locked-clause-there g c = λ there names.
     c.rename_locked.ensures.there
-    (past_there c.args.draft.now (Linked (state_of c.file.result.now.journal.events) c.as_str-path.result.now
+    (past_there c.args.draft.now (Linked (state_of c.file.result.now.trace.events) c.as_str-path.result.now
     c.as_str-target.result.now (Err c.in-Err.error)) (g.D.Looks.log c.args.disk.now) (g.D.Looks.log c.link.new.self) tt
     c.in-Err.ensures there)
-    (link_there c.args.draft.now (state_of c.file.result.now.journal.events) c.as_str-path.result.now
+    (link_there c.args.draft.now (state_of c.file.result.now.trace.events) c.as_str-path.result.now
     c.as_str-target.result.now _ (g.D.Looks.log c.args.disk.now) (g.D.Looks.log c.link.new.self)
     (same_making c.args.draft.now c.file.result.now c.file.ensures) c.as_str-path.ensures.value
     c.link.ensures there names)
@@ -55,14 +55,14 @@ returns-in-Err-rename_locked-clause-there g c = λ there names.
 pub returns-in-Ok-clause-there : goal.returns-in-Ok-clause-there
 returns-in-Ok-clause-there g c = λ there names.
     subst NamesThere (sym c.remove.ensures)
-    (link_there c.args.draft.now (state_of c.file.result.now.journal.events) c.as_str-path.result.now
+    (link_there c.args.draft.now (state_of c.file.result.now.trace.events) c.as_str-path.result.now
     c.as_str-target.result.now _ (g.D.Looks.log c.args.disk.now) (g.D.Looks.log c.link.new.self)
     (same_making c.args.draft.now c.file.result.now c.file.ensures) c.as_str-path.ensures.value
     c.link.ensures there names)
 
 pub returns-then-eq-clause-there : goal.returns-then-eq-clause-there
 returns-then-eq-clause-there g c = λ there names.
-    (link_there c.args.draft.now (state_of c.file.result.now.journal.events) c.as_str-path.result.now
+    (link_there c.args.draft.now (state_of c.file.result.now.trace.events) c.as_str-path.result.now
     c.as_str-target.result.now _ (g.D.Looks.log c.args.disk.now) (g.D.Looks.log c.link.new.self)
     (same_making c.args.draft.now c.file.result.now c.file.ensures) c.as_str-path.ensures.value
     c.link.ensures there names)

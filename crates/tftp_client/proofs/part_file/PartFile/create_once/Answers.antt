@@ -3,7 +3,7 @@ use Rattle.std.proofs.Common.{◌≡◌, false, ℕ, List, Option, Some, None, s
 use Rattle.std.specs.Prelude.{is_some}
 use Rattle.std.proofs.lemmas.Bool.{true≢false}
 use Rattle.std.specs.String.{string_bytes}
-use Rattle.tftp_disk.specs.DiskJournal.{DiskEvent}
+use Rattle.tftp_disk.specs.DiskTrace.{DiskEvent}
 use Rattle.tftp_client.specs.declared.written.Written.{Written}
 use Rattle.tftp_client.specs.Written.{IsStillIn, paths_of}
 use Rattle.tftp_client.proofs.NamedFile.{folder_later}

@@ -6,7 +6,7 @@ use Rattle.tftp_sockets.specs.Watch.{deadline_of}
 use Rattle.tftp_client.specs.Conversation.{state_of}
 use Rattle.tftp_client.specs.Converses.{IsOpen, MayElapse, State, deadline_at}
 use Rattle.tftp_client.specs.Converses.MayElapse.{Stays, Elapses}
-use Rattle.tftp_sockets.specs.Journal.SocketEvent.{Elapsed}
+use Rattle.tftp_sockets.specs.Trace.SocketEvent.{Elapsed}
 use Rattle.tftp_client.proofs.Conversing.{due_elapsed, is_closed, not_refused, replies, state_is}
 use Rattle.tftp_client.proofs.transfer.conversation.Conversation.deliver_timeout.Goals as goal
 
@@ -14,7 +14,7 @@ pub returns-in_default-clause-elapses : goal.returns-in_default-clause-elapses
 returns-in_default-clause-elapses g c =
     let s : State = state_of c.args.self.now (g.N.Udp.log c.args.net.now) in
     let At : State → Type 0 = λ t. MayElapse c.args.self.now.socket.port s t in
-    subst At (state_is (sym c.in_default.ensures.err) refl refl refl)
+    subst At (state_is (sym c.in_default.ensures.err) refl refl refl refl)
     (Stays (inr (is_closed c.in_default.field-0 c.in_default.ensures.closed c.in_default.ensures.memory)))
 
 pub returns-clause-elapses : goal.returns-clause-elapses
@@ -27,7 +27,7 @@ returns-clause-elapses g c =
     let sent = replies port (timeout_turn s.end).reply c.reply-sent.ensures lends.goes (c.bytes_of.ensures
     ∙ lends.bytes) noted in
     let due = c.deadline-self.ensures.value ∙ ap (λ (n : ℕ). deadline_of s.now n) c.interval-seconds.ensures in
-    subst At (sym (state_is lends.state refl due sent))
+    subst At (sym (state_is lends.state refl refl due sent))
     (Elapses c.requires (not_refused _ _ c.in-Ok.ensures.closed))
 
 pub returns-in_default-clause-ready : goal.returns-in_default-clause-ready

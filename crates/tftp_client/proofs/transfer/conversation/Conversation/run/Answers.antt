@@ -1,7 +1,8 @@
 -- Wait by wait.
-use Rattle.std.proofs.Common.{arith, inl, inr, refl, sym, subst, ◌∙◌, ◌≡◌, ◌≤◌}
-use Rattle.tftp_ends.specs.End.{EndState}
+use Rattle.std.proofs.Common.{arith, inl, inr, refl, sym, ap, subst, ◌∙◌, ◌≡◌, ◌≤◌}
+use Rattle.tftp_ends.specs.End.{EndState, is_complete}
 use Rattle.tftp_ends.specs.Files.{AreFilesOf}
+use Rattle.tftp_sockets.specs.declared.watch.Watch.{Watch}
 use Rattle.tftp_client.specs.Conversation.{state_of}
 use Rattle.tftp_client.specs.Converses.{Converses, IsOpen, State, deadline_at}
 use Rattle.tftp_client.specs.Converses.Converses.{Begins}
@@ -14,6 +15,7 @@ loop-made-init g c = record {
   fit = c.requires.files;
   port = refl;
   not_closed = c.requires.not_closed;
+  incomplete = c.requires.incomplete;
   ready = c.requires.ready;
   waits = omega arith;
   left = omega arith;
@@ -53,11 +55,14 @@ loop-made-preserved g c =
     let At : State → Type 0 = λ t. Converses g.S.Source.meaning g.K.Sink.meaning c.args.self.now.socket.port first
     c.args.files.now t c.turn.new.files in
     let Ready : State → Type 0 = λ t. IsOpen t.end → t.deadline ≤ t.now → t.deadline ≡ deadline_at t.now t.end in
-    let same = state_is (sym c.show.ensures.end) (sym c.show.ensures.now) (sym c.show.ensures.deadline) refl in
+    let same = state_is (sym c.show.ensures.end) (sym (ap (λ (w : Watch). w.now) c.show.ensures.watch))
+    (sym (ap (λ (w : Watch). w.reading) c.show.ensures.watch)) (sym c.show.ensures.deadline) refl in
     record {
       fit = subst Fit (sym c.show.ensures.end) c.turn.ensures.files;
       port = c.show.ensures.port ∙ (c.turn.ensures.port ∙ c.loop-made.invariant.port);
       not_closed = subst IsOpen (sym c.show.ensures.end) (none_open c.turn.new.self.end c.in_default.ensures.open.1);
+      incomplete =
+          ap (λ (e : EndState). is_complete e.position.phase) c.show.ensures.end ∙ c.in_default.ensures.open.0;
       ready = subst Ready same c.turn.ensures.ready;
       waits = omega (arith, c.turn.ensures.waits, c.loop-made.invariant.waits);
       left = omega (arith, c.loop-made-test.true);

@@ -1,6 +1,7 @@
--- The file stays one of the end's side, the port the same, the end is open and may wait, each turn
+-- The file stays one of the end's side, the port the same, the end is open, not complete and may wait, each turn
 -- was one wait, and the client has done nothing but the steps of its end.
-use Rattle.std.specs.Prelude.{◌≡◌, ◌+◌}
+use Rattle.std.specs.Prelude.{◌≡◌, ◌+◌, false}
+use Rattle.tftp_ends.specs.End.{is_complete}
 use Rattle.tftp_ends.specs.Files.{AreFilesOf}
 use Rattle.tftp_sockets.specs.Quiet.{waits}
 use Rattle.tftp_client.specs.Conversation.{IsReady, state_of}
@@ -13,6 +14,7 @@ invariant-loop-made g l =
       fit : AreFilesOf l.self.end.role.side l.files;
       port : l.self.socket.port ≡ l.initial.self.socket.port;
       not_closed : IsOpen l.self.end;
+      incomplete : is_complete l.self.end.position.phase ≡ false;
       ready : IsReady l.self;
       waits : waits (g.N.Udp.log l.net) ≡ l.made + waits (g.N.Udp.log l.initial.net);
       left : l.waits + l.made ≡ l.initial.waits;

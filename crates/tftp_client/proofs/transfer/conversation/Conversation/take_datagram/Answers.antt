@@ -17,7 +17,7 @@ returns-in_default-clause-handles g c =
     let At : State → Type 0 = λ t. handles (take c.args.count c.args.self.now.buffer.items) t in
     let whole = c.datagram_in-bytes.ensures ∙ ap (λ (b : List ℕ). take c.args.count b) c.as_slice.ensures.value in
     let Of : List ℕ → Type 0 = λ b. handles b s in
-    subst At (state_is (sym c.in_default.ensures.err.0) refl refl refl)
+    subst At (state_is (sym c.in_default.ensures.err.0) refl refl refl refl)
     (subst Of whole (
       Loses (lost c.in_default.field-0 c.args.from c.datagram_in-bytes.result.now s.end c.in_default.ensures.closed
           c.in_default.ensures.memory) c.in_default.ensures.err.1,
@@ -39,7 +39,7 @@ returns-clause-handles g c =
     let says = c.in-Ok.ensures.steps.3 in
     let sent = replies port turn.reply c.reply-sent.ensures lends.goes (c.bytes_of.ensures ∙ lends.bytes) refl in
     let Of : List ℕ → Type 0 = λ b. handles b (turned port turn s) in
-    subst At (sym (state_is lends.state refl refl sent))
+    subst At (sym (state_is lends.state refl refl refl sent))
     (subst Of whole (
       Answers (not_refused _ _ c.in-Ok.ensures.closed) datagram,
       ap (λ (t : Step). t.progress) says,

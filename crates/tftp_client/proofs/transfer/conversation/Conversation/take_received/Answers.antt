@@ -4,10 +4,10 @@ use Rattle.std.proofs.lemmas.List.{with_items_is, places}
 use Rattle.tftp_client.specs.Conversation.{state_of}
 use Rattle.tftp_client.specs.Converses.{Converses, AnswersReceived, MayWait, State}
 use Rattle.tftp_client.specs.Converses.Converses.{Begins, Receives, Waits}
-use Rattle.tftp_sockets.specs.Journal.{SocketEvent, QuietEvent}
-use Rattle.tftp_sockets.specs.Journal.SocketEvent.{Watched}
-use Rattle.tftp_sockets.specs.Journal.QuietEvent.{Empty, Failed}
-use Rattle.tftp_client.proofs.Conversing.{state_is}
+use Rattle.tftp_sockets.specs.Trace.{SocketEvent, QuietEvent}
+use Rattle.tftp_sockets.specs.Trace.SocketEvent.{Watched}
+use Rattle.tftp_sockets.specs.Trace.QuietEvent.{Empty, Failed}
+use Rattle.tftp_client.proofs.Conversing.{read_by, state_is}
 use Rattle.tftp_client.proofs.transfer.conversation.Conversation.take_received.Goals as goal
 
 pub returns-in-Datagram-clause-converses : goal.returns-in-Datagram-clause-converses
@@ -15,14 +15,15 @@ returns-in-Datagram-clause-converses g c =
     let port = c.args.self.now.socket.port in
     let s : State = state_of c.args.self.now (g.N.Udp.log c.args.net.now) in
     let from = c.in-Datagram.from in
-    let time = c.read_watch.result in
+    let watch = c.read_watch.new.watch in
     let next : State = state_of c.answer_datagram.new.self (g.N.Udp.log c.answer_datagram.new.net) in
     let handles : List ℕ → ℕ → State → Type 0 = λ b p t.
     AnswersReceived g.S.Source.meaning g.K.Sink.meaning p from (take c.in-Datagram.count b) t c.args.files.now
     next c.answer_datagram.new.files in
     let t : State = record {
       end = s.end;
-      now = c.read_watch.new.watch.now;
+      now = watch.now;
+      reading = watch.reading;
       deadline = s.deadline;
       events = (g.N.Udp.log c.read_watch.new.self);
     } in
@@ -30,10 +31,10 @@ returns-in-Datagram-clause-converses g c =
     let Of : ℕ → Type 0 = λ p. handles c.receive_until-received.new.buffer p t in
     let Over : List ℕ → Type 0 = λ b. handles b c.receive_until-received.new.socket.port t in
     let whole = with_items_is c.args.self.now.buffer c.receive_until-received.new.buffer (search (rules, places)) in
-    let noted = c.read_watch.ensures.noted ∙ ap (λ (es : List SocketEvent). Watched time ∷ es) c.in-Datagram.ensures.noted in
+    let noted = c.read_watch.ensures.noted ∙ ap (λ (es : List SocketEvent). Watched watch ∷ es) c.in-Datagram.ensures.noted in
     let may : MayWait s = record { not_closed = c.requires.not_closed; due = c.requires.ready c.requires.not_closed } in
-    Receives Begins may c.read_watch.ensures.forward
-    (subst At (state_is refl c.read_watch.ensures.time refl noted)
+    Receives Begins may (read_by s watch c.read_watch.ensures.time c.read_watch.ensures.reading c.read_watch.ensures.forward)
+    (subst At (state_is refl refl refl refl noted)
     (subst Of c.receive_until-received.ensures.port (subst Over whole c.answer_datagram.ensures.answers)))
 
 pub returns-in-Nothing-clause-converses : goal.returns-in-Nothing-clause-converses
@@ -43,10 +44,11 @@ returns-in-Nothing-clause-converses g c =
     c.args.files.now t c.args.files.now in
     let may : MayWait s = record { not_closed = c.requires.not_closed; due = c.requires.ready c.requires.not_closed } in
     let event : QuietEvent = Empty c.args.self.now.socket.port in
-    let noted = c.read_watch.ensures.noted ∙ ap (λ (es : List SocketEvent). Watched c.read_watch.result ∷ es)
+    let noted = c.read_watch.ensures.noted ∙ ap (λ (es : List SocketEvent). Watched c.read_watch.new.watch ∷ es)
     c.in-Nothing.ensures.noted in
-    subst At (sym (state_is refl c.read_watch.ensures.time refl noted))
-    (Waits {event = event} Begins may (inl refl) c.read_watch.ensures.forward)
+    subst At (sym (state_is refl refl refl refl noted))
+    (Waits {event = event} Begins may (inl refl)
+    (read_by s c.read_watch.new.watch c.read_watch.ensures.time c.read_watch.ensures.reading c.read_watch.ensures.forward))
 
 pub returns-in-Failed-clause-converses : goal.returns-in-Failed-clause-converses
 returns-in-Failed-clause-converses g c =
@@ -55,7 +57,8 @@ returns-in-Failed-clause-converses g c =
     c.args.files.now t c.args.files.now in
     let may : MayWait s = record { not_closed = c.requires.not_closed; due = c.requires.ready c.requires.not_closed } in
     let event : QuietEvent = Failed c.args.self.now.socket.port in
-    let noted = c.read_watch.ensures.noted ∙ ap (λ (es : List SocketEvent). Watched c.read_watch.result ∷ es)
+    let noted = c.read_watch.ensures.noted ∙ ap (λ (es : List SocketEvent). Watched c.read_watch.new.watch ∷ es)
     c.in-Failed.ensures.noted in
-    subst At (sym (state_is refl c.read_watch.ensures.time refl noted))
-    (Waits {event = event} Begins may (inr refl) c.read_watch.ensures.forward)
+    subst At (sym (state_is refl refl refl refl noted))
+    (Waits {event = event} Begins may (inr refl)
+    (read_by s c.read_watch.new.watch c.read_watch.ensures.time c.read_watch.ensures.reading c.read_watch.ensures.forward))

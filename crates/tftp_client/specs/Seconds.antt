@@ -1,0 +1,63 @@
+-- The time of a client and the clock that was read (own).
+use Rattle.std.specs.Prelude.{ℕ, ◌≡◌, ◌≤◌, ◌<◌, ◌+◌, ◌*◌, List, Some}
+use Rattle.tftp_negotiate.specs.declared.known.Kind.{Kind}
+use Rattle.tftp_file.specs.Sink.{SinkMeaning}
+use Rattle.tftp_file.specs.Source.{SourceMeaning}
+use Rattle.tftp_file.specs.declared.files.Files.{Files}
+use Rattle.tftp_ends.specs.End.{outcome_of}
+use Rattle.tftp_ends.specs.declared.outcome.Outcome.TheVariants.{TimedOut}
+use Rattle.tftp_sockets.specs.Watch.{last_moment}
+use Rattle.tftp_sockets.specs.Trace.{SocketEvent}
+use Rattle.tftp_sockets.specs.declared.watch.TheConstants.{LONGEST_WAIT}
+use Rattle.tftp_client.specs.declared.transfer.Job.{Job}
+use Rattle.tftp_client.specs.Converses.{Converses, State}
+use Rattle.tftp_client.specs.Converses.Converses.{Begins, Receives, Waits, Times, Rests}
+use Rattle.tftp_client.specs.Runs.{begun, opens}
+
+module _ {S K : Type 0} {sources : SourceMeaning S} {sinks : SinkMeaning K} where
+  -- no reading of the clock is more than a second later than the one before
+  abbrev pub IsSteady : {port : ℕ} {first : State} {file : Files S K} {s : State}
+      {files : Files S K} → Converses sources sinks port first file s files → Type 0
+  IsSteady Begins = Unit {0}
+  IsSteady (Receives {s} {watch = watch} run may later answers) =
+      IsSteady run × (watch.reading ≤ s.reading + LONGEST_WAIT)
+      × (answers.again.reading ≤ watch.reading + LONGEST_WAIT)
+  IsSteady (Waits {s} {watch = watch} run may event later) =
+      IsSteady run × (watch.reading ≤ s.reading + LONGEST_WAIT)
+  IsSteady (Times run elapses) = IsSteady run
+  IsSteady (Rests run works) = IsSteady run
+
+  -- nothing was received, however long each wait lasted
+  abbrev pub ReceivesNone : {port : ℕ} {first : State} {file : Files S K} {s : State}
+      {files : Files S K} → Converses sources sinks port first file s files → Type 0
+  ReceivesNone Begins = Unit {0}
+  ReceivesNone (Receives run may later answers) = ⊥
+  ReceivesNone (Waits run may event later) = ReceivesNone run
+  ReceivesNone (Times run elapses) = ReceivesNone run
+  ReceivesNone (Rests run works) = ReceivesNone run
+
+-- how long a client to whom nothing comes has an open end at most, in milliseconds: for the request
+-- and for each retry a timeout of a second, and a second, by which the reading that finds it due may
+-- be late
+abbrev pub longest_alone : (retries : ℕ) → ℕ
+longest_alone retries = (retries + 1) * 2000
+
+module _ {S K : Type 0} (sources : SourceMeaning S) (sinks : SinkMeaning K) where
+  -- between two states of a run the time advances at least as much as the readings of the clock
+  abbrev pub PassesWithTheClock : Type 0
+  PassesWithTheClock =
+      (port : ℕ) (first : State) (file : Files S K) (s : State) (files : Files S K)
+      (run : Converses sources sinks port first file s files)
+      → IsSteady run → s.now < last_moment → s.reading + first.now ≤ first.reading + s.now
+
+  -- once the readings of the clock have advanced so much, a client to whom nothing came has timed
+  -- out
+  abbrev pub TimesOutByTheClock : Type 0
+  TimesOutByTheClock =
+      (port reading : ℕ) (kind : Kind) (job : Job) (length : ℕ) (before : List SocketEvent)
+      (file : Files S K) (s : State) (files : Files S K)
+      (run : Converses sources sinks port (begun port reading (opens kind job length) before)
+      file s files)
+      → ReceivesNone run → IsSteady run → s.now < last_moment
+      → reading + longest_alone job.retries ≤ s.reading
+      → outcome_of s.end.position.phase ≡ Some TimedOut
