@@ -5,8 +5,8 @@ use Rattle.tftp_file.specs.Source.{SourceMeaning}
 use Rattle.tftp_server.specs.State.{ServerState}
 use Rattle.tftp_loop.specs.declared.serving.LoopConfig.{LoopConfig}
 use Rattle.tftp_store.specs.Store.{StoreMeaning}
-use Rattle.tftp_disk.specs.DiskJournal.{DiskEvent}
-use Rattle.tftp_sockets.specs.Journal.{SocketEvent}
+use Rattle.tftp_disk.specs.DiskTrace.{DiskEvent}
+use Rattle.tftp_sockets.specs.Trace.{SocketEvent}
 use Rattle.tftp_daemon.specs.CommandLine.{IfExit, IfRun}
 use Rattle.tftp_daemon.specs.Configured.{IsServerOf, ListensAt, MayServe, RunsService, ServesWords, service_at}
 use Rattle.tftp_arguments.specs.Fault.{AskForText}

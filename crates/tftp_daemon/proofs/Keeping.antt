@@ -32,7 +32,7 @@ use Rattle.tftp_loop.specs.Steps.LoopStep.{Waited, At_port, Request_received, No
 use Rattle.tftp_loop.specs.Steps.LoopStep.{Request_noted, Request_answered, Request_lost, Clock_read, Store_set}
 use Rattle.tftp_loop.specs.Steps.LoopStep.{Drain_begun, Transfer_closed}
 use Rattle.tftp_daemon.specs.Leaves.{HasOfServer, RunKeeps, RunLeaves}
-use Rattle.tftp_daemon.proofs.HeldLemmas.{held_any, held_at, held_new, held_next, held_without}
+use Rattle.tftp_loop.proofs.HeldLemmas.{held_any, held_at, held_new, held_next, held_without}
 
 module _ {S F D : Type 0} (OfStore : S → Type 0) (OfDraft : D → Type 0) (meaning : StoreMeaning S D)
     (sources : SourceMeaning F) (keeps : CallsKeep OfStore OfDraft meaning) where

@@ -1,7 +1,7 @@
 mod ConfiguredLemmas
 mod Commands
-mod HeldLemmas
 mod Keeping
 mod NoneStores
 mod Supervising
 mod WithinLimits
+pub mod SentFiles

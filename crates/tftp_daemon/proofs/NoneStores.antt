@@ -29,7 +29,7 @@ use Rattle.tftp_loop.specs.Steps.LoopStep.{Waited, At_port, Request_received, No
 use Rattle.tftp_loop.specs.Steps.LoopStep.{Request_noted, Request_answered, Request_lost, Clock_read, Store_set}
 use Rattle.tftp_loop.specs.Steps.LoopStep.{Drain_begun, Transfer_closed}
 use Rattle.tftp_daemon.specs.Leaves.{NoneStores, RunKeepsHeld, RunLeaves, StoresOnly}
-use Rattle.tftp_daemon.proofs.HeldLemmas.{held_at, held_new, held_next, held_without}
+use Rattle.tftp_loop.proofs.HeldLemmas.{held_at, held_new, held_next, held_without}
 
 module _ {F D : Type 0} where
   -- ---- of the files of one transfer

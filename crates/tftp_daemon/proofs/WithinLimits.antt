@@ -6,10 +6,10 @@ use Rattle.std.specs.String.{string_bytes}
 use Rattle.std.proofs.lemmas.List.Elements.{All-cons, All-nil}
 use Rattle.std.proofs.lemmas.List.{append_assoc}
 use Rattle.tftp_file.specs.Source.{SourceMeaning}
-use Rattle.tftp_disk.specs.DiskJournal.{DiskEvent}
-use Rattle.tftp_disk.specs.DiskJournal.DiskEvent.{Looked, Followed, Resolved, Opened, Tried, Created, Made, Linked}
-use Rattle.tftp_disk.specs.DiskJournal.DiskEvent.{Renamed, Removed, Folder_opened, Folder_synced, Examined, Given, Not_given}
-use Rattle.tftp_disk.specs.DiskJournal.DiskEvent.{Sought, Written, Not_written, Synced, Mode_set}
+use Rattle.tftp_disk.specs.DiskTrace.{DiskEvent}
+use Rattle.tftp_disk.specs.DiskTrace.DiskEvent.{Looked, Followed, Resolved, Opened, Tried, Created, Made, Linked}
+use Rattle.tftp_disk.specs.DiskTrace.DiskEvent.{Renamed, Removed, Folder_opened, Folder_synced, Examined, Given, Not_given}
+use Rattle.tftp_disk.specs.DiskTrace.DiskEvent.{Sought, Written, Not_written, Synced, Mode_set}
 use Rattle.tftp_store.specs.Store.{StoreMeaning}
 use Rattle.tftp_server.specs.State.{TransferState, draft_of}
 use Rattle.tftp_folder.specs.Changing.{AreChanges, IsChange, IsDraftIn, IsLock, IsTarget, KeepsWithin, Limits, ReadOnlyChangesNothing}

@@ -2,8 +2,8 @@
 use Rattle.std.specs.Prelude.{ℕ, ◌≡◌, ⊤, List, [], Some, Ok, All, codes}
 use Rattle.std.specs.String.{string_bytes}
 use Rattle.tftp_file.specs.Source.{SourceMeaning}
-use Rattle.tftp_disk.specs.DiskJournal.{DiskEvent}
-use Rattle.tftp_disk.specs.DiskJournal.DiskEvent.{Made, Linked, Renamed, Removed}
+use Rattle.tftp_disk.specs.DiskTrace.{DiskEvent}
+use Rattle.tftp_disk.specs.DiskTrace.DiskEvent.{Made, Linked, Renamed, Removed}
 use Rattle.tftp_store.specs.Store.{StoreMeaning}
 use Rattle.clap.specs.Simple.{matches_of}
 use Rattle.tftp_arguments.specs.Read.{read_in}
@@ -43,8 +43,8 @@ IsOwnDraft limits draft = IsOwn limits (string_bytes draft.draft) (string_bytes 
 
 module _ {D G H W F E : Type 0} (log : D → List DiskEvent)
     (meaning : StoreMeaning (FolderStore D G H W) (FolderDraft E)) (sources : SourceMeaning F) where
-  -- a run of a server that a configuration has, over a disk of which nothing was asked before, from a
-  -- state to another
+  -- a run of a server that a configuration has, over a disk of which nothing was asked before, from
+  -- a state to another
   pub record RunsConfig (config : DaemonConfig) (first last : LoopState (FolderStore D G H W) F (FolderDraft E))
       : Type 0 where
     pub is_server : IsServerOf log [] config first.server
@@ -52,8 +52,8 @@ module _ {D G H W F E : Type 0} (log : D → List DiskEvent)
 
   -- whatever the words, the server keeps the limits that it began with, which are those of its
   -- configuration (`IsServerOf`): nothing was made, removed or named but its drafts and the places
-  -- that clients can name, no path outside its root was passed to the system, and each of its drafts
-  -- is one that it may begin
+  -- that clients can name, no path outside its root was passed to the system, and each of its
+  -- drafts is one that it may begin
   abbrev pub RunStaysWithin : Type 0
   RunStaysWithin =
       (config : DaemonConfig) (first last : LoopState (FolderStore D G H W) F (FolderDraft E))
@@ -70,8 +70,8 @@ module _ {D G H W F E : Type 0} (log : D → List DiskEvent)
       → WordsConfigure words config → AskForReadOnly words → RunsConfig config first last
       → changes_of log last.server.store ≡ []
 
-  -- with `--uploads FOLDER` each file that was made, named or removed is in that folder of the root,
-  -- or below it
+  -- with `--uploads FOLDER` each file that was made, named or removed is in that folder of the
+  -- root, or below it
   abbrev pub UploadsRunChangesBelow : Type 0
   UploadsRunChangesBelow =
       (words : List (List ℕ)) (config : DaemonConfig) (folder path : List ℕ)

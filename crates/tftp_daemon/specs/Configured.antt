@@ -7,7 +7,7 @@ use Rattle.tftp_file.specs.Source.{SourceMeaning}
 use Rattle.tftp_store.specs.Store.{StoreMeaning}
 use Rattle.tftp_server.specs.Config.{IsConfig}
 use Rattle.tftp_server.specs.State.{ServerState}
-use Rattle.tftp_sockets.specs.Journal.{SocketEvent}
+use Rattle.tftp_sockets.specs.Trace.{SocketEvent}
 use Rattle.tftp_loop.specs.WholeRun.{RunsServer}
 use Rattle.tftp_loop.specs.declared.serving.LoopConfig.{LoopConfig}
 use Rattle.tftp_loop.specs.declared.serving.LoopFault.{LoopFault}
@@ -18,7 +18,7 @@ use Rattle.tftp_daemon.specs.declared.listen.Listen.{Listen}
 use Rattle.tftp_daemon.specs.declared.listen.Listen.TheVariants.{At, Handed}
 use Rattle.tftp_folder.specs.Effects.{changes_of}
 use Rattle.tftp_disk.specs.Changes.{changes}
-use Rattle.tftp_disk.specs.DiskJournal.{DiskEvent}
+use Rattle.tftp_disk.specs.DiskTrace.{DiskEvent}
 use Rattle.tftp_folder.specs.Inside.{StaysInside}
 use Rattle.tftp_folder.specs.Opened.{IsRootOf}
 use Rattle.tftp_folder.specs.Uploads.{path_below, path_of_folder}
@@ -78,10 +78,10 @@ module _ {B G H W F D : Type 0} (meaning : StoreMeaning (FolderStore B G H W) D)
 
 module _ {B G H W F D : Type 0} (log : B → List DiskEvent) (start : List DiskEvent) where
   -- the server of a configuration, which is valid, without transfers: its limits, and a store over
-  -- its folder, to which the system led the word ROOT by the first calls that it was asked for since
-  -- this history of the disk. The store refuses writes, or takes them below one folder alone, as it
-  -- says, has its drafts there, has changed nothing on the disk, and has passed no path outside its
-  -- root to the system
+  -- its folder, to which the system led the word ROOT by the first calls that it was asked for
+  -- since this history of the disk. The store refuses writes, or takes them below one folder alone,
+  -- as it says, has its drafts there, has changed nothing on the disk, and has passed no path
+  -- outside its root to the system
   pub record IsServerOf (config : DaemonConfig) (server : ServerState (FolderStore B G H W) F D)
       : Type 0 where
     pub valid : IsConfig config.config
@@ -114,9 +114,9 @@ module _ {B G H W F D : Type 0} (log : B → List DiskEvent) (start : List DiskE
         ((after ≡ before) × ((status ≡ 2) ⊎ IsOfSeveral config))
         ⊎ ServesConfig config status before after
 
-    -- nothing was done over UDP, with a status of 0 only if the words ask for the help, the version
-    -- or several servers; or a server ran with the configuration that the words name, whatever the
-    -- status
+    -- nothing was done over UDP, with a status of 0 only if the arguments ask for the help, the
+    -- version or several servers; or a server ran with the configuration that they name, whatever
+    -- the status
     abbrev pub ServesWords : List (List ℕ) → ℕ → List SocketEvent → List SocketEvent → Type 0
     ServesWords words status before after =
         ((after ≡ before) × (status ≡ 0 → AskForText tftpd_app words ⊎ AskForSeveral words))

@@ -5,3 +5,4 @@ pub mod Configured
 pub mod Changes
 pub mod Servers
 pub mod Supervised
+pub mod Sent

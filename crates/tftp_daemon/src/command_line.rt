@@ -565,7 +565,7 @@ fn longest<'a>(alloc: Global) -> Arg<'a>
         LONGEST,
         "1..4294967295",
         value_parser!(u32).range(1..=4_294_967_295),
-        "Has a transfer that is so many seconds old time out, whatever comes",
+        "Longest age of a transfer in seconds; later datagrams are dropped until it times out",
     )
 }
 
@@ -585,7 +585,7 @@ fn with_writes<'a>(alloc: Global, command: Command<'a>) -> Result<Command<'a>>
         alloc,
         UPLOADS,
         "FOLDER",
-        "Takes writes below this folder of ROOT alone, and makes the drafts there",
+        "Takes writes below this folder of ROOT alone, and makes its temporary files there",
     );
     Ok(command.arg(uploads)?)
 }
@@ -672,6 +672,6 @@ fn server<'a>(alloc: Global) -> Arg<'a>
         SERVER,
         "1..64",
         value_parser!(u8).range(1..=64),
-        "Is this one of several servers, as --servers starts them; with --listen stdin",
+        "Internal: number of this server of several, passed by --servers; with --listen stdin",
     )
 }

@@ -8,7 +8,7 @@ use std::{env, fs};
 #[derive(Clone, Copy)]
 pub enum ErrorOutput {
     /// The journal of systemd, which takes a priority off a line.
-    Journal,
+    Trace,
     /// A terminal, a file, a pipe or another device.
     Other,
 }
@@ -24,7 +24,7 @@ impl ErrorOutput {
             return ErrorOutput::Other;
         };
         if names(stream.as_str(), errors.dev(), errors.ino()) {
-            ErrorOutput::Journal
+            ErrorOutput::Trace
         } else {
             ErrorOutput::Other
         }
@@ -33,7 +33,7 @@ impl ErrorOutput {
     /// Whether a line begins with its priority.
     pub(crate) fn has_priority(self) -> bool {
         match self {
-            ErrorOutput::Journal => true,
+            ErrorOutput::Trace => true,
             ErrorOutput::Other => false,
         }
     }

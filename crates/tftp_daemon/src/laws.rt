@@ -4,11 +4,13 @@ ghost use Rattle.tftp_daemon.specs.Changes.{ReadOnlyRunChangesNothing, RunStaysW
 ghost use Rattle.tftp_daemon.specs.Changes.{UploadsRunChangesBelow};
 ghost use Rattle.tftp_daemon.specs.Leaves.{ReadOnlyRunStoresNothing, RunKeepsSettings};
 ghost use Rattle.tftp_daemon.specs.Leaves.{UploadsStayInTheirFolder};
+ghost use Rattle.tftp_daemon.specs.Sent.{OnlyAskedFilesLeave};
 
 use tftp_disk::Disk;
 use tftp_file::Source;
-use tftp_folder::laws::{keeps_within_its_limits, read_only_changes_nothing};
+use tftp_folder::laws::{gives_its_file, keeps_within_its_limits, read_only_changes_nothing};
 use tftp_folder::{FolderSource, FolderStore};
+use tftp_loop::laws::a_server_sends_only_what_was_asked;
 use tftp_server::Store;
 
 /// A run leaves the settings of its store: one that refuses writes refuses them to its end, and one
@@ -36,17 +38,16 @@ pub fn uploads_stay_in_their_folder<D: Disk>()
     a_run_keeps_the_settings::<D>();
 }
 
-/// A run changes nothing on the disk but within the limits of its store, which are those of the
+/// A run changes the disk within the limits of its store alone, which are those of the
 /// configuration: drafts at the server's own names are made and removed, and get the names of paths
 /// that clients can spell, and what got such a name may lose it. No other file is made, named,
 /// replaced or removed, whatever datagrams come and whatever the system answers. Each path that the
-/// store passed to the system, also to look at it, is the root or below it, but the operator's path,
-/// which the system resolved to the root.
+/// store passes to the system, even to look at a file, is textually the root or below it. The one
+/// exception is ROOT as the operator wrote it, before it is resolved.
 ///
-/// The calls that open a file are in no journal of the store. Those of an opening that succeeds are
-/// in that of its source: they change nothing, and keep to such paths (`OpensSource` of
-/// `tftp_folder`). Those of one that fails are seen by no caller; the clauses of `open_file` there
-/// state the same of them.
+/// The calls that open a file are recorded apart: in the trace of the source, if the opening
+/// succeeds. They change nothing, and use such paths only (`OpensSource` of `tftp_folder`). For an
+/// opening that fails, the clauses of `open_file` there state it.
 pub fn a_run_stays_within_its_limits<D: Disk>()
     ensures { RunStaysWithin D.log ⟦<FolderStore<D> as Store>⟧.meaning
         ⟦<FolderSource<D::View> as Source>⟧.meaning }
@@ -54,7 +55,7 @@ pub fn a_run_stays_within_its_limits<D: Disk>()
     keeps_within_its_limits::<D>();
 }
 
-/// A run by words with `--read-only` changes nothing on the disk.
+/// A run with `--read-only` among its arguments changes nothing on the disk.
 pub fn a_read_only_run_changes_nothing<D: Disk>()
     ensures { ReadOnlyRunChangesNothing D.log ⟦<FolderStore<D> as Store>⟧.meaning
         ⟦<FolderSource<D::View> as Source>⟧.meaning }
@@ -63,11 +64,25 @@ pub fn a_read_only_run_changes_nothing<D: Disk>()
     read_only_changes_nothing();
 }
 
-/// A run by words with `--uploads FOLDER` makes, names and removes files in that folder of the root
-/// and below it alone.
+/// A run with `--uploads FOLDER` among its arguments makes, names and removes files in that folder
+/// of the root and below it alone.
 pub fn a_run_changes_its_uploads_alone<D: Disk>()
     ensures { UploadsRunChangesBelow D.log ⟦<FolderStore<D> as Store>⟧.meaning
         ⟦<FolderSource<D::View> as Source>⟧.meaning }
 {
     a_run_stays_within_its_limits::<D>();
+}
+
+/// Nothing of the disk leaves a server but blocks of files that were asked for: each datagram that
+/// it sends is an ERROR, an ACK, an OACK, or DATA, and goes to an endpoint that sent one before.
+/// DATA goes to an endpoint that requested to read. What it has of that file, with the blocks
+/// before it, is a beginning of what reads of the file returned that was found in the folder at
+/// that path, as the mode of the request writes it (RFC 1350, sections 2 and 4).
+pub fn only_what_was_asked_leaves_the_folder<D: Disk>()
+    ensures { OnlyAskedFilesLeave D.View.log ⟦<FolderStore<D> as Store>⟧.meaning
+        ⟦<FolderSource<D::View> as Source>⟧.meaning }
+{
+    a_run_keeps_the_settings::<D>();
+    gives_its_file::<D::View>();
+    a_server_sends_only_what_was_asked::<FolderStore<D>>();
 }

@@ -5,8 +5,8 @@ use Rattle.tftp_file.specs.Source.{SourceMeaning}
 use Rattle.tftp_ends.specs.declared.endpoint.Endpoint.{Endpoint}
 use Rattle.tftp_ends.specs.Step.{Reply}
 use Rattle.tftp_store.specs.Store.{StoreMeaning}
-use Rattle.tftp_sockets.specs.Journal.{SocketEvent, answered, replied}
-use Rattle.tftp_sockets.specs.Journal.SocketEvent.{Received, Sent, Watched, Elapsed}
+use Rattle.tftp_sockets.specs.Trace.{SocketEvent, answered, replied}
+use Rattle.tftp_sockets.specs.Trace.SocketEvent.{Received, Sent, Watched, Elapsed}
 use Rattle.tftp_loop.specs.Steps.{PortState, LoopState, PortStep, LoopStep, port_state}
 use Rattle.tftp_loop.specs.Steps.PortStep.{A_datagram, A_lost_datagram, A_late_datagram, Nothing_found}
 use Rattle.tftp_loop.specs.Steps.PortStep.{A_failed_receive, A_timeout, A_missed_timeout, Work}
@@ -67,8 +67,8 @@ module _ {S F D : Type 0} (meaning : StoreMeaning S D) (sources : SourceMeaning 
 
   pub step_adds : (s t : LoopState S F D) → LoopStep meaning sources s t → Adds s.events t.events
   step_adds s t (Waited d) =
-      adds_more s.events _ t.events (adds_one (Watched d.time) s.events _ refl)
-      (adds_more (Watched d.time ∷ s.events) _ t.events (adds_one _ (Watched d.time ∷ s.events) _ refl)
+      adds_more s.events _ t.events (adds_one (Watched d.watch) s.events _ refl)
+      (adds_more (Watched d.watch ∷ s.events) _ t.events (adds_one _ (Watched d.watch ∷ s.events) _ refl)
       (adds_one _ _ t.events (ap (λ (u : LoopState S F D). u.events) d.is)))
   step_adds s t (At_port d) = adds_to s.events d.next.events t.events (ap (λ (u : LoopState S F D). u.events) d.is)
       (port_adds s.now (port_state s d.timer) d.next d.does)
@@ -79,7 +79,7 @@ module _ {S F D : Type 0} (meaning : StoreMeaning S D) (sources : SourceMeaning 
   step_adds s t (Request_answered d) = adds_to s.events _ t.events (ap (λ (u : LoopState S F D). u.events) d.is)
       (replied_adds _ d.left.opened.to d.left.sent s.events)
   step_adds s t (Request_lost d) = adds_none s.events t.events (ap (λ (u : LoopState S F D). u.events) d.is)
-  step_adds s t (Clock_read d) = adds_one (Watched d.time) s.events t.events
+  step_adds s t (Clock_read d) = adds_one (Watched d.watch) s.events t.events
       (ap (λ (u : LoopState S F D). u.events) d.is)
   step_adds s t (Store_set d) = adds_none s.events t.events (ap (λ (u : LoopState S F D). u.events) d.is)
   step_adds s t (Transfer_closed d) = adds_one _ s.events t.events (ap (λ (u : LoopState S F D). u.events) d.is)
@@ -89,7 +89,7 @@ module _ {S F D : Type 0} (meaning : StoreMeaning S D) (sources : SourceMeaning 
   same_now now t u e h = subst (λ (v : LoopState S F D). now ≤ v.now) (sym e) h
 
   pub step_forward : (s t : LoopState S F D) → LoopStep meaning sources s t → s.now ≤ t.now
-  step_forward s t (Waited d) = same_now s.now t _ d.is d.forward
+  step_forward s t (Waited d) = same_now s.now t _ d.is d.by.forward
   step_forward s t (At_port d) = same_now s.now t _ d.is (omega arith)
   step_forward s t (Request_received d) = same_now s.now t _ d.is (omega arith)
   step_forward s t (No_request_found d) = same_now s.now t _ d.is (omega arith)
@@ -97,7 +97,7 @@ module _ {S F D : Type 0} (meaning : StoreMeaning S D) (sources : SourceMeaning 
   step_forward s t (Request_noted d) = same_now s.now t _ d.is (omega arith)
   step_forward s t (Request_answered d) = same_now s.now t _ d.is (omega arith)
   step_forward s t (Request_lost d) = same_now s.now t _ d.is (omega arith)
-  step_forward s t (Clock_read d) = same_now s.now t _ d.is d.forward
+  step_forward s t (Clock_read d) = same_now s.now t _ d.is d.by.forward
   step_forward s t (Store_set d) = same_now s.now t _ d.is (omega arith)
   step_forward s t (Transfer_closed d) = same_now s.now t _ d.is (omega arith)
   step_forward s t (Drain_begun d) = same_now s.now t _ d.is (omega arith)

@@ -211,18 +211,18 @@ module _ {S F D : Type 0} (meaning : StoreMeaning S D) (sources : SourceMeaning 
   step_bounded s t (Waited d) kept bounded =
       subst AreBounded (sym d.is)
       (λ k e h.
-      let more = length-map (map (set_by d.time) s.timers) (marked_by d.ports) in
-      let long = length-map s.timers (set_by d.time) in
+      let more = length-map (map (set_by d.watch.now) s.timers) (marked_by d.ports) in
+      let long = length-map s.timers (set_by d.watch.now) in
       let h' : k < length s.timers = omega (arith, long, more, h) in
       let timer = slice_index_or s.timers k e in
       let was = bounded k e h' in
-      subst (IsBounded s.server d.time) (sym (waited_at d.time d.ports s.timers k e h'))
-      (record { near = set_near s.now d.time timer.provisional timer d.forward was.near; limit = was.limit }))
+      subst (IsBounded s.server d.watch.now) (sym (waited_at d.watch.now d.ports s.timers k e h'))
+      (record { near = set_near s.now d.watch.now timer.provisional timer d.by.forward was.near; limit = was.limit }))
   step_bounded s t (Clock_read d) kept bounded =
       subst AreBounded (sym d.is)
       (λ k e h. let was = bounded k e h in record {
         near =
-            later_near s.now d.time (slice_index_or s.timers k e) d.forward was.near;
+            later_near s.now d.watch.now (slice_index_or s.timers k e) d.by.forward was.near;
         limit = was.limit;
       })
   step_bounded s t (At_port d) kept bounded = subst AreBounded (sym d.is)

@@ -8,8 +8,8 @@ use Rattle.tftp_ends.specs.declared.endpoint.Endpoint.{Endpoint}
 use Rattle.tftp_ends.specs.Step.{Reply}
 use Rattle.tftp_server.specs.State.{TransferState, at}
 use Rattle.tftp_store.specs.Store.{StoreMeaning}
-use Rattle.tftp_sockets.specs.Journal.{SocketEvent, answered}
-use Rattle.tftp_sockets.specs.Journal.SocketEvent.{Elapsed}
+use Rattle.tftp_sockets.specs.Trace.{SocketEvent, answered}
+use Rattle.tftp_sockets.specs.Trace.SocketEvent.{Elapsed}
 use Rattle.tftp_loop.specs.Fair.{received_in}
 use Rattle.tftp_loop.specs.Run.{Run}
 use Rattle.tftp_loop.specs.Run.Run.{Start, Then}
@@ -116,7 +116,7 @@ module _ {S F D : Type 0} (meaning : StoreMeaning S D) (sources : SourceMeaning 
       subst IsFew (sym (waited_at time ports timers k d (omega (arith, e, f, h)))) (omega arith)
 
   step_few : (s t : LoopState S F D) → LoopStep meaning sources s t → AreFew s → AreFew t
-  step_few s t (Waited d) few = subst AreFew (sym d.is) (waited_few d.time d.ports s.timers)
+  step_few s t (Waited d) few = subst AreFew (sym d.is) (waited_few d.watch.now d.ports s.timers)
   step_few s t (At_port d) few =
       subst AreFew (sym d.is)
       (λ k e h.

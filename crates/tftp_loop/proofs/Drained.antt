@@ -6,8 +6,8 @@ use Rattle.tftp_file.specs.Source.{SourceMeaning}
 use Rattle.tftp_ends.specs.declared.endpoint.Endpoint.{Endpoint}
 use Rattle.tftp_ends.specs.Step.{Reply}
 use Rattle.tftp_store.specs.Store.{StoreMeaning}
-use Rattle.tftp_sockets.specs.Journal.{SocketEvent, answered, replied}
-use Rattle.tftp_sockets.specs.Journal.SocketEvent.{Received, Elapsed}
+use Rattle.tftp_sockets.specs.Trace.{SocketEvent, answered, replied}
+use Rattle.tftp_sockets.specs.Trace.SocketEvent.{Received, Elapsed}
 use Rattle.tftp_sockets.specs.Quiet.{is_drained}
 use Rattle.tftp_loop.specs.Steps.{PortState, PortStep}
 use Rattle.tftp_loop.specs.Steps.PortStep.{A_datagram, A_lost_datagram, A_late_datagram, Nothing_found}

@@ -4,7 +4,7 @@ use Rattle.std.proofs.lemmas.Bool.{true≢false}
 use Rattle.tftp_file.specs.Source.{SourceMeaning}
 use Rattle.tftp_store.specs.Store.{StoreMeaning}
 use Rattle.tftp_server.specs.State.{ServerState}
-use Rattle.tftp_sockets.specs.Journal.{SocketEvent}
+use Rattle.tftp_sockets.specs.Trace.{SocketEvent}
 use Rattle.tftp_loop.specs.declared.drain.Drain.{Drain}
 use Rattle.tftp_loop.specs.declared.drain.Drain.TheVariants.{Awaited, Begun, Never}
 use Rattle.tftp_loop.specs.declared.serving.LoopConfig.{LoopConfig}
@@ -66,9 +66,9 @@ module _ {S F D : Type 0} (meaning : StoreMeaning S D) (sources : SourceMeaning 
   step_never s t (Transfer_closed d) never = ap (λ (u : LoopState S F D). u.drain) d.is ∙ never
   step_never s t (Drain_begun d) never = absurd (let e : Never ≡ Awaited = sym never ∙ d.awaited in cc)
 
-  pub drains_by_a_signal : (config : LoopConfig) (port : ℕ) (server : ServerState S F D) (before : List SocketEvent)
+  pub drains_by_a_signal : (config : LoopConfig) (port reading : ℕ) (server : ServerState S F D) (before : List SocketEvent)
       (last : LoopState S F D) → config.drains ≡ false
-      → Run (LoopStep meaning sources) (at_start config port server before) last → last.drain ≡ Never
-  drains_by_a_signal config port server before last none Start = ap drain_of none
-  drains_by_a_signal config port server before last none (Then {middle} run does) =
-      step_never middle last does (drains_by_a_signal config port server before middle none run)
+      → Run (LoopStep meaning sources) (at_start config port server reading before) last → last.drain ≡ Never
+  drains_by_a_signal config port reading server before last none Start = ap drain_of none
+  drains_by_a_signal config port reading server before last none (Then {middle} run does) =
+      step_never middle last does (drains_by_a_signal config port reading server before middle none run)

@@ -8,7 +8,7 @@ use Rattle.tftp_file.specs.Source.{SourceMeaning}
 use Rattle.tftp_ends.specs.declared.endpoint.Endpoint.{Endpoint}
 use Rattle.tftp_store.specs.Store.{StoreMeaning}
 use Rattle.tftp_server.specs.State.{ServerState}
-use Rattle.tftp_sockets.specs.Journal.{SocketEvent}
+use Rattle.tftp_sockets.specs.Trace.{SocketEvent}
 use Rattle.tftp_loop.specs.Dropped.{IsDropped}
 use Rattle.tftp_loop.specs.OnlyRequests.{begins_as_request}
 use Rattle.tftp_loop.specs.Run.{Run}
@@ -63,18 +63,18 @@ module _ {S F D : Type 0} (meaning : StoreMeaning S D) (sources : SourceMeaning 
   stays_only s t Start = refl
   stays_only s t (Then {middle} run does) = step_only middle t does ∙ stays_only s middle run
 
-  pub drops_only_if_told : (config : LoopConfig) (port : ℕ) (server : ServerState S F D) (before : List SocketEvent)
+  pub drops_only_if_told : (config : LoopConfig) (port reading : ℕ) (server : ServerState S F D) (before : List SocketEvent)
       (old new : LoopState S F D) → config.requests_only ≡ false
-      → Run (LoopStep meaning sources) (at_start config port server before) old
+      → Run (LoopStep meaning sources) (at_start config port server reading before) old
       → (loses : LosesRequest meaning sources old new) → IsDropped meaning sources loses.why → ⊥
-  drops_only_if_told config port server before old new off run loses dropped =
+  drops_only_if_told config port reading server before old new off run loses dropped =
       true≢false
       (sym (why_dropped old loses.from loses.bytes loses.why dropped).0
-      ∙ (stays_only (at_start config port server before) old run ∙ off))
+      ∙ (stays_only (at_start config port server reading before) old run ∙ off))
 
-  pub answers_only_requests : (config : LoopConfig) (port : ℕ) (server : ServerState S F D)
+  pub answers_only_requests : (config : LoopConfig) (port reading : ℕ) (server : ServerState S F D)
       (before : List SocketEvent) (old new : LoopState S F D) → config.requests_only ≡ true
-      → Run (LoopStep meaning sources) (at_start config port server before) old
+      → Run (LoopStep meaning sources) (at_start config port server reading before) old
       → (answers : AnswersRequest meaning sources old new) → begins_as_request answers.bytes ≡ true
-  answers_only_requests config port server before old new on run answers =
-      answers.handled (stays_only (at_start config port server before) old run ∙ on)
+  answers_only_requests config port reading server before old new on run answers =
+      answers.handled (stays_only (at_start config port server reading before) old run ∙ on)

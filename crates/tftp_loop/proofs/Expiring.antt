@@ -19,8 +19,8 @@ use Rattle.tftp_sockets.specs.Watch.{deadline_of, last_moment}
 use Rattle.tftp_sockets.specs.declared.watch.TheConstants.{LONGEST_WAIT}
 use Rattle.tftp_lines.specs.Printed.{line_text}
 use Rattle.tftp_lines.specs.declared.printed.Printed.TheVariants.{Closed}
-use Rattle.tftp_sockets.specs.Journal.{SocketEvent, replied}
-use Rattle.tftp_sockets.specs.Journal.SocketEvent.{Printed}
+use Rattle.tftp_sockets.specs.Trace.{SocketEvent, replied}
+use Rattle.tftp_sockets.specs.Trace.SocketEvent.{Printed}
 use Rattle.tftp_loop.specs.Run.{Run}
 use Rattle.tftp_loop.specs.Run.Run.{Start, Then}
 use Rattle.tftp_loop.specs.Steps.{Timer, PortState, LoopState, PortStep, LoopStep, Waits, answering_port}
@@ -349,26 +349,26 @@ module _ {S F D : Type 0} (meaning : StoreMeaning S D) (sources : SourceMeaning 
   rests_lives : (Quiet More : Type 0) (since : ℕ) (s t : LoopState S F D) → Waits meaning sources s t → (More → Quiet)
       → s.now ≤ last_moment → InRound meaning sources since s → Lasts Quiet since s → Lasts More s.now t
   rests_lives Quiet More since s t waits fewer soon in_round lasts =
-      let more = length-map (map (set_by waits.time) s.timers) (marked_by waits.ports) in
-      let as_many = length-map s.timers (set_by waits.time) in
+      let more = length-map (map (set_by waits.watch.now) s.timers) (marked_by waits.ports) in
+      let as_many = length-map s.timers (set_by waits.watch.now) in
       let inside = lasts.within in
       let here = lasts.here in
       let early = rests_early Quiet since s t waits soon lasts in
-      let later = deadline_later waits.time here.provisional here in
-      let within_limit = waits.soon in
+      let later = deadline_later waits.watch.now here.provisional here in
+      let within_limit = waits.by.soon in
       let most_soon = in_round.soon in
       let most_limit = in_round.limit in
-      let set = set_early millis round since waits.time here.provisional here
+      let set = set_early millis round since waits.watch.now here.provisional here
       (ap (λ (n : ℕ). n * 1000) lasts.same.interval) (omega (arith, within_limit, most_soon, most_limit)) in
-      let deadline = deadline_by waits.time here.provisional here in
+      let deadline = deadline_by waits.watch.now here.provisional here in
       let adds = subst (λ (u : LoopState S F D). Adds s.events u.events) waits.is
       (step_adds meaning sources s t (Waited waits)) in
       subst (Lasts More s.now) (sym waits.is) (record {
         index = lasts.index;
-        here = marked_by waits.ports (set_by waits.time lasts.here);
+        here = marked_by waits.ports (set_by waits.watch.now lasts.here);
         within = omega (arith, more, as_many, inside);
-        is = λ d. waited_at waits.time waits.ports s.timers lasts.index d lasts.within
-            ∙ ap (λ (t : Timer). marked_by waits.ports (set_by waits.time t)) (lasts.is d);
+        is = λ d. waited_at waits.watch.now waits.ports s.timers lasts.index d lasts.within
+            ∙ ap (λ (t : Timer). marked_by waits.ports (set_by waits.watch.now t)) (lasts.is d);
         same = record {
           port = lasts.same.port;
           peer = lasts.same.peer;

@@ -9,8 +9,8 @@ use Rattle.tftp_file.specs.Source.{SourceMeaning}
 use Rattle.tftp_ends.specs.declared.endpoint.Endpoint.{Endpoint}
 use Rattle.tftp_ends.specs.Step.{Reply}
 use Rattle.tftp_store.specs.Store.{StoreMeaning}
-use Rattle.tftp_sockets.specs.Journal.{SocketEvent, answered, replied}
-use Rattle.tftp_sockets.specs.Journal.SocketEvent.{Received, Elapsed}
+use Rattle.tftp_sockets.specs.Trace.{SocketEvent, answered, replied}
+use Rattle.tftp_sockets.specs.Trace.SocketEvent.{Received, Elapsed}
 use Rattle.tftp_sockets.specs.Quiet.{is_among, was_tried}
 use Rattle.tftp_server.specs.State.{ServerState}
 use Rattle.tftp_loop.specs.declared.serving.LoopConfig.{LoopConfig}
@@ -128,8 +128,8 @@ module _ {S F D : Type 0} (meaning : StoreMeaning S D) (sources : SourceMeaning 
       (ap (λ (u : LoopState S F D). u.pending) receives.is)) [
         | inl still ↦
             let none = no_time (reads_requests last) (is_some last.pending)
-            (list_any (λ (timer : Timer). timer.marked) (map (set_by waits.time) last.timers))
-            (until_look waits.time (map (set_by waits.time) last.timers)) waits.millis (ap is_some still) waits.may.longest in
+            (list_any (λ (timer : Timer). timer.marked) (map (set_by waits.watch.now) last.timers))
+            (until_look waits.watch.now (map (set_by waits.watch.now) last.timers)) waits.millis (ap is_some still) waits.may.longest in
             absurd (omega (arith, none, some))
         | inr done ↦ done
       ]
@@ -222,16 +222,16 @@ module _ {S F D : Type 0} (meaning : StoreMeaning S D) (sources : SourceMeaning 
         })
       ]
 
-  pub handles_by_the_next_wait : (config : LoopConfig) (port : ℕ) (server : ServerState S F D)
+  pub handles_by_the_next_wait : (config : LoopConfig) (port reading : ℕ) (server : ServerState S F D)
       (before : List SocketEvent) (old received waiting woken last new : LoopState S F D)
-      → Run (LoopStep meaning sources) (at_start config port server before) old
+      → Run (LoopStep meaning sources) (at_start config port server reading before) old
       → (receives : ReceivesRequest meaning sources old received) → Run (LoopStep meaning sources) received waiting
       → Waits meaning sources waiting woken → Run (GoesOn meaning sources) woken last
       → Waits meaning sources last new
       → IsResolved meaning sources receives.from receives.bytes received last
-  handles_by_the_next_wait config port server before old received waiting woken last new begins receives run waits goes next =
+  handles_by_the_next_wait config port reading server before old received waiting woken last new begins receives run waits goes next =
       let own : HasItsOwnPort meaning sources woken last =
-      own_from meaning sources (at_start config port server before) woken last refl
+      own_from meaning sources (at_start config port server reading before) woken last refl
       (onward begins (onward (Then Start (Request_received receives)) (Then run (Waited waits)))) in
       elim (untried_along receives.from receives.bytes received woken last (Then run (Waited waits))
       (ap (λ (u : LoopState S F D). was_tried u.requests u.events) waits.is)

@@ -32,6 +32,13 @@ pub mod Adding
 pub mod Rounds
 pub mod InTime
 pub mod Expiring
+pub mod ByTheClock
 pub mod Handling
 pub mod Draining
 pub mod Dropping
+pub mod HeldLemmas
+pub mod AnsweringEnds
+pub mod OpenedEnds
+pub mod Reflecting
+pub mod AskedFiles
+pub mod Leaving

@@ -9,9 +9,10 @@ use Rattle.tftp_ends.specs.declared.endpoint.Endpoint.{Endpoint}
 use Rattle.tftp_store.specs.Store.{StoreMeaning}
 use Rattle.tftp_server.specs.State.{TransferState, at}
 use Rattle.tftp_sockets.specs.Watch.{deadline_of}
-use Rattle.tftp_sockets.specs.Journal.{SocketEvent}
-use Rattle.tftp_sockets.specs.Journal.SocketEvent.{Received, Elapsed, Watched, Quiet}
-use Rattle.tftp_sockets.specs.Journal.QuietEvent.{Empty, Failed, Slept, Woke}
+use Rattle.tftp_sockets.specs.Trace.{SocketEvent}
+use Rattle.tftp_sockets.specs.declared.watch.Watch.{Watch}
+use Rattle.tftp_sockets.specs.Trace.SocketEvent.{Received, Elapsed, Watched, Quiet}
+use Rattle.tftp_sockets.specs.Trace.QuietEvent.{Empty, Failed, Slept, Woke}
 use Rattle.tftp_sockets.specs.Quiet.{is_among, is_drained}
 use Rattle.tftp_loop.specs.Steps.{Timer, PortState, LoopState, PortStep, LoopStep, answering_port, interval_at, look_after}
 use Rattle.tftp_loop.specs.Steps.{deadline_by, marked_by, next_look, port_state, restarted, set_by, started, timer_after}
@@ -104,19 +105,19 @@ set_left now time false timer h l =
     let soon = l.soon in
     record { soon = omega (arith, soon, h); short = λ e n k. l.short e n (omega (arith, h, k)) }
 
-set_looked : (es : List SocketEvent) (now time : ℕ) (timer : Timer) → now ≤ time → IsLooked es now timer
-    → IsLooked (Watched time ∷ es) time (set_by time timer)
-set_looked es now time timer h (Marked m) = Marked m
-set_looked es now time timer h (Drained d) = Drained d
-set_looked es now time timer h (Left l) = Left (set_left now time timer.provisional timer h l)
+set_looked : (es : List SocketEvent) (now : ℕ) (watch : Watch) (timer : Timer) → now ≤ watch.now → IsLooked es now timer
+    → IsLooked (Watched watch ∷ es) watch.now (set_by watch.now timer)
+set_looked es now watch timer h (Marked m) = Marked m
+set_looked es now watch timer h (Drained d) = Drained d
+set_looked es now watch timer h (Left l) = Left (set_left now watch.now timer.provisional timer h l)
 
-pub read_looked : (es : List SocketEvent) (now time : ℕ) (timers : List Timer) → now ≤ time → All (IsLooked es now) timers
-    → All (IsLooked (Watched time ∷ es) time) (map (set_by time) timers)
-read_looked es now time timers h looked k d within =
-    let long = length-map timers (set_by time) in
+pub read_looked : (es : List SocketEvent) (now : ℕ) (watch : Watch) (timers : List Timer) → now ≤ watch.now
+    → All (IsLooked es now) timers → All (IsLooked (Watched watch ∷ es) watch.now) (map (set_by watch.now) timers)
+read_looked es now watch timers h looked k d within =
+    let long = length-map timers (set_by watch.now) in
     let inside : k < length timers = omega (arith, long, within) in
-    subst (IsLooked (Watched time ∷ es) time) (sym (mapped_at (set_by time) timers k d inside))
-    (set_looked es now time (slice_index_or timers k d) h (looked k d inside))
+    subst (IsLooked (Watched watch ∷ es) watch.now) (sym (mapped_at (set_by watch.now) timers k d inside))
+    (set_looked es now watch (slice_index_or timers k d) h (looked k d inside))
 
 -- a wait marks the ports that it reports
 woken : (es : List SocketEvent) (now millis : ℕ) (ports : List ℕ) (timer : Timer) (among : Bool)
@@ -169,23 +170,23 @@ module _ {S F D : Type 0} (meaning : StoreMeaning S D) (sources : SourceMeaning 
   pub step_looked : (s t : LoopState S F D) → LoopStep meaning sources s t
       → All (λ (timer : Timer). timer.port ≢ s.requests) s.timers → AreApart s.timers → AreLooked s → AreLooked t
   step_looked s t (Waited d) own apart looked =
-      let read = Watched d.time ∷ s.events in
+      let read = Watched d.watch ∷ s.events in
       let after = Quiet (Woke d.ports) ∷ Quiet (Slept d.millis) ∷ read in
-      let set = map (set_by d.time) s.timers in
-      let were = read_looked s.events s.now d.time s.timers d.forward looked in
+      let set = map (set_by d.watch.now) s.timers in
+      let were = read_looked s.events s.now d.watch s.timers d.by.forward looked in
       subst AreLooked (sym d.is)
       (λ k e h.
       let long = length-map set (marked_by d.ports) in
       let within : k < length set = omega (arith, long, h) in
       let timer = slice_index_or set k e in
-      subst (IsLooked after d.time) (sym (mapped_at (marked_by d.ports) set k e within))
-      (woken read d.time d.millis d.ports timer (is_among timer.port d.ports) refl (were k e within)))
+      subst (IsLooked after d.watch.now) (sym (mapped_at (marked_by d.ports) set k e within))
+      (woken read d.watch.now d.millis d.ports timer (is_among timer.port d.ports) refl (were k e within)))
   step_looked s t (Clock_read d) own apart looked =
       subst AreLooked (sym d.is)
       (λ k e h.
       let timer = slice_index_or s.timers k e in
-      still s.events (Watched d.time ∷ s.events) d.time timer (λ was. was)
-      (later s.events s.now d.time timer d.forward (looked k e h)))
+      still s.events (Watched d.watch ∷ s.events) d.watch.now timer (λ was. was)
+      (later s.events s.now d.watch.now timer d.by.forward (looked k e h)))
   step_looked s t (At_port d) own apart looked =
       subst AreLooked (sym d.is)
       (λ k e h.

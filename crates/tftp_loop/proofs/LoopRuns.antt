@@ -12,11 +12,11 @@ use Rattle.tftp_ends.specs.End.{record_of}
 use Rattle.std.proofs.lemmas.Option.{none-some, cond_some}
 use Rattle.tftp_server.specs.State.{TransferState, ServerState, at, draft_of, is_closed, taken_of, without}
 use Rattle.tftp_sockets.specs.declared.port.Port.{Port}
-use Rattle.tftp_sockets.specs.Journal.{SocketEvent}
+use Rattle.tftp_sockets.specs.Trace.{SocketEvent}
 use Rattle.tftp_loop.specs.declared.transfer_port.TransferSocket.{TransferSocket}
 use Rattle.tftp_loop.specs.Run.{Run}
 use Rattle.tftp_loop.specs.Run.Run.{Start, Then}
-use Rattle.tftp_loop.specs.Steps.{Timer, PortState, LoopState, PortStep, LoopStep, Closes, WorksAtPort, port_state}
+use Rattle.tftp_loop.specs.Steps.{Timer, PortState, LoopState, PortStep, LoopStep, Closes, WorksAtPort, port_state, watch_of}
 use Rattle.tftp_loop.specs.Steps.PortStep.{Work}
 use Rattle.tftp_loop.specs.Steps.LoopStep.{At_port}
 use Rattle.tftp_loop.specs.LoopStates.{timer_of, close_printed, close_reported, Works, Work_by}
@@ -27,7 +27,7 @@ use Rattle.tftp_loop.proofs.ListLemmas.{map_is, map_within, map_set, set_itself,
 -- equal parts, equal states
 pub same_state : {S F D : Type 0} (s t : LoopState S F D)
     → s.requests ≡ t.requests → s.range ≡ t.range → s.longest ≡ t.longest → s.requests_only ≡ t.requests_only → s.server ≡ t.server → s.pending ≡ t.pending → s.timers ≡ t.timers
-    → s.now ≡ t.now → s.limit ≡ t.limit → s.woken ≡ t.woken → s.marked ≡ t.marked → s.asked ≡ t.asked → s.drain ≡ t.drain → s.left ≡ t.left → s.rounds ≡ t.rounds → s.events ≡ t.events → s ≡ t
+    → watch_of s ≡ watch_of t → s.limit ≡ t.limit → s.woken ≡ t.woken → s.marked ≡ t.marked → s.asked ≡ t.asked → s.drain ≡ t.drain → s.left ≡ t.left → s.rounds ≡ t.rounds → s.events ≡ t.events → s ≡ t
 same_state {S} {F} {D} s t a r o v b c d e l w f q n g h k = λ i. record {
   requests = a i;
   range = r i;
@@ -36,7 +36,8 @@ same_state {S} {F} {D} s t a r o v b c d e l w f q n g h k = λ i. record {
   server = b i;
   pending = c i;
   timers = d i;
-  now = e i;
+  now = (e i).now;
+  reading = (e i).reading;
   limit = l i;
   woken = w i;
   marked = f i;

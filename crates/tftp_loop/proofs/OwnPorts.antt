@@ -6,7 +6,7 @@ use Rattle.tftp_file.specs.Source.{SourceMeaning}
 use Rattle.tftp_ends.specs.declared.endpoint.Endpoint.{Endpoint}
 use Rattle.tftp_server.specs.State.{TransferState, ServerState, at}
 use Rattle.tftp_store.specs.Store.{StoreMeaning}
-use Rattle.tftp_sockets.specs.Journal.{SocketEvent}
+use Rattle.tftp_sockets.specs.Trace.{SocketEvent}
 use Rattle.tftp_loop.specs.Run.{Run}
 use Rattle.tftp_loop.specs.Run.Run.{Start, Then}
 use Rattle.tftp_loop.specs.Steps.{Timer, LoopState, LoopStep, at_start, interval_at, marked_by, port_state, set_by}
@@ -53,7 +53,7 @@ module _ {S F D : Type 0} (meaning : StoreMeaning S D) (sources : SourceMeaning 
 
   step_others : (s t : LoopState S F D) → LoopStep meaning sources s t → AreOthers s → AreOthers t
   step_others s t (Waited d) others =
-      subst AreOthers (sym d.is) (waited_other s.requests d.time d.ports s.timers others)
+      subst AreOthers (sym d.is) (waited_other s.requests d.watch.now d.ports s.timers others)
   step_others s t (At_port d) others =
       subst AreOthers (sym d.is)
       (λ k e h.
@@ -86,10 +86,10 @@ module _ {S F D : Type 0} (meaning : StoreMeaning S D) (sources : SourceMeaning 
       step_others middle now does (others_along start middle none run)
 
   -- so it is in each run of a server
-  pub has_its_own_port : (config : LoopConfig) (port : ℕ) (server : ServerState S F D) (before : List SocketEvent)
-      (last : LoopState S F D) → HasItsOwnPort (at_start config port server before) last
-  has_its_own_port config port server before last now begins ends =
-      others_along (at_start config port server before) now refl begins
+  pub has_its_own_port : (config : LoopConfig) (port reading : ℕ) (server : ServerState S F D) (before : List SocketEvent)
+      (last : LoopState S F D) → HasItsOwnPort (at_start config port server reading before) last
+  has_its_own_port config port reading server before last now begins ends =
+      others_along (at_start config port server reading before) now refl begins
 
   -- and from any of its times on
   pub own_from : (start first last : LoopState S F D) → start.timers ≡ [] → Run (LoopStep meaning sources) start first

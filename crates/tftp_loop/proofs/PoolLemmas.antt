@@ -7,9 +7,9 @@ use Rattle.std.proofs.lemmas.List.{append-nil, length-drop, length-take}
 use Rattle.std.proofs.lemmas.List.Elements.{All-nil, All-cons, All-head, All-tail, All-same, All-append, All-push}
 use Rattle.std.proofs.lemmas.List.Sorted.{All-permutation, IsPermutation-append_comm, IsPermutation-sym}
 use Rattle.std.proofs.lemmas.List.Sorted.{IsPermutation-trans, length_permutation}
-use Rattle.tftp_sockets.specs.Journal.{SocketEvent}
-use Rattle.tftp_sockets.specs.Journal.SocketEvent.{Quiet}
-use Rattle.tftp_sockets.specs.Journal.QuietEvent.{New_socket, No_socket}
+use Rattle.tftp_sockets.specs.Trace.{SocketEvent}
+use Rattle.tftp_sockets.specs.Trace.SocketEvent.{Quiet}
+use Rattle.tftp_sockets.specs.Trace.QuietEvent.{New_socket, No_socket}
 use Rattle.tftp_sockets.specs.Quiet.{is_among}
 use Rattle.tftp_sockets.specs.declared.sockets.ServerSocket.{ServerSocket}
 use Rattle.tftp_loop.specs.Run.Run.{Start, Then}
@@ -106,7 +106,7 @@ next_some old new None has uses =
     absurd (omega (arith, some, none))
 next_some old new (Some port) has uses = refl
 
--- ---- what the journal says of ports that were tried
+-- ---- what the trace says of ports that were tried
 pub binds : {range : Option PortRange} (port : ℕ) (es fs gs : List SocketEvent) → gs ≡ Quiet (New_socket port) ∷ fs
     → TriesPorts range es fs → Binds range es gs port
 binds port es fs gs is tries = record { between = fs; earlier = tries; is = is }

@@ -1,4 +1,4 @@
--- How many datagrams of a port the journal has between two waits.
+-- How many datagrams of a port the trace has between two waits.
 use Rattle.std.proofs.Common.{arith, ◌≡◌, ◌≤◌, ◌<◌, ◌+◌, ◌*◌, ℕ, Bool, true, false, List, [], ◌∷◌, length, Option, Some, None}
 use Rattle.std.proofs.Common.{refl, sym, ap, subst, ◌∙◌, inl, inr}
 use Rattle.std.specs.Prelude.{All, if◌then◌else◌, is_some, slice_index_or, slice_set}
@@ -8,8 +8,8 @@ use Rattle.tftp_ends.specs.declared.endpoint.Endpoint.{Endpoint}
 use Rattle.tftp_ends.specs.Step.{Reply}
 use Rattle.tftp_server.specs.State.{TransferState, at}
 use Rattle.tftp_store.specs.Store.{StoreMeaning}
-use Rattle.tftp_sockets.specs.Journal.{SocketEvent, answered, replied}
-use Rattle.tftp_sockets.specs.Journal.SocketEvent.{Received, Elapsed}
+use Rattle.tftp_sockets.specs.Trace.{SocketEvent, answered, replied}
+use Rattle.tftp_sockets.specs.Trace.SocketEvent.{Received, Elapsed}
 use Rattle.tftp_loop.specs.Fair.{received_since, since_by}
 use Rattle.tftp_loop.specs.MayWait.{AreKept}
 use Rattle.tftp_loop.specs.Run.{Run}

@@ -21,7 +21,7 @@ use Rattle.tftp_server.specs.Steps.{TakesDatagramLent, TimesOutLent, DatagramFau
 use Rattle.tftp_server.specs.Shortage.{LacksMemoryAt}
 use Rattle.tftp_server.specs.declared.fault.ServerFault.{ServerFault}
 use Rattle.tftp_server.specs.declared.fault.ServerFault.TheVariants.{Memory}
-use Rattle.tftp_sockets.specs.Journal.{SocketEvent, replied, answered}
+use Rattle.tftp_sockets.specs.Trace.{SocketEvent, replied, answered}
 use Rattle.tftp_loop.specs.Steps.{AnswersDatagram, LosesDatagram, AnswersTimeout}
 
 -- the answer that an end lends, sent to the endpoint of the step, is the reply of its turn

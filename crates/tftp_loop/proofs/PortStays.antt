@@ -13,9 +13,9 @@ use Rattle.tftp_server.specs.State.{TransferState, ServerState, at, with_next}
 use Rattle.tftp_server.specs.Steps.{KeepsHeld}
 use Rattle.tftp_server.specs.Work.{WorksAt}
 use Rattle.tftp_sockets.specs.Watch.{deadline_of}
-use Rattle.tftp_sockets.specs.Journal.{SocketEvent, answered, replied}
-use Rattle.tftp_sockets.specs.Journal.SocketEvent.{Received, Elapsed, Quiet}
-use Rattle.tftp_sockets.specs.Journal.QuietEvent.{Empty, Failed}
+use Rattle.tftp_sockets.specs.Trace.{SocketEvent, answered, replied}
+use Rattle.tftp_sockets.specs.Trace.SocketEvent.{Received, Elapsed, Quiet}
+use Rattle.tftp_sockets.specs.Trace.QuietEvent.{Empty, Failed}
 use Rattle.tftp_sockets.specs.Quiet.{was_tried}
 use Rattle.tftp_loop.specs.Run.{Run}
 use Rattle.tftp_loop.specs.Run.Run.{Start, Then}

@@ -6,9 +6,9 @@ use Rattle.std.proofs.lemmas.Result.{err_from_is_err_and}
 use Rattle.tftp_file.specs.Source.{SourceMeaning}
 use Rattle.tftp_ends.specs.declared.endpoint.Endpoint.{Endpoint}
 use Rattle.tftp_store.specs.Store.{StoreMeaning}
-use Rattle.tftp_sockets.specs.Journal.{SocketEvent, QuietEvent, looked}
-use Rattle.tftp_sockets.specs.Journal.SocketEvent.{Received, Quiet}
-use Rattle.tftp_sockets.specs.Journal.QuietEvent.{Empty, Failed, Drain_signalled}
+use Rattle.tftp_sockets.specs.Trace.{SocketEvent, QuietEvent, looked}
+use Rattle.tftp_sockets.specs.Trace.SocketEvent.{Received, Quiet}
+use Rattle.tftp_sockets.specs.Trace.QuietEvent.{Empty, Failed, Drain_signalled}
 use Rattle.tftp_sockets.specs.Quiet.{was_tried}
 use Rattle.tftp_loop.specs.declared.server_loop.ServerLoop.{ServerLoop}
 use Rattle.tftp_loop.specs.declared.serving.LoopFault.{LoopFault}
@@ -137,7 +137,7 @@ module _ {S F D : Type 0} (meaning : StoreMeaning S D) (sources : SourceMeaning 
         (ap (λ (d : ServerLoop S F D). d.sockets.pool.range) is) (ap (λ (d : ServerLoop S F D). d.longest) is)
         (ap (λ (d : ServerLoop S F D). d.requests_only) is)
         (ap (λ (d : ServerLoop S F D). d.server) is) refl (ap (λ (d : ServerLoop S F D). (loop_state None d es).timers) is)
-        (ap (λ (d : ServerLoop S F D). d.sockets.watch.now) is)
+        (ap (λ (d : ServerLoop S F D). d.sockets.watch) is)
         (ap (λ (d : ServerLoop S F D). d.sockets.limit) is) refl
         (ap (λ (d : ServerLoop S F D). d.sockets.is_ready) is
         ∙ (reads_when (is_draining old.drain) old.sockets.is_ready reads).1)
@@ -206,7 +206,7 @@ module _ {S F D : Type 0} (meaning : StoreMeaning S D) (sources : SourceMeaning 
       ∙ (ap (λ (p : Option (Endpoint × ℕ)). pending_in p after) none
       ∙ sym (ap (λ (p : Option (Endpoint × ℕ)). pending_in p before) none)))
       (ap (λ (d : ServerLoop S F D). (loop_state None d es).timers) is)
-      (ap (λ (d : ServerLoop S F D). d.sockets.watch.now) is)
+      (ap (λ (d : ServerLoop S F D). d.sockets.watch) is)
       (ap (λ (d : ServerLoop S F D). d.sockets.limit) is) refl
       (ap (λ (d : ServerLoop S F D). d.sockets.is_ready) is)
       (ap (λ (d : ServerLoop S F D). d.sockets.has_received) is) (ap (λ (d : ServerLoop S F D). d.drain) is)

@@ -10,9 +10,9 @@ use Rattle.tftp_ends.specs.declared.endpoint.Endpoint.{Endpoint}
 use Rattle.tftp_store.specs.Store.{StoreMeaning}
 use Rattle.tftp_server.specs.State.{TransferState, ServerState, at, taken_of, with_new}
 use Rattle.tftp_server.specs.Request.{Came, Left, Nothing, Error_reply, A_transfer, left_by}
-use Rattle.tftp_sockets.specs.Journal.{SocketEvent, replied}
-use Rattle.tftp_sockets.specs.Journal.SocketEvent.{Received, Quiet}
-use Rattle.tftp_sockets.specs.Journal.QuietEvent.{Empty, Failed}
+use Rattle.tftp_sockets.specs.Trace.{SocketEvent, replied}
+use Rattle.tftp_sockets.specs.Trace.SocketEvent.{Received, Quiet}
+use Rattle.tftp_sockets.specs.Trace.QuietEvent.{Empty, Failed}
 use Rattle.tftp_sockets.specs.Quiet.{is_among, was_tried}
 use Rattle.tftp_loop.specs.Run.{Run}
 use Rattle.tftp_loop.specs.Run.Run.{Start, Then}
@@ -289,9 +289,9 @@ module _ {S F D : Type 0} (meaning : StoreMeaning S D) (sources : SourceMeaning 
       is_among port waits.ports ≡ true → HasTimer port old.timers → IsDue port woken
   reported_due port old woken waits among has =
       let long = length-map old.timers (λ (timer : Timer). timer.port) in
-      let set = map (set_by waits.time) old.timers in
+      let set = map (set_by waits.watch.now) old.timers in
       let more = length-map set (marked_by waits.ports) in
-      let as_many = length-map old.timers (set_by waits.time) in
+      let as_many = length-map old.timers (set_by waits.watch.now) in
       let within : has.0 < length old.timers = (let w = has.1 in omega (arith, long, w)) in
       let port_of : (d : Timer) → (slice_index_or old.timers has.0 d).port ≡ port =
       λ d. sym (map_at (λ (timer : Timer). timer.port) old.timers has.0 d)
@@ -300,9 +300,9 @@ module _ {S F D : Type 0} (meaning : StoreMeaning S D) (sources : SourceMeaning 
         index = has.0;
         within = omega (arith, more, as_many, within);
         has_port =
-            λ d. ap (λ (u : Timer). u.port) (waited_at waits.time waits.ports old.timers has.0 d within) ∙ port_of d;
+            λ d. ap (λ (u : Timer). u.port) (waited_at waits.watch.now waits.ports old.timers has.0 d within) ∙ port_of d;
         marked = λ d.
-            ap (λ (u : Timer). u.marked) (waited_at waits.time waits.ports old.timers has.0 d within)
+            ap (λ (u : Timer). u.marked) (waited_at waits.watch.now waits.ports old.timers has.0 d within)
             ∙ or_right (slice_index_or old.timers has.0 d).marked
             (is_among (slice_index_or old.timers has.0 d).port waits.ports)
             (ap (λ (p : ℕ). is_among p waits.ports) (port_of d) ∙ among);
@@ -311,16 +311,16 @@ module _ {S F D : Type 0} (meaning : StoreMeaning S D) (sources : SourceMeaning 
             (sym (port_of d)) ∙ (waits.may.transfers has.0 d within).not_closed);
       })
 
-  pub reads_what_is_reported : (config : LoopConfig) (requests : ℕ) (server : ServerState S F D) (before : List SocketEvent)
+  pub reads_what_is_reported : (config : LoopConfig) (requests reading : ℕ) (server : ServerState S F D) (before : List SocketEvent)
       (old woken last new : LoopState S F D)
-      → Run (LoopStep meaning sources) (at_start config requests server before) old →
+      → Run (LoopStep meaning sources) (at_start config requests server reading before) old →
       (waits : Waits meaning sources old woken) → Run (GoesOn meaning sources) woken last →
       Waits meaning sources last new
       → (port : ℕ) → is_among port waits.ports ≡ true → HasTimer port old.timers → was_tried port last.events ≡ true
-  reads_what_is_reported config requests server before old woken last new run waits goes next port among has =
+  reads_what_is_reported config requests reading server before old woken last new run waits goes next port among has =
       let kept =
       step_kept meaning sources old woken (Waited waits)
-      (kept_along meaning sources config requests server before old run) in
+      (kept_along meaning sources config requests reading server before old run) in
       let end =
       reads_along port woken last goes
       (record { kept = kept; reads = inr (reported_due port old woken waits among has) }) in

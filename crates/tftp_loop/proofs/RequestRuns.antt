@@ -14,9 +14,9 @@ use Rattle.tftp_server.specs.CallersFiles.{refusal}
 use Rattle.tftp_ends.specs.declared.error_reply.ErrorReply.{ErrorReply}
 use Rattle.tftp_ends.specs.Step.{error_bytes}
 use Rattle.tftp_server.specs.declared.opened.Opened.{Opened}
-use Rattle.tftp_sockets.specs.Journal.{SocketEvent, replied}
-use Rattle.tftp_sockets.specs.Journal.SocketEvent.{Received, Quiet}
-use Rattle.tftp_sockets.specs.Journal.QuietEvent.{Out_of_memory}
+use Rattle.tftp_sockets.specs.Trace.{SocketEvent, replied}
+use Rattle.tftp_sockets.specs.Trace.SocketEvent.{Received, Quiet}
+use Rattle.tftp_sockets.specs.Trace.QuietEvent.{Out_of_memory}
 use Rattle.tftp_loop.specs.OnlyRequests.{IsHandledBy, begins_as_request}
 use Rattle.tftp_loop.specs.PortOrder.{IsOneOf}
 use Rattle.tftp_loop.specs.PortPool.{Binds, TriesInVain, TriesPorts}

@@ -51,10 +51,10 @@ module _ {S F D : Type 0} (meaning : StoreMeaning S D) (sources : SourceMeaning 
   -- the round after a wait
   pub next_round : (since : ℕ) (s t : LoopState S F D) → Waits meaning sources s t → InRound since s → InRound s.now t
   next_round since s t d round =
-      let now : t.now ≡ d.time = ap (λ (u : LoopState S F D). u.now) d.is in
+      let now : t.now ≡ d.watch.now = ap (λ (u : LoopState S F D). u.now) d.is in
       let limit = ap (λ (u : LoopState S F D). u.limit) d.is in
-      let soon = d.soon in
-      let forward = d.forward in
+      let soon = d.by.soon in
+      let forward = d.by.forward in
       record {
         soon = omega (arith, now, soon);
         limit = omega (arith, limit);
@@ -85,13 +85,13 @@ module _ {S F D : Type 0} (meaning : StoreMeaning S D) (sources : SourceMeaning 
   step_round since s t (Drain_begun d) is round =
       same_round since s t (ap (λ (u : LoopState S F D). u.now) d.is) (ap (λ (u : LoopState S F D). u.limit) d.is) round
   step_round since s t (Clock_read d) is round =
-      let now : t.now ≡ d.time = ap (λ (u : LoopState S F D). u.now) d.is in
+      let now : t.now ≡ d.watch.now = ap (λ (u : LoopState S F D). u.now) d.is in
       let limit = ap (λ (u : LoopState S F D). u.limit) d.is in
       let was = round.soon in
       let most = round.limit in
       let from = round.from in
-      let soon = d.soon in
-      let forward = d.forward in
+      let soon = d.by.soon in
+      let forward = d.by.forward in
       record {
         soon = omega (arith, now, was, soon, most);
         limit = omega (arith, limit, most);

@@ -7,8 +7,8 @@ use Rattle.tftp_file.specs.Source.{SourceMeaning}
 use Rattle.tftp_store.specs.Store.{StoreMeaning}
 use Rattle.tftp_server.specs.State.{ServerState}
 use Rattle.tftp_sockets.specs.declared.watch.TheConstants.{LONGEST_WAIT}
-use Rattle.tftp_sockets.specs.Journal.{SocketEvent}
-use Rattle.tftp_sockets.specs.Journal.SocketEvent.{Watched}
+use Rattle.tftp_sockets.specs.Trace.{SocketEvent}
+use Rattle.tftp_sockets.specs.Trace.SocketEvent.{Watched}
 use Rattle.tftp_sockets.specs.Quiet.{is_among, is_drained}
 use Rattle.tftp_loop.specs.Run.{Run}
 use Rattle.tftp_loop.specs.Run.Run.{Start, Then}
@@ -88,7 +88,7 @@ module _ {S F D : Type 0} (meaning : StoreMeaning S D) (sources : SourceMeaning 
       AreKept t.server.held t.timers
   step_kept s t (Waited d) kept =
       subst (λ (u : LoopState S F D). AreKept u.server.held u.timers) (sym d.is)
-      (waited_kept s.server.held d.time d.ports s.timers kept)
+      (waited_kept s.server.held d.watch.now d.ports s.timers kept)
   step_kept s t (Clock_read d) kept = subst (λ (u : LoopState S F D). AreKept u.server.held u.timers) (sym d.is) kept
   step_kept s t (At_port d) kept = (work_keeps meaning sources s t (Then Start (Work_by (At_port d) tt))).kept kept
   step_kept s t (Request_received d) kept =
@@ -109,24 +109,24 @@ module _ {S F D : Type 0} (meaning : StoreMeaning S D) (sources : SourceMeaning 
   step_kept s t (Drain_begun d) kept =
       (work_keeps meaning sources s t (Then Start (Work_by (Drain_begun d) tt))).kept kept
 
-  pub kept_along : (config : LoopConfig) (port : ℕ) (server : ServerState S F D) (before : List SocketEvent)
-      (old : LoopState S F D) → Run (LoopStep meaning sources) (at_start config port server before) old
+  pub kept_along : (config : LoopConfig) (port reading : ℕ) (server : ServerState S F D) (before : List SocketEvent)
+      (old : LoopState S F D) → Run (LoopStep meaning sources) (at_start config port server reading before) old
       → AreKept old.server.held old.timers
-  kept_along config port server before old Start =
+  kept_along config port reading server before old Start =
       record { apart = λ j k d e hj hk h. absurd (omega (arith, hj)); each = λ k d h. absurd (omega (arith, h)) }
-  kept_along config port server before old (Then {middle} run does) =
-      step_kept middle old does (kept_along config port server before middle run)
+  kept_along config port reading server before old (Then {middle} run does) =
+      step_kept middle old does (kept_along config port reading server before middle run)
 
-  quiet_along : (config : LoopConfig) (port : ℕ) (server : ServerState S F D) (before : List SocketEvent)
-      (old : LoopState S F D) → Run (LoopStep meaning sources) (at_start config port server before) old
-      → HasItsOwnPort meaning sources (at_start config port server before) old → IsQuiet old
-  quiet_along config port server before old Start own = record {
+  quiet_along : (config : LoopConfig) (port reading : ℕ) (server : ServerState S F D) (before : List SocketEvent)
+      (old : LoopState S F D) → Run (LoopStep meaning sources) (at_start config port server reading before) old
+      → HasItsOwnPort meaning sources (at_start config port server reading before) old → IsQuiet old
+  quiet_along config port reading server before old Start own = record {
     drained = λ m. not_marked m;
     kept = record { apart = λ j k d e hj hk h. absurd (omega (arith, hj)); each = λ k d h. absurd (omega (arith, h)) };
     looked = λ k d h. absurd (omega (arith, h));
   }
-  quiet_along config port server before old (Then {middle} run does) own =
-      let was = quiet_along config port server before middle run (λ now begins ends. own now begins (Then ends does)) in
+  quiet_along config port reading server before old (Then {middle} run does) own =
+      let was = quiet_along config port reading server before middle run (λ now begins ends. own now begins (Then ends does)) in
       record {
         drained = step_drained middle old does (own middle run (Then Start does)) was.drained;
         kept = step_kept middle old does was.kept;
@@ -181,34 +181,34 @@ look_longest now [] = omega arith
 look_longest now (timer ∷ timers) = let rest = look_longest now timers in omega (arith, rest)
 
 module _ {S F D : Type 0} (meaning : StoreMeaning S D) (sources : SourceMeaning F) where
-  pub rests_before_it_sleeps : (config : LoopConfig) (port : ℕ) (server : ServerState S F D) (before : List SocketEvent)
-      (old new : LoopState S F D) → Run (LoopStep meaning sources) (at_start config port server before) old →
+  pub rests_before_it_sleeps : (config : LoopConfig) (port reading : ℕ) (server : ServerState S F D) (before : List SocketEvent)
+      (old new : LoopState S F D) → Run (LoopStep meaning sources) (at_start config port server reading before) old →
       (waits : Waits meaning sources old new) → 1 ≤ waits.millis →
-      MaySleep meaning sources (read_at waits.time old) waits.millis
-  rests_before_it_sleeps config port server before old new run waits some =
-      let was = quiet_along meaning sources config port server before old run
-      (has_its_own_port meaning sources config port server before old) in
-      let set = map (set_by waits.time) old.timers in
-      let until = until_look waits.time set in
+      MaySleep meaning sources (read_at waits.watch old) waits.millis
+  rests_before_it_sleeps config port reading server before old new run waits some =
+      let was = quiet_along meaning sources config port reading server before old run
+      (has_its_own_port meaning sources config port reading server before old) in
+      let set = map (set_by waits.watch.now) old.timers in
+      let until = until_look waits.watch.now set in
       let longest = waits.may.longest in
       let parts =
       idle_parts (reads_requests old) (is_some old.pending) (list_any (λ (timer : Timer). timer.marked) set) until
       (omega (arith, some, longest)) in
-      let most : waits.millis ≤ until = idle_millis (is_busy (read_at waits.time old)) until waits.millis some longest in
-      let looked = read_looked old.events old.now waits.time old.timers waits.forward was.looked in
-      let kept = set_kept old.server.held waits.time old.timers was.kept in
+      let most : waits.millis ≤ until = idle_millis (is_busy (read_at waits.watch old)) until waits.millis some longest in
+      let looked = read_looked old.events old.now waits.watch old.timers waits.by.forward was.looked in
+      let kept = set_kept old.server.held waits.watch.now old.timers was.kept in
       record {
         requests = λ on. was.drained (unmarked_when (is_draining old.drain) old.marked parts.0 on);
         pending = none_pending old.pending parts.1;
         transfers = λ k d h.
-            let first = look_first waits.time set k d h in
+            let first = look_first waits.watch.now set k d h in
             let unmarked = none_marked set parts.2 k d h in
             record {
               unmarked = unmarked;
-              drained = looked_at_rest (slice_index_or set k d) (Watched waits.time ∷ old.events) waits.time unmarked
+              drained = looked_at_rest (slice_index_or set k d) (Watched waits.watch ∷ old.events) waits.watch.now unmarked
                   (looked k d h);
               ends = omega (arith, first, most, some);
               look = (kept.each k d h).look;
             };
-        longest = let l = look_longest waits.time set in omega (arith, l, most);
+        longest = let l = look_longest waits.watch.now set in omega (arith, l, most);
       }

@@ -19,7 +19,7 @@ use Rattle.tftp_loop.specs.declared.port_visit.PortStatus.TheVariants as statuse
 use Rattle.tftp_sockets.specs.declared.port.Port.{Port}
 use Rattle.tftp_loop.specs.declared.port_visit.Pass.{Pass}
 use Rattle.tftp_loop.specs.declared.port_visit.Pass.TheVariants as passes
-use Rattle.tftp_sockets.specs.Journal.{SocketEvent}
+use Rattle.tftp_sockets.specs.Trace.{SocketEvent}
 use Rattle.tftp_loop.specs.declared.server_loop.ServerLoop.{ServerLoop}
 use Rattle.tftp_loop.specs.declared.transfer_port.TransferSocket.{TransferSocket}
 use Rattle.tftp_loop.specs.LoopStates.{timer_of}

@@ -2,8 +2,8 @@
 use Rattle.std.proofs.Common.{arith, ◌≡◌, ◌≤◌, ◌+◌, ℕ, true, List, ◌∷◌, MutBor, refl, sym, ap, subst, ◌∙◌}
 use Rattle.tftp_file.specs.Source.{SourceMeaning}
 use Rattle.tftp_store.specs.Store.{StoreMeaning}
-use Rattle.tftp_sockets.specs.Journal.{SocketEvent, QuietEvent}
-use Rattle.tftp_sockets.specs.Journal.SocketEvent.{Elapsed, Received, Quiet}
+use Rattle.tftp_sockets.specs.Trace.{SocketEvent, QuietEvent}
+use Rattle.tftp_sockets.specs.Trace.SocketEvent.{Elapsed, Received, Quiet}
 use Rattle.tftp_sockets.specs.Quiet.{was_tried}
 use Rattle.tftp_loop.specs.declared.datagram.Datagram.{Datagram}
 use Rattle.tftp_loop.specs.declared.port_visit.PortVisit.{PortVisit}

@@ -13,7 +13,7 @@ use Rattle.tftp_ends.specs.declared.record.Record.{Record}
 use Rattle.tftp_ends.specs.End.{record_of}
 use Rattle.tftp_server.specs.State.{TransferState, ServerState, at, draft_of, is_closed, taken_of, without}
 use Rattle.tftp_server.specs.Work.{WorksAt}
-use Rattle.tftp_sockets.specs.Journal.{SocketEvent}
+use Rattle.tftp_sockets.specs.Trace.{SocketEvent}
 use Rattle.tftp_sockets.specs.declared.port.Port.{Port}
 use Rattle.tftp_loop.specs.declared.transfer_port.TransferSocket.{TransferSocket}
 use Rattle.tftp_loop.specs.Steps.{Timer, PortState, LoopState, Closes, WorksAtPort}

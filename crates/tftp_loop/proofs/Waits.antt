@@ -9,12 +9,13 @@ use Rattle.tftp_file.specs.Source.{SourceMeaning}
 use Rattle.tftp_ends.specs.declared.endpoint.Endpoint.{Endpoint}
 use Rattle.tftp_store.specs.Store.{StoreMeaning}
 use Rattle.tftp_server.specs.State.{TransferState, ServerState, at, taken_of}
-use Rattle.tftp_sockets.specs.Watch.{last_moment, wait_of}
+use Rattle.tftp_sockets.specs.Watch.{last_moment, later_within, wait_of}
+use Rattle.tftp_sockets.specs.declared.watch.Watch.{Watch}
 use Rattle.tftp_sockets.specs.declared.watch.TheConstants.{LONGEST_WAIT}
 use Rattle.tftp_sockets.specs.declared.port.Port.{Port}
-use Rattle.tftp_sockets.specs.Journal.{SocketEvent}
-use Rattle.tftp_sockets.specs.Journal.SocketEvent.{Watched, Quiet}
-use Rattle.tftp_sockets.specs.Journal.QuietEvent.{Slept, Woke}
+use Rattle.tftp_sockets.specs.Trace.{SocketEvent}
+use Rattle.tftp_sockets.specs.Trace.SocketEvent.{Watched, Quiet}
+use Rattle.tftp_sockets.specs.Trace.QuietEvent.{Slept, Woke}
 use Rattle.tftp_sockets.specs.Quiet.{is_among}
 use Rattle.tftp_loop.specs.declared.transfer_port.TransferSocket.{TransferSocket}
 use Rattle.tftp_loop.specs.declared.server_loop.ServerLoop.{ServerLoop}
@@ -96,7 +97,7 @@ module _ {S F D : Type 0} where
   -- a reading of the clock changes no wait but by its time
   read_millis : (buffer : List ℕ) (d read : ServerLoop S F D) (before after : List SocketEvent) →
       HasRead d before read after →
-      most_millis (read_at read.sockets.watch.now (state_of buffer d before)) ≡ millis_of read
+      most_millis (read_at read.sockets.watch (state_of buffer d before)) ≡ millis_of read
   read_millis buffer d read before after r =
       let time = read.sockets.watch.now in
       let Millis : Bool → Option (Endpoint × ℕ) → Bool → ℕ → ℕ =
@@ -120,10 +121,10 @@ module _ {S F D : Type 0} where
       (ports : List ℕ) → HasRead d before read after →
       IsTended d before → 1 ≤ d.left → 1 ≤ d.rounds → millis ≤ millis_of read
       → (millis ≡ 0 → (millis_of read ≡ 0) ⊎ (ports ≢ []))
-      → MayWait (state_of buffer d before) read.sockets.watch.now millis ports
+      → MayWait (state_of buffer d before) read.sockets.watch millis ports
   may_wait buffer d read before after millis ports r tended left rounds longest shortest =
-      let time = read.sockets.watch.now in
-      let same : most_millis (read_at time (state_of buffer d before)) ≡ millis_of read =
+      let watch = read.sockets.watch in
+      let same : most_millis (read_at watch (state_of buffer d before)) ≡ millis_of read =
       read_millis buffer d read before after r in
       record {
         read = refl;
@@ -133,7 +134,7 @@ module _ {S F D : Type 0} where
             λ h. tended.requests (ap (λ (b : Bool). reads_of d || b) (sym (pending_same d.pending buffer)) ∙ h);
         transfers = served buffer d before tended;
         longest = omega (arith, longest, same);
-        shortest = λ h. shortest_by (millis_of read) (most_millis (read_at time (state_of buffer d before))) same (shortest h);
+        shortest = λ h. shortest_by (millis_of read) (most_millis (read_at watch (state_of buffer d before))) same (shortest h);
       }
 
 -- ---- marks, one by one
@@ -240,12 +241,13 @@ module _ {S F D : Type 0} (meaning : StoreMeaning S D) (sources : SourceMeaning 
   -- the clock before a wait that was allowed, the wait, its marks, and the clock after it
   pub waits_as : (buffer : List ℕ) (old read noted new : ServerLoop S F D) (millis : ℕ) (ports : List ℕ)
       {before timed noted_events after : List SocketEvent} →
-      HasRead old before read timed → MayWait (state_of buffer old before) read.sockets.watch.now millis ports
+      HasRead old before read timed → MayWait (state_of buffer old before) read.sockets.watch millis ports
       → HasSlept millis ports read timed noted noted_events → HasWoken ports noted noted_events new after →
       Run (LoopStep meaning sources) (state_of buffer old before) (state_of buffer new after)
   waits_as buffer old read noted new millis ports {before} {timed} {noted_events} {after} reads may slept woken =
       let requests = slept.requests ∙ reads.requests in
-      let now = slept.now in
+      let watch = slept.watch in
+      let now = ap (λ (w : Watch). w.now) watch in
       let limit = slept.limit ∙ reads.limit in
       let time = read.sockets.watch.now in
       let s = state_of buffer old before in
@@ -254,10 +256,11 @@ module _ {S F D : Type 0} (meaning : StoreMeaning S D) (sources : SourceMeaning 
         asked = false;
         timers = map (marked_by ports) (map (set_by time) s.timers);
         now = time;
+        reading = read.sockets.watch.reading;
         limit = min (s.now + LONGEST_WAIT) last_moment;
         woken = true;
         rounds = s.rounds - 1;
-        events = Quiet (Woke ports) ∷ Quiet (Slept millis) ∷ Watched time ∷ s.events;
+        events = Quiet (Woke ports) ∷ Quiet (Slept millis) ∷ Watched read.sockets.watch ∷ s.events;
       } in
       let forward : time ≤ new.sockets.watch.now = let f = woken.now in omega (arith, now, f) in
       let end : round_end noted.sockets.watch.now noted.sockets.limit ≡ round_end time waited.limit =
@@ -265,27 +268,30 @@ module _ {S F D : Type 0} (meaning : StoreMeaning S D) (sources : SourceMeaning 
       let soon : new.sockets.watch.now ≤ max time (round_end time waited.limit) =
       subst (λ (n : ℕ). new.sockets.watch.now ≤ max n (round_end time waited.limit)) now
       (subst (λ (n : ℕ). new.sockets.watch.now ≤ max noted.sockets.watch.now n) end woken.soon) in
+      let reading = new.sockets.watch.reading in
+      let by = woken.reading
+      ∙ (ap (λ (w : Watch). later_within w reading (round_end noted.sockets.watch.now noted.sockets.limit)) watch
+      ∙ ap (λ (n : ℕ). later_within read.sockets.watch reading n) end) in
       Then (Then Start (Waited (record {
-        time = time;
-        forward = reads.forward;
-        soon = reads.soon;
+        watch = read.sockets.watch;
+        by = record { time = reads.reading; forward = reads.forward; soon = reads.soon };
         millis = millis;
         ports = ports;
         may = may;
         is = refl;
       })))
       (Clock_read (record {
-        time = new.sockets.watch.now;
+        watch = new.sockets.watch;
         woken = refl;
-        forward = forward;
-        soon = soon;
+        by = record { time = by; forward = forward; soon = soon };
         is =
             same_state (state_of buffer new after)
             (record waited {
               now = new.sockets.watch.now;
+              reading = new.sockets.watch.reading;
               limit = round_end time waited.limit;
               woken = false;
-              events = Watched new.sockets.watch.now ∷ waited.events;
+              events = Watched new.sockets.watch ∷ waited.events;
             })
             (woken.requests ∙ requests) (woken.range ∙ (slept.range ∙ reads.range))
             (woken.longest ∙ (slept.longest ∙ reads.longest))
@@ -302,7 +308,7 @@ module _ {S F D : Type 0} (meaning : StoreMeaning S D) (sources : SourceMeaning 
             (woken.drain ∙ (slept.drain ∙ reads.drain))
             (woken.left ∙ (slept.left ∙ reads.left))
             (woken.rounds ∙ ap (λ (n : ℕ). n - 1) (slept.rounds ∙ reads.rounds))
-            (woken.events ∙ ap (λ (es : List SocketEvent). Watched new.sockets.watch.now ∷ es)
+            (woken.events ∙ ap (λ (es : List SocketEvent). Watched new.sockets.watch ∷ es)
             (slept.events ∙ ap (λ (es : List SocketEvent). Quiet (Woke ports) ∷ Quiet (Slept millis) ∷ es) reads.events));
       }))
 

@@ -3,7 +3,7 @@ use Rattle.std.specs.Prelude.{ℕ, ◌≡◌, ⊤, false, List}
 use Rattle.tftp_file.specs.Source.{SourceMeaning}
 use Rattle.tftp_store.specs.Store.{StoreMeaning}
 use Rattle.tftp_server.specs.State.{ServerState}
-use Rattle.tftp_sockets.specs.Journal.{SocketEvent}
+use Rattle.tftp_sockets.specs.Trace.{SocketEvent}
 use Rattle.tftp_loop.specs.Run.{Run}
 use Rattle.tftp_loop.specs.Steps.{LoopState, LoopStep, BeginsDrain, at_start}
 use Rattle.tftp_loop.specs.Steps.LoopStep.{Request_received, No_request_found, Request_not_received}
@@ -34,8 +34,8 @@ module _ {S F D : Type 0} (meaning : StoreMeaning S D) (sources : SourceMeaning 
   -- a server that awaits no signal never drains
   abbrev pub DrainsByASignal : Type 0
   DrainsByASignal =
-      (config : LoopConfig) (port : ℕ) (server : ServerState S F D) (before : List SocketEvent)
-      (last : LoopState S F D)
+      (config : LoopConfig) (port reading : ℕ) (server : ServerState S F D)
+      (before : List SocketEvent) (last : LoopState S F D)
       → config.drains ≡ false
-      → Run (LoopStep meaning sources) (at_start config port server before) last
+      → Run (LoopStep meaning sources) (at_start config port server reading before) last
       → last.drain ≡ Never

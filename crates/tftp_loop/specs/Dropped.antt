@@ -7,7 +7,7 @@ use Rattle.tftp_file.specs.Source.{SourceMeaning}
 use Rattle.tftp_ends.specs.declared.endpoint.Endpoint.{Endpoint}
 use Rattle.tftp_store.specs.Store.{StoreMeaning}
 use Rattle.tftp_server.specs.State.{ServerState}
-use Rattle.tftp_sockets.specs.Journal.{SocketEvent}
+use Rattle.tftp_sockets.specs.Trace.{SocketEvent}
 use Rattle.tftp_loop.specs.OnlyRequests.{begins_as_request}
 use Rattle.tftp_loop.specs.Run.{Run}
 use Rattle.tftp_loop.specs.Steps.{LoopState, LoopStep, AnswersRequest, LosesRequest, at_start}
@@ -31,18 +31,18 @@ module _ {S F D : Type 0} (meaning : StoreMeaning S D) (sources : SourceMeaning 
   -- a server that handles all datagrams drops none
   abbrev pub DropsOnlyIfTold : Type 0
   DropsOnlyIfTold =
-      (config : LoopConfig) (port : ℕ) (server : ServerState S F D) (before : List SocketEvent)
-      (old new : LoopState S F D)
+      (config : LoopConfig) (port reading : ℕ) (server : ServerState S F D)
+      (before : List SocketEvent) (old new : LoopState S F D)
       → config.requests_only ≡ false
-      → Run (LoopStep meaning sources) (at_start config port server before) old
+      → Run (LoopStep meaning sources) (at_start config port server reading before) old
       → (loses : LosesRequest meaning sources old new) → IsDropped loses.why → ⊥
 
   -- one that handles only requests answers nothing else
   abbrev pub AnswersOnlyRequests : Type 0
   AnswersOnlyRequests =
-      (config : LoopConfig) (port : ℕ) (server : ServerState S F D) (before : List SocketEvent)
-      (old new : LoopState S F D)
+      (config : LoopConfig) (port reading : ℕ) (server : ServerState S F D)
+      (before : List SocketEvent) (old new : LoopState S F D)
       → config.requests_only ≡ true
-      → Run (LoopStep meaning sources) (at_start config port server before) old
+      → Run (LoopStep meaning sources) (at_start config port server reading before) old
       → (answers : AnswersRequest meaning sources old new)
       → begins_as_request answers.bytes ≡ true

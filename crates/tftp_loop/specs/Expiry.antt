@@ -13,8 +13,8 @@ use Rattle.tftp_sockets.specs.Watch.{last_moment}
 use Rattle.tftp_sockets.specs.declared.watch.TheConstants.{LONGEST_WAIT}
 use Rattle.tftp_lines.specs.Printed.{line_text}
 use Rattle.tftp_lines.specs.declared.printed.Printed.TheVariants.{Closed}
-use Rattle.tftp_sockets.specs.Journal.{SocketEvent}
-use Rattle.tftp_sockets.specs.Journal.SocketEvent.{Printed}
+use Rattle.tftp_sockets.specs.Trace.{SocketEvent}
+use Rattle.tftp_sockets.specs.Trace.SocketEvent.{Printed}
 use Rattle.tftp_loop.specs.Run.{Run}
 use Rattle.tftp_loop.specs.Steps.{Timer, PortState, LoopState, PortStep, LoopStep, Waits}
 use Rattle.tftp_loop.specs.Steps.PortStep.{A_datagram, A_lost_datagram}
@@ -36,7 +36,7 @@ closing_time now interval retries =
 abbrev pub counted_from : ℕ → Timer → ℕ
 counted_from now timer = if timer.provisional then now + LONGEST_WAIT else now
 
--- the line of a transfer that closed was printed between two journals
+-- the line of a transfer that closed was printed between two traces
 abbrev pub PrintsClose : ℕ → ℕ → Outcome → List SocketEvent → List SocketEvent → Type 0
 PrintsClose port peer outcome before after =
     (later : List SocketEvent) × (earlier : List SocketEvent)

@@ -3,11 +3,11 @@
 use Rattle.std.specs.Prelude.{ℕ, ◌≡◌, ◌≢◌, ◌≤◌, ◌+◌, ◌*◌, ◌==◌, if◌then◌else◌, List, [], ◌∷◌, All}
 use Rattle.tftp_file.specs.Source.{SourceMeaning}
 use Rattle.tftp_store.specs.Store.{StoreMeaning}
-use Rattle.tftp_sockets.specs.Journal.{SocketEvent, QuietEvent}
-use Rattle.tftp_sockets.specs.Journal.SocketEvent.{Received, Sent, Watched, Elapsed, Printed, Quiet}
-use Rattle.tftp_sockets.specs.Journal.QuietEvent.{Empty, Failed, New_socket, No_socket}
-use Rattle.tftp_sockets.specs.Journal.QuietEvent.{Out_of_memory, No_reader, Drain_signalled}
-use Rattle.tftp_sockets.specs.Journal.QuietEvent.{Slept, Woke}
+use Rattle.tftp_sockets.specs.Trace.{SocketEvent, QuietEvent}
+use Rattle.tftp_sockets.specs.Trace.SocketEvent.{Received, Sent, Watched, Elapsed, Printed, Quiet}
+use Rattle.tftp_sockets.specs.Trace.QuietEvent.{Empty, Failed, New_socket, No_socket}
+use Rattle.tftp_sockets.specs.Trace.QuietEvent.{Out_of_memory, No_reader, Drain_signalled}
+use Rattle.tftp_sockets.specs.Trace.QuietEvent.{Slept, Woke}
 use Rattle.tftp_loop.specs.Run.{Run}
 use Rattle.tftp_loop.specs.Steps.{Timer, PortState, LoopState, PortStep, LoopStep, most_in_round}
 
@@ -16,12 +16,12 @@ abbrev pub received_in : List SocketEvent → ℕ
 received_in [] = 0
 received_in (Received port from bytes ∷ events) = 1 + received_in events
 received_in (Sent port to bytes ∷ events) = received_in events
-received_in (Watched time ∷ events) = received_in events
+received_in (Watched watch ∷ events) = received_in events
 received_in (Elapsed port time ∷ events) = received_in events
 received_in (Printed line ∷ events) = received_in events
 received_in (Quiet event ∷ events) = received_in events
 
--- at most so many datagrams were received from one journal to the other
+-- at most so many datagrams were received from one trace to the other
 abbrev pub ReceivesAtMost : ℕ → List SocketEvent → List SocketEvent → Type 0
 ReceivesAtMost most before after = received_in after ≤ most + received_in before
 
@@ -43,7 +43,7 @@ received_since port [] = 0
 received_since port (Received p from bytes ∷ events) =
     (if p == port then 1 else 0) + received_since port events
 received_since port (Sent p to bytes ∷ events) = received_since port events
-received_since port (Watched time ∷ events) = received_since port events
+received_since port (Watched watch ∷ events) = received_since port events
 received_since port (Elapsed p time ∷ events) = received_since port events
 received_since port (Printed line ∷ events) = received_since port events
 received_since port (Quiet event ∷ events) = since_by event (received_since port events)
@@ -62,7 +62,7 @@ module _ {S F D : Type 0} (meaning : StoreMeaning S D) (sources : SourceMeaning 
       → All (λ (timer : Timer). timer.received ≤ most_in_round) now.timers
 
   -- a port has three transfers at most between two waits: one that was open, and those of two
-  -- requests, of which one was kept from before. So the journal has no more datagrams of it than
+  -- requests, of which one was kept from before. So the trace has no more datagrams of it than
   -- three timers count
   abbrev pub ReceivesFewAtAPort : Type 0
   ReceivesFewAtAPort =

@@ -5,7 +5,7 @@ use Rattle.tftp_file.specs.Source.{SourceMeaning}
 use Rattle.tftp_ends.specs.declared.endpoint.Endpoint.{Endpoint}
 use Rattle.tftp_store.specs.Store.{StoreMeaning}
 use Rattle.tftp_server.specs.State.{ServerState}
-use Rattle.tftp_sockets.specs.Journal.{SocketEvent}
+use Rattle.tftp_sockets.specs.Trace.{SocketEvent}
 use Rattle.tftp_sockets.specs.Quiet.{is_among, was_tried}
 use Rattle.tftp_loop.specs.Run.{Run}
 use Rattle.tftp_loop.specs.Steps.{LoopState, LoopStep, Waits, ReceivesRequest, AnswersRequest}
@@ -44,9 +44,9 @@ module _ {S F D : Type 0} (meaning : StoreMeaning S D) (sources : SourceMeaning 
   -- finds it pending, and receives none
   abbrev pub HandlesByTheNextWait : Type 0
   HandlesByTheNextWait =
-      (config : LoopConfig) (port : ℕ) (server : ServerState S F D) (before : List SocketEvent)
-      (old received waiting woken last new : LoopState S F D)
-      → Run (LoopStep meaning sources) (at_start config port server before) old
+      (config : LoopConfig) (port reading : ℕ) (server : ServerState S F D)
+      (before : List SocketEvent) (old received waiting woken last new : LoopState S F D)
+      → Run (LoopStep meaning sources) (at_start config port server reading before) old
       → (receives : ReceivesRequest meaning sources old received)
       → Run (LoopStep meaning sources) received waiting → Waits meaning sources waiting woken
       → Run (GoesOn meaning sources) woken last

@@ -12,7 +12,10 @@ pub mod Fair
 pub mod Sleeps
 pub mod Reported
 pub mod Expiry
+pub mod Seconds
 pub mod Handled
 pub mod PortsInTurn
 pub mod Draining
 pub mod Dropped
+pub mod Reflected
+pub mod Leaving

@@ -9,9 +9,9 @@ use Rattle.tftp_server.specs.State.{ServerState}
 use Rattle.tftp_server.specs.Request.{Admits, AdmissionState}
 use Rattle.tftp_server.specs.declared.opened.Opened.{Opened}
 use Rattle.tftp_sockets.specs.declared.port.Port.{Port}
-use Rattle.tftp_sockets.specs.Journal.{SocketEvent, replied}
-use Rattle.tftp_sockets.specs.Journal.SocketEvent.{Printed, Quiet}
-use Rattle.tftp_sockets.specs.Journal.QuietEvent.{No_reader, Out_of_memory}
+use Rattle.tftp_sockets.specs.Trace.{SocketEvent, replied}
+use Rattle.tftp_sockets.specs.Trace.SocketEvent.{Printed, Quiet}
+use Rattle.tftp_sockets.specs.Trace.QuietEvent.{No_reader, Out_of_memory}
 use Rattle.tftp_ends.specs.declared.outcome.Outcome.{Outcome}
 use Rattle.tftp_lines.specs.Printed.{line_text}
 use Rattle.tftp_lines.specs.declared.printed.Printed.TheVariants.{Closed}
@@ -56,13 +56,13 @@ module _ {S F D : Type 0} where
   OnlyServesPort meaning sources now old port before new port' after =
       Run (PortStep meaning sources now) (at_port old port before) (at_port new port' after)
 
--- the journal after the close of a transfer with this outcome, if it has one
+-- the trace after the close of a transfer with this outcome, if it has one
 abbrev pub close_printed : ℕ → Endpoint → Option Outcome → List SocketEvent → List SocketEvent
 close_printed port peer None events = events
 close_printed port peer (Some outcome) events =
     Printed (line_text (Closed port peer.port outcome)) ∷ events
 
--- the journal after the close of a transfer with this record, if there is one
+-- the trace after the close of a transfer with this record, if there is one
 abbrev pub close_reported : ℕ → Endpoint → Option Record → List SocketEvent → List SocketEvent
 close_reported port peer None events = events
 close_reported port peer (Some r) events = close_printed port peer r.outcome events
@@ -89,7 +89,7 @@ abbrev pub StopsServing : List SocketEvent → LoopFault → List SocketEvent �
 StopsServing before fault events =
     ((fault ≡ faults.Memory) × (events ≡ before)) ⊎ StopsRunning fault events
 
--- the journal at the end of a run with this result: that memory was refused, or that a look found
+-- the trace at the end of a run with this result: that memory was refused, or that a look found
 -- no reader, is noted last
 abbrev pub noted_at_end : {A : Type 0} → Result A LoopFault → List SocketEvent → List SocketEvent
 noted_at_end (Ok done) events = events
@@ -123,6 +123,7 @@ module _ {S F D : Type 0} where
         pending = pending;
         timers = map timer_of d.ports.items;
         now = d.sockets.watch.now;
+        reading = d.sockets.watch.reading;
         limit = d.sockets.limit;
         woken = false;
         marked = d.sockets.is_ready;
@@ -206,7 +207,7 @@ module _ {S F D : Type 0} where
     pub timers : map timer_of new.ports.items
         ≡ with_timer old.sockets.watch.now old.longest from opened.tid old.server.held
         (map timer_of old.ports.items)
-    pub now : new.sockets.watch.now ≡ old.sockets.watch.now
+    pub watch : new.sockets.watch ≡ old.sockets.watch
     pub limit : new.sockets.limit ≡ old.sockets.limit
     pub marked : new.sockets.is_ready ≡ old.sockets.is_ready
     pub asked : new.sockets.has_received ≡ old.sockets.has_received

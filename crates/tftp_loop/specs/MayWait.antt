@@ -10,12 +10,12 @@ use Rattle.tftp_ends.specs.declared.record.Record.{Record}
 use Rattle.tftp_ends.specs.declared.record.Step.{Step}
 use Rattle.tftp_store.specs.Store.{StoreMeaning}
 use Rattle.tftp_server.specs.State.{TransferState, at, taken_of}
-use Rattle.tftp_sockets.specs.Watch.{deadline_of, last_moment, wait_of}
+use Rattle.tftp_sockets.specs.Watch.{deadline_of, last_moment, later_within, wait_of}
 use Rattle.tftp_sockets.specs.declared.watch.TheConstants.{LONGEST_WAIT}
 use Rattle.tftp_sockets.specs.declared.port.Port.{Port}
-use Rattle.tftp_sockets.specs.Journal.{SocketEvent}
-use Rattle.tftp_sockets.specs.Journal.SocketEvent.{Quiet, Watched}
-use Rattle.tftp_sockets.specs.Journal.QuietEvent.{Slept, Woke}
+use Rattle.tftp_sockets.specs.Trace.{SocketEvent}
+use Rattle.tftp_sockets.specs.Trace.SocketEvent.{Quiet, Watched}
+use Rattle.tftp_sockets.specs.Trace.QuietEvent.{Slept, Woke}
 use Rattle.tftp_sockets.specs.Quiet.{is_among, was_tried}
 use Rattle.tftp_loop.specs.declared.server_loop.ServerLoop.{ServerLoop}
 use Rattle.tftp_loop.specs.declared.port_visit.TheConstants.{MOST_AT_ONCE}
@@ -249,6 +249,8 @@ module _ {S F D : Type 0} where
     pub server : new.server ≡ old.server
     pub pending : new.pending ≡ old.pending
     pub ports : new.ports.items ≡ old.ports.items
+    pub reading : new.sockets.watch.now ≡ later_within old.sockets.watch
+        new.sockets.watch.reading (round_end old.sockets.watch.now old.sockets.limit)
     pub forward : old.sockets.watch.now ≤ new.sockets.watch.now
     pub soon : new.sockets.watch.now
         ≤ max old.sockets.watch.now (round_end old.sockets.watch.now old.sockets.limit)
@@ -259,7 +261,7 @@ module _ {S F D : Type 0} where
     pub left : new.left ≡ old.left
     pub rounds : new.rounds ≡ old.rounds
     pub room : HasRoom old → HasRoom new
-    pub events : after ≡ Watched new.sockets.watch.now ∷ before
+    pub events : after ≡ Watched new.sockets.watch ∷ before
 
   -- a wait of so long was noted, which reported these ports
   pub record HasSlept (millis : ℕ) (ports : List ℕ) (old : ServerLoop S F D)
@@ -272,7 +274,7 @@ module _ {S F D : Type 0} where
     pub server : new.server ≡ old.server
     pub pending : new.pending ≡ old.pending
     pub timers : timers_of new ≡ timers_of old
-    pub now : new.sockets.watch.now ≡ old.sockets.watch.now
+    pub watch : new.sockets.watch ≡ old.sockets.watch
     pub limit : new.sockets.limit ≡ old.sockets.limit
     pub marked : new.sockets.is_ready ≡ old.sockets.is_ready
     pub asked : new.sockets.has_received ≡ old.sockets.has_received
@@ -294,6 +296,8 @@ module _ {S F D : Type 0} where
     pub pending : new.pending ≡ old.pending
     pub timers : timers_of new
         ≡ map (marked_by ports) (map (set_by old.sockets.watch.now) (timers_of old))
+    pub reading : new.sockets.watch.now ≡ later_within old.sockets.watch
+        new.sockets.watch.reading (round_end old.sockets.watch.now old.sockets.limit)
     pub now : old.sockets.watch.now ≤ new.sockets.watch.now
     pub soon : new.sockets.watch.now
         ≤ max old.sockets.watch.now (round_end old.sockets.watch.now old.sockets.limit)
@@ -305,7 +309,7 @@ module _ {S F D : Type 0} where
     pub left : new.left ≡ old.left
     pub rounds : new.rounds ≡ old.rounds - 1
     pub room : HasRoom old → HasRoom new
-    pub events : after ≡ Watched new.sockets.watch.now ∷ before
+    pub events : after ≡ Watched new.sockets.watch ∷ before
 
   -- what a visit leaves of a port at this time: it was read, or it is not due unless it has closed
   abbrev pub leaves_read : PortState S F D → ℕ → Type 0

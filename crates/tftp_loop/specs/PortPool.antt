@@ -1,9 +1,9 @@
 -- The ports that transfers are bound to (RFC 1350, section 4).
 use Rattle.std.specs.Prelude.{ℕ, ◌≡◌, ⊤, true, List, [], ◌∷◌, All, Option, Some, None, IfSome}
 use Rattle.std.specs.Prelude.{option_map, min}
-use Rattle.tftp_sockets.specs.Journal.{SocketEvent}
-use Rattle.tftp_sockets.specs.Journal.SocketEvent.{Quiet}
-use Rattle.tftp_sockets.specs.Journal.QuietEvent.{New_socket, No_socket}
+use Rattle.tftp_sockets.specs.Trace.{SocketEvent}
+use Rattle.tftp_sockets.specs.Trace.SocketEvent.{Quiet}
+use Rattle.tftp_sockets.specs.Trace.QuietEvent.{New_socket, No_socket}
 use Rattle.tftp_sockets.specs.Quiet.{is_among}
 use Rattle.tftp_sockets.specs.declared.sockets.ServerSocket.{ServerSocket}
 use Rattle.tftp_loop.specs.PortOrder.{HasPorts, IsOneOf, count_of, ports_of}
@@ -35,7 +35,7 @@ abbrev pub most_of : ℕ → Option PortRange → ℕ
 most_of cap None = cap
 most_of cap (Some range) = min (count_of range) cap
 
--- from one journal to the other no socket could be bound to a port, one of the range, if there is
+-- from one trace to the other no socket could be bound to a port, one of the range, if there is
 -- one
 pub record TriesPort (range : Option PortRange) (before after : List SocketEvent) : Type 0 where
   pub port : ℕ
@@ -64,7 +64,7 @@ pub record TriesInVain (range : Option PortRange) (before after : List SocketEve
   pub last : TriesPort range between after
   pub missed : AreAllMissed range after
 
--- from one journal to the other a new socket is bound to this port, after others were tried
+-- from one trace to the other a new socket is bound to this port, after others were tried
 pub record Binds (range : Option PortRange) (before after : List SocketEvent) (port : ℕ)
     : Type 0 where
   pub between : List SocketEvent
@@ -77,7 +77,7 @@ abbrev pub Tries : Option PortRange → List SocketEvent → List SocketEvent �
 Tries range before after None = TriesInVain range before after
 Tries range before after (Some socket) = Binds range before after socket.port
 
--- the journal after a bind to the port, which made this socket, or none
+-- the trace after a bind to the port, which made this socket, or none
 abbrev pub after_bind : ℕ → Option ServerSocket → List SocketEvent → List SocketEvent
 after_bind port (Some socket) events = Quiet (New_socket socket.port) ∷ events
 after_bind port None events = Quiet (No_socket port) ∷ events

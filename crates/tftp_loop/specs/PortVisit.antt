@@ -3,8 +3,8 @@ use Rattle.std.specs.Prelude.{ℕ, ◌≡◌, true, List, ◌∷◌, IsSome}
 use Rattle.tftp_file.specs.Source.{SourceMeaning}
 use Rattle.tftp_store.specs.Store.{StoreMeaning}
 use Rattle.tftp_server.specs.State.{at, taken_of}
-use Rattle.tftp_sockets.specs.Journal.{SocketEvent}
-use Rattle.tftp_sockets.specs.Journal.SocketEvent.{Received}
+use Rattle.tftp_sockets.specs.Trace.{SocketEvent}
+use Rattle.tftp_sockets.specs.Trace.SocketEvent.{Received}
 use Rattle.tftp_sockets.specs.Quiet.{was_tried}
 use Rattle.tftp_loop.specs.declared.datagram.Datagram.{Datagram}
 use Rattle.tftp_loop.specs.declared.port_visit.PortStatus.{PortStatus}

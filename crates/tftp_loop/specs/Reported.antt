@@ -4,7 +4,7 @@ use Rattle.std.specs.List.{Contains}
 use Rattle.tftp_file.specs.Source.{SourceMeaning}
 use Rattle.tftp_store.specs.Store.{StoreMeaning}
 use Rattle.tftp_server.specs.State.{ServerState}
-use Rattle.tftp_sockets.specs.Journal.{SocketEvent}
+use Rattle.tftp_sockets.specs.Trace.{SocketEvent}
 use Rattle.tftp_sockets.specs.Quiet.{is_among, was_tried}
 use Rattle.tftp_loop.specs.Run.{Run}
 use Rattle.tftp_loop.specs.declared.serving.LoopConfig.{LoopConfig}
@@ -27,9 +27,9 @@ module _ {S F D : Type 0} (meaning : StoreMeaning S D) (sources : SourceMeaning 
   -- a port that a wait reported, and that had a transfer then, was read by the next wait
   abbrev pub ReadsWhatIsReported : Type 0
   ReadsWhatIsReported =
-      (config : LoopConfig) (requests : ℕ) (server : ServerState S F D) (before : List SocketEvent)
-      (old woken last new : LoopState S F D)
-      → Run (LoopStep meaning sources) (at_start config requests server before) old
+      (config : LoopConfig) (requests reading : ℕ) (server : ServerState S F D)
+      (before : List SocketEvent) (old woken last new : LoopState S F D)
+      → Run (LoopStep meaning sources) (at_start config requests server reading before) old
       → (waits : Waits meaning sources old woken) → Run GoesOn woken last
       → Waits meaning sources last new
       → (port : ℕ) → is_among port waits.ports ≡ true → HasTimer port old.timers

@@ -4,7 +4,7 @@ use Rattle.tftp_file.specs.Source.{SourceMeaning}
 use Rattle.tftp_store.specs.Store.{StoreMeaning}
 use Rattle.tftp_server.specs.State.{ServerState}
 use Rattle.tftp_sockets.specs.declared.watch.TheConstants.{LONGEST_WAIT}
-use Rattle.tftp_sockets.specs.Journal.{SocketEvent}
+use Rattle.tftp_sockets.specs.Trace.{SocketEvent}
 use Rattle.tftp_sockets.specs.Quiet.{is_drained}
 use Rattle.tftp_loop.specs.Run.{Run}
 use Rattle.tftp_loop.specs.declared.serving.LoopConfig.{LoopConfig}
@@ -32,8 +32,8 @@ module _ {S F D : Type 0} (meaning : StoreMeaning S D) (sources : SourceMeaning 
   -- at each wait of a run that takes time, once the clock was read before it
   abbrev pub RestsBeforeItSleeps : Type 0
   RestsBeforeItSleeps =
-      (config : LoopConfig) (port : ℕ) (server : ServerState S F D) (before : List SocketEvent)
-      (old new : LoopState S F D)
-      → Run (LoopStep meaning sources) (at_start config port server before) old
+      (config : LoopConfig) (port reading : ℕ) (server : ServerState S F D)
+      (before : List SocketEvent) (old new : LoopState S F D)
+      → Run (LoopStep meaning sources) (at_start config port server reading before) old
       → (waits : Waits meaning sources old new) → 1 ≤ waits.millis
-      → MaySleep (read_at waits.time old) waits.millis
+      → MaySleep (read_at waits.watch old) waits.millis

@@ -23,15 +23,16 @@ use Rattle.tftp_server.specs.declared.fault.ServerFault.TheVariants.{Memory}
 use Rattle.tftp_server.specs.Request.{RequestStep, Left}
 use Rattle.tftp_server.specs.Shortage.{LacksMemoryAt}
 use Rattle.tftp_server.specs.Work.{WorksAt}
-use Rattle.tftp_sockets.specs.Watch.{deadline_of, last_moment}
+use Rattle.tftp_sockets.specs.Watch.{deadline_of, last_moment, later_within}
+use Rattle.tftp_sockets.specs.declared.watch.Watch.{Watch}
 use Rattle.tftp_sockets.specs.declared.watch.TheConstants.{LONGEST_WAIT}
 use Rattle.tftp_lines.specs.Printed.{line_text}
 use Rattle.tftp_lines.specs.declared.printed.Printed.TheVariants.{Closed}
-use Rattle.tftp_sockets.specs.Journal.{SocketEvent, QuietEvent, replied, answered}
-use Rattle.tftp_sockets.specs.Journal.SocketEvent.{Received, Watched, Elapsed, Printed, Quiet}
-use Rattle.tftp_sockets.specs.Journal.QuietEvent.{Empty, Failed, New_socket, No_socket}
-use Rattle.tftp_sockets.specs.Journal.QuietEvent.{Out_of_memory, Drain_signalled}
-use Rattle.tftp_sockets.specs.Journal.QuietEvent.{Slept, Woke}
+use Rattle.tftp_sockets.specs.Trace.{SocketEvent, QuietEvent, replied, answered}
+use Rattle.tftp_sockets.specs.Trace.SocketEvent.{Received, Watched, Elapsed, Printed, Quiet}
+use Rattle.tftp_sockets.specs.Trace.QuietEvent.{Empty, Failed, New_socket, No_socket}
+use Rattle.tftp_sockets.specs.Trace.QuietEvent.{Out_of_memory, Drain_signalled}
+use Rattle.tftp_sockets.specs.Trace.QuietEvent.{Slept, Woke}
 use Rattle.tftp_sockets.specs.Quiet.{has_woken, is_among, was_tried}
 use Rattle.tftp_loop.specs.MayOpen.{LacksMemoryToOpen, MayOpen}
 use Rattle.tftp_loop.specs.OnlyRequests.{IsHandledBy, begins_as_request}
@@ -64,7 +65,7 @@ pub record Timer : Type 0 where
   -- how many datagrams were received at the port since the newest wait
   pub received : ℕ
 
--- a server, the timer of one of its transfers, and the journal
+-- a server, the timer of one of its transfers, and the trace
 pub record PortState (S F D : Type 0) : Type 0 where
   pub server : ServerState S F D
   pub timer : Timer
@@ -85,8 +86,10 @@ pub record LoopState (S F D : Type 0) : Type 0 where
   pub pending : Option (Endpoint × List ℕ)
   -- one for each transfer, in no order
   pub timers : List Timer
-  -- the last reading of the clock, in milliseconds
+  -- the time of the watch, in milliseconds
   pub now : ℕ
+  -- the newest reading of the clock, in milliseconds
+  pub reading : ℕ
   -- up to which time this round lasts at most, by the clock of the program
   pub limit : ℕ
   -- whether the clock is yet to be read since the newest wait
@@ -102,6 +105,10 @@ pub record LoopState (S F D : Type 0) : Type 0 where
   pub rounds : ℕ
   -- the last event first
   pub events : List SocketEvent
+
+-- the watch of a server
+abbrev pub watch_of : {S F D : Type 0} → LoopState S F D → Watch
+watch_of s = record { now = s.now; reading = s.reading }
 
 -- whether a server drains: it takes no new request
 abbrev pub is_draining : Drain → Bool
@@ -132,7 +139,7 @@ abbrev pub age_limit_of : ℕ → Option ℕ → ℕ
 age_limit_of now None = last_moment
 age_limit_of now (Some seconds) = deadline_of now seconds
 
--- up to which time the clock advances in a round: to its limit, and by a second at most
+-- up to which time the watch advances in a round: to its limit, and by a second at most
 abbrev pub round_end : ℕ → ℕ → ℕ
 round_end now limit = min limit (min (now + LONGEST_WAIT) last_moment)
 
@@ -460,17 +467,26 @@ module _ {S F D : Type 0} where
     pub not_closed : taken_of (at timer.port old.server.held) ≡ None
 
   -- the state once the clock was read before a wait: each deadline is set
-  abbrev pub read_at : ℕ → LoopState S F D → LoopState S F D
-  read_at time old =
+  abbrev pub read_at : Watch → LoopState S F D → LoopState S F D
+  read_at watch old =
       record old {
-        now = time;
-        timers = map (set_by time) old.timers;
-        events = Watched time ∷ old.events;
+        now = watch.now;
+        reading = watch.reading;
+        timers = map (set_by watch.now) old.timers;
+        events = Watched watch ∷ old.events;
       }
 
-  -- a wait of at most so long, which reported these ports, is allowed, if the clock is read at this
-  -- time before it
-  pub record MayWait (old : LoopState S F D) (time millis : ℕ) (ports : List ℕ) : Type 0 where
+  -- the watch after a reading of the clock: its time is what the reading makes of the watch before,
+  -- in a round. So it never goes back, and a round lasts a second at most
+  pub record IsReadBy (old : LoopState S F D) (watch : Watch) : Type 0 where
+    pub time : watch.now ≡ later_within (watch_of old) watch.reading (round_end old.now old.limit)
+    pub forward : old.now ≤ watch.now
+    pub soon : watch.now ≤ max old.now (round_end old.now old.limit)
+
+  -- a wait of at most so long, which reported these ports, is allowed, if the clock is read before
+  -- it, and the watch is this then
+  pub record MayWait (old : LoopState S F D) (watch : Watch) (millis : ℕ) (ports : List ℕ)
+      : Type 0 where
     -- the clock was read after the newest wait
     pub read : old.woken ≡ false
     -- the loop goes on
@@ -483,30 +499,30 @@ module _ {S F D : Type 0} where
         → was_tried old.requests old.events ≡ true
     pub transfers : All (IsServed old) old.timers
     -- it is no longer than there is nothing to do
-    pub longest : millis ≤ most_millis (read_at time old)
+    pub longest : millis ≤ most_millis (read_at watch old)
     -- it takes no time only if there is something to do, or ports were reported at once
-    pub shortest : millis ≡ 0 → (most_millis (read_at time old) ≡ 0) ⊎ (ports ≢ [])
+    pub shortest : millis ≡ 0 → (most_millis (read_at watch old) ≡ 0) ⊎ (ports ≢ [])
 
 module _ {S F D : Type 0} (meaning : StoreMeaning S D) (sources : SourceMeaning F)
     (old new : LoopState S F D) where
   -- the clock is read, which sets each provisional deadline; then the server waits, and marks the
   -- ports that were reported. The round up to the next wait ends a second after this one began
   pub record Waits : Type 0 where
-    pub time : ℕ
-    pub forward : old.now ≤ time
-    pub soon : time ≤ max old.now (round_end old.now old.limit)
+    pub watch : Watch
+    pub by : IsReadBy old watch
     pub millis : ℕ
     pub ports : List ℕ
-    pub may : MayWait old time millis ports
+    pub may : MayWait old watch millis ports
     pub is : new ≡ record old {
       marked = old.marked || is_among old.requests ports;
       asked = false;
-      timers = map (marked_by ports) (map (set_by time) old.timers);
-      now = time;
+      timers = map (marked_by ports) (map (set_by watch.now) old.timers);
+      now = watch.now;
+      reading = watch.reading;
       limit = min (old.now + LONGEST_WAIT) last_moment;
       woken = true;
       rounds = old.rounds - 1;
-      events = Quiet (Woke ports) ∷ Quiet (Slept millis) ∷ Watched time ∷ old.events;
+      events = Quiet (Woke ports) ∷ Quiet (Slept millis) ∷ Watched watch ∷ old.events;
     }
 
   -- a step at the port of a transfer
@@ -585,15 +601,15 @@ module _ {S F D : Type 0} (meaning : StoreMeaning S D) (sources : SourceMeaning 
   -- the clock is read, directly after a wait: it never goes back, and a round lasts a second at
   -- most
   pub record ReadsClock : Type 0 where
-    pub time : ℕ
+    pub watch : Watch
     pub woken : has_woken old.events ≡ true
-    pub forward : old.now ≤ time
-    pub soon : time ≤ max old.now (round_end old.now old.limit)
+    pub by : IsReadBy old watch
     pub is : new ≡ record old {
-      now = time;
+      now = watch.now;
+      reading = watch.reading;
       limit = round_end old.now old.limit;
       woken = false;
-      events = Watched time ∷ old.events;
+      events = Watched watch ∷ old.events;
     }
 
   -- the store is set for the next transfer; its stored files do not change
@@ -647,10 +663,10 @@ module _ {S F D : Type 0} (meaning : StoreMeaning S D) (sources : SourceMeaning 
 
 -- a server of this configuration with a bound request port that has received nothing: its transfers
 -- have ports of the range, if there is one, and it ends after so many closed transfers or waits,
--- or once it has drained, if it awaits a signal for that
-abbrev pub at_start : {S F D : Type 0} → LoopConfig → ℕ → ServerState S F D → List SocketEvent
-    → LoopState S F D
-at_start config requests server events =
+-- or once it has drained, if it awaits a signal for that. Its watch starts at this reading
+abbrev pub at_start : {S F D : Type 0} → LoopConfig → ℕ → ServerState S F D → ℕ
+    → List SocketEvent → LoopState S F D
+at_start config requests server reading events =
     record {
       requests = requests;
       range = config.ports;
@@ -660,6 +676,7 @@ at_start config requests server events =
       pending = None;
       timers = [];
       now = 0;
+      reading = reading;
       limit = LONGEST_WAIT;
       woken = false;
       marked = true;

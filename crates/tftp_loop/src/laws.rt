@@ -6,10 +6,14 @@ ghost use Rattle.tftp_loop.specs.Expiry.{ClosesOverAge, ClosesWithoutProgress, T
 ghost use Rattle.tftp_loop.specs.Fair.{CountsReceived, ReceivesFew, ReceivesFewAtAPort};
 ghost use Rattle.tftp_loop.specs.Handled.{HandlesBeforeItSleeps, HandlesByTheNextWait};
 ghost use Rattle.tftp_loop.specs.Handled.{ReadsTheRequestPort};
+ghost use Rattle.tftp_loop.specs.Leaving.{SendsOnlyGiven};
 ghost use Rattle.tftp_loop.specs.PortsInTurn.{UsesNoPortTwice};
+ghost use Rattle.tftp_loop.specs.Reflected.{ReflectsFew};
 ghost use Rattle.tftp_loop.specs.Reported.{ReadsWhatIsReported};
+ghost use Rattle.tftp_loop.specs.Seconds.{ClosesByTheClock, TimesOutByTheClock};
 ghost use Rattle.tftp_loop.specs.Sleeps.{RestsBeforeItSleeps};
 
+use tftp_negotiate::laws::answers_within_request;
 use tftp_store::Store;
 
 /// A server whose wait may sleep has nothing to do: a receive found nothing at its request port,
@@ -64,6 +68,15 @@ pub fn a_server_closes_what_makes_no_progress<T: Store>()
     ensures over_age { ClosesOverAge T.meaning T.Source.meaning }
 {}
 
+/// The same by the clock that the server read. At each wait before which the readings of the clock
+/// have advanced by more than that time, and by what the rounds did not count of them, the line of
+/// the transfer was printed. A reading counts up to a second after the round before the newest wait
+/// began: so a clock that jumps closes no transfer (RFC 1350, section 2).
+pub fn a_server_closes_by_the_clock<T: Store>()
+    ensures closes { ClosesByTheClock T.meaning T.Source.meaning }
+    ensures silent { TimesOutByTheClock T.meaning T.Source.meaning }
+{}
+
 /// A server with a range of ports takes no port of it twice before it has taken each.
 pub fn a_range_gives_each_port_once()
     ensures { UsesNoPortTwice }
@@ -71,9 +84,28 @@ pub fn a_range_gives_each_port_once()
 
 /// No port starves another. Between two waits at most 64 datagrams are received at the port of a
 /// transfer, each of which its timer counts, and one at the request port (`ReceivesRequest`). The
-/// journal has at most 192 of a port, whatever transfers close and open there.
+/// trace has at most 192 of a port, whatever transfers close and open there.
 pub fn a_server_receives_few_between_waits<T: Store>()
     ensures counts { CountsReceived T.meaning T.Source.meaning }
     ensures few { ReceivesFew T.meaning T.Source.meaning }
-    ensures journal { ReceivesFewAtAPort T.meaning T.Source.meaning }
+    ensures trace { ReceivesFewAtAPort T.meaning T.Source.meaning }
 {}
+
+/// What a server sends to an endpoint is bounded by what it received from there: for each datagram
+/// one, and one for each retry. So a datagram with a forged address brings its victim so many at
+/// most, a request as well as one of a transfer that makes progress (RFC 1350, section 2).
+pub fn a_server_reflects_few<T: Store>()
+    ensures { ReflectsFew T.meaning T.Source.meaning }
+{}
+
+/// Each datagram that a server sends is an ERROR, an ACK, an OACK, or DATA, and goes to an endpoint
+/// that sent one before. DATA goes to the endpoint that requested to read, and its block is what a
+/// call of the source gave that was opened at the path of that request, in its mode, in the root of
+/// the store; so nothing else of what is stored leaves. A block has at most as many bytes as the
+/// limit of the server allows, or 512 (RFC 1350, sections 2 and 4; RFC 2348, "Blocksize Option
+/// Specification").
+pub fn a_server_sends_only_what_was_asked<T: Store>()
+    ensures { SendsOnlyGiven T.meaning T.Source.meaning }
+{
+    answers_within_request();
+}

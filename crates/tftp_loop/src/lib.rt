@@ -2,7 +2,7 @@
 //! and 4).
 //!
 //! It has no packet format, no protocol rule and no files of its own. All that it sends and prints
-//! is a step of its server: the clause of [`serve`] states this of the history of its device, a
+//! is a step of its server: the clause of [`serve`] states this of the trace of its device, a
 //! [`ServerUdp`].
 //!
 //! Begin with [`serve`].

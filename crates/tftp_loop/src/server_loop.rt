@@ -4,7 +4,7 @@ ghost use Rattle.std.specs.Prelude.{◌≡◌, ◌≤◌, ◌<◌, ◌+◌, ◌�
 ghost use Rattle.std.specs.Prelude.{IfOk, IsTrue, List, length, map, false, if◌then◌else◌};
 ghost use Rattle.std.specs.List.{list_any};
 ghost use Rattle.tftp_sockets.specs.declared.address.TheConstants.{DATAGRAM_BUFFER};
-ghost use Rattle.tftp_sockets.specs.Journal.{SocketEvent};
+ghost use Rattle.tftp_sockets.specs.Trace.{SocketEvent};
 ghost use Rattle.tftp_sockets.specs.Quiet.{is_among};
 ghost use Rattle.tftp_loop.specs.Steps.{drain_of, marked_by, set_by};
 ghost use Rattle.tftp_loop.specs.LoopStates.{FailsToPrint, HasRoom, IsEmptied, IsReserved};

@@ -1,7 +1,7 @@
 //! The port of a transfer: its socket, its timer and its mark.
 
 ghost use Rattle.std.specs.Prelude.{◌≡◌, ◌<◌, ◌∷◌, List, true, false, map, min, ◌+◌};
-ghost use Rattle.tftp_sockets.specs.Journal.{replied};
+ghost use Rattle.tftp_sockets.specs.Trace.{replied};
 ghost use Rattle.tftp_sockets.specs.Watch.{last_moment};
 ghost use Rattle.tftp_loop.specs.Fair.{ReceivesAtMost};
 ghost use Rattle.tftp_loop.specs.Steps.{WorksAtPort, age_limit_of, look_after, marked_as};

@@ -1,7 +1,7 @@
 -- The settings leave the root of the store, and their calls are inside it.
 use Rattle.std.proofs.Common.{◌≡◌, ◌∙◌, ℕ, List, ap, subst, sym}
 use Rattle.std.specs.String.{string_bytes}
-use Rattle.tftp_disk.specs.DiskJournal.{DiskEvent}
+use Rattle.tftp_disk.specs.DiskTrace.{DiskEvent}
 use Rattle.tftp_folder.specs.Inside.{StaysInside}
 use Rattle.tftp_folder.specs.Opened.{IsRootOf, follows}
 use Rattle.tftp_folder.specs.declared.folder_store.FolderStore.{FolderStore}

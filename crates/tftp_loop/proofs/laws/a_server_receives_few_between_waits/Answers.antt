@@ -11,6 +11,6 @@ pub returns-clause-few : goal.returns-clause-few
 returns-clause-few g c = λ start now none run.
     few_along g.T.Store.meaning g.T.Source.Source.meaning start now none run
 
-pub returns-clause-journal : goal.returns-clause-journal
-returns-clause-journal g c = λ start now none run port apart.
+pub returns-clause-trace : goal.returns-clause-trace
+returns-clause-trace g c = λ start now none run port apart.
     few_at_a_port g.T.Store.meaning g.T.Source.Source.meaning start now none run port apart

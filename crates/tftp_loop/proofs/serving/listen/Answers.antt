@@ -2,8 +2,8 @@ use Rattle.std.proofs.Common.{List, ◌∷◌, ap, inr, refl, subst, ◌∙◌}
 use Rattle.tftp_ends.specs.declared.endpoint.Endpoint.{Endpoint}
 use Rattle.tftp_lines.specs.Printed.{line_text}
 use Rattle.tftp_lines.specs.declared.printed.Printed.TheVariants.{Listening}
-use Rattle.tftp_sockets.specs.Journal.{SocketEvent}
-use Rattle.tftp_sockets.specs.Journal.SocketEvent.{Printed}
+use Rattle.tftp_sockets.specs.Trace.{SocketEvent}
+use Rattle.tftp_sockets.specs.Trace.SocketEvent.{Printed}
 use Rattle.tftp_loop.specs.Run.Run.{Start}
 use Rattle.tftp_loop.specs.Steps.{at_start}
 use Rattle.tftp_loop.specs.WholeRun.{RunsServerFrom, listening}
@@ -25,8 +25,9 @@ returns-in-Err g c =
     c.print_line.ensures ∙ ap (λ (e : Endpoint). Printed (line_text (Listening e)) ∷ g.N.Udp.log c.args.net.now)
     c.listening.ensures in
     record {
+      reading = sockets.watch.reading;
       last =
-          at_start c.args.config.now sockets.requests.port c.args.server
+          at_start c.args.config.now sockets.requests.port c.args.server sockets.watch.reading
           (listening sockets.requests.ip sockets.requests.port (g.N.Udp.log c.args.net.now));
       run = Start;
       noted = line;

@@ -1,5 +1,6 @@
 use Rattle.std.proofs.Common.{inl, map, refl, ap, ◌∙◌, Option, ℕ}
 use Rattle.tftp_ends.specs.declared.endpoint.Endpoint.{Endpoint}
+use Rattle.tftp_sockets.specs.declared.watch.Watch.{Watch}
 use Rattle.tftp_loop.specs.Run.Run.{Start}
 use Rattle.tftp_loop.specs.declared.sockets.Sockets.{Sockets}
 use Rattle.tftp_loop.specs.Steps.{at_start}
@@ -11,7 +12,9 @@ use Rattle.tftp_loop.proofs.serving.run.Goals as goal
 
 pub returns-in_default : goal.returns-in_default
 returns-in_default g c = record {
-  last = at_start c.args.config.now c.args.sockets.requests.port c.args.server (g.N.Udp.log c.args.net.now);
+  reading = c.args.sockets.watch.reading;
+  last = at_start c.args.config.now c.args.sockets.requests.port c.args.server c.args.sockets.watch.reading
+      (g.N.Udp.log c.args.net.now);
   run = Start;
   noted = c.out_of_memory.ensures;
   ends = inl (refl, refl);
@@ -19,7 +22,9 @@ returns-in_default g c = record {
 
 pub returns-in_default-new : goal.returns-in_default-new
 returns-in_default-new g c = record {
-  last = at_start c.args.config.now c.args.sockets.requests.port c.args.server (g.N.Udp.log c.args.net.now);
+  reading = c.args.sockets.watch.reading;
+  last = at_start c.args.config.now c.args.sockets.requests.port c.args.server c.args.sockets.watch.reading
+      (g.N.Udp.log c.args.net.now);
   run = Start;
   noted = c.out_of_memory-in_default-new.ensures;
   ends = inl (refl, refl);
@@ -41,17 +46,20 @@ returns g c =
     let request = c.as_mut_slice.result.now in
     let begins = state_of request c.new-running.result (g.N.Udp.log c.args.net.now) in
     let rounds = c.take_rounds in
+    let started_at : ℕ → Watch = λ n. record { now = n; reading = c.args.sockets.watch.reading } in
     let last = state_of rounds.new.request rounds.new.self rounds.ensures.serves.served in
     record {
+      reading = c.args.sockets.watch.reading;
       last = last;
       run =
           onward
           (idle (same_state begins
-          (at_start c.args.config.now c.args.sockets.requests.port c.args.server (g.N.Udp.log c.args.net.now))
+          (at_start c.args.config.now c.args.sockets.requests.port c.args.server c.args.sockets.watch.reading
+          (g.N.Udp.log c.args.net.now))
           (ap (λ (s : Sockets). s.requests.port) made.sockets)
           (ap (λ (s : Sockets). s.pool.range) made.sockets ∙ c.requires.range) made.longest made.requests_only made.server
           (ap (λ (p : Option (Endpoint × ℕ)). pending_in p request) made.pending) (ap (map timer_of) made.ports)
-          (ap (λ (s : Sockets). s.watch.now) made.sockets ∙ c.requires.time)
+          (ap (λ (s : Sockets). s.watch) made.sockets ∙ ap started_at c.requires.time)
           (ap (λ (s : Sockets). s.limit) made.sockets ∙ c.requires.limit) refl
           (ap (λ (s : Sockets). s.is_ready) made.sockets ∙ c.requires.marked)
           (ap (λ (s : Sockets). s.has_received) made.sockets ∙ c.requires.asked) made.drain made.left made.rounds refl))

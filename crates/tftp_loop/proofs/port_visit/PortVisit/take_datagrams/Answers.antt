@@ -1,5 +1,5 @@
 use Rattle.std.proofs.Common.{arith, ℕ, refl, sym, ap, subst, inl, inr, ◌+◌}
-use Rattle.tftp_sockets.specs.Journal.QuietEvent.{Empty, Failed}
+use Rattle.tftp_sockets.specs.Trace.QuietEvent.{Empty, Failed}
 use Rattle.tftp_loop.specs.declared.port_visit.TheConstants.{MOST_AT_ONCE}
 use Rattle.tftp_loop.specs.Steps.{Timer}
 use Rattle.tftp_loop.specs.LoopStates.{timer_of}

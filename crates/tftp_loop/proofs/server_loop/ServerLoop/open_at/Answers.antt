@@ -22,7 +22,7 @@ returns-in-Ok-clause-answers g c =
     refl c.requires.admitted c.requires.handled c.set_store.ensures.rest c.set_store.ensures.same c.set_store.ensures.behind
     c.in-Ok.ensures.carries_out free a.port a.own
     c.clear.ensures.items
-    (same_state _ _ a.requests a.range a.longest a.requests_only a.server refl a.timers a.now a.limit refl a.marked a.asked a.drain a.left_to_close a.rounds a.events)
+    (same_state _ _ a.requests a.range a.longest a.requests_only a.server refl a.timers a.watch a.limit refl a.marked a.asked a.drain a.left_to_close a.rounds a.events)
 
 pub returns-in-Ok-clause-rounds : goal.returns-in-Ok-clause-rounds
 returns-in-Ok-clause-rounds g c = c.answer_opened.ensures.rounds

@@ -1,5 +1,5 @@
-use Rattle.std.proofs.Common.{arith, refl, sym, ap, ◌∙◌, ℕ, ◌∷◌}
-use Rattle.tftp_sockets.specs.Journal.SocketEvent.{Watched}
+use Rattle.std.proofs.Common.{arith, refl, ap, ◌∙◌, ℕ}
+use Rattle.tftp_sockets.specs.Watch.{later_within}
 use Rattle.tftp_loop.proofs.server_loop.ServerLoop.read_clock.Goals as goal
 
 pub returns : goal.returns
@@ -10,6 +10,7 @@ returns g c =
     let soon = read.soon in
     let limit = c.saturating_add-self.ensures in
     let end = c.round_end-end.ensures in
+    let w = c.args.self.now.sockets.watch in
     record {
       requests = refl;
       range = refl;
@@ -18,6 +19,7 @@ returns g c =
       server = refl;
       pending = refl;
       ports = refl;
+      reading = is ∙ (read.reading ∙ ap (λ (n : ℕ). later_within w c.read_watch_within-self.new.watch.reading n) end);
       forward = omega (arith, forward, is);
       soon = omega (arith, soon, is, end);
       limit = omega (arith, limit);
@@ -27,5 +29,5 @@ returns g c =
       left = refl;
       rounds = refl;
       room = λ h. h;
-      events = read.noted ∙ ap (λ (n : ℕ). Watched n ∷ g.N.Udp.log c.args.net.now) (sym is);
+      events = read.noted;
     }

@@ -1,5 +1,5 @@
 use Rattle.std.proofs.Common.{arith, ap, inr, refl, sym, true, Bool, List, ℕ, ◌≡◌, ◌∙◌}
-use Rattle.tftp_sockets.specs.Journal.{polled}
+use Rattle.tftp_sockets.specs.Trace.{polled}
 use Rattle.tftp_sockets.specs.declared.port_poll.Reports.{Reports}
 use Rattle.tftp_loop.specs.MayWait.{HasRead}
 use Rattle.tftp_loop.proofs.LoopRuns.{runs_as}
@@ -23,6 +23,7 @@ returns-then-poll_now-clause-serves g c =
       server = c.read_clock.ensures.server;
       pending = c.read_clock.ensures.pending;
       ports = c.read_clock.ensures.ports;
+      reading = c.read_clock.ensures.reading;
       forward = c.read_clock.ensures.forward;
       soon = c.read_clock.ensures.soon;
       limit = c.read_clock.ensures.limit;
@@ -46,7 +47,7 @@ returns-then-poll_now-clause-serves g c =
       server = refl;
       pending = refl;
       timers = refl;
-      now = refl;
+      watch = refl;
       limit = refl;
       marked = refl;
       asked = refl;
@@ -73,6 +74,7 @@ returns-then-poll_now-clause-settled g c =
       server = c.read_clock.ensures.server;
       pending = c.read_clock.ensures.pending;
       ports = c.read_clock.ensures.ports;
+      reading = c.read_clock.ensures.reading;
       forward = c.read_clock.ensures.forward;
       soon = c.read_clock.ensures.soon;
       limit = c.read_clock.ensures.limit;

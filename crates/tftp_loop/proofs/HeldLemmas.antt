@@ -1,4 +1,5 @@
 -- What holds of each transfer of a table.
+-- For Reflecting and Leaving, and for the runs of tftp_daemon.
 use Rattle.std.proofs.Common.{◌≡◌, ℕ, Bool, true, false, cond, List, [], ◌∷◌, Option, Some, sym, subst}
 use Rattle.std.specs.Prelude.{IfSome, All, Contains}
 use Rattle.std.specs.BTreeMap.{is_at}

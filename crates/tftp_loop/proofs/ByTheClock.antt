@@ -1,0 +1,96 @@
+-- The time of a server, by the readings of its clock.
+use Rattle.std.proofs.Common.{arith, ◌≡◌, ◌≤◌, ◌<◌, ◌+◌, ◌-◌, min, max, ℕ, Bool, true, false, refl, ap}
+use Rattle.std.specs.Prelude.{◌*◌, if◌then◌else◌}
+use Rattle.tftp_file.specs.Source.{SourceMeaning}
+use Rattle.tftp_store.specs.Store.{StoreMeaning}
+use Rattle.tftp_sockets.specs.Watch.{last_moment}
+use Rattle.tftp_sockets.specs.declared.watch.Watch.{Watch}
+use Rattle.tftp_sockets.specs.declared.watch.TheConstants.{LONGEST_WAIT}
+use Rattle.tftp_loop.specs.Steps.{LoopState, LoopStep, IsReadBy, round_end}
+use Rattle.tftp_loop.specs.Steps.LoopStep.{Waited, At_port, Request_received, No_request_found, Request_not_received}
+use Rattle.tftp_loop.specs.Steps.LoopStep.{Request_noted, Request_answered, Request_lost, Clock_read, Store_set}
+use Rattle.tftp_loop.specs.Steps.LoopStep.{Transfer_closed, Drain_begun}
+use Rattle.tftp_loop.specs.Expiry.{Idles, in_millis}
+use Rattle.tftp_loop.specs.Expiry.Idles.{At_first, After}
+use Rattle.tftp_loop.specs.Seconds.{ClosesByTheClock, TimesOutByTheClock, cut_by, cut_in, cut_of}
+use Rattle.tftp_loop.proofs.Expiring.{closes_without_progress, times_out_in_silence}
+
+-- the time advances as much as the clock, but for what a round does not count
+abbrev Passes : {S F D : Type 0} → LoopState S F D → LoopState S F D → ℕ → Type 0
+Passes old new cut = new.reading + old.now ≤ old.reading + new.now + cut
+
+read_passes : {S F D : Type 0} (old : LoopState S F D) (watch : Watch) → IsReadBy old watch
+    → watch.reading + old.now ≤ old.reading + watch.now + cut_of old watch
+read_passes old watch by =
+    let end = round_end old.now old.limit in
+    let is : end ≡ min old.limit (min (old.now + 1000) last_moment) = refl in
+    let time : watch.now ≡ min (min (old.now + (watch.reading - old.reading)) last_moment) (max end old.now) = by.time in
+    let cut : cut_of old watch ≡ (old.now + (watch.reading - old.reading)) - end = refl in
+    omega (arith, is, time, cut)
+
+module _ {S F D : Type 0} (meaning : StoreMeaning S D) (sources : SourceMeaning F) where
+  -- a step that reads no clock
+  still : (s t : LoopState S F D) → t.now ≡ s.now → t.reading ≡ s.reading → Passes s t 0
+  still s t now reading = omega (arith, now, reading)
+
+  step_passes : (s t : LoopState S F D) (does : LoopStep meaning sources s t) → Passes s t (cut_by meaning sources does)
+  step_passes s t (Waited d) =
+      let now : t.now ≡ d.watch.now = ap (λ (u : LoopState S F D). u.now) d.is in
+      let reading : t.reading ≡ d.watch.reading = ap (λ (u : LoopState S F D). u.reading) d.is in
+      let passes = read_passes s d.watch d.by in
+      omega (arith, now, reading, passes)
+  step_passes s t (Clock_read d) =
+      let now : t.now ≡ d.watch.now = ap (λ (u : LoopState S F D). u.now) d.is in
+      let reading : t.reading ≡ d.watch.reading = ap (λ (u : LoopState S F D). u.reading) d.is in
+      let passes = read_passes s d.watch d.by in
+      omega (arith, now, reading, passes)
+  step_passes s t (At_port d) =
+      still s t (ap (λ (u : LoopState S F D). u.now) d.is) (ap (λ (u : LoopState S F D). u.reading) d.is)
+  step_passes s t (Request_received d) =
+      still s t (ap (λ (u : LoopState S F D). u.now) d.is) (ap (λ (u : LoopState S F D). u.reading) d.is)
+  step_passes s t (No_request_found d) =
+      still s t (ap (λ (u : LoopState S F D). u.now) d.is) (ap (λ (u : LoopState S F D). u.reading) d.is)
+  step_passes s t (Request_not_received d) =
+      still s t (ap (λ (u : LoopState S F D). u.now) d.is) (ap (λ (u : LoopState S F D). u.reading) d.is)
+  step_passes s t (Request_noted d) =
+      still s t (ap (λ (u : LoopState S F D). u.now) d.is) (ap (λ (u : LoopState S F D). u.reading) d.is)
+  step_passes s t (Request_answered d) =
+      still s t (ap (λ (u : LoopState S F D). u.now) d.is) (ap (λ (u : LoopState S F D). u.reading) d.is)
+  step_passes s t (Request_lost d) =
+      still s t (ap (λ (u : LoopState S F D). u.now) d.is) (ap (λ (u : LoopState S F D). u.reading) d.is)
+  step_passes s t (Store_set d) =
+      still s t (ap (λ (u : LoopState S F D). u.now) d.is) (ap (λ (u : LoopState S F D). u.reading) d.is)
+  step_passes s t (Transfer_closed d) =
+      still s t (ap (λ (u : LoopState S F D). u.now) d.is) (ap (λ (u : LoopState S F D). u.reading) d.is)
+  step_passes s t (Drain_begun d) =
+      still s t (ap (λ (u : LoopState S F D). u.now) d.is) (ap (λ (u : LoopState S F D). u.reading) d.is)
+
+  passes : {port : ℕ} {first last : LoopState S F D} (idles : Idles meaning sources port first last)
+      → Passes first last (cut_in meaning sources idles)
+  passes At_first = omega arith
+  passes {last = last} (After {middle} run does idle) =
+      let was = passes run in
+      let step = step_passes middle last does in
+      omega (arith, was, step)
+
+-- what is later by the clock is later by the watch
+later_by_now : (provisional : Bool) (interval more reading now reading' now' cut : ℕ)
+    → ((if provisional then reading + 1000 else reading) + interval + more) + cut < reading'
+    → reading' + now ≤ reading + now' + cut → (if provisional then now + 1000 else now) + interval + more < now'
+later_by_now true interval more reading now reading' now' cut late passed = omega (arith, late, passed)
+later_by_now false interval more reading now reading' now' cut late passed = omega (arith, late, passed)
+
+module _ {S F D : Type 0} (meaning : StoreMeaning S D) (sources : SourceMeaning F) where
+  pub closes_by_the_clock : ClosesByTheClock meaning sources
+  closes_by_the_clock start first last new timer empty run has idles waits late soon =
+      closes_without_progress meaning sources start first last new timer empty run has idles waits
+      (later_by_now timer.provisional (in_millis timer.interval)
+      ((in_millis timer.interval + LONGEST_WAIT) * max 1 first.server.config.retries) first.reading first.now last.reading
+      last.now (cut_in meaning sources idles) late (passes meaning sources idles)) soon
+
+  pub times_out_by_the_clock : TimesOutByTheClock meaning sources
+  times_out_by_the_clock start first last new timer transfer empty run has found idles silent waits late soon =
+      times_out_in_silence meaning sources start first last new timer transfer empty run has found idles silent waits
+      (later_by_now timer.provisional (in_millis timer.interval)
+      ((in_millis timer.interval + LONGEST_WAIT) * max 1 first.server.config.retries) first.reading first.now last.reading
+      last.now (cut_in meaning sources idles) late (passes meaning sources idles)) soon

@@ -1,0 +1,722 @@
+-- A server sends no block but one that a source gave, to who asked for its file.
+-- For the law a_server_sends_only_what_was_asked.
+use Rattle.std.proofs.Common.{arith, ◌≡◌, ◌≤◌, ◌⊎◌, ℕ, suc, Bool, List, [], ◌∷◌, ◌++◌, length, Option, Some, None, refl, sym}
+use Rattle.std.proofs.Common.{ap, subst, ◌∙◌, inl, inr, Ok}
+use Rattle.std.specs.Prelude.{All, max, slice_index_or, ⊤}
+use Rattle.std.specs.List.{AllByRecursion, Contains}
+use Rattle.std.specs.Map.{values_of}
+use Rattle.tftp_wire.specs.Spelling.{Spells}
+use Rattle.tftp_wire.specs.declared.mode.Mode.{Mode}
+use Rattle.tftp_wire.specs.declared.options.RawOption.{RawOption}
+use Rattle.tftp_wire.specs.declared.packet.Packet.{Packet}
+use Rattle.tftp_wire.specs.declared.packet.Packet.TheVariants.{Read}
+use Rattle.tftp_wire.specs.declared.packet.Request.{Request}
+use Rattle.tftp_file.specs.Path.{path_of_name}
+use Rattle.tftp_file.specs.Sink.{SinkMeaning}
+use Rattle.tftp_file.specs.Source.{SourceMeaning, GivesInTurn, Gave_more, Gave_nothing}
+use Rattle.tftp_file.specs.declared.files.Files.{Files}
+use Rattle.tftp_file.specs.declared.files.Files.TheVariants.{Source, Sink}
+use Rattle.tftp_ends.specs.Action.{Decodes, datagram_action}
+use Rattle.tftp_ends.specs.End.{EndState, Position}
+use Rattle.tftp_ends.specs.Files.{AreSame, KeepsFiles}
+use Rattle.tftp_ends.specs.Opening.{ServesRead}
+use Rattle.tftp_ends.specs.Step.{Acts, Reply, Turn, after_turn, error_bytes, timeout_turn}
+use Rattle.tftp_ends.specs.declared.action.Action.{Action}
+use Rattle.tftp_ends.specs.declared.action.Action.TheVariants.{Respond, Send, Store}
+use Rattle.tftp_ends.specs.declared.endpoint.Endpoint.{Endpoint}
+use Rattle.tftp_negotiate.specs.Agreed.{size}
+use Rattle.tftp_negotiate.specs.Laws.{AnswersWithinRequest, IsWithinRequest}
+use Rattle.tftp_negotiate.specs.declared.known.Kind.{Kind}
+use Rattle.tftp_negotiate.specs.declared.known.Kind.TheVariants as kinds
+use Rattle.tftp_negotiate.specs.declared.known.Known.{Known}
+use Rattle.tftp_negotiate.specs.declared.known.Known.TheVariants.{Blksize, Timeout, Tsize}
+use Rattle.tftp_negotiate.specs.declared.limits.Limits.{Limits}
+use Rattle.tftp_negotiate.specs.declared.limits.TheConstants.{DEFAULT_BLOCK}
+use Rattle.tftp_store.specs.Store.{StoreMeaning}
+use Rattle.tftp_server.specs.Draft.{Drafting, drafting_sink, files_in}
+use Rattle.tftp_server.specs.Port.{Ask, asks}
+use Rattle.tftp_server.specs.Request.{Came, Nothing, Error_reply, A_transfer, Left, left_by}
+use Rattle.tftp_server.specs.State.{TransferState, ServerState, at, with_new, with_next, without}
+use Rattle.tftp_server.specs.Steps.{KeepsHeld, StepIn, with_end}
+use Rattle.tftp_server.specs.Work.{FilesWork, WorksAt}
+use Rattle.tftp_sockets.specs.Trace.{SocketEvent, answered}
+use Rattle.tftp_sockets.specs.Trace.SocketEvent.{Received, Sent, Elapsed}
+use Rattle.tftp_loop.specs.Leaving.{AskedFor, HasRoot, HasWritten, IsSaid, LeavesOnly, At_first, And_then}
+use Rattle.tftp_loop.specs.Leaving.{An_error, An_ack, An_oack, A_block, MayHappen, MayLeave, largest_block}
+use Rattle.tftp_loop.specs.Run.{Run}
+use Rattle.tftp_loop.specs.Run.Run.{Start, Then}
+use Rattle.tftp_loop.specs.Steps.{PortState, LoopState, PortStep, LoopStep, after_request, port_state}
+use Rattle.tftp_loop.specs.Steps.PortStep.{A_datagram, A_lost_datagram, A_late_datagram, Nothing_found}
+use Rattle.tftp_loop.specs.Steps.PortStep.{A_failed_receive, A_timeout, A_missed_timeout, Work}
+use Rattle.tftp_loop.specs.Steps.LoopStep.{Waited, At_port, Request_received, No_request_found, Request_not_received}
+use Rattle.tftp_loop.specs.Steps.LoopStep.{Request_noted, Request_answered, Request_lost, Clock_read, Store_set}
+use Rattle.tftp_loop.specs.Steps.LoopStep.{Transfer_closed, Drain_begun}
+use Rattle.tftp_loop.proofs.AnsweringEnds.{AnswersOne, GivesOnly, IsAt, NoBlock, SendsTo, To_other, To_peer}
+use Rattle.tftp_loop.proofs.AnsweringEnds.{datagram_answers, timeout_answers}
+use Rattle.tftp_loop.proofs.AskedFiles.{reads_by}
+use Rattle.tftp_loop.proofs.HeldLemmas.{held_at, held_new, held_next, held_without}
+use Rattle.tftp_loop.proofs.OpenedEnds.{BeginsAt, OpensFor, OpensIn, To_read, To_write, opens_for, serves_begins}
+use Rattle.tftp_loop.proofs.OpenedEnds.{write_begins}
+use Rattle.tftp_loop.proofs.PortEnds.{same_config}
+
+-- ---- what a list contains
+contains_first : {T : Type 0} (x : T) (xs : List T) → Contains (x ∷ xs) x
+contains_first x xs = (0, omega arith, refl)
+
+contains_later : {T : Type 0} (x y : T) (xs : List T) → Contains xs y → Contains (x ∷ xs) y
+contains_later x y xs c = let within = c.1 in (suc c.0, omega (arith, within), c.2)
+
+written_later : (event : SocketEvent) (events : List SocketEvent) (peer : Endpoint) → HasWritten peer events
+    → HasWritten peer (event ∷ events)
+written_later event events peer w = (w.0, w.1, contains_later event (Received w.0 peer w.1) events w.2)
+
+-- ---- what may be sent
+said_more : (P Q : List ℕ → Type 0) (bytes : List ℕ) → ((piece : List ℕ) → P piece → Q piece) → IsSaid P bytes
+    → IsSaid Q bytes
+said_more P Q bytes more (An_error reply is) = An_error reply is
+said_more P Q bytes more (An_ack number is) = An_ack number is
+said_more P Q bytes more (An_oack agreed is) = An_oack agreed is
+said_more P Q bytes more (A_block number piece is given) = A_block number piece is (more piece given)
+
+at_more : (Fits : ℕ → Type 0) (P Q : List ℕ → Type 0) (peer : Endpoint) (position : Position)
+    → ((piece : List ℕ) → P piece → Q piece) → IsAt Fits P peer position → IsAt Fits Q peer position
+at_more Fits P Q peer position more h = record {
+  to = h.to;
+  with_peer = h.with_peer;
+  said = said_more P Q position.last_sent more h.said;
+}
+
+-- ---- the calls of a source
+module _ {F K : Type 0} (sources : SourceMeaning F) (sinks : SinkMeaning K) where
+  same_source : (a b : F) → ◌≡◌ {A = Files F K} (Source a) (Source b) → a ≡ b
+  same_source a b e = cc
+
+  no_source : (sink : K) (source : F) (P : Type 0) → ◌≡◌ {A = Files F K} (Sink sink) (Source source) → P
+  no_source sink source P e = absurd (cc)
+
+  -- a step gives what one call of the source gave, or does not use it
+  acts_give : (action : Action) (from : Endpoint) (bytes : List ℕ) (e : EndState) (source : F) (turn : Turn) (source' : F)
+      → Acts sources sinks action from bytes e (Source source) turn (Source source')
+      → (source' ≡ source) ⊎ ((piece : List ℕ) × sources.gives source piece source')
+  acts_give (Respond response) from bytes e source turn source' h = inl (same_source source' source h.1)
+  acts_give (Send terms number) from bytes e source turn source' h = inr (h.piece, h.gives)
+  acts_give (Store terms number) from bytes e source turn source' h = absurd h.2
+
+module _ {S F D : Type 0} (meaning : StoreMeaning S D) (sources : SourceMeaning F) (root : List ℕ)
+    (requests largest : ℕ) where
+  -- ---- of one transfer
+  abbrev Fits : ℕ → Type 0
+  Fits size = size ≤ largest
+
+  abbrev Asked : Endpoint → List SocketEvent → List ℕ → Type 0
+  Asked peer events = AskedFor sources root requests largest peer events
+
+  -- the endpoint asked for the file of this source
+  record ReadsFor (peer : Endpoint) (events : List SocketEvent) (source : F) : Type 0 where
+    request : Request
+    bytes : List ℕ
+    spells : Spells (Read request) bytes
+    received : Contains events (Received requests peer bytes)
+    path : List ℕ
+    named : path_of_name request.name ≡ Ok path
+    first : F
+    opened : sources.opens root path request.mode first
+    text : List ℕ
+    given : GivesInTurn sources first text source
+
+  abbrev OfFiles : Endpoint → List SocketEvent → Files F D → Type 0
+  OfFiles peer events (Source source) = ReadsFor peer events source
+  OfFiles peer events (Sink draft) = ⊤
+
+  -- what one call of the source gives was asked for
+  gives_asked : (peer : Endpoint) (events : List SocketEvent) (source source' : F) (piece : List ℕ)
+      → ReadsFor peer events source → sources.gives source piece source' → Fits (length piece)
+      → Asked peer events piece
+  gives_asked peer events source source' piece reads gives long = record {
+    request = reads.request;
+    bytes = reads.bytes;
+    spells = reads.spells;
+    received = reads.received;
+    path = reads.path;
+    named = reads.named;
+    first = reads.first;
+    opened = reads.opened;
+    gave = record { text = reads.text; before = source; after = source'; earlier = reads.given; gave = gives };
+    long = long;
+  }
+
+  -- after a call
+  reads_on : (peer : Endpoint) (events : List SocketEvent) (source source' : F) (piece : List ℕ)
+      → ReadsFor peer events source → sources.gives source piece source' → ReadsFor peer events source'
+  reads_on peer events source source' piece reads gives = record {
+    request = reads.request;
+    bytes = reads.bytes;
+    spells = reads.spells;
+    received = reads.received;
+    path = reads.path;
+    named = reads.named;
+    first = reads.first;
+    opened = reads.opened;
+    text = reads.text ++ piece;
+    given = Gave_more reads.given gives;
+  }
+
+  asked_later : (event : SocketEvent) (events : List SocketEvent) (peer : Endpoint) (piece : List ℕ)
+      → Asked peer events piece → Asked peer (event ∷ events) piece
+  asked_later event events peer piece asked = record {
+    request = asked.request;
+    bytes = asked.bytes;
+    spells = asked.spells;
+    received = contains_later event (Received requests peer asked.bytes) events asked.received;
+    path = asked.path;
+    named = asked.named;
+    first = asked.first;
+    opened = asked.opened;
+    gave = asked.gave;
+    long = asked.long;
+  }
+
+  reads_later : (event : SocketEvent) (events : List SocketEvent) (peer : Endpoint) (source : F)
+      → ReadsFor peer events source → ReadsFor peer (event ∷ events) source
+  reads_later event events peer source reads = record {
+    request = reads.request;
+    bytes = reads.bytes;
+    spells = reads.spells;
+    received = contains_later event (Received requests peer reads.bytes) events reads.received;
+    path = reads.path;
+    named = reads.named;
+    first = reads.first;
+    opened = reads.opened;
+    text = reads.text;
+    given = reads.given;
+  }
+
+  files_later : (event : SocketEvent) (events : List SocketEvent) (peer : Endpoint) (files : Files F D)
+      → OfFiles peer events files → OfFiles peer (event ∷ events) files
+  files_later event events peer (Source source) of = reads_later event events peer source of
+  files_later event events peer (Sink draft) of = tt
+
+  -- a transfer is with an endpoint that wrote, and sends what that asked for
+  record IsFor (events : List SocketEvent) (transfer : TransferState F D) : Type 0 where
+    peer : Endpoint
+    at_peer : IsAt Fits (Asked peer events) peer transfer.end.position
+    files : OfFiles peer events transfer.files
+    written : HasWritten peer events
+
+  for_later : (event : SocketEvent) (events : List SocketEvent) (transfer : TransferState F D) → IsFor events transfer
+      → IsFor (event ∷ events) transfer
+  for_later event events transfer is = record {
+    peer = is.peer;
+    at_peer = at_more Fits (Asked is.peer events) (Asked is.peer (event ∷ events)) is.peer transfer.end.position
+        (asked_later event events is.peer) is.at_peer;
+    files = files_later event events is.peer transfer.files is.files;
+    written = written_later event events is.peer is.written;
+  }
+
+  -- ---- of all
+  abbrev AllFor : List SocketEvent → List (ℕ × TransferState F D) → Type 0
+  AllFor events held = All (IsFor events) (values_of held)
+
+  all_later : (event : SocketEvent) (events : List SocketEvent) (held : List (ℕ × TransferState F D))
+      → AllFor events held → AllFor (event ∷ events) held
+  all_later event events held all k d h = for_later event events (slice_index_or (values_of held) k d) (all k d h)
+
+  -- the transfers are such, and each datagram that was sent since a trace may be
+  record Leaves (before : List SocketEvent) (held : List (ℕ × TransferState F D)) (events : List SocketEvent)
+      : Type 0 where
+    transfers : AllFor events held
+    only : LeavesOnly (AskedFor sources root requests largest) before events
+
+  -- an event that is no datagram sent
+  leaves_event : (before : List SocketEvent) (held : List (ℕ × TransferState F D)) (event : SocketEvent)
+      (events : List SocketEvent) → MayHappen (AskedFor sources root requests largest) event events → Leaves before held events
+      → Leaves before held (event ∷ events)
+  leaves_event before held event events may leaves = record {
+    transfers = all_later event events held leaves.transfers;
+    only = And_then leaves.only may;
+  }
+
+  leaves_next : (before : List SocketEvent) (port : ℕ) (held held' : List (ℕ × TransferState F D))
+      (events : List SocketEvent) (next : TransferState F D) → held' ≡ with_next port next held → IsFor events next
+      → Leaves before held events → Leaves before held' events
+  leaves_next before port held held' events next is own leaves = record {
+    transfers = held_next (IsFor events) port held held' next leaves.transfers own is;
+    only = leaves.only;
+  }
+
+  -- an answer is sent to an endpoint that wrote
+  leaves_reply : (before : List SocketEvent) (held : List (ℕ × TransferState F D)) (port : ℕ) (to : Endpoint)
+      (reply : Option Reply) (events : List SocketEvent) → SendsTo (Asked to events) to reply → HasWritten to events
+      → Leaves before held events → Leaves before held (answered port reply events)
+  leaves_reply before held port to None events sends written leaves = leaves
+  leaves_reply before held port to (Some reply) events sends written leaves =
+      leaves_event before held (Sent port reply.to reply.bytes) events
+      (subst (λ (peer : Endpoint). MayLeave (AskedFor sources root requests largest) peer reply.bytes events) (sym sends.0)
+      (record { said = sends.1; written = written })) leaves
+
+  no_block : (to : Endpoint) (events : List SocketEvent) (reply : Option Reply) → SendsTo NoBlock to reply
+      → SendsTo (Asked to events) to reply
+  no_block to events None sends = tt
+  no_block to events (Some reply) sends =
+      (sends.0, said_more NoBlock (Asked to events) reply.bytes (λ piece never. absurd never) sends.1)
+
+  -- ---- at the port of a transfer
+  abbrev drafts : SinkMeaning (Drafting S D)
+  drafts = drafting_sink meaning
+
+  module _ (from : Endpoint) (bytes : List ℕ) (e : EndState) (turn : Turn) (peer : Endpoint) (events : List SocketEvent)
+      (store store' : S) (path path' : List ℕ) (replace : Bool) where
+    abbrev Steps : Files F D → Files F D → Type 0
+    Steps files files' =
+        StepIn meaning sources from bytes e (files_in store path replace files) turn (files_in store' path' replace files')
+
+    abbrev Gives : Files F D → Files F D → Type 0
+    Gives files files' =
+        GivesOnly Fits (Asked peer events) sources drafts from bytes e turn (files_in store path replace files)
+        (files_in store' path' replace files')
+
+    step_gives : (files files' : Files F D) → OfFiles peer events files → Gives files files'
+    step_gives (Source own) files' of source source' piece size is is' gives fits long =
+        gives_asked peer events source source' piece
+        (subst (ReadsFor peer events) (same_source sources drafts own source is) of) gives (omega (arith, fits, long))
+    step_gives (Sink draft) files' of source source' piece size is is' gives fits long =
+        no_source sources drafts _ source (Asked peer events piece) is
+
+    step_files : (files files' : Files F D) → Steps files files'
+        → AreSame (λ (x y : F). ⊤) (λ (x y : D). ⊤) files files' → OfFiles peer events files → OfFiles peer events files'
+    step_files (Source source) (Source source') steps kind of =
+        elim (acts_give sources drafts (datagram_action e from bytes steps.decoded) from bytes e source turn source'
+        steps.acts) [
+          | inl same ↦ subst (ReadsFor peer events) (sym same) of
+          | inr gave ↦ reads_on peer events source source' gave.0 of gave.1
+        ]
+    step_files (Source source) (Sink draft) steps kind of = absurd kind
+    step_files (Sink draft) (Source source) steps kind of = absurd kind
+    step_files (Sink draft) (Sink draft') steps kind of = tt
+
+  -- a source that is kept gave nothing
+  kept_files : (peer : Endpoint) (events : List SocketEvent) (store store' : S) (path path' : List ℕ) (replace : Bool)
+      (files files' : Files F D)
+      → KeepsFiles sources drafts (files_in store path replace files) (files_in store' path' replace files')
+      → OfFiles peer events files → OfFiles peer events files'
+  kept_files peer events store store' path path' replace (Source source) (Source source') keeps of =
+      reads_on peer events source source' [] of keeps.gave
+  kept_files peer events store store' path path' replace (Source source) (Sink draft) keeps of = absurd keeps
+  kept_files peer events store store' path path' replace (Sink draft) (Source source) keeps of = absurd keeps
+  kept_files peer events store store' path path' replace (Sink draft) (Sink draft') keeps of = tt
+
+  worked_files : (peer : Endpoint) (events : List SocketEvent) (store store' : S) (files files' : Files F D)
+      → FilesWork meaning sources store store' files files' → OfFiles peer events files → OfFiles peer events files'
+  worked_files peer events store store' (Source source) (Source source') works of =
+      reads_on peer events source source' [] of works.1.gave
+  worked_files peer events store store' (Source source) (Sink draft) works of = absurd works
+  worked_files peer events store store' (Sink draft) (Source source) works of = absurd works
+  worked_files peer events store store' (Sink draft) (Sink draft') works of = tt
+
+  abbrev held_in : ServerState S F D → List (ℕ × TransferState F D)
+  held_in server = server.held
+
+  leaves_same : (before : List SocketEvent) (old new : ServerState S F D) (events : List SocketEvent) → new ≡ old
+      → Leaves before old.held events → Leaves before new.held events
+  leaves_same before old new events is leaves =
+      subst (λ (held : List (ℕ × TransferState F D)). Leaves before held events) (sym (ap held_in is)) leaves
+
+  lost : (before : List SocketEvent) (port : ℕ) (o : Option (TransferState F D)) (old new : ServerState S F D)
+      (events : List SocketEvent) → at port old.held ≡ o → KeepsHeld meaning sources port o old new
+      → Leaves before old.held events → Leaves before new.held events
+  lost before port None old new events found keeps leaves = leaves_same before old new events keeps leaves
+  lost before port (Some transfer) old new events found keeps leaves =
+      let own = held_at (IsFor events) port old.held leaves.transfers found in
+      leaves_next before port old.held new.held events keeps.0 keeps.2 (record {
+        peer = own.peer;
+        at_peer = subst (λ (e : EndState). IsAt Fits (Asked own.peer events) own.peer e.position) (sym keeps.1.end) own.at_peer;
+        files = kept_files own.peer events old.store new.store transfer.path keeps.0.path old.config.overwrite
+            transfer.files keeps.0.files keeps.1.files own.files;
+        written = own.written;
+      }) leaves
+
+  worked : (before : List SocketEvent) (port : ℕ) (o : Option (TransferState F D)) (old new : ServerState S F D)
+      (events : List SocketEvent) → at port old.held ≡ o → WorksAt meaning sources port o old new
+      → Leaves before old.held events → Leaves before new.held events
+  worked before port None old new events found works leaves = leaves_same before old new events works leaves
+  worked before port (Some transfer) old new events found works leaves =
+      let own = held_at (IsFor events) port old.held leaves.transfers found in
+      leaves_next before port old.held new.held events works.0 works.2 (record {
+        peer = own.peer;
+        at_peer = subst (λ (t : TransferState F D). IsAt Fits (Asked own.peer events) own.peer t.end.position)
+            (sym works.1.rest) own.at_peer;
+        files = worked_files own.peer events old.store new.store transfer.files works.0.files works.1.files own.files;
+        written = own.written;
+      }) leaves
+
+  -- the newest datagram of an end went to this peer
+  at_own : (peer : Endpoint) (events : List SocketEvent) (e : EndState) → IsAt Fits (Asked peer events) peer e.position
+      → IsAt Fits (Asked peer events) e.position.last_sent_to e.position
+  at_own peer events e is =
+      subst (λ (p : Endpoint). IsAt Fits (Asked peer events) p e.position) (sym is.to) is
+
+  module _ (before : List SocketEvent) (port : ℕ) (old new : ServerState S F D) (events : List SocketEvent)
+      (leaves : Leaves before old.held events) where
+    -- a transfer handled a datagram, and its answer is sent
+    answers : (transfer next : TransferState F D) (from : Endpoint) (turn : Turn) (is : IsFor events transfer)
+        → next.end ≡ after_turn transfer.end turn → OfFiles is.peer events next.files
+        → new.held ≡ with_next port next old.held → HasWritten from events
+        → AnswersOne Fits (Asked is.peer events) from transfer.end turn
+        → Leaves before new.held (answered port turn.reply events)
+    answers transfer next from turn is end files held written (To_other same sends) =
+        leaves_reply before new.held port from turn.reply events (no_block from events turn.reply sends) written
+        (leaves_next before port old.held new.held events next held (record {
+          peer = is.peer;
+          at_peer = subst (IsAt Fits (Asked is.peer events) is.peer)
+              (sym (ap (λ (e : EndState). e.position) end ∙ same)) is.at_peer;
+          files = files;
+          written = is.written;
+        }) leaves)
+    answers transfer next from turn is end files held written (To_peer own done) =
+        let peer : from ≡ is.peer = own ∙ is.at_peer.to in
+        leaves_reply before new.held port is.peer turn.reply events
+        (subst (λ (p : Endpoint). SendsTo (Asked is.peer events) p turn.reply) peer done.sends) is.written
+        (leaves_next before port old.held new.held events next held (record {
+          peer = is.peer;
+          at_peer = subst (λ (e : EndState). IsAt Fits (Asked is.peer events) is.peer e.position) (sym end)
+              (subst (λ (p : Endpoint). IsAt Fits (Asked is.peer events) p turn.position) peer done.position);
+          files = files;
+          written = is.written;
+        }) leaves)
+
+  -- the datagram that was just received
+  has_written : (port : ℕ) (from : Endpoint) (bytes : List ℕ) (events : List SocketEvent)
+      → HasWritten from (Received port from bytes ∷ events)
+  has_written port from bytes events = (port, bytes, contains_first (Received port from bytes) events)
+
+  port_leaves : (before : List SocketEvent) (now : ℕ) (s t : PortState S F D) → PortStep meaning sources now s t
+      → Leaves before s.server.held s.events → Leaves before t.server.held t.events
+  port_leaves before now s t (A_datagram d) leaves =
+      let takes = d.handles.takes in
+      let step = takes.takes in
+      let port = s.timer.port in
+      let es = Received port d.from d.bytes ∷ s.events in
+      let came = leaves_event before s.server.held (Received port d.from d.bytes) s.events tt leaves in
+      let own = held_at (IsFor es) port s.server.held came.transfers takes.found in
+      let gives = step_gives d.from d.bytes takes.transfer.end step.turn own.peer es s.server.store t.server.store
+      takes.transfer.path takes.next.path s.server.config.overwrite takes.transfer.files takes.next.files own.files in
+      let files = step_files d.from d.bytes takes.transfer.end step.turn own.peer es s.server.store t.server.store
+      takes.transfer.path takes.next.path s.server.config.overwrite takes.transfer.files takes.next.files step.steps
+      step.kind own.files in
+      let one = datagram_answers Fits (Asked own.peer es) sources drafts d.from d.bytes takes.transfer.end step.turn _ _
+      (at_own own.peer es takes.transfer.end own.at_peer) gives step.steps in
+      subst (Leaves before t.server.held) (sym d.handles.events)
+      (answers before port s.server t.server es came takes.transfer takes.next d.from step.turn own step.carries.state
+      files takes.held (has_written port d.from d.bytes s.events) one)
+  port_leaves before now s t (A_lost_datagram d) leaves =
+      subst (Leaves before t.server.held) (sym d.events)
+      (lost before s.timer.port (at s.timer.port s.server.held) s.server t.server
+      (Received s.timer.port d.from d.bytes ∷ s.events) refl d.loses.keeps
+      (leaves_event before s.server.held (Received s.timer.port d.from d.bytes) s.events tt leaves))
+  port_leaves before now s t (A_late_datagram d) leaves =
+      subst (Leaves before t.server.held) (sym d.events)
+      (leaves_same before s.server t.server _ d.server
+      (leaves_event before s.server.held (Received s.timer.port d.from d.bytes) s.events tt leaves))
+  port_leaves before now s t (Nothing_found d) leaves =
+      subst (Leaves before t.server.held) (sym d.events)
+      (leaves_same before s.server t.server _ d.server (leaves_event before s.server.held _ s.events tt leaves))
+  port_leaves before now s t (A_failed_receive d) leaves =
+      subst (Leaves before t.server.held) (sym d.events)
+      (leaves_same before s.server t.server _ d.server (leaves_event before s.server.held _ s.events tt leaves))
+  port_leaves before now s t (A_timeout d) leaves =
+      let times_out = d.times_out.times_out in
+      let transfer = times_out.transfer in
+      let port = s.timer.port in
+      let es = Elapsed port now ∷ s.events in
+      let came = leaves_event before s.server.held (Elapsed port now) s.events tt leaves in
+      let own = held_at (IsFor es) port s.server.held came.transfers times_out.found in
+      subst (Leaves before t.server.held) (sym d.times_out.events)
+      (answers before port s.server t.server es came transfer (with_end times_out.end transfer)
+      transfer.end.position.last_sent_to (timeout_turn transfer.end) own times_out.carries.state own.files times_out.held
+      (subst (λ (p : Endpoint). HasWritten p es) (sym own.at_peer.to) own.written)
+      (To_peer refl (timeout_answers Fits (Asked own.peer es) transfer.end (at_own own.peer es transfer.end own.at_peer))))
+  port_leaves before now s t (A_missed_timeout d) leaves =
+      subst (Leaves before t.server.held) (sym d.events)
+      (leaves_same before s.server t.server _ d.server (leaves_event before s.server.held _ s.events tt leaves))
+  port_leaves before now s t (Work d) leaves =
+      subst (Leaves before t.server.held) (sym d.events)
+      (worked before s.timer.port (at s.timer.port s.server.held) s.server t.server s.events refl d.works.works leaves)
+
+  -- ---- at the request port
+  abbrev PendingIn : List SocketEvent → Option (Endpoint × List ℕ) → Type 0
+  PendingIn events None = ⊤
+  PendingIn events (Some pending) = Contains events (Received requests pending.0 pending.1)
+
+  pending_later : (event : SocketEvent) (events : List SocketEvent) (pending : Option (Endpoint × List ℕ))
+      → PendingIn events pending → PendingIn (event ∷ events) pending
+  pending_later event events None in_it = tt
+  pending_later event events (Some pending) in_it =
+      contains_later event (Received requests pending.0 pending.1) events in_it
+
+  answered_pending : (port : ℕ) (reply : Option Reply) (events : List SocketEvent)
+      (pending : Option (Endpoint × List ℕ)) → PendingIn events pending
+      → PendingIn (answered port reply events) pending
+  answered_pending port None events pending in_it = in_it
+  answered_pending port (Some reply) events pending in_it = pending_later _ events pending in_it
+
+  port_pending : (now : ℕ) (s t : PortState S F D) → PortStep meaning sources now s t
+      → (pending : Option (Endpoint × List ℕ)) → PendingIn s.events pending → PendingIn t.events pending
+  port_pending now s t (A_datagram d) pending in_it =
+      subst (λ (es : List SocketEvent). PendingIn es pending) (sym d.handles.events)
+      (answered_pending s.timer.port d.handles.takes.takes.turn.reply _ pending
+      (pending_later _ s.events pending in_it))
+  port_pending now s t (A_lost_datagram d) pending in_it =
+      subst (λ (es : List SocketEvent). PendingIn es pending) (sym d.events) (pending_later _ s.events pending in_it)
+  port_pending now s t (A_late_datagram d) pending in_it =
+      subst (λ (es : List SocketEvent). PendingIn es pending) (sym d.events) (pending_later _ s.events pending in_it)
+  port_pending now s t (Nothing_found d) pending in_it =
+      subst (λ (es : List SocketEvent). PendingIn es pending) (sym d.events) (pending_later _ s.events pending in_it)
+  port_pending now s t (A_failed_receive d) pending in_it =
+      subst (λ (es : List SocketEvent). PendingIn es pending) (sym d.events) (pending_later _ s.events pending in_it)
+  port_pending now s t (A_timeout d) pending in_it =
+      subst (λ (es : List SocketEvent). PendingIn es pending) (sym d.times_out.events)
+      (answered_pending s.timer.port (timeout_turn d.times_out.times_out.transfer.end).reply
+      (Elapsed s.timer.port now ∷ s.events) pending (pending_later (Elapsed s.timer.port now) s.events pending in_it))
+  port_pending now s t (A_missed_timeout d) pending in_it =
+      subst (λ (es : List SocketEvent). PendingIn es pending) (sym d.events) (pending_later _ s.events pending in_it)
+  port_pending now s t (Work d) pending in_it =
+      subst (λ (es : List SocketEvent). PendingIn es pending) (sym d.events) in_it
+
+  record AreLeaving (before : List SocketEvent) (s : LoopState S F D) : Type 0 where
+    requests_at : s.requests ≡ requests
+    block : largest_block s.server.config ≡ largest
+    pending : PendingIn s.events s.pending
+    leaves : Leaves before s.server.held s.events
+
+  -- an event that is no datagram sent, after which transfers and pending datagram are as before
+  next_event : (before : List SocketEvent) (s t : LoopState S F D) (event : SocketEvent)
+      → MayHappen (AskedFor sources root requests largest) event s.events → t.requests ≡ s.requests → t.server.config ≡ s.server.config → t.pending ≡ s.pending
+      → t.server.held ≡ s.server.held → t.events ≡ event ∷ s.events → AreLeaving before s → AreLeaving before t
+  next_event before s t event may same_port same_config_is same_pending same_held is are = record {
+    requests_at = same_port ∙ are.requests_at;
+    block = ap largest_block same_config_is ∙ are.block;
+    pending = subst (PendingIn t.events) (sym same_pending)
+        (subst (λ (es : List SocketEvent). PendingIn es s.pending) (sym is)
+        (pending_later event s.events s.pending are.pending));
+    leaves = subst (λ (es : List SocketEvent). Leaves before t.server.held es) (sym is)
+        (subst (λ (held : List (ℕ × TransferState F D)). Leaves before held (event ∷ s.events)) (sym same_held)
+        (leaves_event before s.server.held event s.events may are.leaves));
+  }
+
+  next_three : (before : List SocketEvent) (s t : LoopState S F D) (one two three : SocketEvent)
+      → MayHappen (AskedFor sources root requests largest) three s.events
+      → MayHappen (AskedFor sources root requests largest) two (three ∷ s.events)
+      → MayHappen (AskedFor sources root requests largest) one (two ∷ three ∷ s.events)
+      → t.requests ≡ s.requests → t.server.config ≡ s.server.config → t.pending ≡ s.pending → t.server.held ≡ s.server.held
+      → t.events ≡ one ∷ two ∷ three ∷ s.events → AreLeaving before s → AreLeaving before t
+  next_three before s t one two three third second first same_port same_config_is same_pending same_held is are =
+      let s' : LoopState S F D = record s { events = three ∷ s.events } in
+      let s'' : LoopState S F D = record s { events = two ∷ three ∷ s.events } in
+      next_event before s'' t one first same_port same_config_is same_pending same_held is
+      (next_event before s' s'' two second refl refl refl refl refl
+      (next_event before s s' three third refl refl refl refl refl are))
+
+  module _ (old : ServerState S F D) (from : Endpoint) (bytes : List ℕ) (es : List SocketEvent)
+      (received : Contains es (Received requests from bytes)) (root_is : meaning.root old.store ≡ root)
+      (block_is : largest_block old.config ≡ largest) (within : AnswersWithinRequest) where
+    agreed_within : (options : List RawOption) (kind : Kind) (count : ℕ) (limits : Limits) (known : List Known)
+        → AllByRecursion (IsWithinRequest options kind count limits) known
+        → size known ≤ max DEFAULT_BLOCK limits.max_block
+    agreed_within options kind count limits [] all = omega arith
+    agreed_within options kind count limits (Blksize n ∷ known) all = let few = all.0.0 in omega (arith, few)
+    agreed_within options kind count limits (Timeout n ∷ known) all =
+        agreed_within options kind count limits known all.1
+    agreed_within options kind count limits (Tsize n ∷ known) all =
+        agreed_within options kind count limits known all.1
+
+    -- what a source gave until its end began
+    served_given : (agreed : List Known) (mode : Mode) (count retries : ℕ) (source rest : F) (e : EndState)
+        → ServesRead sources agreed from mode count retries source rest e
+        → (text : List ℕ) × GivesInTurn sources source text rest
+    served_given [] mode count retries source rest e serves = (serves.0, Gave_more Gave_nothing serves.3)
+    served_given (known ∷ others) mode count retries source rest e serves =
+        ([], subst (λ (f : F). GivesInTurn sources source [] f) (sym serves.0) Gave_nothing)
+
+    module _ (repeated : Bool) (decoded : Option Packet) (says : Decodes bytes decoded) where
+      abbrev ask : Ask
+      ask = asks old.config.cap (length old.held) repeated old.config.limits bytes decoded
+
+      opened_for : (transfer : TransferState F D) → OpensFor meaning sources old from bytes ask transfer
+          → IsFor es transfer × (transfer.end.position.last_sent_to ≡ from)
+          × IsSaid (Asked from es) transfer.end.position.last_sent
+      opened_for transfer (To_read path mode options agreed file rest is opened same serves files) =
+          let most = agreed_within options kinds.Read file.length old.config.limits agreed
+          (within options kinds.Read mode file.length old.config.limits agreed same) in
+          let fits : Fits (size agreed) = omega (arith, most, block_is) in
+          let asked = reads_by old.config.limits old.config.cap (length old.held) repeated bytes decoded path mode options
+          is in
+          let spells : Spells (Read asked.request) bytes =
+          subst (Decodes bytes) asked.packet says in
+          let opens : sources.opens root path asked.request.mode file.source =
+          subst (λ (m : Mode). sources.opens root path m file.source) (sym asked.same_mode)
+          (subst (λ (r : List ℕ). sources.opens r path mode file.source) root_is opened) in
+          let given = served_given agreed mode file.length old.config.retries file.source rest transfer.end serves in
+          let reads : ReadsFor from es rest = record {
+            request = asked.request;
+            bytes = bytes;
+            spells = spells;
+            received = received;
+            path = path;
+            named = asked.same_path;
+            first = file.source;
+            opened = opens;
+            text = given.0;
+            given = given.1;
+          } in
+          let begins = serves_begins Fits (Asked from es) old.config.retries from sources agreed mode file.length file.source
+          rest transfer.end fits (λ piece gave long. record {
+            request = asked.request;
+            bytes = bytes;
+            spells = spells;
+            received = received;
+            path = path;
+            named = asked.same_path;
+            first = file.source;
+            opened = opens;
+            gave = record {
+              text = [];
+              before = file.source;
+              after = rest;
+              earlier = Gave_nothing;
+              gave = gave;
+            };
+            long = omega (arith, long, fits);
+          }) serves in (
+            record {
+              peer = from;
+              at_peer = begins.at;
+              files = subst (OfFiles from es) (sym files) reads;
+              written = (requests, bytes, received);
+            },
+            begins.at.to,
+            begins.at.said,
+          )
+      opened_for transfer (To_write agreed mode draft end files) =
+          let begins = subst (BeginsAt Fits (Asked from es) old.config.retries from) (sym end)
+          (write_begins Fits (Asked from es) old.config.retries from agreed mode) in (
+            record {
+              peer = from;
+              at_peer = begins.at;
+              files = subst (OfFiles from es) (sym files) tt;
+              written = (requests, bytes, received);
+            },
+            begins.at.to,
+            begins.at.said,
+          )
+
+  module _ (before : List SocketEvent) (s : LoopState S F D) (from : Endpoint) (bytes : List ℕ) (tid : ℕ)
+      (are : AreLeaving before s) (received : Contains s.events (Received requests from bytes))
+      (root_is : meaning.root s.server.store ≡ root) (within : AnswersWithinRequest) (repeated : Bool) (decoded : Option Packet)
+      (says : Decodes bytes decoded) where
+    by_came : (came : Came S F D)
+        → OpensIn meaning sources s.server from bytes
+        (ask s.server from bytes s.events received root_is are.block within repeated decoded says) came
+        → AreLeaving before (after_request s from (left_by came s.server from tid))
+    by_came Nothing opened = record { requests_at = are.requests_at; block = are.block; pending = tt; leaves = are.leaves }
+    by_came (Error_reply reply store) opened = record {
+      requests_at = are.requests_at;
+      block = are.block;
+      pending = tt;
+      leaves = leaves_event before s.server.held (Sent s.requests from (error_bytes reply)) s.events
+          (record { said = An_error reply refl; written = (requests, bytes, received) }) are.leaves;
+    }
+    by_came (A_transfer transfer store) opened =
+        let own = opened_for s.server from bytes s.events received root_is are.block within repeated decoded says transfer opened in
+        let held : Leaves before (with_new tid transfer s.server.held) s.events = record {
+          transfers = held_new (IsFor s.events) tid s.server.held transfer are.leaves.transfers own.0;
+          only = are.leaves.only;
+        } in
+        record {
+          requests_at = are.requests_at;
+          block = are.block;
+          pending = tt;
+          leaves = leaves_event before (with_new tid transfer s.server.held)
+              (Sent tid from transfer.end.position.last_sent) s.events
+              (record { said = own.2; written = (requests, bytes, received) }) held;
+        }
+
+  -- ---- in a run
+  step_leaves : (before : List SocketEvent) (s t : LoopState S F D) → LoopStep meaning sources s t → AnswersWithinRequest
+      → meaning.root s.server.store ≡ root → AreLeaving before s → AreLeaving before t
+  step_leaves before s t (Waited d) within root_is are =
+      subst (AreLeaving before) (sym d.is) (next_three before s _ _ _ _ tt tt tt refl refl refl refl refl are)
+  step_leaves before s t (At_port d) within root_is are =
+      subst (AreLeaving before) (sym d.is) (record {
+        requests_at = are.requests_at;
+        block = ap largest_block (same_config meaning sources s.now (port_state s d.timer) d.next d.does) ∙ are.block;
+        pending = port_pending s.now (port_state s d.timer) d.next d.does s.pending are.pending;
+        leaves = port_leaves before s.now (port_state s d.timer) d.next d.does are.leaves;
+      })
+  step_leaves before s t (Request_received d) within root_is are =
+      subst (AreLeaving before) (sym d.is) (record {
+        requests_at = are.requests_at;
+        block = are.block;
+        pending = subst (λ (port : ℕ). Contains (Received port d.from d.bytes ∷ s.events)
+            (Received requests d.from d.bytes)) (sym are.requests_at)
+            (contains_first (Received requests d.from d.bytes) s.events);
+        leaves = leaves_event before s.server.held (Received s.requests d.from d.bytes) s.events tt are.leaves;
+      })
+  step_leaves before s t (No_request_found d) within root_is are =
+      subst (AreLeaving before) (sym d.is) (next_event before s _ _ tt refl refl refl refl refl are)
+  step_leaves before s t (Request_not_received d) within root_is are =
+      subst (AreLeaving before) (sym d.is) (next_event before s _ _ tt refl refl refl refl refl are)
+  step_leaves before s t (Request_noted d) within root_is are =
+      subst (AreLeaving before) (sym d.is) (next_event before s _ _ tt refl refl refl refl refl are)
+  step_leaves before s t (Request_answered d) within root_is are =
+      let received : Contains s.events (Received requests d.from d.bytes) =
+      subst (PendingIn s.events) d.pending are.pending in
+      subst (AreLeaving before) (sym d.is)
+      (subst (λ (left : Left S F D). AreLeaving before (after_request s d.from left)) (sym d.steps.left)
+      (by_came before s d.from d.bytes d.tid are received root_is within d.steps.repeated d.steps.decoded d.steps.says
+      d.steps.came (opens_for meaning sources s.server d.from d.bytes _ d.steps.came d.steps.goes)))
+  step_leaves before s t (Request_lost d) within root_is are =
+      subst (AreLeaving before) (sym d.is)
+      (record { requests_at = are.requests_at; block = are.block; pending = tt; leaves = are.leaves })
+  step_leaves before s t (Clock_read d) within root_is are =
+      subst (AreLeaving before) (sym d.is) (next_event before s _ _ tt refl refl refl refl refl are)
+  step_leaves before s t (Store_set d) within root_is are =
+      subst (AreLeaving before) (sym d.is)
+      (record { requests_at = are.requests_at; block = are.block; pending = are.pending; leaves = are.leaves })
+  step_leaves before s t (Transfer_closed d) within root_is are =
+      subst (AreLeaving before) (sym d.is) (record {
+        requests_at = are.requests_at;
+        block = are.block;
+        pending = pending_later _ s.events s.pending are.pending;
+        leaves = leaves_event before (without d.timer.port s.server.held) _ s.events tt (record {
+          transfers = held_without (IsFor s.events) d.timer.port s.server.held are.leaves.transfers;
+          only = are.leaves.only;
+        });
+      })
+  step_leaves before s t (Drain_begun d) within root_is are =
+      subst (AreLeaving before) (sym d.is) (next_event before s _ _ tt refl refl refl refl refl are)
+
+  leaves_along : (before : List SocketEvent) (s t : LoopState S F D) → AnswersWithinRequest
+      → HasRoot meaning sources root s
+      → AreLeaving before s → Run (LoopStep meaning sources) s t → AreLeaving before t
+  leaves_along before s t within has are Start = are
+  leaves_along before s t within has are (Then {middle} run does) =
+      step_leaves before middle t does within (has middle run) (leaves_along before s middle within has are run)
+
+module _ {S F D : Type 0} (meaning : StoreMeaning S D) (sources : SourceMeaning F) where
+  -- the law
+  pub sends_only_given : AnswersWithinRequest → (root : List ℕ) (start now : LoopState S F D) → start.server.held ≡ [] → start.pending ≡ None
+      → HasRoot meaning sources root start → Run (LoopStep meaning sources) start now
+      → LeavesOnly (AskedFor sources root start.requests (largest_block start.server.config)) start.events now.events
+  sends_only_given within root start now none idle has run =
+      let largest = largest_block start.server.config in
+      let first : AreLeaving meaning sources root start.requests largest start.events start = record {
+        requests_at = refl;
+        block = refl;
+        pending = subst (PendingIn meaning sources root start.requests largest start.events) (sym idle) tt;
+        leaves = record {
+          transfers = subst (AllFor meaning sources root start.requests largest start.events) (sym none)
+              (λ k d h. absurd (omega (arith, h)));
+          only = At_first;
+        };
+      } in
+      (leaves_along meaning sources root start.requests largest start.events start now within has first run).leaves.only

@@ -1,0 +1,147 @@
+-- How the end of a transfer opens.
+-- For Reflecting and Leaving.
+use Rattle.std.proofs.Common.{arith, ◌≡◌, ◌≤◌, ◌*◌, ℕ, Bool, true, false, List, [], ◌∷◌, refl, sym, subst, inl, inr}
+use Rattle.std.specs.Prelude.{length, Result, Ok, Err, if◌then◌else◌, nat_lt, ⊤}
+use Rattle.tftp_wire.specs.declared.mode.Mode.{Mode}
+use Rattle.tftp_wire.specs.declared.options.RawOption.{RawOption}
+use Rattle.tftp_negotiate.specs.Agreed.{size}
+use Rattle.tftp_negotiate.specs.Answer.{answer}
+use Rattle.tftp_negotiate.specs.declared.known.Kind.TheVariants as kinds
+use Rattle.tftp_negotiate.specs.declared.known.Known.{Known}
+use Rattle.tftp_negotiate.specs.declared.limits.TheConstants.{DEFAULT_BLOCK}
+use Rattle.tftp_negotiate.specs.declared.refusal.Refusal.{Refusal}
+use Rattle.tftp_file.specs.Source.{SourceMeaning}
+use Rattle.tftp_file.specs.declared.fault.StoreFault.{StoreFault}
+use Rattle.tftp_file.specs.declared.files.Files.TheVariants.{Source, Sink}
+use Rattle.tftp_ends.specs.End.{EndState}
+use Rattle.tftp_ends.specs.Opening.{ServesRead, serving_read, serving_write}
+use Rattle.tftp_ends.specs.Step.{block_length}
+use Rattle.tftp_ends.specs.declared.endpoint.Endpoint.{Endpoint}
+use Rattle.tftp_ends.specs.declared.error_reply.ErrorReply.{ErrorReply}
+use Rattle.tftp_ends.specs.declared.error_reply.ErrorReply.TheVariants.{FileChanged, FileTooLarge}
+use Rattle.tftp_store.specs.Store.{StoreMeaning, OpensAt}
+use Rattle.tftp_store.specs.declared.store.Opening.{Opening}
+use Rattle.tftp_server.specs.Port.{Ask, Ignores, Refuses, Reads, Writes, Refused, Sends, accept_reply, begin_reply}
+use Rattle.tftp_server.specs.Port.{by_draft, by_file, by_length, open_reply}
+use Rattle.tftp_server.specs.Request.{Came, Goes, Nothing, Error_reply, A_transfer, Sent, Starts, Taken, opened_length}
+use Rattle.tftp_server.specs.State.{TransferState, ServerState}
+use Rattle.tftp_loop.specs.Leaving.{An_ack, An_oack, A_block}
+use Rattle.tftp_loop.proofs.AnsweringEnds.{IsAt, at_most}
+use Rattle.tftp_loop.proofs.PortEnds.{HasLimit}
+
+-- an end that has all its retries is with the endpoint that asked, to which its first datagram goes
+pub record BeginsAt (Fits : ℕ → Type 0) (IsGiven : List ℕ → Type 0) (retries : ℕ) (peer : Endpoint) (e : EndState)
+    : Type 0 where
+  pub limit : HasLimit retries e
+  pub at : IsAt Fits IsGiven peer e.position
+
+module _ (Fits : ℕ → Type 0) (IsGiven : List ℕ → Type 0) (retries : ℕ) (peer : Endpoint) where
+  read_begins : (agreed : List Known) (mode : Mode) (length : ℕ) (piece : List ℕ) → Fits (size agreed)
+      → (agreed ≡ [] → IsGiven piece)
+      → BeginsAt Fits IsGiven retries peer (serving_read agreed peer mode length retries piece)
+  read_begins [] mode length piece fits given = record {
+    limit = record { role = refl; left = omega arith };
+    at = record { to = refl; with_peer = (refl, fits); said = A_block 1 piece refl (given refl) };
+  }
+  read_begins (known ∷ others) mode length piece fits given = record {
+    limit = record { role = refl; left = omega arith };
+    at = record { to = refl; with_peer = (refl, fits); said = An_oack (known ∷ others) refl };
+  }
+
+  pub write_begins : (agreed : List Known) (mode : Mode)
+      → BeginsAt Fits IsGiven retries peer (serving_write agreed peer mode retries)
+  write_begins [] mode = record {
+    limit = record { role = refl; left = omega arith };
+    at = record { to = refl; with_peer = refl; said = An_ack 0 refl };
+  }
+  write_begins (known ∷ others) mode = record {
+    limit = record { role = refl; left = omega arith };
+    at = record { to = refl; with_peer = refl; said = An_oack (known ∷ others) refl };
+  }
+
+  no_other : (known : Known) (others : List Known) (P : Type 0) → known ∷ others ≡ [] → P
+  no_other known others P e = absurd (cc)
+
+  pub serves_begins : {F : Type 0} (sources : SourceMeaning F) (agreed : List Known) (mode : Mode) (count : ℕ)
+      (source rest : F) (e : EndState) → Fits (size agreed)
+      → ((piece : List ℕ) → sources.gives source piece rest → length piece ≤ size agreed → IsGiven piece)
+      → ServesRead sources agreed peer mode count retries source rest e → BeginsAt Fits IsGiven retries peer e
+  serves_begins sources [] mode count source rest e fits given serves =
+      let want = block_length count DEFAULT_BLOCK 1 in
+      let long = at_most (sources.left source) (sources.left rest) want serves.0 (Ok want) serves.1.fills in
+      subst (BeginsAt Fits IsGiven retries peer) (sym serves.2)
+      (read_begins [] mode count serves.0 fits (λ none. given serves.0 serves.3 (omega (arith, long))))
+  serves_begins sources (known ∷ others) mode count source rest e fits given serves =
+      subst (BeginsAt Fits IsGiven retries peer) (sym serves.1)
+      (read_begins (known ∷ others) mode count [] fits (no_other known others (IsGiven [])))
+
+-- a request opened this transfer: a read of a file that the store opened for it, or a write
+pub data OpensFor {S F D : Type 0} (meaning : StoreMeaning S D) (sources : SourceMeaning F) (old : ServerState S F D)
+    (from : Endpoint) (bytes : List ℕ) (ask : Ask) (transfer : TransferState F D) : Type 0 where
+  To_read : (path : List ℕ) (mode : Mode) (options : List RawOption) (agreed : List Known) (file : Opening F) (rest : F)
+      → ask ≡ Reads path mode options → sources.opens (meaning.root old.store) path mode file.source
+      → answer options kinds.Read mode file.length old.config.limits ≡ Ok agreed
+      → ServesRead sources agreed from mode file.length old.config.retries file.source rest transfer.end
+      → transfer.files ≡ Source rest → OpensFor meaning sources old from bytes ask transfer
+  To_write : (agreed : List Known) (mode : Mode) (draft : D)
+      → transfer.end ≡ serving_write agreed from mode old.config.retries → transfer.files ≡ Sink draft
+      → OpensFor meaning sources old from bytes ask transfer
+
+module _ {S F D : Type 0} (meaning : StoreMeaning S D) (sources : SourceMeaning F) (old : ServerState S F D)
+    (from : Endpoint) (bytes : List ℕ) where
+  -- the transfer that came, if one did
+  abbrev pub OpensIn : Ask → Came S F D → Type 0
+  OpensIn ask Nothing = ⊤
+  OpensIn ask (Error_reply reply store) = ⊤
+  OpensIn ask (A_transfer transfer store) = OpensFor meaning sources old from bytes ask transfer
+
+  came_as : (ask : Ask) (came other : Came S F D) → came ≡ other → OpensIn ask other → OpensIn ask came
+  came_as ask came other is h = subst (OpensIn ask) (sym is) h
+
+  module _ (ask : Ask) (path : List ℕ) (mode : Mode) (options : List RawOption) (is : ask ≡ Reads path mode options)
+      (came : Came S F D) where
+    refused : (reply : ErrorReply) (store : S) → came ≡ Error_reply reply store → OpensIn ask came
+    refused reply store h = came_as ask came (Error_reply reply store) h tt
+
+    module _ (file : Opening F) (opened : sources.opens (meaning.root old.store) path mode file.source) where
+      module _ (agreed : List Known) (same : answer options kinds.Read mode file.length old.config.limits ≡ Ok agreed)
+        where
+          starts : Starts meaning sources old from bytes path mode file.length agreed file.source came → OpensIn ask came
+          starts (inl s) =
+              came_as ask came _ s.opens (To_read path mode options agreed file s.rest is opened same s.serves refl)
+          starts (inr x) = refused FileChanged old.store x.2
+
+          fits : (b : Bool) → Sent meaning sources old from bytes
+              (if b then Sends path mode file.length agreed else Refused FileTooLarge) (Ok file) came → OpensIn ask came
+          fits true h = starts h
+          fits false h = refused FileTooLarge old.store h
+
+      answered : (result : Result (List Known) Refusal)
+          → answer options kinds.Read mode file.length old.config.limits ≡ result
+          → Sent meaning sources old from bytes (by_length path mode file.length result) (Ok file) came
+          → OpensIn ask came
+      answered (Err refusal) same h = refused (accept_reply refusal) old.store h
+      answered (Ok agreed) same h = fits agreed same (nat_lt file.length (65535 * size agreed)) h
+
+    found : (file : Result (Opening F) StoreFault) → OpensAt sources (meaning.root old.store) path mode file
+        → Sent meaning sources old from bytes (by_file old.config.limits path mode options (opened_length file)) file came
+        → OpensIn ask came
+    found (Err fault) opened h = refused (open_reply fault) old.store h
+    found (Ok file) opened h =
+        answered file opened (answer options kinds.Read mode file.length old.config.limits) refl h
+
+  begun : (ask : Ask) (path : List ℕ) (mode : Mode) (agreed : List Known) (draft : Result D StoreFault) (store : S)
+      (came : Came S F D) → Taken meaning sources old from bytes (by_draft path mode agreed draft) draft store came
+      → OpensIn ask came
+  begun ask path mode agreed (Err fault) store came h =
+      came_as ask came (Error_reply (begin_reply fault) store) h tt
+  begun ask path mode agreed (Ok draft) store came h = came_as ask came _ h (To_write agreed mode draft refl refl)
+
+  -- so opens each transfer that opens
+  pub opens_for : (ask : Ask) (came : Came S F D) → Goes meaning sources old from bytes ask came → OpensIn ask came
+  opens_for Ignores came goes = came_as Ignores came Nothing goes tt
+  opens_for (Refuses reply) came goes = came_as (Refuses reply) came (Error_reply reply old.store) goes tt
+  opens_for (Reads path mode options) came goes =
+      found (Reads path mode options) path mode options refl came goes.file goes.opened goes.goes_on
+  opens_for (Writes path mode agreed) came goes =
+      begun (Writes path mode agreed) path mode agreed goes.draft goes.store came goes.goes_on

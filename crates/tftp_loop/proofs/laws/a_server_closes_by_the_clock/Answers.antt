@@ -1,0 +1,15 @@
+-- The lemmas that are the law.
+use Rattle.tftp_loop.proofs.ByTheClock.{closes_by_the_clock, times_out_by_the_clock}
+use Rattle.tftp_loop.proofs.laws.a_server_closes_by_the_clock.Goals as goal
+
+pub returns-clause-closes : goal.returns-clause-closes
+returns-clause-closes g c =
+    λ start first last new timer empty run has idles waits late soon.
+    closes_by_the_clock g.T.Store.meaning g.T.Source.Source.meaning start first last new
+    timer empty run has idles waits late soon
+
+pub returns-clause-silent : goal.returns-clause-silent
+returns-clause-silent g c =
+    λ start first last new timer transfer empty run has found idles silent waits late soon.
+    times_out_by_the_clock g.T.Store.meaning g.T.Source.Source.meaning start first last new
+    timer transfer empty run has found idles silent waits late soon
