@@ -1,4 +1,4 @@
--- In the end state of the journals what a receiver was handed is what its peer's file gave: the invariant by the run
+-- In the end state of the traces what a receiver was handed is what its peer's file gave: the invariant by the run
 -- says it of a text that is padded, and no padding is part of what is claimed.
 use Rattle.std.proofs.Common.{◌≡◌, ℕ, Bool, true, false, List, [], ◌++◌, length, Some, None, refl, sym, ap, ◌∙◌, subst, inl}
 use Rattle.std.proofs.Common.{inr}
@@ -35,11 +35,11 @@ use Rattle.tftp_promises.specs.Moved.{Moved}
 use Rattle.tftp_promises.specs.Openings.{ArePortsFresh, moved_at, opened_at}
 use Rattle.tftp_promises.specs.Order.{Programs, IsStranger, requests_at}
 use Rattle.tftp_promises.specs.Programs.{ClientProgram, endpoint}
-use Rattle.tftp_promises.specs.Promises.{HasOpened, joined}
+use Rattle.tftp_promises.specs.Network.{HasOpened, joined}
 use Rattle.tftp_promises.specs.Snapshots.{Has_asked, all_of}
 use Rattle.tftp_promises.proofs.ClientRoles.{run_role}
 use Rattle.tftp_promises.proofs.ClientsServed.{one_there, served_by}
-use Rattle.tftp_promises.proofs.Invariant.{By_run, ClientKept, GaveSo, HasFile, HasStored, IsGiven, IsKept, IsOpened}
+use Rattle.tftp_promises.proofs.Invariant.{ClientKept, GaveSo, HasFile, HasStored, IsGiven, IsKept, IsOpened}
 use Rattle.tftp_promises.proofs.Invariant.{IsTaken, IsViewed, TookSo}
 use Rattle.tftp_promises.proofs.Invariant.{length_of}
 use Rattle.tftp_promises.proofs.KeptShown.{receiver_text, text_if, views_end}
@@ -63,7 +63,7 @@ whole_text e stored (Closed terms number done outcome) is complete =
 module _ {S F D G K : Type 0} {stores : StoreMeaning S D} {sources : SourceMeaning F} {inputs : SourceMeaning G}
     {outputs : SinkMeaning K}
     (programs : Programs stores sources inputs outputs) (fresh : ArePortsFresh programs) (kept : (pad : ℕ) →
-    IsKept programs (By_run pad) (all_of programs)) where
+    IsKept programs pad (all_of programs)) where
   abbrev Client : Type 0
   Client = ClientProgram inputs outputs (requests_at programs)
 
@@ -85,7 +85,7 @@ module _ {S F D G K : Type 0} {stores : StoreMeaning S D} {sources : SourceMeani
     took : is_sender end.state.role.side ≡ false → TookSo end x.moved
 
   client_kept : (pad k : ℕ) (client : Client) → slice_get programs.clients k ≡ Some client →
-      ClientKept programs (By_run pad) (views pad) (kept pad).messages client client.last client.files
+      ClientKept programs pad (views pad) (kept pad).messages client client.last client.files
       (moved_in client.runs)
   client_kept pad k client found =
       (kept pad).clients k client (Has_asked client.last client.files client.noted (moved_in client.runs)) found
@@ -93,7 +93,7 @@ module _ {S F D G K : Type 0} {stores : StoreMeaning S D} {sources : SourceMeani
       ∙ ap (option_map (λ (c : Client). Has_asked c.last c.files c.noted (moved_in c.runs))) found)
 
   module _ (pad : ℕ) (client : Client) (x : OpenEnd) where
-    client_stands : (files : Files G K) → HasFile programs (By_run pad) client x files (moved_in client.runs) →
+    client_stands : (files : Files G K) → HasFile programs pad client x files (moved_in client.runs) →
         (is_sender x.state.role.side ≡ true → x.text ≡ pad_to pad x.state.role.length (moved_in client.runs).bytes)
         × (is_sender x.state.role.side ≡ true → GaveSo x (moved_in client.runs))
         × (is_sender x.state.role.side ≡ false → TookSo x (moved_in client.runs))
@@ -116,7 +116,7 @@ module _ {S F D G K : Type 0} {stores : StoreMeaning S D} {sources : SourceMeani
         length_of (opened_at programs x.address programs.server.run) ≡ x.state.role.length
     measured h = ap length_of h.opened ∙ ap (λ (r : Role). r.length) h.role
 
-    transfer_stands : (files : Files F D) → HasStored programs (By_run pad) (all_of programs) x files →
+    transfer_stands : (files : Files F D) → HasStored programs pad (all_of programs) x files →
         (is_sender x.state.role.side ≡ true →
         x.text ≡ pad_to pad x.state.role.length (moved_at programs a programs.server.run).bytes)
         × (is_sender x.state.role.side ≡ true → GaveSo x (moved_at programs a programs.server.run))
@@ -421,7 +421,7 @@ module _ {S F D G K : Type 0} {stores : StoreMeaning S D} {sources : SourceMeani
     role = h.role ∙ ap (λ (e : EndState). e.role) state;
   }
 
-  opened_of : (files : Files F D) (x : OpenEnd) → HasStored programs (By_run 0) (all_of programs) x files →
+  opened_of : (files : Files F D) (x : OpenEnd) → HasStored programs 0 (all_of programs) x files →
       IsOpened programs (all_of programs) x
   opened_of (Source source) x has = has.opened
   opened_of (Sink draft) x has = has.opened
@@ -455,7 +455,7 @@ module _ {S F D G K : Type 0} {stores : StoreMeaning S D} {sources : SourceMeani
 
   given_of : (transfer : TransferState F D) (a : Endpoint) (x : OpenEnd) → x.address ≡ a → x.state ≡ transfer.end →
       x.path ≡ transfer.path → x.request ≡ transfer.request → is_sender transfer.end.role.side ≡ true →
-      (files : Files F D) → transfer.files ≡ files → HasStored programs (By_run 0) (all_of programs) x files →
+      (files : Files F D) → transfer.files ≡ files → HasStored programs 0 (all_of programs) x files →
       WasGiven programs transfer a
   given_of transfer a x at state path request sends (Source source) is has =
       given_so transfer a x at state path request source is has.given
@@ -503,7 +503,7 @@ module _ {S F D G K : Type 0} {stores : StoreMeaning S D} {sources : SourceMeani
       x.path ≡ transfer.path → x.request ≡ transfer.request →
       (is_sender x.state.role.side ≡ false → x.committed ≡ is_complete x.state.position.phase) →
       is_sender transfer.end.role.side ≡ false → (files : Files F D) → transfer.files ≡ files →
-      HasStored programs (By_run 0) (all_of programs) x files → WasTaken programs transfer a
+      HasStored programs 0 (all_of programs) x files → WasTaken programs transfer a
   taken_of transfer a x at state path request complete receives (Sink draft) is has =
       taken_so transfer a x at state path request (complete has.receiver) draft is has.taken
   taken_of transfer a x at state path request complete receives (Source source) is has =
@@ -519,12 +519,12 @@ module _ {S F D G K : Type 0} {stores : StoreMeaning S D} {sources : SourceMeani
   -- what the source of a client has given
   module _ (k : ℕ) (client : Client) (found : slice_get programs.clients k ≡ Some client)
       (sends : is_sender client.first.role.side ≡ true) where
-    abbrev its_kept : ClientKept programs (By_run 0) (views 0) (kept 0).messages client client.last client.files
+    abbrev its_kept : ClientKept programs 0 (views 0) (kept 0).messages client client.last client.files
         (moved_in client.runs)
     its_kept = client_kept 0 k client found
 
     given_by : (files : Files G K) → client.files ≡ files →
-        HasFile programs (By_run 0) client its_kept.end files (moved_in client.runs) → WasGivenBy programs client
+        HasFile programs 0 client its_kept.end files (moved_in client.runs) → WasGivenBy programs client
     given_by (Source source) is has = record {
       first = has.given.first;
       is_first = has.given.is_first;

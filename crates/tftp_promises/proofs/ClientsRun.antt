@@ -4,11 +4,9 @@ use Rattle.tftp_file.specs.Sink.{SinkMeaning}
 use Rattle.tftp_file.specs.Source.{SourceMeaning}
 use Rattle.tftp_file.specs.declared.files.Files.{Files}
 use Rattle.tftp_ends.specs.End.{EndState}
-use Rattle.tftp_lines.specs.ClientOutcome.{end_text}
-use Rattle.tftp_lines.specs.declared.client_outcome.ClientOutcome.TheVariants as ends
 use Rattle.tftp_rules.specs.Machine.{Endpoint}
-use Rattle.tftp_sockets.specs.Journal.{SocketEvent}
-use Rattle.tftp_sockets.specs.Journal.SocketEvent.{Sent}
+use Rattle.tftp_sockets.specs.Trace.{SocketEvent}
+use Rattle.tftp_sockets.specs.Trace.SocketEvent.{Sent}
 use Rattle.tftp_client.specs.Moved.{Moved, handling_moves, run_moves}
 use Rattle.tftp_client.specs.Runs.{begun}
 use Rattle.tftp_client.specs.Converses.{State, Converses, progress_of}
@@ -17,7 +15,7 @@ use Rattle.tftp_promises.specs.ClientRuns.{ClientRun, ClientsAreRuns, Starts, Go
 use Rattle.tftp_promises.specs.ClientRuns.{Reads_clock, Times_out, File_works, Prints_line, moved_in}
 use Rattle.tftp_promises.specs.ClientPrograms.{ClientsArePrograms, IsClientRun}
 use Rattle.tftp_promises.specs.Programs.{ClientOpens}
-use Rattle.tftp_promises.proofs.ClientJournals.{converse}
+use Rattle.tftp_promises.proofs.ClientTraces.{converse}
 
 module _ {G K : Type 0} {inputs : SourceMeaning G} {outputs : SinkMeaning K} {port : ℕ} {first : State}
     {file : Files G K} where
@@ -49,10 +47,10 @@ pub clients_run : {G K : Type 0} (inputs : SourceMeaning G) (outputs : SinkMeani
 clients_run inputs outputs port end before s files runs = record {
   runs_so = goes_on Starts runs.converses;
   stays_so =
-      λ count after stays. (
+      λ line after stays. (
         stays.last,
         stays.files,
-        goes_on (Goes_on (goes_on Starts runs.converses) (Prints_line (end_text (ends.Complete count))))
+        goes_on (Goes_on (goes_on Starts runs.converses) (Prints_line line))
             stays.converses,
         stays.events,
       );
@@ -61,10 +59,10 @@ clients_run inputs outputs port end before s files runs = record {
 -- a run is that of a program
 module _ {G K : Type 0} (inputs : SourceMeaning G) (outputs : SinkMeaning K) {to : Endpoint} where
   program_of : (ip : List ℕ) {first : EndState} {file : Files G K} (opens : ClientOpens inputs outputs to first file)
-      (before : List SocketEvent) (port : ℕ) (last : State) (files : Files G K) →
-      (runs : ClientRun inputs outputs port (begun port first before) file last files) →
+      (before : List SocketEvent) (port reading : ℕ) (last : State) (files : Files G K) →
+      (runs : ClientRun inputs outputs port (begun port reading first before) file last files) →
       IsClientRun inputs outputs ip opens before last (moved_in runs)
-  program_of ip {first} {file} opens before port last files runs =
+  program_of ip {first} {file} opens before port reading last files runs =
       let since = converse runs in
       let asked : List SocketEvent = Sent port first.position.last_sent_to first.position.last_sent ∷ [] in
       let notes : last.events ≡ (since.0 ++ asked) ++ before =
@@ -73,6 +71,7 @@ module _ {G K : Type 0} (inputs : SourceMeaning G) (outputs : SinkMeaning K) {to
         client = record {
           ip = ip;
           port = port;
+          reading = reading;
           first = first;
           before = before;
           last = last;
@@ -94,16 +93,15 @@ module _ {G K : Type 0} (inputs : SourceMeaning G) (outputs : SinkMeaning K) {to
 
 pub clients_are_programs : {G K : Type 0} (inputs : SourceMeaning G) (outputs : SinkMeaning K) →
     ClientsArePrograms inputs outputs
-clients_are_programs inputs outputs to ip first file opens before port s files converses = record {
+clients_are_programs inputs outputs to ip first file opens before port reading s files converses = record {
   runs_so =
       let so = goes_so Starts converses in
       subst (λ (m : Moved). IsClientRun inputs outputs ip opens before s m) so.1
-      (program_of inputs outputs ip opens before port s files so.0);
-  stays_so = λ count after stays.
+      (program_of inputs outputs ip opens before port reading s files so.0);
+  stays_so = λ line after stays.
       let so = goes_so Starts converses in
-      let line = end_text (ends.Complete count) in
       let on = goes_so (Goes_on so.0 (Prints_line line)) stays.converses in
       subst (λ (m : Moved). IsClientRun inputs outputs ip opens before stays.last m)
       (on.1 ∙ ap (λ (m : Moved). run_moves stays.converses m) so.1)
-      (program_of inputs outputs ip opens before port stays.last stays.files on.0);
+      (program_of inputs outputs ip opens before port reading stays.last stays.files on.0);
 }

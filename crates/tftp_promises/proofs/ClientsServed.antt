@@ -1,4 +1,4 @@
--- In the end state of the journals no two ends share an endpoint, and the peer of a client is the transfer of the server
+-- In the end state of the traces no two ends share an endpoint, and the peer of a client is the transfer of the server
 -- that its request opened, for the path of its name.
 use Rattle.std.proofs.Common.{◌≡◌, ℕ, Bool, true, false, not, List, [], ◌∷◌, Ok, Some, refl, sym, ap, ◌∙◌, subst}
 use Rattle.std.proofs.Common.{inl, inr}
@@ -33,9 +33,9 @@ use Rattle.tftp_promises.specs.ClientRuns.{moved_in}
 use Rattle.tftp_promises.specs.Openings.{ArePortsFresh}
 use Rattle.tftp_promises.specs.Order.{Programs, requests_at}
 use Rattle.tftp_promises.specs.Programs.{ClientOpens, ClientProgram, To_read, To_write, client_at, name_of, packet_of}
-use Rattle.tftp_promises.specs.Promises.{HasOpened, joined}
+use Rattle.tftp_promises.specs.Network.{HasOpened, joined}
 use Rattle.tftp_promises.specs.Snapshots.{Has_asked, all_of}
-use Rattle.tftp_promises.proofs.Invariant.{ClientKept, How, IsKept, TransferKept}
+use Rattle.tftp_promises.proofs.Invariant.{ClientKept, IsKept, TransferKept}
 use Rattle.tftp_promises.proofs.KeptAsks.{says_request}
 use Rattle.tftp_promises.proofs.KeptShown.{views_end}
 use Rattle.tftp_promises.proofs.KeptViews.{view_there}
@@ -109,7 +109,7 @@ answers_it a to x y write request serves asks =
 
 module _ {S F D G K : Type 0} {stores : StoreMeaning S D} {sources : SourceMeaning F} {inputs : SourceMeaning G}
     {outputs : SinkMeaning K}
-    (programs : Programs stores sources inputs outputs) {how : How programs} (kept : IsKept programs how
+    (programs : Programs stores sources inputs outputs) {pad : ℕ} (kept : IsKept programs pad
     (all_of programs)) where
   abbrev Client : Type 0
   Client = ClientProgram inputs outputs (requests_at programs)
@@ -118,7 +118,7 @@ module _ {S F D G K : Type 0} {stores : StoreMeaning S D} {sources : SourceMeani
   there client = client_at inputs outputs (requests_at programs) client
 
   client_kept : (k : ℕ) (client : Client) → slice_get programs.clients k ≡ Some client →
-      ClientKept programs how kept.views kept.messages client client.last client.files (moved_in client.runs)
+      ClientKept programs pad kept.views kept.messages client client.last client.files (moved_in client.runs)
   client_kept k client found =
       kept.clients k client (Has_asked client.last client.files client.noted (moved_in client.runs)) found
       (slice_get-map (λ (c : Client). Has_asked c.last c.files c.noted (moved_in c.runs)) programs.clients k
@@ -173,7 +173,7 @@ module _ {S F D G K : Type 0} {stores : StoreMeaning S D} {sources : SourceMeani
     abbrev to : Endpoint
     to = requests_at programs
 
-    x : ClientKept programs how kept.views kept.messages client client.last client.files (moved_in client.runs)
+    x : ClientKept programs pad kept.views kept.messages client client.last client.files (moved_in client.runs)
     x = client_kept k client found
 
     abbrev m : Machine
@@ -208,7 +208,7 @@ module _ {S F D G K : Type 0} {stores : StoreMeaning S D} {sources : SourceMeani
         (own_client (joined programs) (there client) (clients_there programs k client found)))
 
     module _ (port : ℕ) (transfer : TransferState F D) (opened : HasOpened programs port transfer p) where
-      y : TransferKept programs how kept.views kept.messages (all_of programs) port transfer p
+      y : TransferKept programs pad kept.views kept.messages (all_of programs) port transfer p
       y = kept.transfers port transfer p opened
 
       view : EndView

@@ -5,7 +5,7 @@ use Rattle.tftp_ends.specs.declared.endpoint.Endpoint.{Endpoint}
 use Rattle.tftp_ends.specs.Step.{Reply, timeout_turn}
 use Rattle.tftp_store.specs.Store.{StoreMeaning}
 use Rattle.tftp_server.specs.State.{ServerState}
-use Rattle.tftp_sockets.specs.Journal.{SocketEvent, replied, answered}
+use Rattle.tftp_sockets.specs.Trace.{SocketEvent, replied, answered}
 use Rattle.tftp_loop.specs.Run.{Run}
 use Rattle.tftp_loop.specs.Run.Run.{Start, Then}
 use Rattle.tftp_loop.specs.Steps.{PortState, LoopState, PortStep, LoopStep, at_start, answering_port}
@@ -70,7 +70,7 @@ module _ {S F D : Type 0} {stores : StoreMeaning S D} {sources : SourceMeaning F
       ∙ (ap (λ (ls : List (List ℕ)). close_lines does ++ ls) (run_lines run)
       ∙ sym (append_assoc (close_lines does) (closed_lines run) (lines_of first.events)))
 
-  pub lines_are_closes : (config : LoopConfig) (port : ℕ) (first : ServerState S F D) (before : List SocketEvent)
-      (now : LoopState S F D) (run : Run (LoopStep stores sources) (at_start config port first before) now) →
+  pub lines_are_closes : (config : LoopConfig) (port reading : ℕ) (first : ServerState S F D) (before : List SocketEvent)
+      (now : LoopState S F D) (run : Run (LoopStep stores sources) (at_start config port first reading before) now) →
       lines_of now.events ≡ closed_lines run ++ lines_of before
-  lines_are_closes config port first before now run = run_lines run
+  lines_are_closes config port reading first before now run = run_lines run

@@ -11,12 +11,12 @@ use Rattle.tftp_file.specs.Sink.{SinkMeaning}
 use Rattle.tftp_file.specs.Source.{SourceMeaning}
 use Rattle.tftp_store.specs.Store.{StoreMeaning}
 use Rattle.tftp_rules.specs.Machine.{Endpoint}
-use Rattle.tftp_sockets.specs.Journal.{SocketEvent}
-use Rattle.tftp_sockets.specs.Journal.SocketEvent.{Received, Sent, Watched, Elapsed, Printed, Quiet}
-use Rattle.tftp_promises.specs.Alone.{AreAmong, EachIsJoined, EachKeepsAnyFiles, EachKeepsPromises, EachTakesOne, alone}
+use Rattle.tftp_sockets.specs.Trace.{SocketEvent}
+use Rattle.tftp_sockets.specs.Trace.SocketEvent.{Received, Sent, Watched, Elapsed, Printed, Quiet}
+use Rattle.tftp_promises.specs.Alone.{AreAmong, EachIsJoined, EachKeepsAnyFiles, EachTakesOne, alone}
 use Rattle.tftp_promises.specs.Alone.{heard_with}
 use Rattle.tftp_promises.specs.Joined.{AreJoined}
-use Rattle.tftp_promises.specs.Journals.{IsOfPort}
+use Rattle.tftp_promises.specs.Traces.{IsOfPort}
 use Rattle.tftp_promises.specs.Order.{CanCome, CanComeOf, IsAtOf, IsError, IsHonest, IsHonestOf, IsStranger}
 use Rattle.tftp_promises.specs.Order.{IsOrder, IsStrangerTo, MayCome}
 use Rattle.tftp_promises.specs.Others.{TakesOwn}
@@ -24,11 +24,11 @@ use Rattle.tftp_promises.specs.Order.{Noted, Programs, WasSent, events_of, ips}
 use Rattle.tftp_promises.specs.Programs.{ServerProgram, client_at, endpoint, has_port}
 use Rattle.tftp_promises.specs.Several.{OneClient, OneServer, Several, all_sent_from, apart_from, ips_of, known_ports}
 use Rattle.tftp_promises.specs.Several.{number_of, other_ports, others_sent_from, sent_from}
-use Rattle.tftp_promises.proofs.ClientJournals.{asks_first}
+use Rattle.tftp_promises.proofs.ClientTraces.{asks_first}
 use Rattle.tftp_promises.proofs.KeptEvents.{first_or_more, nothing_in}
 use Rattle.tftp_promises.proofs.Orders.{first_in, later_in, mapped, noted_in, one_in}
 use Rattle.tftp_promises.proofs.Places.{port_has, port_in}
-use Rattle.tftp_promises.proofs.ProgramsShown.{programs_keep, programs_keep_any}
+use Rattle.tftp_promises.proofs.ProgramsShown.{programs_keep_any}
 use Rattle.tftp_promises.proofs.TakesOne.{takes_none_or_one}
 
 -- ---- the events of one server and of one client
@@ -104,7 +104,7 @@ sent_in (e ∷ events) port to bytes c = elim (first_or_more e (Sent port to byt
   after : (x : SocketEvent) → Contains (sent_from events) port → Contains (sent_from (x ∷ events)) port
   after (Received at from b) i = i
   after (Sent at to b) i = later_in at (sent_from events) port i
-  after (Watched time) i = i
+  after (Watched watch) i = i
   after (Elapsed at time) i = i
   after (Printed line) i = i
   after (Quiet event) i = i
@@ -382,7 +382,7 @@ module _ {S F D G K : Type 0} {stores : StoreMeaning S D} {sources : SourceMeani
         ],
       )
   comes p q ip at_p at_q (Sent port to bytes) near earlier within h = tt
-  comes p q ip at_p at_q (Watched time) near earlier within h = tt
+  comes p q ip at_p at_q (Watched watch) near earlier within h = tt
   comes p q ip at_p at_q (Elapsed port time) near earlier within h = tt
   comes p q ip at_p at_q (Printed line) near earlier within h = tt
   comes p q ip at_p at_q (Quiet event) near earlier within h = tt
@@ -390,7 +390,7 @@ module _ {S F D G K : Type 0} {stores : StoreMeaning S D} {sources : SourceMeani
   for_server : (e : SocketEvent) → ForBoth several.ip e
   for_server (Received port from bytes) = inl refl
   for_server (Sent port to bytes) = tt
-  for_server (Watched time) = tt
+  for_server (Watched watch) = tt
   for_server (Elapsed port time) = tt
   for_server (Printed line) = tt
   for_server (Quiet event) = tt
@@ -399,7 +399,7 @@ module _ {S F D G K : Type 0} {stores : StoreMeaning S D} {sources : SourceMeani
   for_client (Received port from bytes) c =
       inr (ap (λ (q : ℕ). endpoint client.ip q) (received_own client port from bytes c))
   for_client (Sent port to bytes) c = tt
-  for_client (Watched time) c = tt
+  for_client (Watched watch) c = tt
   for_client (Elapsed port time) c = tt
   for_client (Printed line) c = tt
   for_client (Quiet event) c = tt
@@ -468,12 +468,6 @@ module _ {S F D G K : Type 0} (stores : StoreMeaning S D) (sources : SourceMeani
       programs_keep_any stores sources inputs outputs (alone several i server client)
       (heard_with i (number_of several k) order)
       (each_joined several order i server k client at_i found served)
-
-  pub each_keeps : EachKeepsPromises stores sources inputs outputs
-  each_keeps several order i server k client at_i found served models =
-      programs_keep stores sources inputs outputs (alone several i server client)
-      (heard_with i (number_of several k) order)
-      (each_joined several order i server k client at_i found served) models
 
   pub each_takes_one : EachTakesOne stores sources inputs outputs
   each_takes_one several client =

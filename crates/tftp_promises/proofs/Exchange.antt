@@ -9,34 +9,25 @@ use Rattle.std.specs.List.{Contains}
 use Rattle.tftp_file.specs.Memory.{memory_sink, memory_source}
 use Rattle.tftp_store.specs.Memory.{memory_meaning}
 use Rattle.tftp_rules.specs.Machine.{Endpoint}
-use Rattle.tftp_sockets.specs.Journal.{SocketEvent}
-use Rattle.tftp_sockets.specs.Journal.SocketEvent.{Received, Sent}
+use Rattle.tftp_sockets.specs.Trace.{SocketEvent}
+use Rattle.tftp_sockets.specs.Trace.SocketEvent.{Received, Sent}
 use Rattle.tftp_promises.specs.Alone.{IsServed, alone}
 use Rattle.tftp_promises.specs.Joined.{AreJoined}
-use Rattle.tftp_promises.specs.Modelled.{AreModelled, HasWhole}
 use Rattle.tftp_promises.specs.Openings.{ArePortsFresh, our_ports}
 use Rattle.tftp_promises.specs.Order.{Noted, Programs, CanCome, IsHonest, IsStranger, events_of, ips}
 use Rattle.tftp_promises.specs.Others.{TakesOwn}
-use Rattle.tftp_promises.specs.Ports.{AreDistinct}
-use Rattle.tftp_promises.specs.Programs.{endpoint, ClientProgram, ServerProgram, client_at}
+use Rattle.tftp_promises.specs.Programs.{endpoint, client_at}
 use Rattle.tftp_promises.specs.Several.{Several, AreHonest, AreInOrder, number_of}
 use Rattle.tftp_promises.specs.Witness.{HasExchanged, SomeAreJoined, SomeAreServed, client_ip, exchange, late_exchange}
 use Rattle.tftp_promises.specs.Witness.{latecomer, other_ip, requests, read_request, server_ip, stranger}
 use Rattle.tftp_promises.specs.Witness.{agreed, read_file}
+use Rattle.tftp_promises.proofs.ExchangeAlone.{Client, Server, client_away, comes_to, fresh_of_two, last_bytes, only_one}
+use Rattle.tftp_promises.proofs.ExchangeAlone.{two_alone}
 use Rattle.tftp_promises.proofs.ExchangeReader.{asking, reading, stored}
 use Rattle.tftp_promises.proofs.ExchangeServer.{all_opened, closed_there, opened_for, server}
 use Rattle.tftp_promises.proofs.ExchangeStates.{read_by, reading_2}
 use Rattle.tftp_promises.proofs.KeptEvents.{nothing_in}
 use Rattle.tftp_promises.proofs.OthersTaken.{takes_none}
-
-abbrev pub Client : Type 0
-Client = ClientProgram memory_source memory_sink requests
-
-abbrev pub Server : Type 0
-Server = ServerProgram memory_meaning memory_source requests
-
-last_bytes : (k : ℕ) (a b : List ℕ) → a ≡ b → get_or a k 0 ≡ get_or b k 0
-last_bytes k a b e = ap (λ (ip : List ℕ). get_or ip k 0) e
 
 -- addresses that differ in their last byte
 apart_by : (a b : Endpoint) (x y : ℕ) → get_or a.ip 3 0 ≡ x → get_or b.ip 3 0 ≡ y → x ≢ y → a ≢ b
@@ -61,11 +52,7 @@ module _ (more : List Client) (before : List Noted) where
       (sport port : ℕ) (bytes : List ℕ) (earlier : List Noted) →
       Contains earlier (sender, Sent sport (endpoint ip port) bytes) →
       Comes program (Received port (endpoint sip sport) bytes) earlier
-  delivered sender program sip ip there here sport port bytes earlier sent = (
-    endpoint ip port,
-    (ip, here, refl),
-    inl (record { program = sender; port = sport; is_at = (sip, there, refl); sent = sent }),
-  )
+  delivered = comes_to with_others
 
   -- one that a stranger sent comes to the server
   strays : (port : ℕ) (from : Endpoint) (bytes : List ℕ) (earlier : List Noted) → Strange from →
@@ -123,22 +110,9 @@ module _ (more : List Client) (before : List Noted) where
     honest_all comes = (tt, (comes, honest_22))
 
 -- ---- a client alone with the server
-pub two_apart : (p q : ℕ) → p ≢ q → AreDistinct (p ∷ q ∷ [])
-two_apart p q n zero zero port e f = refl
-two_apart p q n zero (suc zero) port e f = absurd (n (same_Some p q (e ∙ sym f)))
-two_apart p q n (suc zero) zero port e f = absurd (n (same_Some p q (f ∙ sym e)))
-two_apart p q n (suc zero) (suc zero) port e f = refl
-two_apart p q n zero (suc (suc k)) port e f = absurd (let g : None ≡ Some port = f in cc)
-two_apart p q n (suc zero) (suc (suc k)) port e f = absurd (let g : None ≡ Some port = f in cc)
-two_apart p q n (suc (suc j)) k port e f = absurd (let g : None ≡ Some port = e in cc)
-
 module _ (c : Client) where
   abbrev only_with : Programs memory_meaning memory_source memory_source memory_sink
-  only_with = record { ip = server_ip; port = 69; server = server; others = []; clients = c ∷ [] }
-
-  only_one : (i : ℕ) (x : Client) → slice_get (c ∷ []) i ≡ Some x → (i ≡ 0) × (x ≡ c)
-  only_one zero x e = (refl, sym (same_Some c x e))
-  only_one (suc i) x e = absurd (let f : None ≡ Some x = e in cc)
+  only_with = two_alone server c
 
   not_here : (x : Client) → x.ip ≢ server_ip → c.port ≢ x.port →
       IsStranger memory_meaning memory_source memory_source memory_sink only_with
@@ -146,23 +120,12 @@ module _ (c : Client) where
   not_here x away n =
       record {
         server = λ same. absurd (away same);
-        clients = λ i z e same. n (ap (λ (w : Client). w.port) (sym (only_one i z e).1)
+        clients = λ i z e same. n (ap (λ (w : Client). w.port) (sym (only_one c i z e).1)
             ∙ ap (λ (a : Endpoint). a.port) same);
       }
 
   fresh_alone : our_ports only_with server.run ≡ 1024 ∷ [] → c.ip ≢ server_ip → ArePortsFresh only_with
-  fresh_alone is away = record {
-    server =
-        subst (λ (opened : List ℕ). AreDistinct (69 ∷ opened)) (sym is) (two_apart 69 1024 (λ e. omega (arith, e)));
-    clients = λ i j x y e f same. (only_one i x e).0 ∙ sym (only_one j y f).0;
-    apart =
-        λ i q x e known same. away (ap (λ (w : Client). w.ip) (sym (only_one i x e).1)
-        ∙ ap (λ (a : Endpoint). a.ip) same);
-    others = λ port known other. nothing_in port other;
-  }
-
-pub client_away : client_ip ≢ server_ip
-client_away e = let n : 2 ≡ 1 = last_bytes 3 client_ip server_ip e in omega (arith, n)
+  fresh_alone = fresh_of_two server c
 
 other_away : other_ip ≢ server_ip
 other_away e = let n : 3 ≡ 1 = last_bytes 3 other_ip server_ip e in omega (arith, n)
@@ -194,13 +157,9 @@ joined = record {
   own = each (λ k c. TakesOwn server_ip [] c.runs) (takes_none server_ip reading.runs);
 }
 
-modelled : AreModelled programs
-modelled = record { known = refl; file_of = λ c. []; whole = each (λ k c. HasWhole c.opens []) (refl, refl) }
-
 exchanged : HasExchanged programs
 exchanged = record {
   joined = joined;
-  modelled = modelled;
   reads = reading;
   is_reader = refl;
   has_read = refl;

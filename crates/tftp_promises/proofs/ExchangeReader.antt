@@ -20,8 +20,8 @@ use Rattle.tftp_ends.specs.Step.{response_turn}
 use Rattle.tftp_ends.specs.Waiting.{agreed_terms}
 use Rattle.tftp_lines.specs.ClientOutcome.{end_text}
 use Rattle.tftp_lines.specs.declared.client_outcome.ClientOutcome.TheVariants as ends
-use Rattle.tftp_sockets.specs.Journal.SocketEvent.{Received, Sent, Watched, Printed, Quiet}
-use Rattle.tftp_sockets.specs.Journal.QuietEvent.{Slept}
+use Rattle.tftp_sockets.specs.Trace.SocketEvent.{Received, Sent, Watched, Printed, Quiet}
+use Rattle.tftp_sockets.specs.Trace.QuietEvent.{Slept}
 use Rattle.tftp_client.specs.Converses.{State}
 use Rattle.tftp_client.specs.Converses.HandlesReceived.{Answers}
 use Rattle.tftp_client.specs.Runs.{begun}
@@ -29,7 +29,7 @@ use Rattle.tftp_promises.specs.ClientRuns.{ClientDoes, Starts, Goes_on, Receives
 use Rattle.tftp_promises.specs.Others.{TakesOwn}
 use Rattle.tftp_promises.specs.Programs.{ClientOpens, ClientProgram, To_read}
 use Rattle.tftp_promises.specs.Witness.{agreed, blocks_of_8, client_ip, other_ip, read_file, read_name, read_port}
-use Rattle.tftp_promises.specs.Witness.{requests, server_ip}
+use Rattle.tftp_promises.specs.Witness.{read_at, requests, server_ip}
 use Rattle.tftp_promises.proofs.ExchangeParts.{block_spelled, may_read, oack_spelled, read_8, takes_all}
 
 abbrev at_first : EndState
@@ -111,15 +111,16 @@ stores_so = record {
 
 -- ---- the states
 abbrev s0 : State
-s0 = begun 5000 at_first []
+s0 = begun 5000 0 at_first []
 
 abbrev s1 : State
 s1 = record {
   end = receiving;
   now = 10;
+  reading = 10;
   deadline = 1000;
   events =
-      Sent 5000 read_port (ack_bytes 0) ∷ Watched 10 ∷ Received 5000 read_port (oack_bytes agreed) ∷ Quiet
+      Sent 5000 read_port (ack_bytes 0) ∷ Watched (read_at 10) ∷ Received 5000 read_port (oack_bytes agreed) ∷ Quiet
       (Slept 1000) ∷ s0.events;
 }
 
@@ -127,9 +128,10 @@ abbrev s2 : State
 s2 = record {
   end = dallying;
   now = 20;
+  reading = 20;
   deadline = 1000;
   events =
-      Sent 5000 read_port (ack_bytes 1) ∷ Watched 20 ∷ Received 5000 read_port (data_bytes 1 read_file) ∷ Quiet
+      Sent 5000 read_port (ack_bytes 1) ∷ Watched (read_at 20) ∷ Received 5000 read_port (data_bytes 1 read_file) ∷ Quiet
       (Slept 990) ∷ s1.events;
 }
 
@@ -141,13 +143,13 @@ ClientSteps s files s' files' = ClientDoes memory_source memory_sink 5000 s file
 
 pub accepts_does : ClientSteps s0 empty s1 empty
 accepts_does =
-    Receives_one (record { not_closed = λ o. absurd (true≢false (sym o)); due = λ late. absurd (omega (arith, late)) })
-    (omega arith) (Answers (λ o. absurd (true≢false (sym o))) accepts_so)
+    Receives_one {watch = read_at 10} (record { not_closed = λ o. absurd (true≢false (sym o)); due = λ late. absurd (omega (arith, late)) })
+    (record { time = refl; forward = omega arith }) (Answers (λ o. absurd (true≢false (sym o))) accepts_so)
 
 pub stores_does : ClientSteps s1 empty s2 (Sink stored)
 stores_does =
-    Receives_one (record { not_closed = λ o. absurd (true≢false (sym o)); due = λ late. absurd (omega (arith, late)) })
-    (omega arith) (Answers (λ o. absurd (true≢false (sym o))) stores_so)
+    Receives_one {watch = read_at 20} (record { not_closed = λ o. absurd (true≢false (sym o)); due = λ late. absurd (omega (arith, late)) })
+    (record { time = refl; forward = omega arith }) (Answers (λ o. absurd (true≢false (sym o))) stores_so)
 
 abbrev its_request : ClientOpens memory_source memory_sink requests at_first empty
 its_request = To_read (record {
@@ -167,14 +169,15 @@ abbrev pub asking : ClientProgram memory_source memory_sink requests
 asking = record {
   ip = other_ip;
   port = 7001;
+  reading = 0;
   first = at_first;
   before = [];
-  last = begun 7001 at_first [];
+  last = begun 7001 0 at_first [];
   files = empty;
   file = empty;
   runs = Starts;
   opens = its_request;
-  noted = (begun 7001 at_first []).events;
+  noted = (begun 7001 0 at_first []).events;
   is_noted = refl;
 }
 
@@ -182,6 +185,7 @@ abbrev pub reading : ClientProgram memory_source memory_sink requests
 reading = record {
   ip = client_ip;
   port = 5000;
+  reading = 0;
   first = at_first;
   before = [];
   last = s3;

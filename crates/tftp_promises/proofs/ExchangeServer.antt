@@ -29,8 +29,8 @@ use Rattle.tftp_server.specs.Draft.{KeepsStore, files_in}
 use Rattle.tftp_server.specs.Request.{A_transfer, AsksToRead, left_by}
 use Rattle.tftp_server.specs.State.{at, with_next}
 use Rattle.tftp_server.specs.Steps.{StepIn}
-use Rattle.tftp_sockets.specs.Journal.{answered}
-use Rattle.tftp_sockets.specs.Journal.SocketEvent.{Received}
+use Rattle.tftp_sockets.specs.Trace.{answered}
+use Rattle.tftp_sockets.specs.Trace.SocketEvent.{Received}
 use Rattle.tftp_loop.specs.Run.{Run}
 use Rattle.tftp_loop.specs.Run.Run.{Start, Then}
 use Rattle.tftp_loop.specs.Steps.{Timer, PortState, LoopStep, most_in_round, timer_after}
@@ -42,30 +42,30 @@ use Rattle.tftp_promises.specs.Ports.{opened_ports}
 use Rattle.tftp_promises.specs.Programs.{ServerProgram, endpoint}
 use Rattle.tftp_promises.specs.Several.{ports_for}
 use Rattle.tftp_promises.specs.Witness.{agreed, blocks_of_8, latecomer, read_file, read_name, read_request, reader}
-use Rattle.tftp_promises.specs.Witness.{requests, stranger}
+use Rattle.tftp_promises.specs.Witness.{read_at, requests, stranger}
 use Rattle.tftp_promises.proofs.ExchangeParts.{ack_spelled, read_8, read_spelled}
 use Rattle.tftp_promises.proofs.ExchangeStates.{Held, Loop, at_stranger, completes, config, late, read_by, reading_0}
 use Rattle.tftp_promises.proofs.ExchangeStates.{reading_1, reading_2, sends, serving, store, timed, s0, s1, s2, s3, s4, s5}
 use Rattle.tftp_promises.proofs.ExchangeStates.{s6, s7, s8, t2, waited, woken}
 
 -- ---- the steps
-abbrev Step : Loop → Loop → Type 0
+abbrev pub Step : Loop → Loop → Type 0
 Step old new = LoopStep memory_meaning memory_source old new
 
 -- a transfer at this index of the timers handles a datagram by this turn, with this file and this store after it
 module _ (old : Loop) (index : ℕ) (timer : Timer) (transfer : Held) (from : Endpoint) (bytes : List ℕ) (turn : Turn)
     (outgoing : Outgoing) (store : Stored) (files : Files (List ℕ) Drafted) where
-  abbrev handled : Held
+  abbrev pub handled : Held
   handled = record transfer { end = after_turn transfer.end turn; files = files }
 
-  abbrev port_after : PortState Stored (List ℕ) Drafted
+  abbrev pub port_after : PortState Stored (List ℕ) Drafted
   port_after = record {
     server = record old.server { store = store; held = with_next timer.port handled old.server.held };
     timer = timer_after old.now (reported transfer.end turn).progress timer;
     events = answered timer.port turn.reply (Received timer.port from bytes ∷ old.events);
   }
 
-  handles : old.now ≤ timer.age_limit → timer.received < most_in_round → index < length old.timers → timer ≡ slice_index_or old.timers index timer →
+  unfoldable pub handles : old.now ≤ timer.age_limit → timer.received < most_in_round → index < length old.timers → timer ≡ slice_index_or old.timers index timer →
       at timer.port old.server.held ≡ Some transfer →
       StepIn memory_meaning memory_source from bytes transfer.end
       (files_in old.server.store transfer.path old.server.config.overwrite transfer.files) turn
@@ -256,9 +256,8 @@ closes_read = Transfer_closed (record {
 -- the server waits, and reads the clock
 pub waits_again : Step s6 waited
 waits_again = Waited (record {
-  time = 0;
-  forward = omega arith;
-  soon = omega arith;
+  watch = read_at 0;
+  by = record { time = refl; forward = omega arith; soon = omega arith };
   millis = 0;
   ports = 69 ∷ [];
   may = record {
@@ -275,10 +274,9 @@ waits_again = Waited (record {
 
 pub wakes_again : Step waited woken
 wakes_again = Clock_read (record {
-  time = 0;
+  watch = read_at 0;
   woken = refl;
-  forward = omega arith;
-  soon = omega arith;
+  by = record { time = refl; forward = omega arith; soon = omega arith };
   is = refl;
 })
 

@@ -9,8 +9,8 @@ use Rattle.tftp_file.specs.Memory.{memory_sink, memory_source}
 use Rattle.tftp_ends.specs.Opening.{oack_bytes}
 use Rattle.tftp_store.specs.Memory.{memory_meaning}
 use Rattle.tftp_rules.specs.Machine.{Endpoint}
-use Rattle.tftp_sockets.specs.Journal.{SocketEvent}
-use Rattle.tftp_sockets.specs.Journal.SocketEvent.{Received, Sent, Watched, Elapsed, Printed, Quiet}
+use Rattle.tftp_sockets.specs.Trace.{SocketEvent}
+use Rattle.tftp_sockets.specs.Trace.SocketEvent.{Received, Sent, Watched, Elapsed, Printed, Quiet}
 use Rattle.tftp_promises.specs.Alone.{IsPassedOver, IsServed, alone}
 use Rattle.tftp_promises.specs.Openings.{ArePortsFresh, our_ports}
 use Rattle.tftp_promises.specs.Order.{CanComeOf, IsHonestOf, IsStrangerTo, Noted, events_of}
@@ -21,7 +21,8 @@ use Rattle.tftp_promises.specs.Several.{other_ports}
 use Rattle.tftp_promises.specs.Witness.{SomeAreShared, after_second, agreed, client_ip, exchange, read_request, reader}
 use Rattle.tftp_promises.specs.Witness.{renumbered, requests, server_ip, shared_exchange}
 use Rattle.tftp_promises.proofs.EachAlone.{sent_in}
-use Rattle.tftp_promises.proofs.Exchange.{Client, Server, client_away, joined, two_apart}
+use Rattle.tftp_promises.proofs.Exchange.{joined}
+use Rattle.tftp_promises.proofs.ExchangeAlone.{Client, Server, client_away, two_apart}
 use Rattle.tftp_promises.proofs.ExchangeReader.{reading, takes_first}
 use Rattle.tftp_promises.proofs.ExchangeServer.{opened_for, opened_second, ours_second, ports_first, ports_second, second}
 use Rattle.tftp_promises.proofs.ExchangeServer.{server}
@@ -72,7 +73,7 @@ comes p (Received port from bytes) order h = (
   ],
 )
 comes p (Sent port to bytes) order h = tt
-comes p (Watched time) order h = tt
+comes p (Watched watch) order h = tt
 comes p (Elapsed port time) order h = tt
 comes p (Printed line) order h = tt
 comes p (Quiet event) order h = tt

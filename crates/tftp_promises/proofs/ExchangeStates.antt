@@ -16,13 +16,13 @@ use Rattle.tftp_lines.specs.declared.printed.Printed.TheVariants.{Closed}
 use Rattle.tftp_rules.specs.Machine.{Endpoint}
 use Rattle.tftp_server.specs.State.{TransferState, ServerState}
 use Rattle.tftp_server.specs.declared.config.Config.{Config}
-use Rattle.tftp_sockets.specs.Journal.SocketEvent.{Received, Sent, Watched, Printed, Quiet}
-use Rattle.tftp_sockets.specs.Journal.QuietEvent.{Slept, Woke}
+use Rattle.tftp_sockets.specs.Trace.SocketEvent.{Received, Sent, Watched, Printed, Quiet}
+use Rattle.tftp_sockets.specs.Trace.QuietEvent.{Slept, Woke}
 use Rattle.tftp_sockets.specs.Watch.{last_moment}
 use Rattle.tftp_loop.specs.Steps.{Timer, LoopState, at_start}
 use Rattle.tftp_loop.specs.declared.serving.LoopConfig.{LoopConfig}
 use Rattle.tftp_promises.specs.Witness.{agreed, latecomer, read_file, read_name, read_request, reader, requests}
-use Rattle.tftp_promises.specs.Witness.{stranger}
+use Rattle.tftp_promises.specs.Witness.{read_at, stranger}
 
 abbrev pub Held : Type 0
 Held = TransferState (List ℕ) Drafted
@@ -101,7 +101,7 @@ timed peer marked look_at received =
 
 -- ---- the states
 abbrev pub s0 : Loop
-s0 = at_start service 69 (serving []) []
+s0 = at_start service 69 (serving []) 0 []
 
 abbrev pub s1 : Loop
 s1 = record s0 { pending = Some (reader, read_request); asked = true; events = Received 69 reader read_request ∷ [] }
@@ -158,11 +158,11 @@ waited = record s6 {
   limit = 1000;
   woken = true;
   rounds = 1;
-  events = Quiet (Woke (69 ∷ [])) ∷ Quiet (Slept 0) ∷ Watched 0 ∷ s6.events;
+  events = Quiet (Woke (69 ∷ [])) ∷ Quiet (Slept 0) ∷ Watched (read_at 0) ∷ s6.events;
 }
 
 abbrev pub woken : Loop
-woken = record waited { woken = false; events = Watched 0 ∷ waited.events }
+woken = record waited { woken = false; events = Watched (read_at 0) ∷ waited.events }
 
 abbrev pub s7 : Loop
 s7 = record woken {

@@ -2,44 +2,40 @@
 -- that were opened, and each datagram that was sent is one of its messages. That a message is there (`IsThere`) is said
 -- as for the turns of an end.
 use Rattle.std.specs.Prelude.{ℕ, ◌≡◌, ◌≢◌, ◌⊎◌, ◌<◌, true, false, List, [], ◌∷◌, ◌++◌, slice_get, Option, Some, None}
-use Rattle.std.specs.Prelude.{Bool, IsSome, Ok}
+use Rattle.std.specs.Prelude.{Bool, Ok}
 use Rattle.std.proofs.Common.{sym, subst}
 use Rattle.std.specs.List.{Contains}
 use Rattle.tftp_wire.specs.Spelling.{Spells}
 use Rattle.tftp_wire.specs.declared.packet.Request.{Request as WireRequest}
 use Rattle.tftp_file.specs.Block.{IsPrefixOf}
 use Rattle.tftp_file.specs.Path.{path_of_name}
-use Rattle.tftp_file.specs.Netascii.{wire_text}
 use Rattle.tftp_file.specs.Sink.{SinkMeaning}
 use Rattle.tftp_file.specs.Source.{SourceMeaning}
 use Rattle.tftp_file.specs.declared.files.Files.{Files}
 use Rattle.tftp_file.specs.declared.files.Files.TheVariants.{Source, Sink}
-use Rattle.tftp_ends.specs.End.{EndState, is_sender, is_client, is_complete, outcome_of}
+use Rattle.tftp_ends.specs.End.{EndState, is_sender, is_client, outcome_of}
 use Rattle.tftp_store.specs.Drafts.{TakesInTurn}
 use Rattle.tftp_store.specs.Store.{StoreMeaning}
 use Rattle.tftp_store.specs.declared.store.Opening.{Opening}
 use Rattle.tftp_rules.specs.EndKept.{EndKept}
 pub use Rattle.tftp_rules.specs.EndShown.{IsThere, HasArrived}
-use Rattle.tftp_rules.specs.KnownFiles.{HasLeft}
 use Rattle.tftp_rules.specs.Machine.{Endpoint, Message, Network}
-use Rattle.tftp_rules.specs.OpenEnds.{OpenEnd, holding_of, open_view, peer_of}
+use Rattle.tftp_rules.specs.OpenEnds.{OpenEnd, open_view, peer_of}
 use Rattle.tftp_rules.specs.Shows.{EndView, IsShown, requested}
 use Rattle.tftp_rules.specs.ViewSafety.{IsAmong}
 use Rattle.tftp_server.specs.State.{TransferState, at}
-use Rattle.tftp_sockets.specs.Journal.{SocketEvent}
+use Rattle.tftp_sockets.specs.Trace.{SocketEvent}
 use Rattle.tftp_client.specs.Converses.{State}
-use Rattle.tftp_loop.specs.Steps.{LoopState}
 use Rattle.tftp_promises.specs.ClientRuns.{moved_in}
 use Rattle.tftp_promises.specs.Drafts.{HadStore, StoreBegan, WasCommitted}
 use Rattle.tftp_promises.specs.Given.{GaveSince, StoreOpened}
 use Rattle.tftp_promises.specs.Joint.{WasSentBefore}
-use Rattle.tftp_promises.specs.Modelled.{AreModelled}
 use Rattle.tftp_promises.specs.Moved.{Moved}
 use Rattle.tftp_promises.specs.Openings.{HasClosed, above, moved_at, opened_at, our_ports, place_at}
 use Rattle.tftp_promises.specs.Order.{Programs, IsStranger, requests_at}
-use Rattle.tftp_promises.specs.Ports.{IsStored, WasStored, AreDistinct}
+use Rattle.tftp_promises.specs.Ports.{AreDistinct}
 use Rattle.tftp_promises.specs.Programs.{endpoint, ClientProgram, client_at}
-use Rattle.tftp_promises.specs.Promises.{joined}
+use Rattle.tftp_promises.specs.Network.{joined}
 use Rattle.tftp_promises.specs.Snapshots.{Snapshot, ClientStage, Unasked, Has_asked}
 use Rattle.tftp_promises.proofs.RunPlaces.{places}
 use Rattle.tftp_promises.proofs.Texts.{pad_to}
@@ -95,13 +91,7 @@ length_of (Some held) = held.end.role.length
 module _ {S F D G K : Type 0} {stores : StoreMeaning S D} {sources : SourceMeaning F} {inputs : SourceMeaning G}
     {outputs : SinkMeaning K}
     (programs : Programs stores sources inputs outputs) where
-  -- what is known of the files: their models, or what the finished run moved; a sender's text is then that, padded by
-  -- this byte
-  pub data How : Type 0 where
-    By_models : AreModelled programs → How
-    By_run : ℕ → How
-
-  -- the text of a client that sends, by the run
+  -- the text of a client that sends: what moved in its run, padded by this byte
   abbrev pub client_text : ℕ → ClientProgram inputs outputs (requests_at programs) → List ℕ
   client_text pad client = pad_to pad client.first.role.length (moved_in client.runs).bytes
 
@@ -110,14 +100,7 @@ module _ {S F D G K : Type 0} {stores : StoreMeaning S D} {sources : SourceMeani
   place_text pad a =
       pad_to pad (length_of (opened_at programs a programs.server.run)) (moved_at programs a programs.server.run).bytes
 
-  -- a client that sends, by the models and by the run; of a closed one a source may be one that must fail
-  pub record ClientSends (file : List ℕ) (x : OpenEnd) (source : G) : Type 0 where
-    pub sender : is_sender x.state.role.side ≡ true
-    pub file_is : x.file ≡ file
-    pub text : x.text ≡ wire_text x.state.role.mode x.file
-    pub left : outcome_of x.state.position.phase ≡ None → HasLeft inputs source x.left
-
-  -- its source has given since what was sent
+  -- a client's source has given since what was sent
   pub record ClientGiven (client : ClientProgram inputs outputs (requests_at programs)) (x : OpenEnd) (source : G)
       (moved : Moved) : Type 0 where
     pub first : G
@@ -133,24 +116,18 @@ module _ {S F D G K : Type 0} {stores : StoreMeaning S D} {sources : SourceMeani
     pub given : ClientGiven client x source moved
 
   -- one that receives
-  pub record ClientStores (x : OpenEnd) (sink : K) : Type 0 where
-    pub receiver : is_sender x.state.role.side ≡ false
-    pub held : outputs.held sink ≡ Some (holding_of x)
-
   pub record ClientTook (x : OpenEnd) (moved : Moved) : Type 0 where
     pub receiver : is_sender x.state.role.side ≡ false
     pub took : TookSo x moved
 
   -- what is known of the file of a client's end
-  abbrev pub HasFile : How → ClientProgram inputs outputs (requests_at programs) → OpenEnd →
+  abbrev pub HasFile : ℕ → ClientProgram inputs outputs (requests_at programs) → OpenEnd →
       Files G K → Moved → Type 0
-  HasFile (By_models models) client x (Source source) moved = ClientSends (models.file_of client) x source
-  HasFile (By_models models) client x (Sink sink) moved = ClientStores x sink
-  HasFile (By_run pad) client x (Source source) moved = ClientGave pad client x source moved
-  HasFile (By_run pad) client x (Sink sink) moved = ClientTook x moved
+  HasFile pad client x (Source source) moved = ClientGave pad client x source moved
+  HasFile pad client x (Sink sink) moved = ClientTook x moved
 
   -- the end of a client that has asked
-  pub record ClientKept (how : How) (views : List EndView) (messages : List Message)
+  pub record ClientKept (pad : ℕ) (views : List EndView) (messages : List Message)
       (client : ClientProgram inputs outputs (requests_at programs))
       (s : State) (files : Files G K) (moved : Moved) : Type 0 where
     pub end : OpenEnd
@@ -161,14 +138,14 @@ module _ {S F D G K : Type 0} {stores : StoreMeaning S D} {sources : SourceMeani
     -- its request is among the messages
     pub asks : IsThere messages (client_at inputs outputs (requests_at programs) client)
         (requests_at programs) client.first.position.last_sent
-    pub has : HasFile how client end files moved
+    pub has : HasFile pad client end files moved
 
   -- the end of a client, once it has asked
-  abbrev pub StageKept : How → List EndView → List Message →
+  abbrev pub StageKept : ℕ → List EndView → List Message →
       ClientProgram inputs outputs (requests_at programs) → ClientStage G K → Type 0
-  StageKept how views messages client Unasked = Unit {0}
-  StageKept how views messages client (Has_asked s files noted moved) =
-      ClientKept how views messages client s files moved
+  StageKept pad views messages client Unasked = Unit {0}
+  StageKept pad views messages client (Has_asked s files noted moved) =
+      ClientKept pad views messages client s files moved
 
   -- the server holds the transfer, which is at this place, or has removed it
   abbrev pub HasTransferBy : Snapshot programs → ℕ → TransferState F D → Endpoint → Type 0
@@ -182,24 +159,6 @@ module _ {S F D G K : Type 0} {stores : StoreMeaning S D} {sources : SourceMeani
     pub is_peer : peer_of e.position.phase ≡ Some peer
     pub strange : IsStranger stores sources inputs outputs programs peer
     pub last_sent_to : IsStranger stores sources inputs outputs programs e.position.last_sent_to
-
-  -- what a transfer sends was under its path, and still is unless writes may replace files; an open one has this left,
-  -- or must fail
-  pub record SendsKept (snapshot : Snapshot programs) (x : OpenEnd) (source : F) : Type 0 where
-    pub sender : is_sender x.state.role.side ≡ true
-    pub text : x.text ≡ wire_text x.state.role.mode x.file
-    pub left : outcome_of x.state.position.phase ≡ None → HasLeft sources source x.left
-    pub was : WasStored snapshot.run x.path x.file
-    pub stays : programs.server.start.server.config.overwrite ≡ false → IsStored stores snapshot.state x.path x.file
-
-  -- what a transfer has stored; once it is complete that was under its path, and still is unless writes may replace
-  -- files
-  pub record StoresKept (snapshot : Snapshot programs) (x : OpenEnd) (draft : D) : Type 0 where
-    pub receiver : is_sender x.state.role.side ≡ false
-    pub drafted : stores.drafted draft ≡ Some (record { bytes = x.stored; committed = x.committed })
-    pub was : is_complete x.state.position.phase ≡ true → WasStored snapshot.run x.path x.stored
-    pub stays : programs.server.start.server.config.overwrite ≡ false → is_complete x.state.position.phase ≡ true →
-        IsStored stores snapshot.state x.path x.stored
 
   -- the transfer was opened so at its place
   pub record IsOpened (snapshot : Snapshot programs) (x : OpenEnd) : Type 0 where
@@ -238,14 +197,12 @@ module _ {S F D G K : Type 0} {stores : StoreMeaning S D} {sources : SourceMeani
     pub taken : IsTaken snapshot x draft
 
   -- what is known of the file of a transfer
-  abbrev pub HasStored : How → Snapshot programs → OpenEnd → Files F D → Type 0
-  HasStored (By_models models) snapshot x (Source source) = SendsKept snapshot x source
-  HasStored (By_models models) snapshot x (Sink draft) = StoresKept snapshot x draft
-  HasStored (By_run pad) snapshot x (Source source) = SendsMoved pad snapshot x source
-  HasStored (By_run pad) snapshot x (Sink draft) = StoresMoved snapshot x draft
+  abbrev pub HasStored : ℕ → Snapshot programs → OpenEnd → Files F D → Type 0
+  HasStored pad snapshot x (Source source) = SendsMoved pad snapshot x source
+  HasStored pad snapshot x (Sink draft) = StoresMoved snapshot x draft
 
   -- the end of a transfer, held or removed, which is at its port, or a stranger's
-  pub record TransferKept (how : How) (views : List EndView) (messages : List Message) (snapshot : Snapshot programs)
+  pub record TransferKept (pad : ℕ) (views : List EndView) (messages : List Message) (snapshot : Snapshot programs)
       (port : ℕ) (transfer : TransferState F D) (a : Endpoint) : Type 0 where
     pub end : OpenEnd
     pub address : end.address ≡ a
@@ -256,14 +213,14 @@ module _ {S F D G K : Type 0} {stores : StoreMeaning S D} {sources : SourceMeani
     pub named : IsNamed transfer.path transfer.request
     pub side : is_client end.state.role.side ≡ false
     pub viewed : IsViewed (joined programs) views messages end
-    pub has : HasStored how snapshot end transfer.files
+    pub has : HasStored pad snapshot end transfer.files
 
   -- a transfer whose end is as it was, and is still viewed with what its file did
-  pub same_transfer : {how : How} {views views' : List EndView} {messages messages' : List Message}
+  pub same_transfer : {pad : ℕ} {views views' : List EndView} {messages messages' : List Message}
       {snapshot snapshot' : Snapshot programs} {port : ℕ} {transfer : TransferState F D} {a : Endpoint}
-      (h : TransferKept how views messages snapshot port transfer a) →
-      IsViewed (joined programs) views' messages' h.end → HasStored how snapshot' h.end transfer.files →
-      TransferKept how views' messages' snapshot' port transfer a
+      (h : TransferKept pad views messages snapshot port transfer a) →
+      IsViewed (joined programs) views' messages' h.end → HasStored pad snapshot' h.end transfer.files →
+      TransferKept pad views' messages' snapshot' port transfer a
   same_transfer h viewed has = record {
     end = h.end;
     address = h.address;
@@ -277,16 +234,10 @@ module _ {S F D G K : Type 0} {stores : StoreMeaning S D} {sources : SourceMeani
     has = has;
   }
 
-  -- the content of the store is known, by the models
-  abbrev pub IsKnown : How → LoopState S F D → Type 0
-  IsKnown (By_models models) state = IsSome (stores.stored state.server.store)
-  IsKnown (By_run pad) state = Unit {0}
-
   -- the server
-  pub record ServerKept (how : How) (messages : List Message) (snapshot : Snapshot programs) : Type 0 where
+  pub record ServerKept (messages : List Message) (snapshot : Snapshot programs) : Type 0 where
     pub requests : snapshot.state.requests ≡ programs.port
     pub config : snapshot.state.server.config ≡ programs.server.start.server.config
-    pub known : IsKnown how snapshot.state
     pub pending : (from : Endpoint) (bytes : List ℕ) → snapshot.state.pending ≡ Some (from, bytes) →
         HasArrived messages from (requests_at programs) bytes
     pub once : AreKeyedOnce snapshot.state.server.held
@@ -321,20 +272,20 @@ module _ {S F D G K : Type 0} {stores : StoreMeaning S D} {sources : SourceMeani
     pub is_transfer : HasTransferBy snapshot port transfer a
 
   -- the invariant
-  pub record IsKept (how : How) (snapshot : Snapshot programs) : Type 0 where
+  pub record IsKept (pad : ℕ) (snapshot : Snapshot programs) : Type 0 where
     pub views : List EndView
     pub messages : List Message
     pub shown : IsShown (joined programs) views messages
     -- what was sent is there, unless it is for a stranger
     pub sent : (from to : Endpoint) (bytes : List ℕ) → WasSentBefore programs snapshot from to bytes →
         IsThere messages from to bytes ⊎ IsStranger stores sources inputs outputs programs to
-    pub server : ServerKept how messages snapshot
+    pub server : ServerKept messages snapshot
     pub clients : (k : ℕ) (client : ClientProgram inputs outputs (requests_at programs))
         (stage : ClientStage G K) →
         slice_get programs.clients k ≡ Some client → slice_get snapshot.clients k ≡ Some stage →
-        StageKept how views messages client stage
+        StageKept pad views messages client stage
     pub transfers : (port : ℕ) (transfer : TransferState F D) (a : Endpoint) → HasTransferBy snapshot port transfer a →
-        TransferKept how views messages snapshot port transfer a
+        TransferKept pad views messages snapshot port transfer a
     -- the view of an end at an endpoint is the only one there, so this determines it
     pub only : (view : EndView) → IsAmong views view →
         IsOfClient snapshot view.address ⊎ IsOfTransfer snapshot view.address

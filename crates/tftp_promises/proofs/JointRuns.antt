@@ -13,8 +13,8 @@ use Rattle.tftp_file.specs.declared.files.Files.{Files}
 use Rattle.tftp_store.specs.Store.{StoreMeaning}
 use Rattle.tftp_rules.specs.Machine.{Endpoint}
 use Rattle.tftp_rules.proofs.Indices.{slice_get-set_same, slice_get-set_other}
-use Rattle.tftp_sockets.specs.Journal.{SocketEvent}
-use Rattle.tftp_sockets.specs.Journal.SocketEvent.{Received, Sent}
+use Rattle.tftp_sockets.specs.Trace.{SocketEvent}
+use Rattle.tftp_sockets.specs.Trace.SocketEvent.{Received, Sent}
 use Rattle.tftp_loop.specs.Run.{Run}
 use Rattle.tftp_loop.specs.Run.Run.{Start, Then}
 use Rattle.tftp_loop.specs.Steps.{LoopState, LoopStep}
@@ -22,14 +22,14 @@ use Rattle.tftp_client.specs.Converses.{State}
 use Rattle.tftp_client.specs.Runs.{begun}
 use Rattle.tftp_promises.specs.ClientRuns.{ClientDoes, ClientRun, Starts, Goes_on, client_moves, moved_in}
 use Rattle.tftp_promises.specs.Joint.{Joint, All_begin, Server_does, Client_asks, Client_does, CanTake, WasSentBefore}
-use Rattle.tftp_promises.specs.Joint.{JournalsAreJoint}
+use Rattle.tftp_promises.specs.Joint.{TracesAreJoint}
 use Rattle.tftp_promises.specs.Moved.{Moved, nothing_moved}
 use Rattle.tftp_promises.specs.Order.{Noted, Programs, events_of, IsAt, IsHonest, IsOrder, CanCome, requests_at}
 use Rattle.tftp_promises.specs.Others.{DoesOwn, TakesOwn}
 use Rattle.tftp_promises.specs.Programs.{endpoint, ClientProgram}
 use Rattle.tftp_promises.specs.Snapshots.{ClientStage, Unasked, Has_asked, noted_by, Snapshot, just_asked, client_did}
 use Rattle.tftp_promises.specs.Snapshots.{all_of}
-use Rattle.tftp_promises.proofs.ClientJournals.{converse}
+use Rattle.tftp_promises.proofs.ClientTraces.{converse}
 use Rattle.tftp_promises.proofs.Orders.{events_own, events_other, noted_in, set_again, set_own, all_are, mapped}
 use Rattle.tftp_promises.proofs.SeenSteps.{Split, split, heads, no_more, step_back, split_in, oldest_in, past}
 use Rattle.tftp_promises.proofs.SeenSteps.{past_waits, before_waits, at_first, ends_with}
@@ -46,12 +46,12 @@ module _ {S F D G K : Type 0} {stores : StoreMeaning S D} {sources : SourceMeani
 
   abbrev Conversed : Client → State → Files G K → Type 0
   Conversed client s files =
-      ClientRun inputs outputs client.port (begun client.port client.first client.before) client.file s files
+      ClientRun inputs outputs client.port (begun client.port client.reading client.first client.before) client.file s files
 
   abbrev snap : {state : LoopState S F D} → ServerRun state → List SocketEvent → List (ClientStage G K) → Snapshot programs
   snap {state} run noted clients = record { state = state; run = run; noted = noted; clients = clients }
 
-  -- ---- one program where its journal is seen so far
+  -- ---- one program where its trace is seen so far
 
   data ServerFits (seen : List SocketEvent) : (state : LoopState S F D) → ServerRun state → List SocketEvent → Type 0 where
     After_steps : {state : LoopState S F D} {run : ServerRun state} {noted : List SocketEvent} →
@@ -89,7 +89,7 @@ module _ {S F D G K : Type 0} {stores : StoreMeaning S D} {sources : SourceMeani
       (subst (λ (es : List SocketEvent). Contains es (Sent port to bytes)) (sym seen_is) i)
   client_in port to bytes (Conversing old_noted run own is waits quiet does so s) i = split_in (Sent port to bytes) s i
 
-  -- ---- all programs where their journals are seen so far
+  -- ---- all programs where their traces are seen so far
 
   abbrev ClientHas : List (ClientStage G K) → List Noted → ℕ → Client → Type 0
   ClientHas clients order k client =
@@ -235,7 +235,7 @@ module _ {S F D G K : Type 0} {stores : StoreMeaning S D} {sources : SourceMeani
       let request = Sent client.port client.first.position.last_sent_to client.first.position.last_sent in
       (since.0, request, since.1 ∙ sym (append_assoc since.0 (request ∷ []) client.before))
 
-  -- the other programs, where their journals are seen so far
+  -- the other programs, where their traces are seen so far
   record OthersFit (k : ℕ) (sn : Snapshot programs) (order : List Noted) : Type 0 where
     server : ServerFits (events_of 0 order) sn.state sn.run sn.noted
     count : length sn.clients ≡ length programs.clients
@@ -366,7 +366,7 @@ module _ {S F D G K : Type 0} {stores : StoreMeaning S D} {sources : SourceMeani
         (set_again sn.clients k Unasked (just_asked client))
         (Client_asks joint k client is_client (stage_is Unasked)) in
         subst (λ (es : List SocketEvent). Joint programs
-        (At (Has_asked (begun client.port client.first client.before) client.file es nothing_moved))) (sym noted_is)
+        (At (Has_asked (begun client.port client.reading client.first client.before) client.file es nothing_moved))) (sym noted_is)
         asks
     client_back (Goes_on run does) takes_own noted is seen_is =
         client_last run takes_own.0 does takes_own.1 noted is seen_is
@@ -488,7 +488,7 @@ module _ {S F D G K : Type 0} {stores : StoreMeaning S D} {sources : SourceMeani
         );
       })
 
-pub journals_joint : {S F D G K : Type 0} (stores : StoreMeaning S D) (sources : SourceMeaning F)
-    (inputs : SourceMeaning G) (outputs : SinkMeaning K) → JournalsAreJoint stores sources inputs outputs
-journals_joint stores sources inputs outputs programs order joined =
+pub traces_joint : {S F D G K : Type 0} (stores : StoreMeaning S D) (sources : SourceMeaning F)
+    (inputs : SourceMeaning G) (outputs : SinkMeaning K) → TracesAreJoint stores sources inputs outputs
+traces_joint stores sources inputs outputs programs order joined =
     all_joint programs order joined.is_order joined.honest joined.own

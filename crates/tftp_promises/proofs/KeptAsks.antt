@@ -16,8 +16,8 @@ use Rattle.tftp_file.specs.declared.files.Files.TheVariants.{Source, Sink}
 use Rattle.tftp_ends.specs.End.{EndState, is_client}
 use Rattle.tftp_ends.specs.Opening.{getting, putting, request_of}
 use Rattle.tftp_store.specs.Store.{StoreMeaning}
-use Rattle.tftp_sockets.specs.Journal.{SocketEvent}
-use Rattle.tftp_sockets.specs.Journal.SocketEvent.{Sent}
+use Rattle.tftp_sockets.specs.Trace.{SocketEvent}
+use Rattle.tftp_sockets.specs.Trace.SocketEvent.{Sent}
 use Rattle.tftp_client.specs.Converses.{State}
 use Rattle.tftp_client.specs.Runs.{begun}
 use Rattle.tftp_rules.specs.EndKept.{EndKept}
@@ -31,16 +31,15 @@ use Rattle.tftp_rules.proofs.EndOpenings.{nothing_held, no_text}
 use Rattle.tftp_rules.proofs.Indices.{slice_get-push_new}
 use Rattle.tftp_rules.proofs.SaidLemmas.{spells_own}
 use Rattle.tftp_promises.specs.ClientRuns.{moved_in}
-use Rattle.tftp_promises.specs.Modelled.{AreModelled, HasWhole}
 use Rattle.tftp_promises.specs.Moved.{Moved, nothing_moved}
 use Rattle.tftp_promises.specs.Order.{Programs, requests_at}
 use Rattle.tftp_promises.specs.Programs.{ClientProgram, client_at, endpoint, ClientOpens, To_read}
 use Rattle.tftp_promises.specs.Programs.{To_write}
 use Rattle.tftp_promises.specs.Programs.{OpensToRead, OpensToWrite}
-use Rattle.tftp_promises.specs.Promises.{joined}
+use Rattle.tftp_promises.specs.Network.{joined}
 use Rattle.tftp_promises.specs.Snapshots.{Snapshot, Unasked, Has_asked, just_asked, client_did}
 use Rattle.tftp_promises.proofs.GivenSteps.{gave_first}
-use Rattle.tftp_promises.proofs.Invariant.{How, By_models, By_run, client_text, IsThere, HasFile, IsKept, IsFreshBy}
+use Rattle.tftp_promises.proofs.Invariant.{client_text, IsThere, HasFile, IsKept, IsFreshBy}
 use Rattle.tftp_promises.proofs.KeptClients.{ClientTurns, client_keeps, transfer_apart}
 use Rattle.tftp_promises.proofs.KeptEvents.{only_one}
 use Rattle.tftp_promises.proofs.KeptViews.{viewed_before, among_push}
@@ -65,7 +64,7 @@ opening a first bytes text =
 
 module _ {S F D G K : Type 0} {stores : StoreMeaning S D} {sources : SourceMeaning F} {inputs : SourceMeaning G}
     {outputs : SinkMeaning K}
-    (programs : Programs stores sources inputs outputs) (how : How programs) (k : ℕ)
+    (programs : Programs stores sources inputs outputs) (pad : ℕ) (k : ℕ)
     (client : ClientProgram inputs outputs (requests_at programs))
     (found : slice_get programs.clients k ≡ Some client) where
   abbrev to : Endpoint
@@ -76,7 +75,7 @@ module _ {S F D G K : Type 0} {stores : StoreMeaning S D} {sources : SourceMeani
 
   -- what a client with this end and this file needs to have its own file
   abbrev Own : EndState → Files G K → List ℕ → List ℕ → Type 0
-  Own first files bytes text = HasFile programs how client (opening here first bytes text) files nothing_moved
+  Own first files bytes text = HasFile programs pad client (opening here first bytes text) files nothing_moved
 
   -- it has sent this request
   pub record Requests (first : EndState) (files : Files G K) : Type 0 where
@@ -148,31 +147,10 @@ module _ {S F D G K : Type 0} {stores : StoreMeaning S D} {sources : SourceMeani
         has = own;
       }))
 
-  -- its file, by the models
-  models_ask : (models : AreModelled programs) → how ≡ By_models models →
-      (opens : ClientOpens inputs outputs to client.first client.file) → HasWhole opens (models.file_of client) →
-      Requests client.first client.file
-  models_ask models is (To_read h) whole =
+  -- its file, by the run
+  pub requests : ClientOpens inputs outputs to client.first client.file → Requests client.first client.file
+  requests (To_read h) =
       to_read client.first client.file h
-      (subst (λ (w : How programs). HasFile programs w client
-      (opening here (getting to h.name h.mode h.asked h.limit h.retries) [] []) (Sink h.sink) nothing_moved)
-      (sym is) (record { receiver = refl; held = whole.1 }))
-  models_ask models is (To_write h) whole =
-      let text = wire_text h.mode (models.file_of client) in
-      to_write client.first client.file h (models.file_of client) text whole.1
-      (subst (λ (w : How programs). HasFile programs w client
-      (opening here (putting to h.name h.mode h.asked h.length h.limit h.retries) (models.file_of client) text)
-      (Source h.source) nothing_moved) (sym is)
-      (record { sender = refl; file_is = refl; text = refl; left = λ _. inl whole.0 }))
-
-  -- and by the run
-  run_asks : (pad : ℕ) → how ≡ By_run pad → ClientOpens inputs outputs to client.first client.file →
-      Requests client.first client.file
-  run_asks pad is (To_read h) =
-      to_read client.first client.file h
-      (subst (λ (w : How programs). HasFile programs w client
-      (opening here (getting to h.name h.mode h.asked h.limit h.retries) [] []) (Sink h.sink) nothing_moved)
-      (sym is)
       (record {
         receiver = refl;
         took = record {
@@ -180,30 +158,20 @@ module _ {S F D G K : Type 0} {stores : StoreMeaning S D} {sources : SourceMeani
           committed = λ c. absurd (true≢false (sym c));
           refuses = refl;
         };
-      }))
-  run_asks pad is (To_write h) =
+      })
+  requests (To_write h) =
       let text = client_text programs pad client in
-      let e = putting to h.name h.mode h.asked h.length h.limit h.retries in
       let measured : h.length ≡ length text =
       ap (λ (z : EndState). z.role.length) (sym h.is)
       ∙ sym (pad_length pad client.first.role.length (moved_in client.runs).bytes) in
       to_write client.first client.file h [] text measured
-      (subst (λ (w : How programs). HasFile programs w client (opening here e [] text) (Source h.source) nothing_moved)
-      (sym is)
       (record {
         sender = refl;
         role = ap (λ (z : EndState). z.role) (sym h.is);
         text = refl;
         gave = record { prefix = (text, refl); left = λ _. refl };
         given = record { first = h.source; is_first = h.is_file; since = gave_first Gave_nothing };
-      }))
-
-  by_how : (w : How programs) → how ≡ w → Requests client.first client.file
-  by_how (By_models models) is = models_ask models is client.opens (models.whole k client found)
-  by_how (By_run pad) is = run_asks pad is client.opens
-
-  pub requests : Requests client.first client.file
-  requests = by_how how refl
+      })
 
 -- what a request says
 pub says_request : (write : Bool) (request : WireRequest) → said (requested write request) ≡ Request write request
@@ -212,8 +180,8 @@ says_request false request = refl
 
 module _ {S F D G K : Type 0} {stores : StoreMeaning S D} {sources : SourceMeaning F} {inputs : SourceMeaning G}
     {outputs : SinkMeaning K}
-    (programs : Programs stores sources inputs outputs) (how : How programs) (old : Snapshot programs)
-    (kept : IsKept programs how old) (fresh : IsFreshBy programs old)
+    (programs : Programs stores sources inputs outputs) (pad : ℕ) (old : Snapshot programs)
+    (kept : IsKept programs pad old) (fresh : IsFreshBy programs old)
     (k : ℕ) (client : ClientProgram inputs outputs (requests_at programs))
     (found : slice_get programs.clients k ≡ Some client)
     (unasked : slice_get old.clients k ≡ Some Unasked) where
@@ -236,7 +204,7 @@ module _ {S F D G K : Type 0} {stores : StoreMeaning S D} {sources : SourceMeani
     asked_or_not s files noted moved e = cc
 
   abbrev Asks_with : Type 0
-  Asks_with = Requests programs how k client found client.first client.file
+  Asks_with = Requests programs pad k client found client.first client.file
 
   module _ (h : Asks_with) where
     abbrev x : OpenEnd
@@ -291,7 +259,7 @@ module _ {S F D G K : Type 0} {stores : StoreMeaning S D} {sources : SourceMeani
               (subst (λ (d : Endpoint). IsThere (kept.messages ++ m ∷ []) (endpoint client.ip p) d bytes') to_is
               (subst (λ (c : List ℕ). IsThere (kept.messages ++ m ∷ []) (endpoint client.ip p) t c) bytes_are there))
 
-    turns : ClientTurns programs old kept k client (begun client.port client.first client.before) client.file
+    turns : ClientTurns programs old kept k client (begun client.port client.reading client.first client.before) client.file
         (Sent client.port client.first.position.last_sent_to client.first.position.last_sent ∷ []) nothing_moved
     turns = record {
       views = kept.views ++ open_view x ∷ [];
@@ -320,9 +288,9 @@ module _ {S F D G K : Type 0} {stores : StoreMeaning S D} {sources : SourceMeani
       ];
     }
 
-  pub asks_keeps : IsKept programs how (client_did programs old k (just_asked client))
+  pub asks_keeps : IsKept programs pad (client_did programs old k (just_asked client))
   asks_keeps =
-      let h : Asks_with = requests programs how k client found in
-      client_keeps programs old kept fresh k client found Unasked unasked (begun client.port client.first client.before)
+      let h : Asks_with = requests programs pad k client found client.opens in
+      client_keeps programs old kept fresh k client found Unasked unasked (begun client.port client.reading client.first client.before)
       client.file
       (Sent client.port client.first.position.last_sent_to client.first.position.last_sent ∷ []) nothing_moved (turns h)

@@ -10,8 +10,8 @@ use Rattle.tftp_file.specs.declared.files.Files.{Files}
 use Rattle.tftp_file.specs.declared.files.Files.TheVariants.{Source, Sink}
 use Rattle.tftp_store.specs.Store.{StoreMeaning}
 use Rattle.tftp_server.specs.State.{TransferState}
-use Rattle.tftp_sockets.specs.Journal.{SocketEvent}
-use Rattle.tftp_sockets.specs.Journal.SocketEvent.{Sent}
+use Rattle.tftp_sockets.specs.Trace.{SocketEvent}
+use Rattle.tftp_sockets.specs.Trace.SocketEvent.{Sent}
 use Rattle.tftp_client.specs.Converses.{State}
 use Rattle.tftp_rules.specs.Machine.{Endpoint, Message}
 use Rattle.tftp_rules.specs.OpenEnds.{OpenEnd}
@@ -22,9 +22,9 @@ use Rattle.tftp_promises.specs.Joint.{WasSentBefore}
 use Rattle.tftp_promises.specs.Moved.{Moved}
 use Rattle.tftp_promises.specs.Order.{Programs, IsStranger, requests_at}
 use Rattle.tftp_promises.specs.Programs.{endpoint, ClientProgram, client_at}
-use Rattle.tftp_promises.specs.Promises.{joined}
+use Rattle.tftp_promises.specs.Network.{joined}
 use Rattle.tftp_promises.specs.Snapshots.{Snapshot, ClientStage, Unasked, Has_asked, noted_by, client_did}
-use Rattle.tftp_promises.proofs.Invariant.{How, By_models, By_run, IsOpened, IsThere, IsViewed, HasStored, HasTransferBy}
+use Rattle.tftp_promises.proofs.Invariant.{IsOpened, IsThere, IsViewed, HasStored, HasTransferBy}
 use Rattle.tftp_promises.proofs.Invariant.{ClientKept, StageKept, TransferKept, ServerKept, IsOfClient, IsOfTransfer, IsKept}
 use Rattle.tftp_promises.proofs.Invariant.{IsFreshBy, same_transfer}
 use Rattle.tftp_promises.proofs.KeptViews.{arrived_still, sent_still, there_still}
@@ -45,14 +45,10 @@ module _ {S F D G K : Type 0} {stores : StoreMeaning S D} {sources : SourceMeani
       IsOpened programs (client_did programs old k stage) x
   opened_still old k stage x h = record { opening = h.opening; opened = h.opened; path = h.path; role = h.role }
 
-  stored_still : (how : How programs) (old : Snapshot programs) (k : ℕ) (stage : ClientStage G K) (x : OpenEnd)
-      (files : Files F D) → HasStored programs how old x files →
-      HasStored programs how (client_did programs old k stage) x files
-  stored_still (By_models models) old k stage x (Source source) h =
-      record { sender = h.sender; text = h.text; left = h.left; was = h.was; stays = h.stays }
-  stored_still (By_models models) old k stage x (Sink draft) h =
-      record { receiver = h.receiver; drafted = h.drafted; was = h.was; stays = h.stays }
-  stored_still (By_run pad) old k stage x (Source source) h =
+  stored_still : (pad : ℕ) (old : Snapshot programs) (k : ℕ) (stage : ClientStage G K) (x : OpenEnd)
+      (files : Files F D) → HasStored programs pad old x files →
+      HasStored programs pad (client_did programs old k stage) x files
+  stored_still pad old k stage x (Source source) h =
       record {
         sender = h.sender;
         opened = opened_still old k stage x h.opened;
@@ -66,7 +62,7 @@ module _ {S F D G K : Type 0} {stores : StoreMeaning S D} {sources : SourceMeani
               since = h.given.since;
             };
       }
-  stored_still (By_run pad) old k stage x (Sink draft) h =
+  stored_still pad old k stage x (Sink draft) h =
       record {
         receiver = h.receiver;
         opened = opened_still old k stage x h.opened;
@@ -75,7 +71,7 @@ module _ {S F D G K : Type 0} {stores : StoreMeaning S D} {sources : SourceMeani
       }
 
   -- a transfer is at no client's endpoint
-  pub transfer_apart : {how : How programs} (old : Snapshot programs) (kept : IsKept programs how old) →
+  pub transfer_apart : {pad : ℕ} (old : Snapshot programs) (kept : IsKept programs pad old) →
       IsFreshBy programs old → (k : ℕ) (client : Client) → slice_get programs.clients k ≡ Some client →
       (a : Endpoint) → IsOfTransfer programs old a → there client ≢ a
   transfer_apart old kept fresh k client found a h same =
@@ -87,20 +83,20 @@ module _ {S F D G K : Type 0} {stores : StoreMeaning S D} {sources : SourceMeani
   one_client j k c client at found same = same_Some c client (sym at ∙ (ap (slice_get programs.clients) same ∙ found))
 
   -- what a step of the client at this index does, after which it is there
-  pub record ClientTurns {how : How programs} (old : Snapshot programs) (kept : IsKept programs how old) (k : ℕ)
+  pub record ClientTurns {pad : ℕ} (old : Snapshot programs) (kept : IsKept programs pad old) (k : ℕ)
       (client : Client) (s : State) (files : Files G K) (noted : List SocketEvent) (moved : Moved) : Type 0 where
     pub views : List EndView
     pub said_now : List Message
     pub shown : IsShown (joined programs) views (kept.messages ++ said_now)
     pub others : (z : OpenEnd) → there client ≢ z.address → IsViewed (joined programs) kept.views kept.messages z →
         IsViewed (joined programs) views (kept.messages ++ said_now) z
-    pub own : ClientKept programs how views (kept.messages ++ said_now) client s files moved
+    pub own : ClientKept programs pad views (kept.messages ++ said_now) client s files moved
     pub notes : (port : ℕ) (to : Endpoint) (bytes : List ℕ) → Contains noted (Sent port to bytes) →
         WasSentBefore programs old (endpoint client.ip port) to bytes ⊎ IsThere (kept.messages ++ said_now)
         (endpoint client.ip port) to bytes
     pub only : (view : EndView) → IsAmong views view → IsAmong kept.views view ⊎ (view.address ≡ there client)
 
-  module _ {how : How programs} (old : Snapshot programs) (kept : IsKept programs how old)
+  module _ {pad : ℕ} (old : Snapshot programs) (kept : IsKept programs pad old)
       (fresh : IsFreshBy programs old) (k : ℕ) (client : Client) (found : slice_get programs.clients k ≡ Some client)
       (was : ClientStage G K) (is_stage : slice_get old.clients k ≡ Some was) (s : State) (files : Files G K)
       (noted : List SocketEvent) (moved : Moved) (turns : ClientTurns old kept k client s files noted moved) where
@@ -155,7 +151,7 @@ module _ {S F D G K : Type 0} {stores : StoreMeaning S D} {sources : SourceMeani
 
     -- another client
     other : (j : ℕ) (c : Client) (stage : ClientStage G K) → slice_get programs.clients j ≡ Some c → j ≢ k →
-        StageKept programs how kept.views kept.messages c stage → StageKept programs how turns.views messages c stage
+        StageKept programs pad kept.views kept.messages c stage → StageKept programs pad turns.views messages c stage
     other j c Unasked at n h = tt
     other j c (Has_asked s' files' noted' moved') at n h = record {
       end = h.end;
@@ -170,28 +166,27 @@ module _ {S F D G K : Type 0} {stores : StoreMeaning S D} {sources : SourceMeani
     }
 
     all_clients : (j : ℕ) (c : Client) (stage : ClientStage G K) → slice_get programs.clients j ≡ Some c →
-        slice_get (set old.clients k next) j ≡ Some stage → StageKept programs how turns.views messages c stage
+        slice_get (set old.clients k next) j ≡ Some stage → StageKept programs pad turns.views messages c stage
     all_clients j c stage at e = elim (slice_get-set_cases old.clients k j next stage e) [
-      | inl h ↦ subst (λ (z : ClientStage G K). StageKept programs how turns.views messages c z) (sym h.1)
-          (subst (λ (z : Client). ClientKept programs how turns.views messages z s files moved)
+      | inl h ↦ subst (λ (z : ClientStage G K). StageKept programs pad turns.views messages c z) (sym h.1)
+          (subst (λ (z : Client). ClientKept programs pad turns.views messages z s files moved)
           (sym (one_client j k c client at found h.0)) turns.own)
       | inr h ↦ other j c stage at h.0 (kept.clients j c stage at h.1)
     ]
 
     all_transfers : (port : ℕ) (transfer : TransferState F D) (a : Endpoint) →
-        HasTransferBy programs new port transfer a → TransferKept programs how turns.views messages new port transfer a
+        HasTransferBy programs new port transfer a → TransferKept programs pad turns.views messages new port transfer a
     all_transfers port transfer a is =
         let h = kept.transfers port transfer a is in
         same_transfer programs h
         (turns.others h.end (λ same. transfer_apart old kept fresh k client found a
         (record { port = port; transfer = transfer; is_transfer = is }) (same ∙ h.address)) h.viewed)
-        (stored_still how old k next h.end transfer.files h.has)
+        (stored_still pad old k next h.end transfer.files h.has)
 
-    server_kept : ServerKept programs how messages new
+    server_kept : ServerKept programs messages new
     server_kept = record {
       requests = kept.server.requests;
       config = kept.server.config;
-      known = kept.server.known;
       pending =
           λ from bytes e. arrived_still kept.messages turns.said_now from (requests_at programs)
           bytes (kept.server.pending from bytes e);
@@ -249,7 +244,7 @@ module _ {S F D G K : Type 0} {stores : StoreMeaning S D} {sources : SourceMeani
       })
     ]
 
-    pub client_keeps : IsKept programs how new
+    pub client_keeps : IsKept programs pad new
     client_keeps = record {
       views = turns.views;
       messages = messages;

@@ -5,30 +5,30 @@ use Rattle.std.proofs.lemmas.List.{append-nil}
 use Rattle.std.proofs.lemmas.Option.{same_Some}
 use Rattle.tftp_file.specs.Sink.{SinkMeaning}
 use Rattle.tftp_file.specs.Source.{SourceMeaning}
-use Rattle.tftp_store.specs.Store.{StoreMeaning, files_of}
+use Rattle.tftp_store.specs.Store.{StoreMeaning}
 use Rattle.tftp_server.specs.State.{TransferState, ServerState, at, without}
-use Rattle.tftp_sockets.specs.Journal.{SocketEvent}
+use Rattle.tftp_sockets.specs.Trace.{SocketEvent}
 use Rattle.tftp_loop.specs.Steps.{LoopState, LoopStep, Closes, Transfer_closed}
 use Rattle.tftp_rules.specs.Machine.{Endpoint, Message}
 use Rattle.tftp_rules.specs.Shows.{IsShown}
 use Rattle.tftp_rules.proofs.Entries.{lookup-remove_other, numbers}
 use Rattle.tftp_promises.specs.Openings.{HasClosed, place_at}
 use Rattle.tftp_promises.specs.Order.{Programs, requests_at}
-use Rattle.tftp_promises.specs.Promises.{joined}
+use Rattle.tftp_promises.specs.Network.{joined}
 use Rattle.tftp_promises.specs.Snapshots.{Snapshot, server_did}
 use Rattle.tftp_promises.proofs.Identifiers.{at-without_cases, once-without}
-use Rattle.tftp_promises.proofs.Invariant.{How, AreKeyedOnce, HasTransferBy, TransferKept, ServerKept, IsKept}
+use Rattle.tftp_promises.proofs.Invariant.{AreKeyedOnce, HasTransferBy, TransferKept, ServerKept, IsKept}
 use Rattle.tftp_promises.proofs.Invariant.{same_transfer}
 use Rattle.tftp_promises.proofs.KeptEvents.{IsSilent}
 use Rattle.tftp_promises.proofs.KeptServer.{ServerTurns, server_keeps}
 use Rattle.tftp_promises.proofs.KeptViews.{arrived_still, viewed_still}
 use Rattle.tftp_promises.proofs.MovedSteps.{MovesNone}
-use Rattle.tftp_promises.proofs.ServerStays.{FilesStay, stay_if, known_if, stored_after}
+use Rattle.tftp_promises.proofs.ServerStays.{stored_after}
 
 module _ {S F D G K : Type 0} {stores : StoreMeaning S D} {sources : SourceMeaning F} {inputs : SourceMeaning G}
     {outputs : SinkMeaning K}
-    (programs : Programs stores sources inputs outputs) {how : How programs} (old : Snapshot programs)
-    (kept : IsKept programs how old) {new : LoopState S F D}
+    (programs : Programs stores sources inputs outputs) {pad : ℕ} (old : Snapshot programs)
+    (kept : IsKept programs pad old) {new : LoopState S F D}
     (closes : Closes stores sources old.state new) (added : List SocketEvent) (silent : IsSilent added) where
   abbrev does : LoopStep stores sources old.state new
   does = Transfer_closed closes
@@ -51,11 +51,6 @@ module _ {S F D G K : Type 0} {stores : StoreMeaning S D} {sources : SourceMeani
 
   held : new.server.held ≡ without port old.state.server.held
   held = ap (λ (s : ServerState S F D). s.held) server_is
-
-  files : FilesStay programs how old.state new
-  files =
-      stay_if programs how old.state new
-      (λ o path file h. (h.0, ap (λ (s : ServerState S F D). files_of (stores.stored s.store)) server_is ∙ h.1, h.2))
 
   -- nothing moves
   none : (a : Endpoint) → MovesNone programs old.run does a
@@ -113,19 +108,16 @@ module _ {S F D G K : Type 0} {stores : StoreMeaning S D} {sources : SourceMeani
   gone_once p q t u a (inr c) (inr d) = kept.server.gone_once p q t u a c d
 
   all_transfers : (q : ℕ) (transfer : TransferState F D) (a : Endpoint) → HasTransferBy programs now q transfer a →
-      TransferKept programs how kept.views messages now q transfer a
+      TransferKept programs pad kept.views messages now q transfer a
   all_transfers q transfer a is =
       let h = kept.transfers q transfer a (held_before q transfer a is) in
       same_transfer programs h (viewed_still (joined programs) kept.views kept.messages [] h.end h.viewed)
-      (stored_after programs how old does added files h.end (none h.end.address) transfer.files h.has)
+      (stored_after programs pad old does added h.end (none h.end.address) transfer.files h.has)
 
-  server_kept : ServerKept programs how messages now
+  server_kept : ServerKept programs messages now
   server_kept = record {
     requests = ap (λ (s : LoopState S F D). s.requests) closes.is ∙ kept.server.requests;
     config = ap (λ (s : ServerState S F D). s.config) server_is ∙ kept.server.config;
-    known =
-        known_if programs how old.state new (ap (λ (s : ServerState S F D). stores.stored s.store) server_is)
-        kept.server.known;
     pending = λ from bytes e.
         arrived_still kept.messages [] from (requests_at programs) bytes
         (kept.server.pending from bytes (ap (λ (s : LoopState S F D). s.pending) (sym closes.is) ∙ e));
@@ -158,5 +150,5 @@ module _ {S F D G K : Type 0} {stores : StoreMeaning S D} {sources : SourceMeani
         };
   }
 
-  pub closing_keeps : IsKept programs how now
+  pub closing_keeps : IsKept programs pad now
   closing_keeps = server_keeps programs old kept does added close_turns

@@ -12,9 +12,10 @@ use Rattle.tftp_ends.specs.End.{EndState, outcome_of}
 use Rattle.tftp_ends.specs.Files.{KeepsFiles}
 use Rattle.tftp_ends.specs.Step.{Turn, after_turn, DatagramStep, timeout_turn}
 use Rattle.tftp_store.specs.Store.{StoreMeaning}
-use Rattle.tftp_sockets.specs.Journal.{SocketEvent, QuietEvent, answered}
-use Rattle.tftp_sockets.specs.Journal.SocketEvent.{Received, Sent, Watched, Elapsed, Printed, Quiet}
-use Rattle.tftp_sockets.specs.Journal.QuietEvent.{Slept}
+use Rattle.tftp_sockets.specs.declared.watch.Watch.{Watch}
+use Rattle.tftp_sockets.specs.Trace.{SocketEvent, QuietEvent, answered}
+use Rattle.tftp_sockets.specs.Trace.SocketEvent.{Received, Sent, Watched, Elapsed, Printed, Quiet}
+use Rattle.tftp_sockets.specs.Trace.QuietEvent.{Slept}
 use Rattle.tftp_client.specs.Converses.{State, IsOpen, HandlesReceived, MayElapse, WorksOnFile, received, renewed, turned}
 use Rattle.tftp_client.specs.Converses.{wait_at, waited, elapsed}
 use Rattle.tftp_client.specs.Converses.HandlesReceived.{Answers, Loses}
@@ -33,9 +34,9 @@ use Rattle.tftp_promises.specs.Moved.{Moved, handling_moves, step_moves}
 use Rattle.tftp_promises.specs.Order.{Programs, requests_at}
 use Rattle.tftp_promises.specs.Others.{DoesOwn, HandlesOwn, IsOtherAnswer}
 use Rattle.tftp_promises.specs.Programs.{ClientProgram, client_at}
-use Rattle.tftp_promises.specs.Promises.{joined}
+use Rattle.tftp_promises.specs.Network.{joined}
 use Rattle.tftp_promises.specs.Snapshots.{Snapshot, Has_asked, client_did}
-use Rattle.tftp_promises.proofs.Invariant.{How, HasArrived, IsKept, IsFreshBy}
+use Rattle.tftp_promises.proofs.Invariant.{HasArrived, IsKept, IsFreshBy}
 use Rattle.tftp_promises.proofs.KeptAnswers.{answer_from_server}
 use Rattle.tftp_promises.proofs.KeptEvents.{IsSilent, added_by, added_none, answered_has, answered_sends}
 use Rattle.tftp_promises.proofs.KeptEvents.{elapsed_silent}
@@ -52,8 +53,8 @@ no_outcome (Some outcome) still = absurd (still refl)
 
 module _ {S F D G K : Type 0} {stores : StoreMeaning S D} {sources : SourceMeaning F} {inputs : SourceMeaning G}
     {outputs : SinkMeaning K}
-    (programs : Programs stores sources inputs outputs) {how : How programs} (old : Snapshot programs)
-    (kept : IsKept programs how old) (fresh : IsFreshBy programs old)
+    (programs : Programs stores sources inputs outputs) {pad : ℕ} (old : Snapshot programs)
+    (kept : IsKept programs pad old) (fresh : IsFreshBy programs old)
     (k : ℕ) (client : ClientProgram inputs outputs (requests_at programs))
     (found : slice_get programs.clients k ≡ Some client)
     (s : State) (files : Files G K) (noted : List SocketEvent) (moved : Moved)
@@ -83,7 +84,7 @@ module _ {S F D G K : Type 0} {stores : StoreMeaning S D} {sources : SourceMeani
   -- what the client then has
   abbrev Then_keeps : State → Files G K → List SocketEvent → Moved → Type 0
   Then_keeps s' files' added moved' =
-      IsKept programs how (client_did programs old k (Has_asked s' files' (added ++ noted) moved'))
+      IsKept programs pad (client_did programs old k (Has_asked s' files' (added ++ noted) moved'))
 
   -- what it has moved then begins what it moves in all
   pub told_now : (s' : State) (files' : Files G K) (noted' : List SocketEvent) (moved' : Moved) →
@@ -95,10 +96,10 @@ module _ {S F D G K : Type 0} {stores : StoreMeaning S D} {sources : SourceMeani
       is_stage)
 
   -- ---- a datagram
-  module _ (from : Endpoint) (bytes : List ℕ) (time : ℕ) where
+  module _ (from : Endpoint) (bytes : List ℕ) (watch : Watch) where
     -- the events of its receipt
     abbrev receipt : List SocketEvent
-    receipt = Watched time ∷ Received client.port from bytes ∷ Quiet (Slept (wait_at s)) ∷ []
+    receipt = Watched watch ∷ Received client.port from bytes ∷ Quiet (Slept (wait_at s)) ∷ []
 
     receipt_silent : IsSilent receipt
     receipt_silent = unsent_silent receipt (tt, (tt, (tt, tt)))
@@ -123,7 +124,7 @@ module _ {S F D G K : Type 0} {stores : StoreMeaning S D} {sources : SourceMeani
         IsPrefixOf (step_moves inputs outputs from bytes s.end files turn files' step moved).bytes
         (moved_in client.runs).bytes →
         answered client.port turn.reply (receipt ++ s.events) ≡ added ++ s.events →
-        Then_keeps (turned client.port turn (received client.port from bytes time s)) files' added
+        Then_keeps (turned client.port turn (received client.port from bytes watch s)) files' added
         (step_moves inputs outputs from bytes s.end files turn files' step moved)
     answers arrived turn files' added still step takes_own told events =
         let o = own programs old kept fresh k client found s files noted moved is_stage in
@@ -134,12 +135,12 @@ module _ {S F D G K : Type 0} {stores : StoreMeaning S D} {sources : SourceMeani
         (step : DatagramStep inputs outputs from bytes e files turn files') →
         IsPrefixOf (step_moves inputs outputs from bytes e files turn files' step moved).bytes
         (moved_in client.runs).bytes →
-        StepsOver programs how client x from bytes turn files'
+        StepsOver programs pad client x from bytes turn files'
         (step_moves inputs outputs from bytes e files turn files' step moved)
         in
         let over =
         subst Over o.state (λ step_x told_x. step_over programs client x (joined programs) o.viewed.kept
-        (still_open still) from bytes turn how files files' moved o.has step_x told_x) step told in
+        (still_open still) from bytes turn pad files files' moved o.has step_x told_x) step told in
         let goes =
         datagram_goes (joined programs) kept.shown.0 kept.views kept.messages o.viewed.index x from bytes turn
         over.content
@@ -152,7 +153,7 @@ module _ {S F D G K : Type 0} {stores : StoreMeaning S D} {sources : SourceMeani
         there (serves there (subst (λ (e : EndState). peer_of e.position.phase ≡ None →
         IsOtherAnswer programs.ip programs.others from bytes → ⊥) (sym o.state) takes_own)) over.steps in
         turn_keeps programs old kept fresh k client found s files noted moved is_stage turn over.content goes
-        (turned client.port turn (received client.port from bytes time s)) refl files'
+        (turned client.port turn (received client.port from bytes watch s)) refl files'
         (step_moves inputs outputs from bytes s.end files turn files' step moved) over.has
         added (λ port to b c. answered_sends client.port turn.reply receipt receipt_silent port to b
         (subst (λ (es : List SocketEvent). Contains es (Sent port to b)) (sym added_is) c))
@@ -160,13 +161,13 @@ module _ {S F D G K : Type 0} {stores : StoreMeaning S D} {sources : SourceMeani
     -- it is lost
     pub loses : (files' : Files G K) (added : List SocketEvent) → KeepsFiles inputs outputs files files' →
         receipt ++ s.events ≡ added ++ s.events →
-        Then_keeps (received client.port from bytes time s) files' added moved
+        Then_keeps (received client.port from bytes watch s) files' added moved
     loses files' added keeps events =
         let o = own programs old kept fresh k client found s files noted moved is_stage in
         let added_is = added_by client.port None receipt s.events added events in
         stays_keeps programs old kept fresh k client found s files noted moved is_stage
-        (received client.port from bytes time s) refl files' moved
-        (file_kept programs client x how files files' moved o.has keeps)
+        (received client.port from bytes watch s) refl files' moved
+        (file_kept programs client x pad files files' moved o.has keeps)
         added (subst (λ (es : List SocketEvent). IsSilent es) added_is receipt_silent)
 
   -- ---- a timeout
@@ -188,7 +189,7 @@ module _ {S F D G K : Type 0} {stores : StoreMeaning S D} {sources : SourceMeani
       let same : timeout_turn s.end ≡ turn = ap timeout_turn (sym o.state) in
       turn_keeps programs old kept fresh k client found s files noted moved is_stage turn (files_of x) goes
       (elapsed client.port s) (ap (after_turn s.end) same) files moved
-      (file_same programs client x how turn files moved (λ c. still_open still) o.has)
+      (file_same programs client x pad turn files moved (λ c. still_open still) o.has)
       added (λ port to b c. subst (λ (t : Turn). (client.port ≡ port)
       × (t.reply ≡ Some (record { to = to; bytes = b }))) same
       (answered_sends client.port (timeout_turn s.end).reply (Elapsed client.port s.now ∷ [])
@@ -204,25 +205,25 @@ module _ {S F D G K : Type 0} {stores : StoreMeaning S D} {sources : SourceMeani
   elapses next added (Elapses due still) events = times_out added still events
 
   -- ---- a wait, and the file's work
-  pub waits : (event : QuietEvent) (time : ℕ) (added : List SocketEvent) → (waited event time s).events ≡ added ++ s.events →
-      Then_keeps (waited event time s) files added moved
-  waits event time added events =
-      let wait = Watched time ∷ Quiet event ∷ Quiet (Slept (wait_at s)) ∷ [] in
+  pub waits : (event : QuietEvent) (watch : Watch) (added : List SocketEvent) → (waited event watch s).events ≡ added ++ s.events →
+      Then_keeps (waited event watch s) files added moved
+  waits event watch added events =
+      let wait = Watched watch ∷ Quiet event ∷ Quiet (Slept (wait_at s)) ∷ [] in
       let o = own programs old kept fresh k client found s files noted moved is_stage in
-      stays_keeps programs old kept fresh k client found s files noted moved is_stage (waited event time s) refl files
+      stays_keeps programs old kept fresh k client found s files noted moved is_stage (waited event watch s) refl files
       moved o.has added
       (subst (λ (es : List SocketEvent). IsSilent es) (added_by client.port None wait s.events added events)
       (unsent_silent wait (tt, (tt, (tt, tt)))))
 
   -- ---- a reading of the clock
-  pub reads : (progress : Bool) (time : ℕ) (added : List SocketEvent) → Watched time ∷ s.events ≡ added ++ s.events →
-      Then_keeps (renewed progress time s) files added moved
-  reads progress time added events =
+  pub reads : (progress : Bool) (watch : Watch) (added : List SocketEvent) → Watched watch ∷ s.events ≡ added ++ s.events →
+      Then_keeps (renewed progress watch s) files added moved
+  reads progress watch added events =
       let o = own programs old kept fresh k client found s files noted moved is_stage in
-      stays_keeps programs old kept fresh k client found s files noted moved is_stage (renewed progress time s) refl
+      stays_keeps programs old kept fresh k client found s files noted moved is_stage (renewed progress watch s) refl
       files moved o.has added
-      (subst (λ (es : List SocketEvent). IsSilent es) (added_by client.port None (Watched time ∷ []) s.events added events)
-      (unsent_silent (Watched time ∷ []) (tt, tt)))
+      (subst (λ (es : List SocketEvent). IsSilent es) (added_by client.port None (Watched watch ∷ []) s.events added events)
+      (unsent_silent (Watched watch ∷ []) (tt, tt)))
 
   -- ---- a line
   pub prints : (line : List ℕ) (added : List SocketEvent) → Printed line ∷ s.events ≡ added ++ s.events →
@@ -239,30 +240,30 @@ module _ {S F D G K : Type 0} {stores : StoreMeaning S D} {sources : SourceMeani
   works files' added work events =
       let o = own programs old kept fresh k client found s files noted moved is_stage in
       stays_keeps programs old kept fresh k client found s files noted moved is_stage s refl files' moved
-      (file_worked programs client x how files files' moved o.has work) added
+      (file_worked programs client x pad files files' moved o.has work) added
       (subst (λ (es : List SocketEvent). IsSilent es) (added_none s.events added events) none_silent)
 
 module _ {S F D G K : Type 0} {stores : StoreMeaning S D} {sources : SourceMeaning F} {inputs : SourceMeaning G}
     {outputs : SinkMeaning K}
-    (programs : Programs stores sources inputs outputs) {how : How programs} (old : Snapshot programs)
-    (kept : IsKept programs how old) (fresh : IsFreshBy programs old)
+    (programs : Programs stores sources inputs outputs) {pad : ℕ} (old : Snapshot programs)
+    (kept : IsKept programs pad old) (fresh : IsFreshBy programs old)
     (k : ℕ) (client : ClientProgram inputs outputs (requests_at programs))
     (found : slice_get programs.clients k ≡ Some client)
     (s : State) (files : Files G K) (noted : List SocketEvent) (moved : Moved)
     (is_stage : slice_get old.clients k ≡ Some (Has_asked s files noted moved)) where
   -- a datagram is handled once it is among the messages
-  handles : (from : Endpoint) (bytes : List ℕ) (time : ℕ) (next : State) (files' : Files G K) (added : List SocketEvent)
-      (handled : HandlesReceived inputs outputs client.port from bytes (received client.port from bytes time s) files
+  handles : (from : Endpoint) (bytes : List ℕ) (watch : Watch) (next : State) (files' : Files G K) (added : List SocketEvent)
+      (handled : HandlesReceived inputs outputs client.port from bytes (received client.port from bytes watch s) files
       next files') → HandlesOwn programs.ip programs.others handled →
       IsPrefixOf (handling_moves handled moved).bytes (moved_in client.runs).bytes →
       next.events ≡ added ++ s.events → CanTake programs old client.ip added →
-      IsKept programs how (client_did programs old k
+      IsKept programs pad (client_did programs old k
       (Has_asked next files' (added ++ noted) (handling_moves handled moved)))
-  handles from bytes time next files' added (Answers {turn} still step) takes_own told events take =
-      let receipt = Watched time ∷ Received client.port from bytes ∷ Quiet (Slept (wait_at s)) ∷ [] in
+  handles from bytes watch next files' added (Answers {turn} still step) takes_own told events take =
+      let receipt = Watched watch ∷ Received client.port from bytes ∷ Quiet (Slept (wait_at s)) ∷ [] in
       let receipt_in : Contains receipt (Received client.port from bytes) =
-      Contains-append_left (Watched time ∷ Received client.port from bytes ∷ []) (Quiet (Slept (wait_at s)) ∷ [])
-      (Received client.port from bytes) (Contains-push (Watched time ∷ []) (Received client.port from bytes)) in
+      Contains-append_left (Watched watch ∷ Received client.port from bytes ∷ []) (Quiet (Slept (wait_at s)) ∷ [])
+      (Received client.port from bytes) (Contains-push (Watched watch ∷ []) (Received client.port from bytes)) in
       let added_is = added_by client.port turn.reply receipt s.events added events in
       let came =
       take client.port from bytes (subst (λ (es : List SocketEvent). Contains es (Received client.port from bytes))
@@ -272,10 +273,10 @@ module _ {S F D G K : Type 0} {stores : StoreMeaning S D} {sources : SourceMeani
       bytes
       (stranger_no_client programs (client_at inputs outputs (requests_at programs) client) k
       client found refl) came in
-      answers programs old a.now fresh k client found s files noted moved is_stage from bytes time a.come turn files'
+      answers programs old a.now fresh k client found s files noted moved is_stage from bytes watch a.come turn files'
       added still step takes_own told events
-  handles from bytes time next files' added (Loses lost keeps) takes_own told events take =
-      loses programs old kept fresh k client found s files noted moved is_stage from bytes time files' added keeps
+  handles from bytes watch next files' added (Loses lost keeps) takes_own told events take =
+      loses programs old kept fresh k client found s files noted moved is_stage from bytes watch files' added keeps
       events
 
   pub does_keeps : (s' : State) (files' : Files G K) (added : List SocketEvent)
@@ -283,16 +284,16 @@ module _ {S F D G K : Type 0} {stores : StoreMeaning S D} {sources : SourceMeani
       IsFreshBy programs (client_did programs old k (Has_asked s' files' (added ++ noted) (client_moves does moved))) →
       s'.events ≡ added ++ s.events →
       CanTake programs old client.ip added →
-      IsKept programs how (client_did programs old k
+      IsKept programs pad (client_did programs old k
       (Has_asked s' files' (added ++ noted) (client_moves does moved)))
-  does_keeps s' files' added (Receives_one {from = from} {bytes = bytes} {time = time} may later handled) takes_own now
+  does_keeps s' files' added (Receives_one {from = from} {bytes = bytes} {watch = watch} may later handled) takes_own now
       events take =
-      handles from bytes time s' files' added handled takes_own (told_now programs old kept fresh k client found s files
+      handles from bytes watch s' files' added handled takes_own (told_now programs old kept fresh k client found s files
       noted moved is_stage s' files' (added ++ noted) (handling_moves handled moved) now) events take
-  does_keeps s' files' added (Reads_clock progress {time} later) takes_own now events take =
-      reads programs old kept fresh k client found s files noted moved is_stage progress time added events
-  does_keeps s' files' added (Waits_until {event = event} {time = time} may which later) takes_own now events take =
-      waits programs old kept fresh k client found s files noted moved is_stage event time added events
+  does_keeps s' files' added (Reads_clock progress {watch} later) takes_own now events take =
+      reads programs old kept fresh k client found s files noted moved is_stage progress watch added events
+  does_keeps s' files' added (Waits_until {event = event} {watch = watch} may which later) takes_own now events take =
+      waits programs old kept fresh k client found s files noted moved is_stage event watch added events
   does_keeps s' files' added (Times_out may) takes_own now events take =
       elapses programs old kept fresh k client found s files noted moved is_stage s' added may events
   does_keeps s' files' added (File_works work) takes_own now events take =

@@ -7,8 +7,8 @@ use Rattle.std.proofs.lemmas.List.Elements.{Contains-append_cases, Contains-appe
 use Rattle.std.proofs.lemmas.List.Elements.{All-from_recursion, All-contains}
 use Rattle.tftp_ends.specs.Step.{Reply}
 use Rattle.tftp_rules.specs.Machine.{Endpoint}
-use Rattle.tftp_sockets.specs.Journal.{SocketEvent, answered}
-use Rattle.tftp_sockets.specs.Journal.SocketEvent.{Received, Sent, Watched, Elapsed, Printed, Quiet}
+use Rattle.tftp_sockets.specs.Trace.{SocketEvent, answered}
+use Rattle.tftp_sockets.specs.Trace.SocketEvent.{Received, Sent, Watched, Elapsed, Printed, Quiet}
 
 pub nothing_in : {X : Type 0} (x : X) → Contains [] x → ⊥
 nothing_in x h = let l = h.1 in omega arith
@@ -71,7 +71,7 @@ answered_sends own (Some reply) events silent port to bytes c =
 abbrev pub IsUnsent : SocketEvent → Type 0
 IsUnsent (Received port from bytes) = Unit {0}
 IsUnsent (Sent port to bytes) = ⊥
-IsUnsent (Watched time) = Unit {0}
+IsUnsent (Watched watch) = Unit {0}
 IsUnsent (Elapsed port time) = Unit {0}
 IsUnsent (Printed line) = Unit {0}
 IsUnsent (Quiet event) = Unit {0}

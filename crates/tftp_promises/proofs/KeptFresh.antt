@@ -13,7 +13,7 @@ use Rattle.tftp_file.specs.Source.{SourceMeaning}
 use Rattle.tftp_file.specs.declared.files.Files.{Files}
 use Rattle.tftp_store.specs.Store.{StoreMeaning}
 use Rattle.tftp_server.specs.State.{TransferState}
-use Rattle.tftp_sockets.specs.Journal.{SocketEvent}
+use Rattle.tftp_sockets.specs.Trace.{SocketEvent}
 use Rattle.tftp_loop.specs.Steps.{LoopState, LoopStep}
 use Rattle.tftp_client.specs.Converses.{State}
 use Rattle.tftp_rules.specs.Machine.{Endpoint}
@@ -170,7 +170,7 @@ module _ {S F D G K : Type 0} {stores : StoreMeaning S D} {sources : SourceMeani
       moved_in client.runs ≡ moved
   last_moved client s files noted moved e = cc
 
-  -- where the journals arrive
+  -- where the traces arrive
   pub fresh_at_last : ArePortsFresh programs → IsFreshBy programs (all_of programs)
   fresh_at_last fresh = record {
     server = fresh.server;

@@ -13,8 +13,8 @@ use Rattle.tftp_ends.specs.End.{EndState}
 use Rattle.tftp_store.specs.Store.{StoreMeaning}
 use Rattle.tftp_server.specs.Request.{A_transfer, Left, left_by}
 use Rattle.tftp_server.specs.State.{TransferState, ServerState, at, with_new}
-use Rattle.tftp_sockets.specs.Journal.{SocketEvent}
-use Rattle.tftp_sockets.specs.Journal.SocketEvent.{Sent}
+use Rattle.tftp_sockets.specs.Trace.{SocketEvent}
+use Rattle.tftp_sockets.specs.Trace.SocketEvent.{Sent}
 use Rattle.tftp_loop.specs.Steps.{AnswersRequest, LoopStep, LoopState, Request_answered, after_request}
 use Rattle.tftp_rules.specs.EndOpens.{EndOpens}
 use Rattle.tftp_rules.specs.Machine.{At_server, Endpoint, Message, is_same}
@@ -32,10 +32,10 @@ use Rattle.tftp_promises.specs.Openings.{place_at}
 use Rattle.tftp_promises.specs.Order.{Programs, IsStranger}
 use Rattle.tftp_promises.specs.Ports.{opened_ports}
 use Rattle.tftp_promises.specs.Programs.{endpoint}
-use Rattle.tftp_promises.specs.Promises.{joined}
+use Rattle.tftp_promises.specs.Network.{joined}
 use Rattle.tftp_promises.specs.Snapshots.{Snapshot, server_did}
 use Rattle.tftp_promises.proofs.RunPlaces.{placed_by, places}
-use Rattle.tftp_promises.proofs.Invariant.{How, AreKeyedOnce, HasStored, HasTransferBy, IsFreshBy}
+use Rattle.tftp_promises.proofs.Invariant.{AreKeyedOnce, HasStored, HasTransferBy, IsFreshBy}
 use Rattle.tftp_promises.proofs.Invariant.{IsKept, IsNamed, IsOfTransfer, IsStrangers, IsThere, ServerKept}
 use Rattle.tftp_promises.proofs.Invariant.{TransferKept, same_transfer}
 use Rattle.tftp_promises.proofs.KeptEvents.{only_one}
@@ -46,13 +46,12 @@ use Rattle.tftp_promises.proofs.MovedSteps.{MovesNone, none_answered}
 use Rattle.tftp_promises.proofs.NewIdentifiers.{at-with_new_cases, once-with_new}
 use Rattle.tftp_promises.proofs.NewPlaces.{at_server as place_at_server, client_apart, new_place}
 use Rattle.tftp_promises.proofs.Places.{strange_if}
-use Rattle.tftp_promises.proofs.ServerStays.{SameStored, files_same, known_same}
-use Rattle.tftp_promises.proofs.ServerStays.{same_then, stored_after}
+use Rattle.tftp_promises.proofs.ServerStays.{stored_after}
 
 module _ {S F D G K : Type 0} {stores : StoreMeaning S D} {sources : SourceMeaning F} {inputs : SourceMeaning G}
     {outputs : SinkMeaning K}
-    (programs : Programs stores sources inputs outputs) {how : How programs} (old : Snapshot programs)
-    (kept : IsKept programs how old) {new : LoopState S F D} (answers : AnswersRequest stores sources old.state new)
+    (programs : Programs stores sources inputs outputs) {pad : ℕ} (old : Snapshot programs)
+    (kept : IsKept programs pad old) {new : LoopState S F D} (answers : AnswersRequest stores sources old.state new)
     (added : List SocketEvent) (noted : new.events ≡ added ++ old.state.events)
     (fresh : IsFreshBy programs (server_did programs old (Request_answered answers) added)) where
   abbrev server : ServerState S F D
@@ -138,12 +137,12 @@ module _ {S F D G K : Type 0} {stores : StoreMeaning S D} {sources : SourceMeani
     pub store_is : new.server.store ≡ store
     store_is = ap (λ (s : LoopState S F D). s.server.store) state_is
 
-    module _ (same : SameStored programs how server.store store) (x : OpenEnd) (address : x.address ≡ a)
+    module _ (x : OpenEnd) (address : x.address ≡ a)
         (peer : peer_of x.state.position.phase ≡ Some answers.from) (state : x.state ≡ transfer.end)
         (path : x.path ≡ transfer.path) (request : x.request ≡ transfer.request)
         (named : IsNamed transfer.path transfer.request)
         (opens : EndOpens (joined programs) kept.shown.0 kept.views kept.messages answers.from x)
-        (has : HasStored programs how now x transfer.files) where
+        (has : HasStored programs pad now x transfer.files) where
       abbrev said_now : List Message
       said_now = message a answers.from (said opens.packet) ∷ []
 
@@ -152,9 +151,6 @@ module _ {S F D G K : Type 0} {stores : StoreMeaning S D} {sources : SourceMeani
 
       abbrev views : List EndView
       views = kept.views ++ open_view x ∷ []
-
-      stored : SameStored programs how server.store new.server.store
-      stored = same_then programs how server.store store new.server.store store_is same
 
       -- its first datagram is among the messages
       spelled : Spells opens.packet x.state.position.last_sent
@@ -204,7 +200,7 @@ module _ {S F D G K : Type 0} {stores : StoreMeaning S D} {sources : SourceMeani
           inr (subst (λ (to : Endpoint). IsStranger stores sources inputs outputs programs to) opens.last_sent_to
           s.last_sent_to)
 
-      own : TransferKept programs how views messages now tid transfer a
+      own : TransferKept programs pad views messages now tid transfer a
       own = record {
         end = x;
         address = address;
@@ -231,12 +227,12 @@ module _ {S F D G K : Type 0} {stores : StoreMeaning S D} {sources : SourceMeani
           (λ d. place_is_new b c (sym (only_one a b (subst (λ (ps : List Endpoint). Contains ps b) placed d))))
 
       other : (port : ℕ) (t : TransferState F D) (b : Endpoint) → HasTransferBy programs old port t b →
-          TransferKept programs how views messages now port t b
+          TransferKept programs pad views messages now port t b
       other port t b was =
           let h = kept.transfers port t b was in
           same_transfer programs h
           (viewed_before (joined programs) kept.views kept.messages said_now (open_view x) h.end h.viewed)
-          (stored_after programs how old does added (files_same programs how old.state new stored) h.end
+          (stored_after programs pad old does added h.end
           (subst (λ (e : Endpoint). MovesNone programs old.run does e) (sym h.address)
           (beside b (kept.server.opened port t b was))) t.files h.has)
 
@@ -258,14 +254,14 @@ module _ {S F D G K : Type 0} {stores : StoreMeaning S D} {sources : SourceMeani
       known_place port t h = kept.server.opened port t (place_at programs port old.run) (inl (h.1, refl))
 
       new_own : (port : ℕ) (t : TransferState F D) (b : Endpoint) → IsNew port t → b ≡ a →
-          TransferKept programs how views messages now port t b
+          TransferKept programs pad views messages now port t b
       new_own port t b h here =
-          subst (λ (e : Endpoint). TransferKept programs how views messages now port t e) (sym here)
-          (subst (λ (n : ℕ). TransferKept programs how views messages now n t a) (sym h.0)
-          (subst (λ (u : TransferState F D). TransferKept programs how views messages now tid u a) h.1 own))
+          subst (λ (e : Endpoint). TransferKept programs pad views messages now port t e) (sym here)
+          (subst (λ (n : ℕ). TransferKept programs pad views messages now n t a) (sym h.0)
+          (subst (λ (u : TransferState F D). TransferKept programs pad views messages now tid u a) h.1 own))
 
       all_transfers : (port : ℕ) (t : TransferState F D) (b : Endpoint) → HasTransferBy programs now port t b →
-          TransferKept programs how views messages now port t b
+          TransferKept programs pad views messages now port t b
       all_transfers port t b (inl found) = elim (found_now port t found.0) [
         | inl this ↦ new_own port t b this (found.1 ∙ new_place_at port t this)
         | inr was ↦ other port t b (inl (was.1, found.1 ∙ place_still port was.0))
@@ -317,11 +313,10 @@ module _ {S F D G K : Type 0} {stores : StoreMeaning S D} {sources : SourceMeani
             | inr had ↦ kept.server.gone p q t u b was had.1 (same ∙ place_still q had.0)
           ]
 
-      server_kept : ServerKept programs how messages now
+      server_kept : ServerKept programs messages now
       server_kept = record {
         requests = ap (λ (s : LoopState S F D). s.requests) state_is ∙ kept.server.requests;
         config = ap (λ (s : LoopState S F D). s.server.config) state_is ∙ kept.server.config;
-        known = known_same programs how old.state new stored kept.server.known;
         pending =
             λ from bytes e. absurd (let f : None ≡ Some (from, bytes) = sym
             (ap (λ (s : LoopState S F D). s.pending) state_is) ∙ e in cc);
@@ -382,5 +377,5 @@ module _ {S F D G K : Type 0} {stores : StoreMeaning S D} {sources : SourceMeani
             };
       }
 
-      pub opening_keeps : IsKept programs how now
+      pub opening_keeps : IsKept programs pad now
       opening_keeps = server_keeps programs old kept does added turns

@@ -8,8 +8,8 @@ use Rattle.tftp_file.specs.Source.{SourceMeaning}
 use Rattle.tftp_ends.specs.End.{is_client}
 use Rattle.tftp_store.specs.Store.{StoreMeaning}
 use Rattle.tftp_server.specs.State.{TransferState, at, with_next}
-use Rattle.tftp_sockets.specs.Journal.{SocketEvent}
-use Rattle.tftp_sockets.specs.Journal.SocketEvent.{Sent}
+use Rattle.tftp_sockets.specs.Trace.{SocketEvent}
+use Rattle.tftp_sockets.specs.Trace.SocketEvent.{Sent}
 use Rattle.tftp_loop.specs.Steps.{LoopState, LoopStep}
 use Rattle.tftp_rules.specs.EndKept.{EndKept}
 use Rattle.tftp_rules.specs.Machine.{Endpoint, Message}
@@ -21,11 +21,11 @@ use Rattle.tftp_rules.proofs.Indices.{slice_get-set_same}
 use Rattle.tftp_promises.specs.Openings.{HasClosed, place_at}
 use Rattle.tftp_promises.specs.Order.{Programs, IsStranger, requests_at}
 use Rattle.tftp_promises.specs.Programs.{endpoint}
-use Rattle.tftp_promises.specs.Promises.{joined}
+use Rattle.tftp_promises.specs.Network.{joined}
 use Rattle.tftp_promises.specs.Snapshots.{Snapshot, server_did}
 use Rattle.tftp_promises.proofs.RunPlaces.{places}
 use Rattle.tftp_promises.proofs.Identifiers.{at-with_next_cases, once-with_next}
-use Rattle.tftp_promises.proofs.Invariant.{How, AreKeyedOnce, IsThere, IsViewed, HasStored, HasTransferBy, TransferKept}
+use Rattle.tftp_promises.proofs.Invariant.{AreKeyedOnce, IsThere, IsViewed, HasStored, HasTransferBy, TransferKept}
 use Rattle.tftp_promises.proofs.Invariant.{ServerKept, IsOfTransfer, IsKept, IsFreshBy, IsStrangers, named_still}
 use Rattle.tftp_promises.proofs.Invariant.{same_transfer}
 use Rattle.tftp_promises.proofs.KeptServer.{ServerTurns, server_keeps}
@@ -36,9 +36,9 @@ use Rattle.tftp_promises.proofs.ServerStays.{ServerStays, stored_after, closed_b
 
 module _ {S F D G K : Type 0} {stores : StoreMeaning S D} {sources : SourceMeaning F} {inputs : SourceMeaning G}
     {outputs : SinkMeaning K}
-    (programs : Programs stores sources inputs outputs) {how : How programs} where
+    (programs : Programs stores sources inputs outputs) {pad : ℕ} where
   -- what a step at the port did to the transfer there
-  pub record PortTurns (old : Snapshot programs) (kept : IsKept programs how old) {new : LoopState S F D}
+  pub record PortTurns (old : Snapshot programs) (kept : IsKept programs pad old) {new : LoopState S F D}
       (does : LoopStep stores sources old.state new) (added : List SocketEvent)
       (port : ℕ) (transfer : TransferState F D) (found : at port old.state.server.held ≡ Some transfer) : Type 0 where
     pub next : TransferState F D
@@ -63,9 +63,9 @@ module _ {S F D G K : Type 0} {stores : StoreMeaning S D} {sources : SourceMeani
     pub is_kept : EndKept (joined programs) end
     pub last_sent : IsThere (kept.messages ++ said_now) end.address end.state.position.last_sent_to
         end.state.position.last_sent
-    pub has : HasStored programs how (server_did programs old does added) end next.files
+    pub has : HasStored programs pad (server_did programs old does added) end next.files
 
-  module _ (old : Snapshot programs) (kept : IsKept programs how old) (fresh : IsFreshBy programs old)
+  module _ (old : Snapshot programs) (kept : IsKept programs pad old) (fresh : IsFreshBy programs old)
       {new : LoopState S F D} (does : LoopStep stores sources old.state new) (stays : ServerStays programs old kept does)
       (added : List SocketEvent) (port : ℕ) (transfer : TransferState F D)
       (found : at port old.state.server.held ≡ Some transfer)
@@ -114,7 +114,7 @@ module _ {S F D G K : Type 0} {stores : StoreMeaning S D} {sources : SourceMeani
         viewed_beside (joined programs) kept.views kept.messages turns.said_now index (open_view was)
         (open_view turns.end) z viewed (λ same. apart (sym was_there ∙ same)) h
 
-    own : TransferKept programs how views messages now port turns.next place
+    own : TransferKept programs pad views messages now port turns.next place
     own = record {
       end = turns.end;
       address = turns.address;
@@ -137,11 +137,11 @@ module _ {S F D G K : Type 0} {stores : StoreMeaning S D} {sources : SourceMeani
     }
 
     other : (q : ℕ) (t : TransferState F D) (a : Endpoint) → place ≢ a → HasTransferBy programs old q t a →
-        TransferKept programs how views messages now q t a
+        TransferKept programs pad views messages now q t a
     other q t a n is =
         let h = kept.transfers q t a is in
         same_transfer programs h (beside h.end (λ same. n (same ∙ h.address)) h.viewed)
-        (stored_after programs how old does added stays.files h.end
+        (stored_after programs pad old does added h.end
         (none h.end.address (λ same. n (same ∙ h.address))) t.files h.has)
 
     -- which transfer it is
@@ -161,14 +161,14 @@ module _ {S F D G K : Type 0} {stores : StoreMeaning S D} {sources : SourceMeani
         let c = closed_before programs old kept does stays added q t a closed in inr (gone_place q t a c, inr c)
 
     is_own : (q : ℕ) (t : TransferState F D) (a : Endpoint) → IsThis q t a →
-        TransferKept programs how views messages now q t a
+        TransferKept programs pad views messages now q t a
     is_own q t a h =
-        subst (λ (b : Endpoint). TransferKept programs how views messages now q t b) (sym h.2)
-        (subst (λ (p : ℕ). TransferKept programs how views messages now p t place) (sym h.0)
-        (subst (λ (u : TransferState F D). TransferKept programs how views messages now port u place) (sym h.1) own))
+        subst (λ (b : Endpoint). TransferKept programs pad views messages now q t b) (sym h.2)
+        (subst (λ (p : ℕ). TransferKept programs pad views messages now p t place) (sym h.0)
+        (subst (λ (u : TransferState F D). TransferKept programs pad views messages now port u place) (sym h.1) own))
 
     all_transfers : (q : ℕ) (t : TransferState F D) (a : Endpoint) → HasTransferBy programs now q t a →
-        TransferKept programs how views messages now q t a
+        TransferKept programs pad views messages now q t a
     all_transfers q t a is = elim (found_cases q t a is) [
       | inl h ↦ is_own q t a h
       | inr h ↦ other q t a h.0 h.1
@@ -193,11 +193,10 @@ module _ {S F D G K : Type 0} {stores : StoreMeaning S D} {sources : SourceMeani
           | inr h ↦ (t, h.1)
         ]
 
-    server_kept : ServerKept programs how messages now
+    server_kept : ServerKept programs messages now
     server_kept = record {
       requests = stays.requests ∙ kept.server.requests;
       config = stays.config ∙ kept.server.config;
-      known = stays.known;
       pending =
           λ from bytes e. arrived_still kept.messages turns.said_now from (requests_at programs)
           bytes (stays.pending from bytes e);
@@ -263,5 +262,5 @@ module _ {S F D G K : Type 0} {stores : StoreMeaning S D} {sources : SourceMeani
       were = were;
     }
 
-    pub port_keeps : IsKept programs how now
+    pub port_keeps : IsKept programs pad now
     port_keeps = server_keeps programs old kept does added port_turns

@@ -12,8 +12,8 @@ use Rattle.tftp_ends.specs.Step.{Reply, error_bytes}
 use Rattle.tftp_store.specs.Store.{StoreMeaning}
 use Rattle.tftp_server.specs.Request.{Came, Nothing, Error_reply, Left, left_by}
 use Rattle.tftp_server.specs.State.{TransferState, ServerState}
-use Rattle.tftp_sockets.specs.Journal.{SocketEvent}
-use Rattle.tftp_sockets.specs.Journal.SocketEvent.{Sent}
+use Rattle.tftp_sockets.specs.Trace.{SocketEvent}
+use Rattle.tftp_sockets.specs.Trace.SocketEvent.{Sent}
 use Rattle.tftp_loop.specs.Steps.{AnswersRequest, LoopStep, LoopState, Request_answered, after_request}
 use Rattle.tftp_rules.specs.Machine.{Endpoint, Error, Message}
 use Rattle.tftp_rules.specs.Rules.{message}
@@ -24,21 +24,20 @@ use Rattle.tftp_promises.specs.Openings.{HasClosed, place}
 use Rattle.tftp_promises.specs.Order.{Programs, IsStranger, requests_at}
 use Rattle.tftp_promises.specs.Ports.{opened_ports}
 use Rattle.tftp_promises.specs.Programs.{endpoint}
-use Rattle.tftp_promises.specs.Promises.{joined}
+use Rattle.tftp_promises.specs.Network.{joined}
 use Rattle.tftp_promises.specs.Snapshots.{Snapshot, server_did}
 use Rattle.tftp_promises.proofs.RunPlaces.{placed_by}
-use Rattle.tftp_promises.proofs.Invariant.{How, IsKept, IsThere}
+use Rattle.tftp_promises.proofs.Invariant.{IsKept, IsThere}
 use Rattle.tftp_promises.proofs.KeptEvents.{IsSilent, added_none, answered_sends, none_silent, nothing_in}
 use Rattle.tftp_promises.proofs.KeptStill.{says_keeps, still_keeps}
 use Rattle.tftp_promises.proofs.PortAnswers.{IsRefused}
 use Rattle.tftp_promises.proofs.MovedSteps.{MovesNone, answer_places_none, none_answered}
-use Rattle.tftp_promises.proofs.ServerStays.{SameStored, ServerStays, content_by, files_same, known_same, same_if}
-use Rattle.tftp_promises.proofs.ServerStays.{same_if_known, same_then}
+use Rattle.tftp_promises.proofs.ServerStays.{ServerStays}
 
 module _ {S F D G K : Type 0} {stores : StoreMeaning S D} {sources : SourceMeaning F} {inputs : SourceMeaning G}
     {outputs : SinkMeaning K}
-    (programs : Programs stores sources inputs outputs) {how : How programs} (old : Snapshot programs)
-    (kept : IsKept programs how old) {new : LoopState S F D}
+    (programs : Programs stores sources inputs outputs) {pad : ℕ} (old : Snapshot programs)
+    (kept : IsKept programs pad old) {new : LoopState S F D}
     (answers : AnswersRequest stores sources old.state new) where
   abbrev server : ServerState S F D
   server = old.state.server
@@ -80,19 +79,16 @@ module _ {S F D G K : Type 0} {stores : StoreMeaning S D} {sources : SourceMeani
       (same_Some reply (record { to = to; bytes = bytes }) s.1)
       (subst (λ (n : ℕ). SentOf messages (endpoint programs.ip n) reply.to reply.bytes) s.0 there)
 
-  -- if no transfer opens and the store's content stays, all else is as it was
+  -- if no transfer opens, all else is as it was
   stays_so : option_to_list answers.left.opened.tid ≡ [] → new.requests ≡ old.state.requests →
-      new.server.config ≡ server.config → SameStored programs how server.store new.server.store → new.pending ≡ None →
-      ServerStays programs old kept does
-  stays_so opens requests config stored pending = record {
+      new.server.config ≡ server.config → new.pending ≡ None → ServerStays programs old kept does
+  stays_so opens requests config pending = record {
     opens = ap (map (place programs (length (opened_ports old.run)) answers.from)) opens;
     seats = λ port. answer_places_none programs old.run answers port opens;
     removes = λ port transfer removes. removes;
     requests = requests;
     config = config;
-    known = known_same programs how old.state new stored kept.server.known;
     pending = λ from bytes e. absurd (let f : None ≡ Some (from, bytes) = sym pending ∙ e in cc);
-    files = files_same programs how old.state new stored;
   }
 
   -- nothing moves then
@@ -103,7 +99,7 @@ module _ {S F D G K : Type 0} {stores : StoreMeaning S D} {sources : SourceMeani
 
   -- a datagram that is ignored
   pub silent_keeps : (added : List SocketEvent) → new.events ≡ added ++ old.state.events → answers.steps.came ≡ Nothing →
-      IsKept programs how (server_did programs old does added)
+      IsKept programs pad (server_did programs old does added)
   silent_keeps added noted is =
       let e = new_is Nothing is in
       let none : [] ≡ added =
@@ -111,16 +107,14 @@ module _ {S F D G K : Type 0} {stores : StoreMeaning S D} {sources : SourceMeani
       let stays =
       stays_so (ap (λ (l : Left S F D). option_to_list l.opened.tid) (left_is Nothing is))
       (ap (λ (s : LoopState S F D). s.requests) e) (ap (λ (s : LoopState S F D). s.server.config) e)
-      (same_if programs how server.store new.server.store
-      (ap (λ (s : LoopState S F D). stores.stored s.server.store) e)) (ap (λ (s : LoopState S F D). s.pending) e) in
+      (ap (λ (s : LoopState S F D). s.pending) e) in
       still_keeps programs old kept does stays (moves_none stays.opens) (ap (λ (s : LoopState S F D). s.server.held) e)
       added (subst IsSilent none none_silent)
 
   -- one that is answered by an ERROR
   pub refusal_keeps : (added : List SocketEvent) → new.events ≡ added ++ old.state.events →
-      IsRefused stores sources server answers.from answers.bytes (content_by programs how old.state)
-      answers.steps.came →
-      IsKept programs how (server_did programs old does added)
+      IsRefused stores sources server answers.from answers.bytes answers.steps.came →
+      IsKept programs pad (server_did programs old does added)
   refusal_keeps added noted r =
       let e = new_is (Error_reply r.reply r.store) r.is in
       let own = old.state.requests in
@@ -140,8 +134,6 @@ module _ {S F D G K : Type 0} {stores : StoreMeaning S D} {sources : SourceMeani
       let stays =
       stays_so (ap (λ (l : Left S F D). option_to_list l.opened.tid) (left_is (Error_reply r.reply r.store) r.is))
       (ap (λ (s : LoopState S F D). s.requests) e) (ap (λ (s : LoopState S F D). s.server.config) e)
-      (same_then programs how server.store r.store new.server.store (ap (λ (s : LoopState S F D). s.server.store) e)
-      (same_if_known programs how old.state r.store kept.server.known r.same))
       (ap (λ (s : LoopState S F D). s.pending) e) in
       let shown = says_error (joined programs) kept.shown.0 kept.views kept.messages kept.shown.1 a from in
       says_keeps programs old kept does stays (moves_none stays.opens) (ap (λ (s : LoopState S F D). s.server.held) e)

@@ -1,7 +1,6 @@
 -- A request that the request port answers keeps the invariant.
 use Rattle.std.proofs.Common.{◌≡◌, ℕ, ◌*◌, ◌<◌, ◌≤◌, Bool, true, false, List, [], ◌++◌, length}
 use Rattle.std.proofs.Common.{Option, Some, refl, sym, ap, ◌∙◌, subst, inl}
-use Rattle.std.specs.Prelude.{IsSome}
 use Rattle.std.specs.List.{Contains}
 use Rattle.std.proofs.lemmas.Bool.{true≢false}
 use Rattle.tftp_wire.specs.Spelling.{Spells}
@@ -12,7 +11,6 @@ use Rattle.tftp_wire.specs.declared.packet.Request.{Request as WireRequest}
 use Rattle.tftp_negotiate.specs.Agreed.{size}
 use Rattle.tftp_negotiate.specs.Ranges.{IsBlockSize}
 use Rattle.tftp_file.specs.Block.{Fits, IsPrefixOf}
-use Rattle.tftp_file.specs.Netascii.{wire_text}
 use Rattle.tftp_file.specs.Sink.{SinkMeaning}
 use Rattle.tftp_file.specs.Source.{SourceMeaning}
 use Rattle.tftp_file.specs.declared.files.Files.TheVariants.{Source, Sink}
@@ -20,10 +18,10 @@ use Rattle.tftp_ends.specs.Action.{Decodes}
 use Rattle.tftp_ends.specs.End.{EndState}
 use Rattle.tftp_ends.specs.Opening.{serving_read, serving_write}
 use Rattle.tftp_store.specs.Drafts.{TakesInTurn, Took_nothing}
-use Rattle.tftp_store.specs.Store.{StoreMeaning, Stored, files_of, new_draft}
+use Rattle.tftp_store.specs.Store.{StoreMeaning}
 use Rattle.tftp_server.specs.State.{TransferState, ServerState}
 use Rattle.tftp_server.specs.declared.config.Config.{Config}
-use Rattle.tftp_sockets.specs.Journal.{SocketEvent}
+use Rattle.tftp_sockets.specs.Trace.{SocketEvent}
 use Rattle.tftp_loop.specs.Steps.{AnswersRequest, LoopState, Request_answered}
 use Rattle.tftp_rules.specs.EndOpens.{IsNewly, new_receiver, new_sender, sending}
 use Rattle.tftp_rules.specs.Machine.{Endpoint, Packet}
@@ -32,33 +30,31 @@ use Rattle.tftp_rules.specs.Rules.{message}
 use Rattle.tftp_rules.specs.Shows.{requested}
 use Rattle.tftp_rules.proofs.EndOpenings.{opens_to_send, opens_to_store}
 use Rattle.tftp_promises.specs.Given.{GaveSince}
-use Rattle.tftp_promises.specs.Modelled.{AreModelled}
 use Rattle.tftp_promises.specs.Moved.{Moved, first_moved, opening_moves, or_before}
 use Rattle.tftp_promises.specs.Openings.{moved_at, opened_at, place}
 use Rattle.tftp_promises.specs.Order.{Programs}
-use Rattle.tftp_promises.specs.Ports.{IsStored, opened_ports}
-use Rattle.tftp_promises.specs.Promises.{joined}
+use Rattle.tftp_promises.specs.Ports.{opened_ports}
+use Rattle.tftp_promises.specs.Network.{joined}
 use Rattle.tftp_promises.specs.Snapshots.{Snapshot, server_did}
 use Rattle.tftp_promises.proofs.GivenSteps.{gave_first}
-use Rattle.tftp_promises.proofs.Invariant.{How, By_models, By_run, GaveSo, HasStored, IsFreshBy, IsKept, IsKnown, IsNamed}
+use Rattle.tftp_promises.proofs.Invariant.{GaveSo, HasStored, IsFreshBy, IsKept, IsNamed}
 use Rattle.tftp_promises.proofs.Invariant.{IsGiven, IsTaken, TookSo}
 use Rattle.tftp_promises.proofs.Invariant.{length_of, place_text}
 use Rattle.tftp_promises.proofs.KeptAsks.{says_request}
-use Rattle.tftp_promises.proofs.KeptOpenings.{at_server, came_here, its_place, none_there, opening_keeps, store_is}
+use Rattle.tftp_promises.proofs.KeptOpenings.{at_server, came_here, its_place, none_there, opening_keeps}
 use Rattle.tftp_promises.proofs.KeptRefusals.{refusal_keeps, silent_keeps}
-use Rattle.tftp_promises.proofs.PortAnswers.{Begins_to_send, Begins_to_store, IfKnown, IsBegunBy, IsOpenedBy, OpensToSend}
-use Rattle.tftp_promises.proofs.PortAnswers.{OpensToStore, PortAnswers, Says_error, SendsFile, Silent, port_answers}
+use Rattle.tftp_promises.proofs.PortAnswers.{Begins_to_send, Begins_to_store, IsBegunBy, IsOpenedBy, OpensToSend}
+use Rattle.tftp_promises.proofs.PortAnswers.{OpensToStore, PortAnswers, Says_error, Silent, port_answers}
 use Rattle.tftp_promises.proofs.Requested.{IsAsked}
 use Rattle.tftp_promises.proofs.RequestedEnds.{first_of_text, read_length, read_mode, read_peer, read_sends}
-use Rattle.tftp_promises.proofs.RequestedEnds.{write_begins, write_mode, write_moves_none, write_peer, write_stores}
-use Rattle.tftp_promises.proofs.ServerStays.{content_by, content_known, if_some, same_if, same_if_known}
+use Rattle.tftp_promises.proofs.RequestedEnds.{write_mode, write_moves_none, write_peer, write_stores}
 use Rattle.tftp_promises.proofs.Texts.{begins_padded, pad_length}
 use Rattle.tftp_promises.proofs.Unanswered.{none_answers}
 
 module _ {S F D G K : Type 0} {stores : StoreMeaning S D} {sources : SourceMeaning F} {inputs : SourceMeaning G}
     {outputs : SinkMeaning K}
-    (programs : Programs stores sources inputs outputs) {how : How programs} (old : Snapshot programs)
-    (kept : IsKept programs how old) {new : LoopState S F D} (answers : AnswersRequest stores sources old.state new)
+    (programs : Programs stores sources inputs outputs) {pad : ℕ} (old : Snapshot programs)
+    (kept : IsKept programs pad old) {new : LoopState S F D} (answers : AnswersRequest stores sources old.state new)
     (added : List SocketEvent) (noted : new.events ≡ added ++ old.state.events)
     (fresh : IsFreshBy programs (server_did programs old (Request_answered answers) added)) where
   abbrev server : ServerState S F D
@@ -107,8 +103,8 @@ module _ {S F D G K : Type 0} {stores : StoreMeaning S D} {sources : SourceMeani
   -- a read
   module _ (path : List ℕ) (mode : Mode) (options : List RawOption)
       (asked : IsAsked answers.steps.decoded answers.steps.repeated false path mode options)
-      (o : OpensToSend stores sources server answers.from answers.bytes (content_by programs how old.state) path
-      asked.request.mode answers.steps.came) where
+      (o : OpensToSend stores sources server answers.from answers.bytes path asked.request.mode
+      answers.steps.came) where
     abbrev r : WireRequest
     r = asked.request
 
@@ -125,13 +121,13 @@ module _ {S F D G K : Type 0} {stores : StoreMeaning S D} {sources : SourceMeani
     send_text : (file text : List ℕ) → length text ≡ o.measured →
         serving_read o.agreed answers.from r.mode o.measured server.config.retries o.piece ≡ sending o.agreed
         answers.from r.mode text server.config.retries →
-        HasStored programs how now (new_sender a answers.bytes o.agreed answers.from r.mode path file text
-        server.config.retries) (Source o.rest) → IsKept programs how now
+        HasStored programs pad now (new_sender a answers.bytes o.agreed answers.from r.mode path file text
+        server.config.retries) (Source o.rest) → IsKept programs pad now
     send_text file text long end has =
         let x = new_sender a answers.bytes o.agreed answers.from r.mode path file text server.config.retries in
         let fits : Fits text (size o.agreed) = subst (λ (n : ℕ). n < 65535 * size o.agreed) (sym long) o.fits in
         opening_keeps programs old kept answers added noted fresh sent server.store o.is
-        (same_if programs how server.store server.store refl) x refl
+        x refl
         (read_peer o.agreed answers.from r.mode text server.config.retries) (sym end) refl refl
         (named false path mode options asked)
         (opens_to_send (joined programs) kept.shown.0 kept.views kept.messages a answers.from answers.bytes r path file
@@ -141,33 +137,6 @@ module _ {S F D G K : Type 0} {stores : StoreMeaning S D} {sources : SourceMeani
         (newly false path mode options asked) o.granted fits)
         has
 
-    -- by the models
-    send_file : (models : AreModelled programs) → how ≡ By_models models → (stored : Stored) →
-        stores.stored server.store ≡ Some stored →
-        SendsFile stores sources server answers.from answers.bytes (content_by programs how old.state) stored path
-        r.mode o.agreed o.measured o.piece o.rest → IsKept programs how now
-    send_file models is stored known f =
-        let text = wire_text r.mode f.file in
-        let x = new_sender a answers.bytes o.agreed answers.from r.mode path f.file text server.config.retries in
-        let under : IsStored stores new path f.file = (
-          stored.files,
-          ap (λ (s : S). files_of (stores.stored s))
-              (store_is programs old kept answers added noted fresh sent server.store o.is) ∙ ap files_of known,
-          f.there,
-        ) in
-        send_text f.file text (sym f.whole) f.end
-        (subst (λ (w : How programs). HasStored programs w now x (Source o.rest)) (sym is)
-        (record {
-          sender = read_sends o.agreed answers.from r.mode text server.config.retries;
-          text =
-              ap (λ (m : Mode). wire_text m f.file)
-              (sym (read_mode o.agreed answers.from r.mode text server.config.retries));
-          left = λ _. inl f.left;
-          was = inl under;
-          stays = λ _. under;
-        }))
-
-    -- by the run
     its_opening : opened_at programs a now.run ≡ Some sent
     its_opening =
         ap (λ (z : Option (TransferState F D)). or_before z (opened_at programs a old.run))
@@ -178,8 +147,8 @@ module _ {S F D G K : Type 0} {stores : StoreMeaning S D} {sources : SourceMeani
         ap (λ (z : Option (TransferState F D)). opening_moves z (moved_at programs a old.run))
         (came_here programs old kept answers added noted fresh sent server.store o.is)
 
-    send_moved : (pad : ℕ) → how ≡ By_run pad → IsKept programs how now
-    send_moved pad is =
+    sending_keeps : IsKept programs pad now
+    sending_keeps =
         let text = place_text programs pad a in
         let told = fresh.told a (its_place programs old kept answers added noted fresh sent server.store o.is) in
         let long : length_of (opened_at programs a programs.server.run) ≡ o.measured =
@@ -199,7 +168,7 @@ module _ {S F D G K : Type 0} {stores : StoreMeaning S D} {sources : SourceMeani
         let gave : GaveSo x (moved_at programs a now.run) =
         subst (λ (m : Moved). GaveSo x m) (sym its_moved) (record { prefix = f.1; left = λ _. f.2 }) in
         let opened = subst (λ (m : Mode). IsOpenedBy stores sources server answers.from answers.bytes
-        (content_by programs how old.state) path m answers.steps.came o.opening)
+        path m answers.steps.came o.opening)
         (sym (read_mode o.agreed answers.from r.mode text server.config.retries)) o.opened in
         let given : IsGiven programs now x o.rest = record {
           opening = o.opening;
@@ -212,7 +181,6 @@ module _ {S F D G K : Type 0} {stores : StoreMeaning S D} {sources : SourceMeani
               (gave_first o.gave);
         } in
         send_text [] text measured f.0
-        (subst (λ (w : How programs). HasStored programs w now x (Source o.rest)) (sym is)
         (record {
           sender = read_sends o.agreed answers.from r.mode text server.config.retries;
           opened =
@@ -220,29 +188,13 @@ module _ {S F D G K : Type 0} {stores : StoreMeaning S D} {sources : SourceMeani
           text = refl;
           gave = gave;
           given = given;
-        }))
-
-    sending_by : (w : How programs) → how ≡ w → IsKept programs how now
-    sending_by (By_models models) is =
-        let P : Stored → Type 0 =
-        λ (stored : Stored). SendsFile stores sources server answers.from answers.bytes
-        (content_by programs how old.state) stored path r.mode o.agreed o.measured o.piece o.rest in
-        let known : IsSome (stores.stored server.store) =
-        subst (λ (w : How programs). IsKnown programs w old.state) is kept.server.known in
-        let file : IfKnown (stores.stored server.store) P =
-        subst (λ (w : How programs). IfKnown (content_by programs w old.state) P) is o.file in
-        let f = if_some programs (stores.stored server.store) P known file in
-        send_file models is f.0 f.1 f.2
-    sending_by (By_run pad) is = send_moved pad is
-
-    sending_keeps : IsKept programs how now
-    sending_keeps = sending_by how refl
+        })
 
   -- a write
   module _ (path : List ℕ) (mode : Mode) (options : List RawOption)
       (asked : IsAsked answers.steps.decoded answers.steps.repeated true path mode options)
-      (o : OpensToStore stores sources server answers.from answers.bytes (content_by programs how old.state) path
-      asked.request.mode answers.steps.came) where
+      (o : OpensToStore stores sources server answers.from answers.bytes path asked.request.mode
+      answers.steps.came) where
     -- its transfer, and its end
     abbrev stored_by : TransferState F D
     stored_by =
@@ -256,10 +208,9 @@ module _ {S F D G K : Type 0} {stores : StoreMeaning S D} {sources : SourceMeani
     abbrev receiver : OpenEnd
     receiver = new_receiver a answers.bytes o.agreed answers.from asked.request.mode path server.config.retries
 
-    store_has : HasStored programs how now receiver (Sink o.draft) → IsKept programs how now
+    store_has : HasStored programs pad now receiver (Sink o.draft) → IsKept programs pad now
     store_has has =
         opening_keeps programs old kept answers added noted fresh stored_by o.store o.is
-        (same_if_known programs how old.state o.store kept.server.known o.same)
         receiver refl (write_peer o.agreed answers.from asked.request.mode server.config.retries) refl refl refl
         (named true path mode options asked)
         (opens_to_store (joined programs) kept.shown.0 kept.views kept.messages a answers.from answers.bytes
@@ -269,33 +220,15 @@ module _ {S F D G K : Type 0} {stores : StoreMeaning S D} {sources : SourceMeani
         (newly true path mode options asked) o.granted)
         has
 
-    storing_by : (w : How programs) → how ≡ w → IsKept programs how now
-    storing_by (By_models models) is =
-        let known : IsSome (stores.stored server.store) =
-        subst (λ (w : How programs). IsKnown programs w old.state) is kept.server.known in
-        let drafted : IfKnown (stores.stored server.store) (λ stored. stores.drafted o.draft ≡ Some new_draft) =
-        subst (λ (w : How programs). IfKnown (content_by programs w old.state)
-        (λ stored. stores.drafted o.draft ≡ Some new_draft)) is o.drafted in
-        store_has (subst (λ (w : How programs). HasStored programs w now receiver (Sink o.draft)) (sym is) (record {
-          receiver = write_stores o.agreed answers.from asked.request.mode server.config.retries;
-          drafted =
-              (if_some programs (stores.stored server.store) (λ stored. stores.drafted o.draft ≡ Some new_draft) known
-              drafted).2;
-          was =
-              λ done. absurd (true≢false (sym done ∙ write_begins o.agreed answers.from asked.request.mode
-              server.config.retries));
-          stays =
-              λ _ done. absurd (true≢false (sym done ∙ write_begins o.agreed answers.from asked.request.mode
-              server.config.retries));
-        }))
-    storing_by (By_run pad) is =
+    storing_keeps : IsKept programs pad now
+    storing_keeps =
         let moved : moved_at programs a now.run ≡ first_moved stored_by.end =
         ap (λ (z : Option (TransferState F D)). opening_moves z (moved_at programs a old.run))
         (came_here programs old kept answers added noted fresh stored_by o.store o.is) in
         let none : (first_moved stored_by.end).bytes ≡ [] =
         write_moves_none o.agreed answers.from asked.request.mode server.config.retries in
         let begun = subst (λ (m : Mode). IsBegunBy stores sources server answers.from answers.bytes
-        (content_by programs how old.state) path m answers.steps.came o.draft)
+        path m answers.steps.came o.draft)
         (sym (write_mode o.agreed answers.from asked.request.mode server.config.retries)) o.begun in
         let taken : IsTaken programs now receiver o.draft = record {
           first = o.draft;
@@ -308,7 +241,7 @@ module _ {S F D G K : Type 0} {stores : StoreMeaning S D} {sources : SourceMeani
             done = λ c. absurd (true≢false (sym c));
           };
         } in
-        store_has (subst (λ (w : How programs). HasStored programs w now receiver (Sink o.draft)) (sym is) (record {
+        store_has (record {
           receiver = write_stores o.agreed answers.from asked.request.mode server.config.retries;
           opened = record {
             opening = stored_by;
@@ -322,30 +255,26 @@ module _ {S F D G K : Type 0} {stores : StoreMeaning S D} {sources : SourceMeani
               subst (λ (m : Moved). TookSo receiver m) (sym moved)
               (record { stored = sym none; committed = λ c. absurd (true≢false (sym c)); refuses = refl });
           taken = taken;
-        }))
-
-    storing_keeps : IsKept programs how now
-    storing_keeps = storing_by how refl
+        })
 
   -- ---- the answer
-  kept_by : PortAnswers stores sources server answers.from answers.bytes (content_by programs how old.state)
-      answers.steps.decoded answers.steps.repeated answers.steps.came → IsKept programs how now
+  kept_by : PortAnswers stores sources server answers.from answers.bytes answers.steps.decoded answers.steps.repeated answers.steps.came → IsKept programs pad now
   kept_by (Silent is) = silent_keeps programs old kept answers added noted is
   kept_by (Says_error r) = refusal_keeps programs old kept answers added noted r
   kept_by (Begins_to_send path mode options asked opens) =
       sending_keeps path mode options asked
-      (subst (λ (m : Mode). OpensToSend stores sources server answers.from answers.bytes
-      (content_by programs how old.state) path m answers.steps.came) (sym asked.same_mode) opens)
+      (subst (λ (m : Mode). OpensToSend stores sources server answers.from answers.bytes path m
+      answers.steps.came) (sym asked.same_mode) opens)
   kept_by (Begins_to_store path mode options asked opens) =
       storing_keeps path mode options asked
-      (subst (λ (m : Mode). OpensToStore stores sources server answers.from answers.bytes
-      (content_by programs how old.state) path m answers.steps.came) (sym asked.same_mode) opens)
+      (subst (λ (m : Mode). OpensToStore stores sources server answers.from answers.bytes path m
+      answers.steps.came) (sym asked.same_mode) opens)
 
   max_block : IsBlockSize server.config.limits.max_block
   max_block = subst (λ (c : Config). IsBlockSize c.limits.max_block) (sym kept.server.config) programs.server.max_block
 
   -- each answer to a request keeps the invariant
-  pub request_keeps : IsKept programs how now
+  pub request_keeps : IsKept programs pad now
   request_keeps =
-      kept_by (port_answers stores sources server answers.from answers.bytes (content_by programs how old.state)
-      max_block (content_known programs how old.state) answers.tid answers.left answers.steps)
+      kept_by (port_answers stores sources server answers.from answers.bytes max_block answers.tid answers.left
+      answers.steps)

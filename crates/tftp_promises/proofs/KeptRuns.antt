@@ -1,17 +1,17 @@
 -- The invariant holds of every joint run, if the steps of the server keep it.
-use Rattle.std.proofs.Common.{◌≡◌, List, ◌++◌}
+use Rattle.std.proofs.Common.{ℕ, ◌≡◌, List, ◌++◌}
 use Rattle.tftp_file.specs.Sink.{SinkMeaning}
 use Rattle.tftp_file.specs.Source.{SourceMeaning}
 use Rattle.tftp_store.specs.Store.{StoreMeaning}
-use Rattle.tftp_sockets.specs.Journal.{SocketEvent}
+use Rattle.tftp_sockets.specs.Trace.{SocketEvent}
 use Rattle.tftp_loop.specs.Steps.{LoopState, LoopStep}
 use Rattle.tftp_promises.specs.ClientRuns.{client_moves}
 use Rattle.tftp_promises.specs.Joined.{AreJoined}
 use Rattle.tftp_promises.specs.Joint.{CanTake, Joint, All_begin, Server_does, Client_asks, Client_does}
-use Rattle.tftp_promises.specs.Joint.{JournalsAreJoint}
+use Rattle.tftp_promises.specs.Joint.{TracesAreJoint}
 use Rattle.tftp_promises.specs.Order.{Noted, Programs}
 use Rattle.tftp_promises.specs.Snapshots.{Snapshot, just_asked, Has_asked, server_did, all_of}
-use Rattle.tftp_promises.proofs.Invariant.{How, IsKept, IsFreshBy}
+use Rattle.tftp_promises.proofs.Invariant.{IsKept, IsFreshBy}
 use Rattle.tftp_promises.proofs.KeptAsks.{asks_keeps}
 use Rattle.tftp_promises.proofs.KeptDoes.{does_keeps}
 use Rattle.tftp_promises.proofs.KeptFresh.{fresh_before_server, fresh_before_client, fresh_at_last, unasked_had}
@@ -21,19 +21,19 @@ use Rattle.tftp_promises.proofs.KeptStart.{kept_at_first}
 module _ {S F D G K : Type 0} {stores : StoreMeaning S D} {sources : SourceMeaning F} {inputs : SourceMeaning G}
     {outputs : SinkMeaning K} where
   -- each step of the server keeps the invariant
-  abbrev pub ServerStepsKeep : (programs : Programs stores sources inputs outputs) → How programs → Type 0
-  ServerStepsKeep programs how =
+  abbrev pub ServerStepsKeep : (programs : Programs stores sources inputs outputs) → ℕ → Type 0
+  ServerStepsKeep programs pad =
       (old : Snapshot programs) (new : LoopState S F D) (does : LoopStep stores sources old.state new)
-      (added : List SocketEvent) → IsKept programs how old →
+      (added : List SocketEvent) → IsKept programs pad old →
       IsFreshBy programs (server_did programs old does added) → new.events ≡ added ++ old.state.events →
       CanTake programs old programs.ip added →
-      IsKept programs how (server_did programs old does added)
+      IsKept programs pad (server_did programs old does added)
 
-  module _ (programs : Programs stores sources inputs outputs) (how : How programs)
-      (server_keeps : ServerStepsKeep programs how) where
+  module _ (programs : Programs stores sources inputs outputs) (pad : ℕ)
+      (server_keeps : ServerStepsKeep programs pad) where
     pub joint_kept : (snapshot : Snapshot programs) → Joint programs snapshot → IsFreshBy programs snapshot →
-        IsKept programs how snapshot
-    joint_kept snapshot All_begin fresh = kept_at_first programs how
+        IsKept programs pad snapshot
+    joint_kept snapshot All_begin fresh = kept_at_first programs pad
     joint_kept snapshot (Server_does {old} {new} joint does added events take) fresh =
         server_keeps old new does added (joint_kept old joint (fresh_before_server programs old new does added fresh))
         fresh events take
@@ -41,7 +41,7 @@ module _ {S F D G K : Type 0} {stores : StoreMeaning S D} {sources : SourceMeani
         let before =
         fresh_before_client programs old k (just_asked client)
         (unasked_had programs old k (just_asked client) unasked) fresh in
-        asks_keeps programs how old (joint_kept old joint before) before k client found unasked
+        asks_keeps programs pad old (joint_kept old joint before) before k client found unasked
     joint_kept snapshot (Client_does {old} {s} {s'} {files} {files'} {noted} {moved} joint k client found is_stage does
         own added events take) fresh =
         let had = asked_had programs old k client s s' files files' noted moved is_stage does added in
@@ -51,14 +51,14 @@ module _ {S F D G K : Type 0} {stores : StoreMeaning S D} {sources : SourceMeani
         does_keeps programs old (joint_kept old joint before) before k client found s files noted moved is_stage s'
         files' added does own fresh events take
 
--- the invariant holds where the journals arrive
+-- the invariant holds where the traces arrive
 pub kept_at_last : {S F D G K : Type 0} (stores : StoreMeaning S D) (sources : SourceMeaning F)
     (inputs : SourceMeaning G) (outputs : SinkMeaning K) →
-    JournalsAreJoint stores sources inputs outputs →
-    ((programs : Programs stores sources inputs outputs) (how : How programs) → ServerStepsKeep programs how) →
+    TracesAreJoint stores sources inputs outputs →
+    ((programs : Programs stores sources inputs outputs) (pad : ℕ) → ServerStepsKeep programs pad) →
     (programs : Programs stores sources inputs outputs) (order : List Noted) →
-    AreJoined stores sources inputs outputs programs order → (how : How programs) →
-    IsKept programs how (all_of programs)
-kept_at_last stores sources inputs outputs joint keeps programs order joins how =
-    joint_kept programs how (keeps programs how) (all_of programs) (joint programs order joins)
+    AreJoined stores sources inputs outputs programs order → (pad : ℕ) →
+    IsKept programs pad (all_of programs)
+kept_at_last stores sources inputs outputs joint keeps programs order joins pad =
+    joint_kept programs pad (keeps programs pad) (all_of programs) (joint programs order joins)
     (fresh_at_last programs joins.fresh)

@@ -7,8 +7,8 @@ use Rattle.tftp_file.specs.Sink.{SinkMeaning}
 use Rattle.tftp_file.specs.Source.{SourceMeaning}
 use Rattle.tftp_store.specs.Store.{StoreMeaning}
 use Rattle.tftp_server.specs.State.{TransferState}
-use Rattle.tftp_sockets.specs.Journal.{SocketEvent}
-use Rattle.tftp_sockets.specs.Journal.SocketEvent.{Sent}
+use Rattle.tftp_sockets.specs.Trace.{SocketEvent}
+use Rattle.tftp_sockets.specs.Trace.SocketEvent.{Sent}
 use Rattle.tftp_loop.specs.Steps.{LoopState, LoopStep}
 use Rattle.tftp_rules.specs.Machine.{Endpoint, Message}
 use Rattle.tftp_rules.specs.OpenEnds.{OpenEnd}
@@ -17,17 +17,17 @@ use Rattle.tftp_rules.specs.ViewSafety.{IsAmong}
 use Rattle.tftp_promises.specs.Joint.{WasSentBefore}
 use Rattle.tftp_promises.specs.Order.{Programs, IsStranger, requests_at}
 use Rattle.tftp_promises.specs.Programs.{endpoint, ClientProgram, client_at}
-use Rattle.tftp_promises.specs.Promises.{joined}
+use Rattle.tftp_promises.specs.Network.{joined}
 use Rattle.tftp_promises.specs.Snapshots.{Snapshot, ClientStage, Unasked, Has_asked, server_did}
-use Rattle.tftp_promises.proofs.Invariant.{How, IsThere, IsViewed, HasTransferBy, StageKept, TransferKept, ServerKept}
+use Rattle.tftp_promises.proofs.Invariant.{IsThere, IsViewed, HasTransferBy, StageKept, TransferKept, ServerKept}
 use Rattle.tftp_promises.proofs.Invariant.{IsOfClient, IsOfTransfer, IsKept}
 use Rattle.tftp_promises.proofs.KeptViews.{sent_still, there_still}
 
 module _ {S F D G K : Type 0} {stores : StoreMeaning S D} {sources : SourceMeaning F} {inputs : SourceMeaning G}
     {outputs : SinkMeaning K}
-    (programs : Programs stores sources inputs outputs) {how : How programs} where
+    (programs : Programs stores sources inputs outputs) {pad : ℕ} where
   -- what a step of the server did to the ends and the messages
-  pub record ServerTurns (old : Snapshot programs) (kept : IsKept programs how old) (now : Snapshot programs)
+  pub record ServerTurns (old : Snapshot programs) (kept : IsKept programs pad old) (now : Snapshot programs)
       (added : List SocketEvent) : Type 0 where
     pub views : List EndView
     pub said_now : List Message
@@ -35,7 +35,7 @@ module _ {S F D G K : Type 0} {stores : StoreMeaning S D} {sources : SourceMeani
     pub sends : (port : ℕ) (to : Endpoint) (bytes : List ℕ) → Contains added (Sent port to bytes) →
         IsThere (kept.messages ++ said_now) (endpoint programs.ip port) to bytes
         ⊎ IsStranger stores sources inputs outputs programs to
-    pub server : ServerKept programs how (kept.messages ++ said_now) now
+    pub server : ServerKept programs (kept.messages ++ said_now) now
     -- the end of a client stays viewed
     pub clients : (k : ℕ) (client : ClientProgram inputs outputs (requests_at programs)) →
         slice_get programs.clients k ≡ Some client →
@@ -44,11 +44,11 @@ module _ {S F D G K : Type 0} {stores : StoreMeaning S D} {sources : SourceMeani
         IsViewed (joined programs) views (kept.messages ++ said_now) z
     pub transfers : (port : ℕ) (transfer : TransferState F D) (a : Endpoint) →
         HasTransferBy programs now port transfer a →
-        TransferKept programs how views (kept.messages ++ said_now) now port transfer a
+        TransferKept programs pad views (kept.messages ++ said_now) now port transfer a
     pub only : (view : EndView) → IsAmong views view → IsAmong kept.views view ⊎ IsOfTransfer programs now view.address
     pub were : (a : Endpoint) → IsOfTransfer programs old a → IsOfTransfer programs now a
 
-  module _ (old : Snapshot programs) (kept : IsKept programs how old) {new : LoopState S F D}
+  module _ (old : Snapshot programs) (kept : IsKept programs pad old) {new : LoopState S F D}
       (does : LoopStep stores sources old.state new) (added : List SocketEvent)
       (turns : ServerTurns old kept (server_did programs old does added) added) where
     abbrev messages : List Message
@@ -83,8 +83,8 @@ module _ {S F D G K : Type 0} {stores : StoreMeaning S D} {sources : SourceMeani
 
     all_clients : (k : ℕ) (client : ClientProgram inputs outputs (requests_at programs))
         (stage : ClientStage G K) →
-        slice_get programs.clients k ≡ Some client → StageKept programs how kept.views kept.messages client stage →
-        StageKept programs how turns.views messages client stage
+        slice_get programs.clients k ≡ Some client → StageKept programs pad kept.views kept.messages client stage →
+        StageKept programs pad turns.views messages client stage
     all_clients k client Unasked found h = tt
     all_clients k client (Has_asked s files noted moved) found h = record {
       end = h.end;
@@ -123,7 +123,7 @@ module _ {S F D G K : Type 0} {stores : StoreMeaning S D} {sources : SourceMeani
       | inr h ↦ inr h
     ]
 
-    pub server_keeps : IsKept programs how now
+    pub server_keeps : IsKept programs pad now
     server_keeps = record {
       views = turns.views;
       messages = messages;

@@ -10,11 +10,11 @@ use Rattle.tftp_file.specs.Source.{SourceMeaning}
 use Rattle.tftp_ends.specs.declared.error_reply.ErrorReply.TheVariants.{UnknownTransferId}
 use Rattle.tftp_ends.specs.End.{EndState}
 use Rattle.tftp_ends.specs.Step.{error_bytes}
-use Rattle.tftp_store.specs.Store.{StoreMeaning, files_of as stored_files}
+use Rattle.tftp_store.specs.Store.{StoreMeaning}
 use Rattle.tftp_server.specs.State.{TransferState, ServerState}
-use Rattle.tftp_sockets.specs.Journal.{SocketEvent}
-use Rattle.tftp_sockets.specs.Journal.SocketEvent.{Received, Watched, Elapsed, Printed, Quiet}
-use Rattle.tftp_sockets.specs.Journal.QuietEvent.{Drain_signalled, Empty, Failed, Slept, Woke}
+use Rattle.tftp_sockets.specs.Trace.{SocketEvent}
+use Rattle.tftp_sockets.specs.Trace.SocketEvent.{Received, Watched, Elapsed, Printed, Quiet}
+use Rattle.tftp_sockets.specs.Trace.QuietEvent.{Drain_signalled, Empty, Failed, Slept, Woke}
 use Rattle.tftp_loop.specs.Steps.{LoopState, LoopStep, port_state, Waited, At_port, Request_received, No_request_found}
 use Rattle.tftp_loop.specs.Steps.{Request_not_received, Request_noted, Request_answered, Request_lost, Clock_read}
 use Rattle.tftp_loop.specs.Steps.{Store_set, BeginsDrain, Drain_begun, Transfer_closed}
@@ -31,10 +31,10 @@ use Rattle.tftp_promises.specs.Openings.{is_ours, our_ports, place_at}
 use Rattle.tftp_promises.specs.Order.{Programs, IsStranger, MayCome, requests_at}
 use Rattle.tftp_promises.specs.Ports.{Removes}
 use Rattle.tftp_promises.specs.Programs.{endpoint}
-use Rattle.tftp_promises.specs.Promises.{joined}
+use Rattle.tftp_promises.specs.Network.{joined}
 use Rattle.tftp_promises.specs.Snapshots.{Snapshot, server_did}
 use Rattle.tftp_promises.proofs.RunPlaces.{placed_by}
-use Rattle.tftp_promises.proofs.Invariant.{How, HasArrived, IsThere, IsKept, IsFreshBy, IsStrangers}
+use Rattle.tftp_promises.proofs.Invariant.{HasArrived, IsThere, IsKept, IsFreshBy, IsStrangers}
 use Rattle.tftp_promises.proofs.KeptCloses.{closing_keeps}
 use Rattle.tftp_promises.proofs.KeptEvents.{IsSilent, IsUnsent, printed_silent, added_by, none_silent, unsent_silent}
 use Rattle.tftp_promises.proofs.KeptFresh.{fresh_before_server}
@@ -49,22 +49,20 @@ use Rattle.tftp_promises.proofs.KeptStrays.{arrives, errs, strays_in}
 use Rattle.tftp_promises.proofs.PortSteps.{received_there, datagram_silent}
 use Rattle.tftp_promises.proofs.PortTimeouts.{timeout_keeps}
 use Rattle.tftp_promises.proofs.PortWork.{lost_keeps, missed_keeps, work_keeps}
-use Rattle.tftp_promises.proofs.ServerStays.{stay_if, known_if}
-use Rattle.tftp_promises.proofs.StoredFiles.{IsIn, same_stay}
 
 module _ {S F D G K : Type 0} {stores : StoreMeaning S D} {sources : SourceMeaning F} {inputs : SourceMeaning G}
     {outputs : SinkMeaning K}
-    (programs : Programs stores sources inputs outputs) (how : How programs) where
+    (programs : Programs stores sources inputs outputs) (pad : ℕ) where
   -- a request that the server answers keeps the invariant
   abbrev pub AnswersKeep : Type 0
   AnswersKeep =
       (old : Snapshot programs) (new : LoopState S F D) (answers : AnswersRequest stores sources old.state new)
-      (added : List SocketEvent) → IsKept programs how old →
+      (added : List SocketEvent) → IsKept programs pad old →
       IsFreshBy programs (server_did programs old (Request_answered answers) added) →
       new.events ≡ added ++ old.state.events → CanTake programs old programs.ip added →
-      IsKept programs how (server_did programs old (Request_answered answers) added)
+      IsKept programs pad (server_did programs old (Request_answered answers) added)
 
-  module _ (old : Snapshot programs) (new : LoopState S F D) (kept : IsKept programs how old) (added : List SocketEvent)
+  module _ (old : Snapshot programs) (new : LoopState S F D) (kept : IsKept programs pad old) (added : List SocketEvent)
       (events : new.events ≡ added ++ old.state.events)
       (take : CanTake programs old programs.ip added) where
     -- the events of a step
@@ -99,7 +97,7 @@ module _ {S F D G K : Type 0} {stores : StoreMeaning S D} {sources : SourceMeani
       server_same : new.server ≡ old.state.server
       server_same = ap (λ (s : LoopState S F D). s.server) h.is
 
-      receiving_keeps : IsKept programs how (server_did programs old (Request_received h) added)
+      receiving_keeps : IsKept programs pad (server_did programs old (Request_received h) added)
       receiving_keeps =
           still_keeps programs old kept (Request_received h) (record {
             opens = refl;
@@ -107,14 +105,7 @@ module _ {S F D G K : Type 0} {stores : StoreMeaning S D} {sources : SourceMeani
             removes = λ port transfer r. r;
             requests = ap (λ (s : LoopState S F D). s.requests) h.is;
             config = ap (λ (s : ServerState S F D). s.config) server_same;
-            known =
-                known_if programs how old.state new (ap (λ (s : ServerState S F D). stores.stored s.store) server_same)
-                kept.server.known;
             pending = pending_sent;
-            files =
-                stay_if programs how old.state new
-                (λ o path file f. subst (λ (s : ServerState S F D). IsIn (stores.stored s.store) path file)
-                (sym server_same) f);
           }) (λ a. record { opens = refl; moves = λ moved. refl }) (ap (λ (s : ServerState S F D). s.held) server_same)
           added
           (silent_by (Received old.state.requests h.from h.bytes ∷ []) (ap (λ (s : LoopState S F D). s.events) h.is)
@@ -129,7 +120,7 @@ module _ {S F D G K : Type 0} {stores : StoreMeaning S D} {sources : SourceMeani
         ((from : Endpoint) (bytes : List ℕ) → left.pending ≡ Some (from, bytes) →
         old.state.pending ≡ Some (from, bytes)) →
         (noted : List SocketEvent) → left.events ≡ noted ++ old.state.events → AllByRecursion IsUnsent noted →
-        IsKept programs how (server_did programs old does added)
+        IsKept programs pad (server_did programs old does added)
     same_keeps does opens seats removes none is requests server pending noted e unsent =
         let server_same : new.server ≡ old.state.server = ap (λ (s : LoopState S F D). s.server) is ∙ server in
         still_keeps programs old kept does (record {
@@ -138,37 +129,30 @@ module _ {S F D G K : Type 0} {stores : StoreMeaning S D} {sources : SourceMeani
           removes = removes;
           requests = ap (λ (s : LoopState S F D). s.requests) is ∙ requests;
           config = ap (λ (s : ServerState S F D). s.config) server_same;
-          known =
-              known_if programs how old.state new (ap (λ (s : ServerState S F D). stores.stored s.store) server_same)
-              kept.server.known;
           pending =
               λ from bytes e. kept.server.pending from bytes
               (pending from bytes (ap (λ (s : LoopState S F D). s.pending) (sym is) ∙ e));
-          files =
-              stay_if programs how old.state new
-              (λ o path file f. subst (λ (s : ServerState S F D). IsIn (stores.stored s.store) path file)
-              (sym server_same) f);
         }) none (ap (λ (s : ServerState S F D). s.held) server_same) added
         (silent_by noted (ap (λ (s : LoopState S F D). s.events) is ∙ e) (unsent_silent noted unsent))
 
     -- ---- a wait
     waiting_keeps : (h : Waits stores sources old.state new) →
-        IsKept programs how (server_did programs old (Waited h) added)
+        IsKept programs pad (server_did programs old (Waited h) added)
     waiting_keeps h =
         same_keeps (Waited h) refl (λ port. refl) (λ port transfer r. r)
         (λ a. record { opens = refl; moves = λ moved. refl }) h.is refl refl (λ from bytes e. e)
-        (Quiet (Woke h.ports) ∷ Quiet (Slept h.millis) ∷ Watched h.time ∷ []) refl (tt, (tt, (tt, tt)))
+        (Quiet (Woke h.ports) ∷ Quiet (Slept h.millis) ∷ Watched h.watch ∷ []) refl (tt, (tt, (tt, tt)))
 
     -- ---- a receive at the request port without a datagram
     finding_keeps : (h : FindsNoRequest stores sources old.state new) →
-        IsKept programs how (server_did programs old (No_request_found h) added)
+        IsKept programs pad (server_did programs old (No_request_found h) added)
     finding_keeps h =
         same_keeps (No_request_found h) refl (λ port. refl) (λ port transfer r. r)
         (λ a. record { opens = refl; moves = λ moved. refl }) h.is refl refl (λ from bytes e. e)
         (Quiet (Empty old.state.requests) ∷ []) refl (tt, tt)
 
     failing_keeps : (h : FailsToReceiveRequest stores sources old.state new) →
-        IsKept programs how (server_did programs old (Request_not_received h) added)
+        IsKept programs pad (server_did programs old (Request_not_received h) added)
     failing_keeps h =
         same_keeps (Request_not_received h) refl (λ port. refl) (λ port transfer r. r)
         (λ a. record { opens = refl; moves = λ moved. refl }) h.is refl refl (λ from bytes e. e)
@@ -176,7 +160,7 @@ module _ {S F D G K : Type 0} {stores : StoreMeaning S D} {sources : SourceMeani
 
     -- ---- a note of a request
     noting_keeps : (h : NotesRequest stores sources old.state new) →
-        IsKept programs how (server_did programs old (Request_noted h) added)
+        IsKept programs pad (server_did programs old (Request_noted h) added)
     noting_keeps h =
         same_keeps (Request_noted h) refl (λ port. refl) (λ port transfer r. r)
         (λ a. record { opens = refl; moves = λ moved. refl }) h.is refl refl (λ from bytes e. e)
@@ -184,7 +168,7 @@ module _ {S F D G K : Type 0} {stores : StoreMeaning S D} {sources : SourceMeani
 
     -- ---- a request is lost
     losing_keeps : (h : LosesRequest stores sources old.state new) →
-        IsKept programs how (server_did programs old (Request_lost h) added)
+        IsKept programs pad (server_did programs old (Request_lost h) added)
     losing_keeps h =
         same_keeps (Request_lost h) refl (λ port. refl) (λ port transfer r. r)
         (λ a. record { opens = refl; moves = λ moved. refl }) h.is refl refl
@@ -192,15 +176,15 @@ module _ {S F D G K : Type 0} {stores : StoreMeaning S D} {sources : SourceMeani
 
     -- ---- the clock is read
     clock_keeps : (h : ReadsClock stores sources old.state new) →
-        IsKept programs how (server_did programs old (Clock_read h) added)
+        IsKept programs pad (server_did programs old (Clock_read h) added)
     clock_keeps h =
         same_keeps (Clock_read h) refl (λ port. refl) (λ port transfer r. r)
         (λ a. record { opens = refl; moves = λ moved. refl }) h.is refl refl (λ from bytes e. e)
-        (Watched h.time ∷ []) refl (tt, tt)
+        (Watched h.watch ∷ []) refl (tt, tt)
 
     -- ---- a drain begins
     draining_keeps : (h : BeginsDrain stores sources old.state new) →
-        IsKept programs how (server_did programs old (Drain_begun h) added)
+        IsKept programs pad (server_did programs old (Drain_begun h) added)
     draining_keeps h =
         same_keeps (Drain_begun h) refl (λ port. refl) (λ port transfer r. r)
         (λ a. record { opens = refl; moves = λ moved. refl }) h.is refl refl (λ from bytes e. e)
@@ -208,24 +192,18 @@ module _ {S F D G K : Type 0} {stores : StoreMeaning S D} {sources : SourceMeani
 
     -- ---- the store is set
     store_keeps : (h : SetsStore stores sources old.state new) →
-        IsKept programs how (server_did programs old (Store_set h) added)
+        IsKept programs pad (server_did programs old (Store_set h) added)
     store_keeps h =
         let server_now : new.server ≡ record old.state.server { store = h.store } =
         ap (λ (s : LoopState S F D). s.server) h.is in
-        let stored_now : stores.stored new.server.store ≡ stores.stored old.state.server.store =
-        ap (λ (s : ServerState S F D). stores.stored s.store) server_now ∙ h.same in
         still_keeps programs old kept (Store_set h) (record {
           opens = refl;
           seats = λ port. refl;
           removes = λ port transfer r. r;
           requests = ap (λ (s : LoopState S F D). s.requests) h.is;
           config = ap (λ (s : ServerState S F D). s.config) server_now;
-          known = known_if programs how old.state new stored_now kept.server.known;
           pending =
               λ from bytes e. kept.server.pending from bytes (sym (ap (λ (s : LoopState S F D). s.pending) h.is) ∙ e);
-          files =
-              stay_if programs how old.state new (λ o path file f. same_stay (stores.stored old.state.server.store)
-              (stores.stored new.server.store) (ap stored_files stored_now) path file f);
         }) (λ a. record { opens = refl; moves = λ moved. refl }) (ap (λ (s : ServerState S F D). s.held) server_now)
         added (silent_by [] (ap (λ (s : LoopState S F D). s.events) h.is) none_silent)
 
@@ -256,7 +234,7 @@ module _ {S F D G K : Type 0} {stores : StoreMeaning S D} {sources : SourceMeani
       Handles = ReceivesAndHandles stores sources old.state.now (port_state old.state serves.timer) serves.next
 
       abbrev Keeps : Type 0
-      Keeps = IsKept programs how (server_did programs old (At_port serves) added)
+      Keeps = IsKept programs pad (server_did programs old (At_port serves) added)
 
       here_keeps : (h : Handles) → serves.does ≡ A_datagram h →
           WasSentBefore programs old h.from (endpoint programs.ip port) h.bytes
@@ -281,7 +259,7 @@ module _ {S F D G K : Type 0} {stores : StoreMeaning S D} {sources : SourceMeani
       ours_keeps : (h : Handles) → serves.does ≡ A_datagram h →
           WasSentBefore programs old h.from (endpoint programs.ip port) h.bytes
           ⊎ MayCome stores sources inputs outputs programs h.from h.bytes →
-          is_ours programs h.from ≡ true → (now : IsKept programs how old) →
+          is_ours programs h.from ≡ true → (now : IsKept programs pad old) →
           IsThere now.messages (endpoint programs.ip port) h.from (error_bytes UnknownTransferId) →
           (place ≡ endpoint programs.ip port) ⊎ IsStrangers programs
           (now.transfers port h.handles.takes.transfer place (inl (h.handles.takes.found, refl))).end.state → Keeps
@@ -309,7 +287,7 @@ module _ {S F D G K : Type 0} {stores : StoreMeaning S D} {sources : SourceMeani
       ]
 
       by_case : (does : PortStep stores sources old.state.now (port_state old.state serves.timer) serves.next) →
-          serves.does ≡ does → IsKept programs how (server_did programs old (At_port serves) added)
+          serves.does ≡ does → IsKept programs pad (server_did programs old (At_port serves) added)
       by_case (A_datagram h) is =
           let came =
           received_there programs old kept serves added events h.handles.takes.takes.turn.reply
@@ -339,11 +317,11 @@ module _ {S F D G K : Type 0} {stores : StoreMeaning S D} {sources : SourceMeani
           work_keeps programs old kept old_fresh serves added events (quiet (Work h) is (λ moved. refl)) h.works
           h.events
 
-      port_keeps : IsKept programs how (server_did programs old (At_port serves) added)
+      port_keeps : IsKept programs pad (server_did programs old (At_port serves) added)
       port_keeps = by_case serves.does refl
 
   -- each step of the server
-  pub serves_keep : AnswersKeep → ServerStepsKeep programs how
+  pub serves_keep : AnswersKeep → ServerStepsKeep programs pad
   serves_keep answers_keep old new (Waited h) added kept fresh events take =
       waiting_keeps old new kept added events take h
   serves_keep answers_keep old new (At_port serves) added kept fresh events take =

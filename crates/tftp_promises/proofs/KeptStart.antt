@@ -6,14 +6,14 @@ use Rattle.tftp_file.specs.Sink.{SinkMeaning}
 use Rattle.tftp_file.specs.Source.{SourceMeaning}
 use Rattle.tftp_store.specs.Store.{StoreMeaning}
 use Rattle.tftp_server.specs.State.{TransferState, at}
-use Rattle.tftp_sockets.specs.Journal.SocketEvent.{Sent}
+use Rattle.tftp_sockets.specs.Trace.SocketEvent.{Sent}
 use Rattle.tftp_rules.specs.Machine.{Endpoint}
 use Rattle.tftp_rules.proofs.Refines.{shown_start}
 use Rattle.tftp_promises.specs.Joint.{WasSentBefore}
 use Rattle.tftp_promises.specs.Order.{Programs, IsStranger}
-use Rattle.tftp_promises.specs.Promises.{joined}
+use Rattle.tftp_promises.specs.Network.{joined}
 use Rattle.tftp_promises.specs.Snapshots.{ClientStage, Unasked, noted_by, nothing_done}
-use Rattle.tftp_promises.proofs.Invariant.{How, By_models, By_run, IsKnown, IsThere, AreKeyedOnce, HasTransferBy, StageKept}
+use Rattle.tftp_promises.proofs.Invariant.{IsThere, AreKeyedOnce, HasTransferBy, StageKept}
 use Rattle.tftp_promises.proofs.Invariant.{IsKept}
 use Rattle.tftp_promises.proofs.KeptEvents.{nothing_in}
 
@@ -46,12 +46,8 @@ module _ {S F D G K : Type 0} {stores : StoreMeaning S D} {sources : SourceMeani
   no_transfer port transfer a (inl e) = nothing_held port transfer e.0
   no_transfer port transfer a (inr closed) = closed
 
-  known_at_first : (how : How programs) → IsKnown programs how (nothing_done programs).state
-  known_at_first (By_models models) = models.known
-  known_at_first (By_run pad) = tt
-
-  pub kept_at_first : (how : How programs) → IsKept programs how (nothing_done programs)
-  kept_at_first how = record {
+  pub kept_at_first : (pad : ℕ) → IsKept programs pad (nothing_done programs)
+  kept_at_first pad = record {
     views = [];
     messages = [];
     shown = shown_start (joined programs);
@@ -59,7 +55,6 @@ module _ {S F D G K : Type 0} {stores : StoreMeaning S D} {sources : SourceMeani
     server = record {
       requests = programs.server.requests;
       config = refl;
-      known = known_at_first how;
       pending = λ from bytes e. absurd (let f : None ≡ Some (from, bytes) = sym programs.server.idle ∙ e in cc);
       once = subst (λ (held : List (ℕ × TransferState F D)). AreKeyedOnce held) (sym programs.server.empty) tt;
       seats = λ p q t u e. absurd (nothing_held p t e);
@@ -68,7 +63,7 @@ module _ {S F D G K : Type 0} {stores : StoreMeaning S D} {sources : SourceMeani
       opened = λ port transfer a h. absurd (no_transfer port transfer a h);
     };
     clients =
-        λ k client stage found e. subst (λ (s : ClientStage G K). StageKept programs how [] [] client s)
+        λ k client stage found e. subst (λ (s : ClientStage G K). StageKept programs pad [] [] client s)
         (unasked_at programs.clients k stage e) tt;
     transfers = λ port transfer a h. absurd (no_transfer port transfer a h);
     only = λ view among. absurd (let f : None ≡ Some view = among.1 in cc);

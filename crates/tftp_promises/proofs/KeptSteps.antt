@@ -1,20 +1,20 @@
 -- Each step of the server keeps the invariant.
+use Rattle.std.specs.Prelude.{ℕ}
 use Rattle.tftp_file.specs.Sink.{SinkMeaning}
 use Rattle.tftp_file.specs.Source.{SourceMeaning}
 use Rattle.tftp_store.specs.Store.{StoreMeaning}
 use Rattle.tftp_promises.specs.Order.{Programs}
-use Rattle.tftp_promises.proofs.Invariant.{How}
 use Rattle.tftp_promises.proofs.KeptRequests.{request_keeps}
 use Rattle.tftp_promises.proofs.KeptRuns.{ServerStepsKeep}
 use Rattle.tftp_promises.proofs.KeptServes.{AnswersKeep, serves_keep}
 
 module _ {S F D G K : Type 0} {stores : StoreMeaning S D} {sources : SourceMeaning F} {inputs : SourceMeaning G}
     {outputs : SinkMeaning K}
-    (programs : Programs stores sources inputs outputs) (how : How programs) where
+    (programs : Programs stores sources inputs outputs) (pad : ℕ) where
   -- a request that the server answers
-  pub answers_keep : AnswersKeep programs how
+  pub answers_keep : AnswersKeep programs pad
   answers_keep old new answers added kept fresh events take = request_keeps programs old kept answers added events fresh
 
   -- each step
-  pub server_steps_keep : ServerStepsKeep programs how
-  server_steps_keep = serves_keep programs how answers_keep
+  pub server_steps_keep : ServerStepsKeep programs pad
+  server_steps_keep = serves_keep programs pad answers_keep

@@ -7,16 +7,16 @@ use Rattle.tftp_file.specs.Sink.{SinkMeaning}
 use Rattle.tftp_file.specs.Source.{SourceMeaning}
 use Rattle.tftp_store.specs.Store.{StoreMeaning}
 use Rattle.tftp_server.specs.State.{TransferState, at}
-use Rattle.tftp_sockets.specs.Journal.{SocketEvent}
-use Rattle.tftp_sockets.specs.Journal.SocketEvent.{Sent}
+use Rattle.tftp_sockets.specs.Trace.{SocketEvent}
+use Rattle.tftp_sockets.specs.Trace.SocketEvent.{Sent}
 use Rattle.tftp_loop.specs.Steps.{LoopState, LoopStep}
 use Rattle.tftp_rules.specs.Machine.{Endpoint, Message}
 use Rattle.tftp_rules.specs.Shows.{IsShown}
 use Rattle.tftp_promises.specs.Order.{Programs, IsStranger, requests_at}
 use Rattle.tftp_promises.specs.Programs.{endpoint}
-use Rattle.tftp_promises.specs.Promises.{joined}
+use Rattle.tftp_promises.specs.Network.{joined}
 use Rattle.tftp_promises.specs.Snapshots.{Snapshot, server_did}
-use Rattle.tftp_promises.proofs.Invariant.{How, AreKeyedOnce, HasTransferBy, IsThere, TransferKept, ServerKept, IsKept}
+use Rattle.tftp_promises.proofs.Invariant.{AreKeyedOnce, HasTransferBy, IsThere, TransferKept, ServerKept, IsKept}
 use Rattle.tftp_promises.proofs.Invariant.{same_transfer}
 use Rattle.tftp_promises.proofs.KeptEvents.{IsSilent}
 use Rattle.tftp_promises.proofs.KeptServer.{ServerTurns, server_keeps}
@@ -26,8 +26,8 @@ use Rattle.tftp_promises.proofs.ServerStays.{ServerStays, stored_after, closed_b
 
 module _ {S F D G K : Type 0} {stores : StoreMeaning S D} {sources : SourceMeaning F} {inputs : SourceMeaning G}
     {outputs : SinkMeaning K}
-    (programs : Programs stores sources inputs outputs) {how : How programs} (old : Snapshot programs)
-    (kept : IsKept programs how old) {new : LoopState S F D} (does : LoopStep stores sources old.state new)
+    (programs : Programs stores sources inputs outputs) {pad : ℕ} (old : Snapshot programs)
+    (kept : IsKept programs pad old) {new : LoopState S F D} (does : LoopStep stores sources old.state new)
     (stays : ServerStays programs old kept does) (none : (a : Endpoint) → MovesNone programs old.run does a)
     (held : new.server.held ≡ old.state.server.held) (added : List SocketEvent) where
   abbrev now : Snapshot programs
@@ -53,17 +53,16 @@ module _ {S F D G K : Type 0} {stores : StoreMeaning S D} {sources : SourceMeani
     messages = kept.messages ++ said_now
 
     all_transfers : (port : ℕ) (transfer : TransferState F D) (a : Endpoint) →
-        HasTransferBy programs now port transfer a → TransferKept programs how kept.views messages now port transfer a
+        HasTransferBy programs now port transfer a → TransferKept programs pad kept.views messages now port transfer a
     all_transfers port transfer a is =
         let h = kept.transfers port transfer a (held_before port transfer a is) in
         same_transfer programs h (viewed_still (joined programs) kept.views kept.messages said_now h.end h.viewed)
-        (stored_after programs how old does added stays.files h.end (none h.end.address) transfer.files h.has)
+        (stored_after programs pad old does added h.end (none h.end.address) transfer.files h.has)
 
-    server_kept : ServerKept programs how messages now
+    server_kept : ServerKept programs messages now
     server_kept = record {
       requests = stays.requests ∙ kept.server.requests;
       config = stays.config ∙ kept.server.config;
-      known = stays.known;
       pending =
           λ from bytes e. arrived_still kept.messages said_now from (requests_at programs) bytes
           (stays.pending from bytes e);
@@ -101,11 +100,11 @@ module _ {S F D G K : Type 0} {stores : StoreMeaning S D} {sources : SourceMeani
           };
     }
 
-    pub says_keeps : IsKept programs how now
+    pub says_keeps : IsKept programs pad now
     says_keeps = server_keeps programs old kept does added turns
 
   -- it sends nothing
-  pub still_keeps : IsSilent added → IsKept programs how now
+  pub still_keeps : IsSilent added → IsKept programs pad now
   still_keeps silent =
       says_keeps [] (subst (λ (ms : List Message). IsShown (joined programs) kept.views ms)
       (sym (append-nil kept.messages)) kept.shown) (λ port to bytes c. absurd (silent port to bytes c))

@@ -25,25 +25,25 @@ use Rattle.tftp_rules.proofs.SaidLemmas.{spells_own}
 use Rattle.tftp_promises.specs.Joint.{WasSentBefore}
 use Rattle.tftp_promises.specs.Order.{Programs, IsError, IsStranger, MayCome, requests_at}
 use Rattle.tftp_promises.specs.Programs.{ClientProgram, client_at}
-use Rattle.tftp_promises.specs.Promises.{joined}
+use Rattle.tftp_promises.specs.Network.{joined}
 use Rattle.tftp_promises.specs.Snapshots.{Snapshot, ClientStage, Unasked, Has_asked}
-use Rattle.tftp_promises.proofs.Invariant.{How, HasArrived, IsThere, IsKept, StageKept, TransferKept}
+use Rattle.tftp_promises.proofs.Invariant.{HasArrived, IsThere, IsKept, StageKept, TransferKept}
 use Rattle.tftp_promises.proofs.Invariant.{same_transfer}
 use Rattle.tftp_promises.proofs.KeptViews.{arrived_still, sent_still, there_says, there_still, viewed_still}
 use Rattle.tftp_promises.proofs.Places.{strangers_elsewhere}
 
 module _ {S F D G K : Type 0} {stores : StoreMeaning S D} {sources : SourceMeaning F} {inputs : SourceMeaning G}
     {outputs : SinkMeaning K}
-    (programs : Programs stores sources inputs outputs) {how : How programs} (snapshot : Snapshot programs)
-    (kept : IsKept programs how snapshot) where
+    (programs : Programs stores sources inputs outputs) {pad : ℕ} (snapshot : Snapshot programs)
+    (kept : IsKept programs pad snapshot) where
   abbrev Client : Type 0
   Client = ClientProgram inputs outputs (requests_at programs)
 
   -- a message more changes no end
   module _ (more : List Message) where
     stage_still : (client : Client) (stage : ClientStage G K) →
-        StageKept programs how kept.views kept.messages client stage →
-        StageKept programs how kept.views (kept.messages ++ more) client stage
+        StageKept programs pad kept.views kept.messages client stage →
+        StageKept programs pad kept.views (kept.messages ++ more) client stage
     stage_still client Unasked h = tt
     stage_still client (Has_asked s files noted moved) h = record {
       end = h.end;
@@ -59,14 +59,14 @@ module _ {S F D G K : Type 0} {stores : StoreMeaning S D} {sources : SourceMeani
     }
 
     transfer_still : (port : ℕ) (transfer : TransferState F D) (a : Endpoint) →
-        TransferKept programs how kept.views kept.messages snapshot port transfer a →
-        TransferKept programs how kept.views (kept.messages ++ more) snapshot port transfer a
+        TransferKept programs pad kept.views kept.messages snapshot port transfer a →
+        TransferKept programs pad kept.views (kept.messages ++ more) snapshot port transfer a
     transfer_still port transfer a h =
         same_transfer programs h (viewed_still (joined programs) kept.views kept.messages more h.end h.viewed) h.has
 
   -- one that may be said at any time
   said_kept : (m : Message) → IsShown (joined programs) kept.views (kept.messages ++ m ∷ []) →
-      IsKept programs how snapshot
+      IsKept programs pad snapshot
   said_kept m shown =
       record {
         views = kept.views;
@@ -76,7 +76,6 @@ module _ {S F D G K : Type 0} {stores : StoreMeaning S D} {sources : SourceMeani
         server = record {
           requests = kept.server.requests;
           config = kept.server.config;
-          known = kept.server.known;
           pending =
               λ a bs e. arrived_still kept.messages (m ∷ []) a (requests_at programs) bs
               (kept.server.pending a bs e);
@@ -93,7 +92,7 @@ module _ {S F D G K : Type 0} {stores : StoreMeaning S D} {sources : SourceMeani
 
   -- a stranger's datagram
   stray_kept : (from to : Endpoint) (bytes : List ℕ) → IsStranger stores sources inputs outputs programs from →
-      IsKept programs how snapshot
+      IsKept programs pad snapshot
   stray_kept from to bytes stranger =
       let m : Message = message from to (said (packet_in bytes)) in
       let now =
@@ -110,7 +109,7 @@ module _ {S F D G K : Type 0} {stores : StoreMeaning S D} {sources : SourceMeani
 
   -- the invariant, with what has arrived
   pub record Arrived (from to : Endpoint) (bytes : List ℕ) : Type 0 where
-    pub now : IsKept programs how snapshot
+    pub now : IsKept programs pad snapshot
     pub come : HasArrived now.messages from to bytes
 
   pub strays_in : (from to : Endpoint) (bytes : List ℕ) → IsStranger stores sources inputs outputs programs from →
@@ -128,7 +127,7 @@ module _ {S F D G K : Type 0} {stores : StoreMeaning S D} {sources : SourceMeani
       (sym (spelled_is_found (Error error.0 error.1) bytes error.2) ∙ spelled_is_found p bytes spells)
       (Contains-push kept.messages (message from to Says_an_error))
 
-  error_kept : (from to : Endpoint) → IsKept programs how snapshot
+  error_kept : (from to : Endpoint) → IsKept programs pad snapshot
   error_kept from to =
       let shown = says_error (joined programs) kept.shown.0 kept.views kept.messages kept.shown.1 from to in
       said_kept (message from to Says_an_error) (kept.shown.0 ++ shown.0, shown.2)
@@ -151,7 +150,7 @@ module _ {S F D G K : Type 0} {stores : StoreMeaning S D} {sources : SourceMeani
 
   -- and so may one of ours
   pub record SaysError (from to : Endpoint) (reply : ErrorReply) : Type 0 where
-    pub now : IsKept programs how snapshot
+    pub now : IsKept programs pad snapshot
     pub there : IsThere now.messages from to (error_bytes reply)
 
   pub errs : (from to : Endpoint) (reply : ErrorReply) → SaysError from to reply

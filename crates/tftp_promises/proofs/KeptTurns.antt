@@ -11,8 +11,8 @@ use Rattle.tftp_file.specs.declared.files.Files.TheVariants.{Source, Sink}
 use Rattle.tftp_ends.specs.End.{EndState, is_client}
 use Rattle.tftp_ends.specs.Step.{Turn, Reply, after_turn}
 use Rattle.tftp_store.specs.Store.{StoreMeaning}
-use Rattle.tftp_sockets.specs.Journal.{SocketEvent}
-use Rattle.tftp_sockets.specs.Journal.SocketEvent.{Sent}
+use Rattle.tftp_sockets.specs.Trace.{SocketEvent}
+use Rattle.tftp_sockets.specs.Trace.SocketEvent.{Sent}
 use Rattle.tftp_client.specs.Converses.{State}
 use Rattle.tftp_rules.specs.EndShown.{Goes, Replies, Newest}
 use Rattle.tftp_rules.specs.Machine.{Endpoint, Message}
@@ -25,9 +25,9 @@ use Rattle.tftp_promises.specs.Joint.{WasSentBefore}
 use Rattle.tftp_promises.specs.Moved.{Moved}
 use Rattle.tftp_promises.specs.Order.{Programs, requests_at}
 use Rattle.tftp_promises.specs.Programs.{endpoint, ClientProgram, client_at}
-use Rattle.tftp_promises.specs.Promises.{joined}
+use Rattle.tftp_promises.specs.Network.{joined}
 use Rattle.tftp_promises.specs.Snapshots.{Snapshot, Has_asked, client_did}
-use Rattle.tftp_promises.proofs.Invariant.{How, IsThere, HasFile, IsViewed, ClientKept, IsKept, IsFreshBy}
+use Rattle.tftp_promises.proofs.Invariant.{IsThere, HasFile, IsViewed, ClientKept, IsKept, IsFreshBy}
 use Rattle.tftp_promises.proofs.KeptClients.{ClientTurns, client_keeps}
 use Rattle.tftp_promises.proofs.KeptEvents.{SendsOnly, IsSilent}
 use Rattle.tftp_promises.proofs.KeptViews.{there_still, viewed_beside, viewed_still, among_set}
@@ -65,14 +65,14 @@ newest_there messages said_now x y turn r (inr e) old =
 
 module _ {S F D G K : Type 0} {stores : StoreMeaning S D} {sources : SourceMeaning F} {inputs : SourceMeaning G}
     {outputs : SinkMeaning K}
-    (programs : Programs stores sources inputs outputs) {how : How programs} (old : Snapshot programs)
-    (kept : IsKept programs how old) (fresh : IsFreshBy programs old)
+    (programs : Programs stores sources inputs outputs) {pad : ℕ} (old : Snapshot programs)
+    (kept : IsKept programs pad old) (fresh : IsFreshBy programs old)
     (k : ℕ) (client : ClientProgram inputs outputs (requests_at programs))
     (found : slice_get programs.clients k ≡ Some client)
     (s : State) (files : Files G K) (noted : List SocketEvent) (moved : Moved)
     (is_stage : slice_get old.clients k ≡ Some (Has_asked s files noted moved)) where
   -- the end before the step
-  pub own : ClientKept programs how kept.views kept.messages client s files moved
+  pub own : ClientKept programs pad kept.views kept.messages client s files moved
   own = kept.clients k client (Has_asked s files noted moved) found is_stage
 
   abbrev here : Endpoint
@@ -98,7 +98,7 @@ module _ {S F D G K : Type 0} {stores : StoreMeaning S D} {sources : SourceMeani
       (goes : Goes (joined programs) kept.shown.0 kept.views kept.messages own.viewed.index own.end turn
       (end_after own.end turn held))
       (s' : State) (state : s'.end ≡ after_turn s.end turn) (files' : Files G K) (moved' : Moved)
-      (has : HasFile programs how client (end_after own.end turn held) files' moved')
+      (has : HasFile programs pad client (end_after own.end turn held) files' moved')
       (added : List SocketEvent) (sends : SendsOnly client.port turn.reply added) where
     abbrev y : OpenEnd
     y = end_after own.end turn held
@@ -120,7 +120,7 @@ module _ {S F D G K : Type 0} {stores : StoreMeaning S D} {sources : SourceMeani
           (newest_there kept.messages goes.said_now own.end y turn goes.replies goes.last_sent own.viewed.last_sent);
     }
 
-    its_end : ClientKept programs how (set kept.views own.viewed.index (open_view y)) messages client s' files' moved'
+    its_end : ClientKept programs pad (set kept.views own.viewed.index (open_view y)) messages client s' files' moved'
     its_end = record {
       end = y;
       address = address;
@@ -164,14 +164,14 @@ module _ {S F D G K : Type 0} {stores : StoreMeaning S D} {sources : SourceMeani
       ];
     }
 
-    pub turn_keeps : IsKept programs how (client_did programs old k (Has_asked s' files' (added ++ noted) moved'))
+    pub turn_keeps : IsKept programs pad (client_did programs old k (Has_asked s' files' (added ++ noted) moved'))
     turn_keeps =
         client_keeps programs old kept fresh k client found (Has_asked s files noted moved) is_stage s' files'
         (added ++ noted) moved' turned
 
   -- the end as it was
   module _ (s' : State) (state : s'.end ≡ s.end) (files' : Files G K) (moved' : Moved)
-      (has : HasFile programs how client own.end files' moved') (added : List SocketEvent) (silent : IsSilent added) where
+      (has : HasFile programs pad client own.end files' moved') (added : List SocketEvent) (silent : IsSilent added) where
     stays : ClientTurns programs old kept k client s' files' (added ++ noted) moved'
     stays = record {
       views = kept.views;
@@ -198,7 +198,7 @@ module _ {S F D G K : Type 0} {stores : StoreMeaning S D} {sources : SourceMeani
       only = λ view among. inl among;
     }
 
-    pub stays_keeps : IsKept programs how (client_did programs old k (Has_asked s' files' (added ++ noted) moved'))
+    pub stays_keeps : IsKept programs pad (client_did programs old k (Has_asked s' files' (added ++ noted) moved'))
     stays_keeps =
         client_keeps programs old kept fresh k client found (Has_asked s files noted moved) is_stage s' files'
         (added ++ noted) moved' stays

@@ -1,10 +1,13 @@
-pub mod ClientJournals
+pub mod ClientTraces
 pub mod Places
 pub mod OthersTaken
 pub mod ExchangeParts
+pub mod ExchangeAlone
 pub mod ExchangeReader
+pub mod ExchangeWriter
 pub mod ExchangeStates
 pub mod ExchangeServer
+pub mod ExchangePut
 pub mod Exchange
 pub mod ExchangeShared
 pub mod PortCounts
@@ -14,7 +17,6 @@ pub mod StepEvents
 pub mod Orders
 pub mod SeenSteps
 pub mod JointRuns
-pub mod Measured
 pub mod Requested
 pub mod RunPlaces
 pub mod Invariant
@@ -28,7 +30,6 @@ pub mod KeptClients
 pub mod KeptAsks
 pub mod KeptAnswers
 pub mod KeptEvents
-pub mod DraftSteps
 pub mod Identifiers
 pub mod KeptServer
 pub mod ServerStays
@@ -42,7 +43,6 @@ pub mod KeptRequests
 pub mod RequestedEnds
 pub mod KeptStill
 pub mod KeptCloses
-pub mod StoredFiles
 pub mod KeptTurns
 pub mod KeptFiles
 pub mod KeptDoes
@@ -54,7 +54,6 @@ pub mod PassedOver
 pub mod TakesOne
 pub mod ClosedEnds
 pub mod TurnsAtPort
-pub mod TransferFiles
 pub mod PortSteps
 pub mod PortDatagrams
 pub mod PortEnds

@@ -14,7 +14,7 @@ use Rattle.tftp_server.specs.State.{TransferState, ServerState, at, taken_of, wi
 use Rattle.tftp_server.specs.Steps.{KeepsHeld}
 use Rattle.tftp_server.specs.Request.{Came, Left, Nothing, Error_reply, A_transfer, left_by}
 use Rattle.tftp_server.specs.Work.{WorksAt}
-use Rattle.tftp_sockets.specs.Journal.{SocketEvent}
+use Rattle.tftp_sockets.specs.Trace.{SocketEvent}
 use Rattle.tftp_loop.specs.Run.{Run}
 use Rattle.tftp_loop.specs.Run.Run.{Start, Then}
 use Rattle.tftp_loop.specs.Steps.{Timer, PortState, LoopState, PortStep, LoopStep, at_start, marked_by, set_by, timer_after}
@@ -176,11 +176,11 @@ module _ {S F D : Type 0} (stores : StoreMeaning S D) (sources : SourceMeaning F
   step_matched : (old new : LoopState S F D) → LoopStep stores sources old new → IsMatched old → IsMatched new
   step_matched old new (Waited d) matched =
       subst IsMatched (sym d.is)
-      (let set = map (set_by d.time) old.timers in
+      (let set = map (set_by d.watch.now) old.timers in
       stays_matched old.timers (map (marked_by d.ports) set) old.server.held old.server.held
       (λ port.
       hits_map (λ (t : Timer). t.port) port set (marked_by d.ports) (λ t. refl)
-      ∙ hits_map (λ (t : Timer). t.port) port old.timers (set_by d.time) (λ t. refl)) (λ port. refl)
+      ∙ hits_map (λ (t : Timer). t.port) port old.timers (set_by d.watch.now) (λ t. refl)) (λ port. refl)
       matched)
   step_matched old new (At_port d) matched =
       let stays =
@@ -211,9 +211,9 @@ module _ {S F D : Type 0} (stores : StoreMeaning S D) (sources : SourceMeaning F
   run_matched Start matched = matched
   run_matched {now = now} (Then {middle} run does) matched = step_matched middle now does (run_matched run matched)
 
-  start_matched : (config : LoopConfig) (port : ℕ) (first : ServerState S F D) (before : List SocketEvent) →
-      first.held ≡ [] → IsMatched (at_start config port first before)
-  start_matched config port first before none =
+  start_matched : (config : LoopConfig) (port reading : ℕ) (first : ServerState S F D) (before : List SocketEvent) →
+      first.held ≡ [] → IsMatched (at_start config port first reading before)
+  start_matched config port reading first before none =
       subst (AreMatched []) (sym none) (record { same = λ p. refl; most = λ p. omega arith })
 
   -- a timer is of a held transfer, and a held transfer has a timer
@@ -240,8 +240,8 @@ module _ {S F D : Type 0} (stores : StoreMeaning S D) (sources : SourceMeaning F
     same = λ port. (held_by state matched port, timed_by state matched port);
   }
 
-  pub one_timer_each : (config : LoopConfig) (port : ℕ) (first : ServerState S F D) (before : List SocketEvent)
+  pub one_timer_each : (config : LoopConfig) (port reading : ℕ) (first : ServerState S F D) (before : List SocketEvent)
       (now : LoopState S F D) → first.held ≡ [] →
-      Run (LoopStep stores sources) (at_start config port first before) now → HasOneTimerEach now
-  one_timer_each config port first before now none run =
-      one_each now (run_matched run (start_matched config port first before none))
+      Run (LoopStep stores sources) (at_start config port first reading before) now → HasOneTimerEach now
+  one_timer_each config port reading first before now none run =
+      one_each now (run_matched run (start_matched config port reading first before none))

@@ -12,8 +12,8 @@ use Rattle.tftp_ends.specs.End.{EndState, is_complete, is_sender, record_of}
 use Rattle.tftp_store.specs.Store.{StoreMeaning}
 use Rattle.tftp_rules.specs.Machine.{Endpoint}
 use Rattle.tftp_rules.proofs.ViewSafe.{first_of_empty}
-use Rattle.tftp_sockets.specs.Journal.{SocketEvent}
-use Rattle.tftp_sockets.specs.Journal.SocketEvent.{Received, Sent, Watched, Elapsed, Printed, Quiet}
+use Rattle.tftp_sockets.specs.Trace.{SocketEvent}
+use Rattle.tftp_sockets.specs.Trace.SocketEvent.{Received, Sent, Watched, Elapsed, Printed, Quiet}
 use Rattle.tftp_loop.specs.Run.{Run}
 use Rattle.tftp_loop.specs.Run.Run.{Start, Then}
 use Rattle.tftp_loop.specs.Steps.{LoopState, LoopStep, Waited, At_port, Request_received, No_request_found}
@@ -29,7 +29,7 @@ use Rattle.tftp_promises.specs.Others.{TakesOwn}
 use Rattle.tftp_promises.specs.Ports.{AreDistinct}
 use Rattle.tftp_promises.specs.Programs.{To_read, To_write, client_at, endpoint}
 use Rattle.tftp_promises.specs.Several.{OneClient, OneServer, Several, number_of}
-use Rattle.tftp_promises.proofs.ClientJournals.{asks_first, asks_there}
+use Rattle.tftp_promises.proofs.ClientTraces.{asks_first, asks_there}
 use Rattle.tftp_promises.proofs.EachAlone.{honest_both, order_both, sent_own}
 use Rattle.tftp_promises.proofs.KeptEvents.{first_or_more, nothing_in}
 use Rattle.tftp_promises.proofs.Orders.{first_in, later_in, noted_in}
@@ -66,7 +66,7 @@ begins_here x y (inr (z ∷ [], is)) = absurd (let f : y ∷ [] ≡ z ∷ x ∷ 
 begins_here x y (inr (z ∷ w ∷ more, is)) = absurd (let f : y ∷ [] ≡ z ∷ (w ∷ (more ++ x ∷ [])) = is in cc)
 
 module _ (x : SocketEvent) where
-  -- before an event the client's journal begins so, too
+  -- before an event the client's trace begins so, too
   begins_by : (member : Bool) (e : Noted) (order : List Noted) → (e.0 == 1) ≡ member →
       Begins x (events_of 1 (e ∷ order)) → Begins x (events_of 1 order)
   begins_by true e order is h =
@@ -334,7 +334,7 @@ module _ {S F D G K : Type 0} {stores : StoreMeaning S D} {sources : SourceMeani
   comes (suc (suc p)) n (Received q from bytes) order within starts h =
       absurd (let f : None ≡ Some h.1.0 = h.1.1 in cc)
   comes p n (Sent port to bytes) order within starts h = tt
-  comes p n (Watched time) order within starts h = tt
+  comes p n (Watched watch) order within starts h = tt
   comes p n (Elapsed port time) order within starts h = tt
   comes p n (Printed line) order within starts h = tt
   comes p n (Quiet event) order within starts h = tt

@@ -13,14 +13,12 @@ use Rattle.tftp_file.specs.Source.{SourceMeaning}
 use Rattle.tftp_store.specs.Store.{StoreMeaning}
 use Rattle.tftp_rules.specs.Machine.{Endpoint, Host, At_server, At_client, Elsewhere, is_same, is_same_ip}
 use Rattle.tftp_rules.proofs.Endpoints.{same_ip, same_self, same_other}
-use Rattle.tftp_rules.proofs.ViewSafe.{shown_apart, shown_safe}
 use Rattle.tftp_promises.specs.Hosts.{ClientsAreThere, ServerIsThere, StrangersAreElsewhere}
-use Rattle.tftp_promises.specs.Modelled.{AreModelled}
 use Rattle.tftp_promises.specs.Openings.{is_ours}
 use Rattle.tftp_promises.specs.Order.{Programs, IsStranger, requests_at}
 use Rattle.tftp_promises.specs.Programs.{endpoint, ClientProgram, client_at, has_client, has_port}
 use Rattle.tftp_promises.specs.Programs.{is_at_server}
-use Rattle.tftp_promises.specs.Promises.{joined, AreShown, KeepPromises}
+use Rattle.tftp_promises.specs.Network.{joined}
 use Rattle.tftp_promises.proofs.Orders.{one_in}
 
 abbrev at_of : Bool → Bool → Host
@@ -194,12 +192,3 @@ module _ {S F D G K : Type 0} {stores : StoreMeaning S D} {sources : SourceMeani
   stranger_no_port a there h = elsewhere_no_server (strange_elsewhere a h) there where
     elsewhere_no_server : {h : Host} → h ≡ Elsewhere → h ≡ At_server → ⊥
     elsewhere_no_server e f = cc
-
-  -- what is shown is safe
-  pub promises_kept : (models : AreModelled programs) → AreShown programs models → KeepPromises programs models
-  promises_kept models s = record {
-    views = s.views;
-    viewed = s.viewed;
-    apart = shown_apart (joined programs) s.views s.messages s.shown;
-    safe = shown_safe (joined programs) s.views s.messages s.shown;
-  }

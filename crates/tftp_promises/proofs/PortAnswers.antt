@@ -1,5 +1,5 @@
--- How the request port answers a datagram, for a store of known content, or of any.
-use Rattle.std.proofs.Common.{◌≡◌, ℕ, ◌*◌, ◌^◌, ◌<◌, ◌≤◌, Bool, true, false, List, [], ◌∷◌, length, Option, Some, None}
+-- How the request port answers a datagram.
+use Rattle.std.proofs.Common.{◌≡◌, ℕ, ◌*◌, ◌^◌, ◌<◌, ◌≤◌, Bool, true, false, List, [], ◌∷◌, length, Option}
 use Rattle.std.proofs.Common.{Result, Ok, Err, refl, sym, ap, ◌∙◌, subst, inl, inr, arith}
 use Rattle.std.specs.Prelude.{◌⊎◌, if◌then◌else◌, nat_lt}
 use Rattle.std.proofs.lemmas.Bool.{ltb-true}
@@ -14,10 +14,8 @@ use Rattle.tftp_negotiate.specs.declared.limits.TheConstants.{DEFAULT_BLOCK}
 use Rattle.tftp_negotiate.specs.Agreed.{size}
 use Rattle.tftp_negotiate.specs.Answer.{answer}
 use Rattle.tftp_negotiate.specs.Ranges.{IsBlockSize}
-use Rattle.tftp_file.specs.Netascii.{wire_text}
 use Rattle.tftp_file.specs.Source.{SourceMeaning, GivesInTurn, Gave_more, Gave_nothing}
 use Rattle.tftp_file.specs.declared.fault.StoreFault.{StoreFault}
-use Rattle.tftp_file.specs.declared.fault.StoreFault.TheVariants as store_faults
 use Rattle.tftp_file.specs.declared.files.Files.TheVariants.{Source, Sink}
 use Rattle.tftp_ends.specs.declared.endpoint.Endpoint.{Endpoint}
 use Rattle.tftp_ends.specs.declared.error_reply.ErrorReply.{ErrorReply}
@@ -25,25 +23,18 @@ use Rattle.tftp_ends.specs.declared.error_reply.ErrorReply.TheVariants.{FileChan
 use Rattle.tftp_ends.specs.End.{EndState}
 use Rattle.tftp_ends.specs.Opening.{ServesRead, serving_read, serving_write}
 use Rattle.tftp_ends.specs.Step.{block_length}
-use Rattle.tftp_store.specs.Store.{Stored, StoreMeaning, Opens, Begins, file_at, measured, new_draft}
+use Rattle.tftp_store.specs.Store.{StoreMeaning, measured}
 use Rattle.tftp_store.specs.declared.store.Opening.{Opening}
 use Rattle.tftp_server.specs.Port.{Ask, Ignores, Refuses, Reads, Writes, Service, Sends, Refused, accept_reply, asks}
 use Rattle.tftp_server.specs.Port.{begin_reply, by_draft, by_file, by_length, open_reply}
 use Rattle.tftp_server.specs.Request.{AsksToRead, AsksToWrite, Came, Nothing, Error_reply, A_transfer, Goes, Left}
 use Rattle.tftp_server.specs.Request.{RequestStep, Sent, Starts, Taken, opened_length}
 use Rattle.tftp_server.specs.State.{ServerState}
-use Rattle.tftp_rules.specs.EndOpens.{AreGranted, left_at_first, sending}
-use Rattle.tftp_rules.proofs.FirstSent.{read_opens}
+use Rattle.tftp_rules.specs.EndOpens.{AreGranted}
 use Rattle.tftp_rules.proofs.Granted.{answer_granted, answer_small}
 use Rattle.tftp_promises.specs.Moved.{first_moved}
-use Rattle.tftp_promises.proofs.Measured.{measured_whole}
 use Rattle.tftp_promises.proofs.MovedSends.{piece_length}
 use Rattle.tftp_promises.proofs.Requested.{Implies, IsAsked, asks_imply}
-
--- what is known if the content of the store is
-abbrev pub IfKnown : Option Stored → (Stored → Type 0) → Type 0
-IfKnown None P = Unit {0}
-IfKnown (Some stored) P = P stored
 
 -- a piece that is sent as DATA 1 is the first block of a file of this length
 abbrev pub IsFirst : List Known → ℕ → List ℕ → Type 0
@@ -51,23 +42,12 @@ IsFirst [] measured piece = length piece ≡ block_length measured DEFAULT_BLOCK
 IsFirst (known ∷ agreed) measured piece = Unit {0}
 
 module _ {S F D : Type 0} (meaning : StoreMeaning S D) (sources : SourceMeaning F) (old : ServerState S F D)
-    (from : Endpoint) (bytes : List ℕ) (content : Option Stored) where
-  -- an ERROR is sent; what the store holds is the same
+    (from : Endpoint) (bytes : List ℕ) where
+  -- an ERROR is sent
   pub record IsRefused (came : Came S F D) : Type 0 where
     pub reply : ErrorReply
     pub store : S
-    pub same : IfKnown content (λ stored. meaning.stored store ≡ meaning.stored old.store)
     pub is : came ≡ Error_reply reply store
-
-  -- the file under this path is sent
-  pub record SendsFile (stored : Stored) (path : List ℕ) (mode : Mode) (agreed : List Known) (measured : ℕ)
-      (piece : List ℕ) (rest : F) : Type 0 where
-    pub file : List ℕ
-    pub there : file_at path stored.files ≡ Some file
-    pub whole : measured ≡ length (wire_text mode file)
-    pub end : serving_read agreed from mode measured old.config.retries piece ≡ sending agreed from mode
-        (wire_text mode file) old.config.retries
-    pub left : sources.left rest ≡ Some (left_at_first agreed (wire_text mode file))
 
   -- the store opened this file when it was asked for the path
   abbrev pub IsOpenedBy : List ℕ → Mode → Came S F D → Opening F → Type 0
@@ -90,7 +70,6 @@ module _ {S F D : Type 0} (meaning : StoreMeaning S D) (sources : SourceMeaning 
     pub long : measured ≡ opening.length
     pub gave : GivesInTurn sources opening.source
         (first_moved (serving_read agreed from mode measured old.config.retries piece)).bytes rest
-    pub file : IfKnown content (λ stored. SendsFile stored path mode agreed measured piece rest)
     pub is : came ≡ A_transfer (record {
       end = serving_read agreed from mode measured old.config.retries piece;
       files = Source rest;
@@ -104,14 +83,12 @@ module _ {S F D : Type 0} (meaning : StoreMeaning S D) (sources : SourceMeaning 
       (agreed : List Known) × (asks : AsksToWrite meaning sources old from bytes path mode agreed came)
       × (asks.draft ≡ Ok draft)
 
-  -- a transfer receives a file for this path; what the store holds is the same
+  -- a transfer receives a file for this path
   pub record OpensToStore (path : List ℕ) (mode : Mode) (came : Came S F D) : Type 0 where
     pub agreed : List Known
     pub granted : AreGranted agreed
     pub store : S
-    pub same : IfKnown content (λ stored. meaning.stored store ≡ meaning.stored old.store)
     pub draft : D
-    pub drafted : IfKnown content (λ stored. meaning.drafted draft ≡ Some new_draft)
     pub begun : IsBegunBy path mode came draft
     pub is : came ≡ A_transfer (record {
       end = serving_write agreed from mode old.config.retries;
@@ -129,23 +106,10 @@ module _ {S F D : Type 0} (meaning : StoreMeaning S D) (sources : SourceMeaning 
     Begins_to_store : (path : List ℕ) (mode : Mode) (options : List RawOption) →
         IsAsked decoded repeated true path mode options → OpensToStore path mode came → PortAnswers decoded repeated came
 
-  if_known : (P : Stored → Type 0) → ((stored : Stored) → content ≡ Some stored → P stored) → IfKnown content P
-  if_known P f = by_content content refl where
-    by_content : (c : Option Stored) → content ≡ c → IfKnown c P
-    by_content None e = tt
-    by_content (Some stored) e = f stored e
-
   refuses : (came : Came S F D) (reply : ErrorReply) → came ≡ Error_reply reply old.store → IsRefused came
-  refuses came reply is =
-      record {
-        reply = reply;
-        store = old.store;
-        same = if_known (λ stored. meaning.stored old.store ≡ meaning.stored old.store) (λ stored e. refl);
-        is = is;
-      }
+  refuses came reply is = record { reply = reply; store = old.store; is = is }
 
-  module _ (max : IsBlockSize old.config.limits.max_block) (known : (stored : Stored) → content ≡ Some stored →
-      meaning.stored old.store ≡ Some stored) (came : Came S F D) where
+  module _ (max : IsBlockSize old.config.limits.max_block) (came : Came S F D) where
     -- ---- a read
     abbrev Read_answers : List ℕ → Mode → Type 0
     Read_answers path mode = IsRefused came ⊎ OpensToSend path mode came
@@ -154,8 +118,7 @@ module _ {S F D : Type 0} (meaning : StoreMeaning S D) (sources : SourceMeaning 
     Has_sent service opening = Sent meaning sources old from bytes service (Ok opening) came
 
     module _ (path : List ℕ) (mode : Mode) (options : List RawOption) (opening : Opening F)
-        (opened : IsOpenedBy path mode came opening)
-        (opens : Opens sources (meaning.stored old.store) path mode (Ok opening)) where
+        (opened : IsOpenedBy path mode came opening) where
       -- a length of so few blocks fits 64 bits
       word : (agreed : List Known) → size agreed ≤ MAX_BLOCK → opening.length < 65535 * size agreed →
           opening.length < 2 ^ 64
@@ -182,23 +145,6 @@ module _ {S F D : Type 0} (meaning : StoreMeaning S D) (sources : SourceMeaning 
         subst (λ (s : F). GivesInTurn sources opening.source [] s) (sym h.0) Gave_nothing,
       )
 
-      -- the file, if it is known
-      the_file : (stored : Stored) → Opens sources (Some stored) path mode (Ok opening) → (agreed : List Known) →
-          size agreed ≤ MAX_BLOCK → opening.length < 65535 * size agreed → (rest : F) (e : EndState) (piece : List ℕ) →
-          e ≡ serving_read agreed from mode opening.length old.config.retries piece →
-          ServesRead sources agreed from mode opening.length old.config.retries opening.source rest e →
-          SendsFile stored path mode agreed opening.length piece rest
-      the_file stored o agreed small few rest e piece is serves =
-          let file = o.0 in
-          let less : measured mode file < 65535 * size agreed =
-          subst (λ (n : ℕ). n < 65535 * size agreed) o.2.length few in
-          let whole : opening.length ≡ length (wire_text mode file) =
-          o.2.length ∙ measured_whole mode file (size agreed) small less in
-          let b =
-          read_opens sources agreed from mode (wire_text mode file) opening.length old.config.retries opening.source
-          rest e o.2.source whole serves in
-          record { file = file; there = o.1; whole = whole; end = sym is ∙ b.0; left = b.1 }
-
       -- the first datagram is sent, or the file has changed
       starts_so : (agreed : List Known) → AreGranted agreed → opening.length < 65535 * size agreed →
           Starts meaning sources old from bytes path mode opening.length agreed opening.source came →
@@ -217,9 +163,6 @@ module _ {S F D : Type 0} (meaning : StoreMeaning S D) (sources : SourceMeaning 
             opened = opened;
             long = refl;
             gave = p.3;
-            file = if_known (λ stored. SendsFile stored path mode agreed opening.length p.0 serves.rest)
-                (λ stored e. the_file stored (subst (λ (s : Option Stored). Opens sources s path mode (Ok opening))
-                (known stored e) opens) agreed granted.small few serves.rest serves.end p.0 p.2 serves.serves);
             is =
                 serves.opens ∙ ap (λ (e : EndState). A_transfer
                 (record { end = e; files = Source serves.rest; path = path; request = bytes }) old.store) p.2;
@@ -246,70 +189,36 @@ module _ {S F D : Type 0} (meaning : StoreMeaning S D) (sources : SourceMeaning 
     read_by : (path : List ℕ) (mode : Mode) (options : List RawOption) (file : Result (Opening F) StoreFault) →
         ((opening : Opening F) → file ≡ Ok opening →
         IsOpenedBy path mode came opening) →
-        Opens sources (meaning.stored old.store) path mode file →
         Sent meaning sources old from bytes (by_file old.config.limits path mode options (opened_length file)) file
         came → Read_answers path mode
-    read_by path mode options (Err fault) opened opens h = inl (refuses came (open_reply fault) h)
-    read_by path mode options (Ok opening) opened opens h =
-        answered path mode options opening (opened opening refl) opens
+    read_by path mode options (Err fault) opened h = inl (refuses came (open_reply fault) h)
+    read_by path mode options (Ok opening) opened h =
+        answered path mode options opening (opened opening refl)
         (answer options kinds.Read mode opening.length old.config.limits) refl h
 
     -- a read is refused, or a transfer opens
     pub read_answered : (path : List ℕ) (mode : Mode) (options : List RawOption) →
         AsksToRead meaning sources old from bytes path mode options came → Read_answers path mode
     read_answered path mode options h =
-        read_by path mode options h.file (λ opening is. (options, h, is)) h.opens h.goes_on
+        read_by path mode options h.file (λ opening is. (options, h, is)) h.goes_on
 
     -- ---- a write
     abbrev Write_answers : List ℕ → Mode → Type 0
     Write_answers path mode = IsRefused came ⊎ OpensToStore path mode came
 
-    -- a draft that is not begun changes nothing
-    nothing_begun : (stored : Stored) (path : List ℕ) (fault : StoreFault) (after : Option Stored) →
-        Begins meaning.drafted (Some stored) after path old.config.overwrite (Err fault) → after ≡ Some stored
-    nothing_begun stored path store_faults.Missing after h = h
-    nothing_begun stored path store_faults.Exists after h = h.0
-    nothing_begun stored path store_faults.Full after h = h
-    nothing_begun stored path store_faults.Io after h = h
-    nothing_begun stored path store_faults.Memory after h = h.0
-
     module _ (path : List ℕ) (store : S) where
-      -- its beginning, if the content is known
-      begins_known : (draft : Result D StoreFault) →
-          Begins meaning.drafted (meaning.stored old.store) (meaning.stored store) path old.config.overwrite draft →
-          (stored : Stored) → content ≡ Some stored →
-          Begins meaning.drafted (Some stored) (meaning.stored store) path old.config.overwrite draft
-      begins_known draft begins stored e =
-          subst (λ (s : Option Stored). Begins meaning.drafted s (meaning.stored store) path old.config.overwrite draft)
-          (known stored e) begins
-
       write_by : (mode : Mode) (agreed : List Known) (draft : Result D StoreFault) → AreGranted agreed →
           ((begun : D) → draft ≡ Ok begun → IsBegunBy path mode came begun) →
-          Begins meaning.drafted (meaning.stored old.store) (meaning.stored store) path old.config.overwrite draft →
           Taken meaning sources old from bytes (by_draft path mode agreed draft) draft store came →
           Write_answers path mode
-      write_by mode agreed (Err fault) granted begun begins h =
-          inl (record {
-            reply = begin_reply fault;
-            store = store;
-            same =
-                if_known (λ stored. meaning.stored store ≡ meaning.stored old.store)
-                (λ stored e. nothing_begun stored path fault (meaning.stored store)
-                (begins_known (Err fault) begins stored e) ∙ sym (known stored e));
-            is = h;
-          })
-      write_by mode agreed (Ok draft) granted begun begins h =
+      write_by mode agreed (Err fault) granted begun h =
+          inl (record { reply = begin_reply fault; store = store; is = h })
+      write_by mode agreed (Ok draft) granted begun h =
           inr (record {
             agreed = agreed;
             granted = granted;
             store = store;
-            same =
-                if_known (λ stored. meaning.stored store ≡ meaning.stored old.store)
-                (λ stored e. (begins_known (Ok draft) begins stored e).0 ∙ sym (known stored e));
             draft = draft;
-            drafted =
-                if_known (λ stored. meaning.drafted draft ≡ Some new_draft)
-                (λ stored e. (begins_known (Ok draft) begins stored e).2);
             begun = begun draft refl;
             is = h;
           })
@@ -318,7 +227,7 @@ module _ {S F D : Type 0} (meaning : StoreMeaning S D) (sources : SourceMeaning 
     pub write_answered : (path : List ℕ) (mode : Mode) (agreed : List Known) → AreGranted agreed →
         AsksToWrite meaning sources old from bytes path mode agreed came → Write_answers path mode
     write_answered path mode agreed granted h =
-        write_by path h.store mode agreed h.draft granted (λ draft is. (agreed, h, is)) h.begins h.goes_on
+        write_by path h.store mode agreed h.draft granted (λ draft is. (agreed, h, is)) h.goes_on
 
     -- ---- what the port decided
     decided : (decoded : Option WirePacket) (repeated : Bool) (ask : Ask) →
@@ -338,11 +247,9 @@ module _ {S F D : Type 0} (meaning : StoreMeaning S D) (sources : SourceMeaning 
         ]
 
   -- the answer of a step of the request port
-  pub port_answers : IsBlockSize old.config.limits.max_block →
-      ((stored : Stored) → content ≡ Some stored → meaning.stored old.store ≡ Some stored) →
-      (tid : ℕ) (result : Left S F D) (h : RequestStep meaning sources old from bytes tid result) →
+  pub port_answers : IsBlockSize old.config.limits.max_block → (tid : ℕ) (result : Left S F D) (h : RequestStep meaning sources old from bytes tid result) →
       PortAnswers h.decoded h.repeated h.came
-  port_answers max known tid result h =
-      decided max known h.came h.decoded h.repeated (asks old.config.cap (length old.held) h.repeated old.config.limits
+  port_answers max tid result h =
+      decided max h.came h.decoded h.repeated (asks old.config.cap (length old.held) h.repeated old.config.limits
       bytes h.decoded)
       (asks_imply old.config.limits h.repeated old.config.cap (length old.held) bytes h.decoded) h.goes

@@ -1,7 +1,7 @@
 -- A datagram that the server handles at the port of a transfer keeps the invariant.
 use Rattle.std.proofs.Common.{◌≡◌, ℕ, Bool, true, false, List, [], ◌∷◌, ◌++◌, None, refl, sym, ap, ◌∙◌, subst}
 use Rattle.std.proofs.Common.{inl, inr}
-use Rattle.std.specs.Prelude.{◌≢◌, ◌⊎◌, Option, is_some, IsSome, ⊤}
+use Rattle.std.specs.Prelude.{◌≢◌, ◌⊎◌, Option, is_some, ⊤}
 use Rattle.std.proofs.lemmas.Bool.{true≢false, cases_Bool}
 use Rattle.tftp_wire.specs.Reading.{has_error_opcode}
 use Rattle.tftp_wire.specs.declared.packet.Packet.{Packet as WirePacket}
@@ -25,28 +25,25 @@ use Rattle.tftp_server.specs.Draft.{files_in, drafting_sink}
 use Rattle.tftp_server.specs.State.{ServerState, with_next}
 use Rattle.tftp_server.specs.Steps.{StepIn, TakesDatagramLent}
 use Rattle.tftp_server.specs.declared.config.Config.{Config}
-use Rattle.tftp_sockets.specs.Journal.{SocketEvent}
-use Rattle.tftp_sockets.specs.Journal.SocketEvent.{Received}
+use Rattle.tftp_sockets.specs.Trace.{SocketEvent}
+use Rattle.tftp_sockets.specs.Trace.SocketEvent.{Received}
 use Rattle.tftp_loop.specs.Steps.{LoopState, ServesPort, At_port, PortStep, A_datagram, AnswersDatagram}
 use Rattle.tftp_loop.specs.Steps.{ReceivesAndHandles, port_state}
 use Rattle.tftp_rules.specs.EndShown.{Stands, IsOpenAt, Goes}
 use Rattle.tftp_rules.specs.KnownFiles.{known_source, known_sink}
 use Rattle.tftp_rules.specs.Machine.{Endpoint}
 use Rattle.tftp_rules.specs.OpenEnds.{OpenEnd, files_of, in_state, end_after, open_view, peer_of}
-use Rattle.tftp_rules.proofs.EndMoves.{end_armed}
 use Rattle.tftp_rules.proofs.EndTurns.{datagram_goes}
-use Rattle.tftp_rules.proofs.KnownSteps.{step_known}
 use Rattle.tftp_promises.specs.Drafts.{HadStore, StoreBegan}
 use Rattle.tftp_promises.specs.Given.{GaveSince, StoreOpened}
-use Rattle.tftp_promises.specs.Modelled.{AreModelled}
 use Rattle.tftp_promises.specs.Moved.{Moved, acts_move, port_moves, step_moves}
 use Rattle.tftp_promises.specs.Openings.{is_ours, moved_at, opened_at, place_at}
 use Rattle.tftp_promises.specs.Order.{Programs, IsStranger}
 use Rattle.tftp_promises.specs.Programs.{endpoint}
-use Rattle.tftp_promises.specs.Promises.{joined}
+use Rattle.tftp_promises.specs.Network.{joined}
 use Rattle.tftp_promises.specs.Snapshots.{Snapshot, server_did}
 use Rattle.tftp_promises.proofs.ClosedEnds.{ClosedAnswers, closed_datagram_goes, wrong_datagram_goes}
-use Rattle.tftp_promises.proofs.Invariant.{How, By_models, By_run, GaveSo, TookBy, TookSo, IsGiven, IsKnown, IsOpened, IsTaken, IsToldAt, length_of}
+use Rattle.tftp_promises.proofs.Invariant.{GaveSo, TookBy, TookSo, IsGiven, IsOpened, IsTaken, IsToldAt, length_of}
 use Rattle.tftp_promises.proofs.Invariant.{place_text, HasArrived, HasStored, IsThere, TransferKept, IsKept, IsFreshBy}
 use Rattle.tftp_promises.proofs.Invariant.{IsStrangers}
 use Rattle.tftp_promises.proofs.DraftsTake.{took_longer}
@@ -54,18 +51,16 @@ use Rattle.tftp_promises.proofs.MovedFiles.{GivenSo, GotSo, MovesOver, TakenSo, 
 use Rattle.tftp_promises.proofs.MovedSteps.{moves_here, none_at_port, none_beside}
 use Rattle.tftp_promises.proofs.Places.{not_ours}
 use Rattle.tftp_promises.proofs.PortEnds.{after_rest, has_peer, same_in}
-use Rattle.tftp_promises.proofs.PortSteps.{some_is, no_outcome, datagram_silent, server_is, stays_by, sends_only}
-use Rattle.tftp_promises.proofs.ServerStays.{FilesStay, known_if, stay_if, stored_after}
-use Rattle.tftp_promises.proofs.StoredFiles.{IsIn}
-use Rattle.tftp_promises.proofs.TransferFiles.{armed, content_of, files_left}
+use Rattle.tftp_promises.proofs.PortSteps.{no_outcome, datagram_silent, server_is, stays_by, sends_only}
+use Rattle.tftp_promises.proofs.ServerStays.{stored_after}
 use Rattle.tftp_promises.proofs.WrongPeers.{datagram_stays, stays_strangers, wrong_peer, wrong_replies}
 use Rattle.tftp_promises.proofs.TurnsAtPort.{Becomes, IsSeated, turn_keeps}
 use Rattle.tftp_promises.proofs.Texts.{pad_to}
 
 module _ {S F D G K : Type 0} {stores : StoreMeaning S D} {sources : SourceMeaning F} {inputs : SourceMeaning G}
     {outputs : SinkMeaning K}
-    (programs : Programs stores sources inputs outputs) {how : How programs} (old : Snapshot programs)
-    (kept : IsKept programs how old) (fresh : IsFreshBy programs old)
+    (programs : Programs stores sources inputs outputs) {pad : ℕ} (old : Snapshot programs)
+    (kept : IsKept programs pad old) (fresh : IsFreshBy programs old)
     {new : LoopState S F D} (serves : ServesPort stores sources old.state new) (added : List SocketEvent)
     (events : new.events ≡ added ++ old.state.events)
     (h : ReceivesAndHandles stores sources old.state.now (port_state old.state serves.timer) serves.next)
@@ -98,7 +93,7 @@ module _ {S F D G K : Type 0} {stores : StoreMeaning S D} {sources : SourceMeani
   abbrev turn : Turn
   turn = taken.takes.turn
 
-  abbrev was : TransferKept programs how kept.views kept.messages old port taken.transfer place
+  abbrev was : TransferKept programs pad kept.views kept.messages old port taken.transfer place
   was = kept.transfers port taken.transfer place (inl (taken.found, refl))
 
   abbrev x : OpenEnd
@@ -137,13 +132,11 @@ module _ {S F D G K : Type 0} {stores : StoreMeaning S D} {sources : SourceMeani
   Seated y = IsSeated programs old kept (At_port serves) added port taken.transfer taken.found turn y
 
   -- the invariant, if the end turned so, and these files were left
-  then_keeps : (refuses : Bool) (becomes : Becomes programs old kept (At_port serves) added port taken.transfer
-      taken.found (armed refuses x) turn taken.next) → Seated becomes.end →
-      IsKnown programs how new → FilesStay programs how old.state new → IsKept programs how now
-  then_keeps refuses becomes seated known files =
+  then_keeps : (becomes : Becomes programs old kept (At_port serves) added port taken.transfer
+      taken.found x turn taken.next) → Seated becomes.end → IsKept programs pad now
+  then_keeps becomes seated =
       turn_keeps programs old kept (At_port serves) added port taken.transfer taken.found fresh
-      (stays_by programs old kept serves added events answers.config known files)
-      (armed refuses x) was.address was.side was.viewed.last_sent turn taken.next held becomes
+      (stays_by programs old kept serves added events answers.config) x was.address was.side was.viewed.last_sent turn taken.next held becomes
       (sends_only programs old kept serves added events turn.reply received answers.events
       (datagram_silent port from bytes)) seated (λ a n. none_beside programs old.run serves a n)
 
@@ -184,7 +177,7 @@ module _ {S F D G K : Type 0} {stores : StoreMeaning S D} {sources : SourceMeani
         ap (λ (d : PortStep stores sources old.state.now (port_state old.state serves.timer) serves.next). port_moves d
         moved) is ∙ acts_quiet taken.transfer.end taken.takes.steps answer.response says moved
 
-    rests_keeps : IsKept programs how now
+    rests_keeps : IsKept programs pad now
     rests_keeps =
         let answer = answered its_step.decoded in
         let A : Action → Type 0 = λ (action : Action).
@@ -198,13 +191,9 @@ module _ {S F D G K : Type 0} {stores : StoreMeaning S D} {sources : SourceMeani
         same_in old.state.server.store serves.next.server.store taken.transfer.path taken.next.path
         old.state.server.config.overwrite taken.transfer.files taken.next.files acts.1 taken.takes.stays
         taken.takes.kind in
-        let store_same : new.server.store ≡ old.state.server.store = store_is ∙ same.0 in
-        let stay : FilesStay programs how old.state new =
-        stay_if programs how old.state new (λ o path file i. subst (λ (s : S). IsIn (stores.stored s) path file)
-        (sym store_same) i) in
         let position : turn.position ≡ x.state.position = ap (λ (t : Turn). t.position) acts.0 ∙ answer.same in
         let state : x.state ≡ after_turn x.state turn = ap (λ (p : Position). with_position p x.state) (sym position) in
-        then_keeps x.refuses (record {
+        then_keeps (record {
           end = x;
           goes =
               subst (λ (t : Turn). Goes (joined programs) kept.shown.0 kept.views kept.messages was.viewed.index x t x)
@@ -216,15 +205,15 @@ module _ {S F D G K : Type 0} {stores : StoreMeaning S D} {sources : SourceMeani
           path_stays = taken.takes.path;
           request_stays = taken.takes.request;
           has =
-              subst (λ (f : Files F D). HasStored programs how now x f) (sym same.1)
-              (stored_after programs how old (At_port serves) added stay x
+              subst (λ (f : Files F D). HasStored programs pad now x f) (sym same.1)
+              (stored_after programs pad old (At_port serves) added x
               (none_at_port programs old.run serves quiet x.address) taken.transfer.files was.has);
-        }) (seated state) (known_if programs how old.state new (ap stores.stored store_same) kept.server.known) stay
+        }) (seated state)
 
   -- a stranger's transfer answers one that is ours by an ERROR, which is there already
   pub wrong_keeps : IsStrangers programs x.state → is_ours programs from ≡ true →
       IsThere kept.messages (endpoint programs.ip port) from (error_bytes UnknownTransferId) →
-      IsKept programs how now
+      IsKept programs pad now
   wrong_keeps s ours there =
       let n : s.peer ≢ from =
       λ same. true≢false (sym ours ∙ (ap (is_ours programs) (sym same) ∙ not_ours programs s.peer s.strange)) in
@@ -287,12 +276,12 @@ module _ {S F D G K : Type 0} {stores : StoreMeaning S D} {sources : SourceMeani
         open_at come_z
         (λ no_peer near p spells answer. absurd (peer no_peer)) steps
 
-    open_now : is_some (outcome_of x.state.position.phase) ≡ false → (refuses : Bool) →
-        IsOpenAt (joined programs) kept.shown.0 kept.views kept.messages was.viewed.index (armed refuses x)
-    open_now o refuses =
+    open_now : is_some (outcome_of x.state.position.phase) ≡ false →
+        IsOpenAt (joined programs) kept.shown.0 kept.views kept.messages was.viewed.index x
+    open_now o =
         record {
           stands = stands;
-          kept = end_armed (joined programs) x refuses was.viewed.kept;
+          kept = was.viewed.kept;
           still = o;
           last_sent = was.viewed.last_sent;
         }
@@ -300,16 +289,14 @@ module _ {S F D G K : Type 0} {stores : StoreMeaning S D} {sources : SourceMeani
     peered : is_some (outcome_of x.state.position.phase) ≡ false → peer_of x.state.position.phase ≢ None
     peered o no_peer = has_peer (joined programs) x x.state.position.phase was.viewed.kept.phase was.side o no_peer
 
-    becomes : (refuses : Bool) (content : Files (List ℕ) Holding) →
-        Goes (joined programs) kept.shown.0 kept.views kept.messages was.viewed.index (armed refuses x) turn
-        (end_after (armed refuses x) turn content) →
-        HasStored programs how now (end_after (armed refuses x) turn content) taken.next.files →
-        Becomes programs old kept (At_port serves) added port taken.transfer taken.found (armed refuses x) turn
-        taken.next
-    becomes refuses content goes has =
-        let rest = after_rest (in_state (after_turn x.state turn) (armed refuses x)) content in
+    becomes : (content : Files (List ℕ) Holding) →
+        Goes (joined programs) kept.shown.0 kept.views kept.messages was.viewed.index x turn (end_after x turn content) →
+        HasStored programs pad now (end_after x turn content) taken.next.files →
+        Becomes programs old kept (At_port serves) added port taken.transfer taken.found x turn taken.next
+    becomes content goes has =
+        let rest = after_rest (in_state (after_turn x.state turn) x) content in
         record {
-          end = end_after (armed refuses x) turn content;
+          end = end_after x turn content;
           goes = goes;
           address = rest.0;
           state = rest.1 ∙ next_state;
@@ -320,48 +307,11 @@ module _ {S F D G K : Type 0} {stores : StoreMeaning S D} {sources : SourceMeani
           has = has;
         }
 
-    seated_after : (refuses : Bool) (content : Files (List ℕ) Holding) →
-        Seated (end_after (armed refuses x) turn content)
-    seated_after refuses content =
-        seated (end_after (armed refuses x) turn content)
-        (after_rest (in_state (after_turn x.state turn) (armed refuses x)) content).1
+    seated_after : (content : Files (List ℕ) Holding) → Seated (end_after x turn content)
+    seated_after content =
+        seated (end_after x turn content) (after_rest (in_state (after_turn x.state turn) x) content).1
 
-    -- by the models
-    models_keep : (models : AreModelled programs) → how ≡ By_models models →
-        is_some (outcome_of x.state.position.phase) ≡ false → IsKept programs how now
-    unfolding becomes
-    models_keep models by o =
-        let known : IsSome (stores.stored old.state.server.store) =
-        subst (λ (w : How programs). IsKnown programs w old.state) by kept.server.known in
-        let has : HasStored programs (By_models models) old x taken.transfer.files =
-        subst (λ (w : How programs). HasStored programs w old x taken.transfer.files) by was.has in
-        let stored = some_is (stores.stored old.state.server.store) known in
-        let z = armed stored.0.refuses x in
-        let content =
-        content_of programs models old x old.state.server.store stored.0 stored.1 taken.transfer.path
-        old.state.server.config.overwrite taken.transfer.files has
-        (no_outcome (outcome_of x.state.position.phase) o) in
-        let over =
-        step_known sources (drafting_sink stores) from bytes x.state
-        (files_in old.state.server.store taken.transfer.path old.state.server.config.overwrite taken.transfer.files)
-        (files_of z) turn
-        (files_in serves.next.server.store taken.next.path old.state.server.config.overwrite taken.next.files) content
-        its_step in
-        let goes = goes_over z over.content refl (open_now o stored.0.refuses) (peered o) over.steps in
-        let left =
-        files_left programs models old (At_port serves) added serves.next.server.store store_is stored.0 stored.1
-        kept.shown.0 kept.views kept.messages was.viewed.index x was.viewed.kept turn
-        taken.transfer.files taken.next.files taken.transfer.path taken.next.path old.state.server.config.overwrite
-        (sym was.path) replace_is has from bytes x.state its_step taken.takes.stays taken.takes.kind
-        over.content over.known goes in
-        then_keeps stored.0.refuses
-        (becomes stored.0.refuses over.content goes
-        (subst (λ (w : How programs). HasStored programs w now (end_after z turn over.content) taken.next.files)
-        (sym by) left.has)) (seated_after stored.0.refuses over.content)
-        (subst (λ (w : How programs). IsKnown programs w new) (sym by) left.known)
-        (subst (λ (w : How programs). FilesStay programs w old.state new) (sym by) left.stay)
-
-    -- by the run
+    -- what has moved
     abbrev before : Moved
     before = moved_at programs place old.run
 
@@ -410,8 +360,8 @@ module _ {S F D G K : Type 0} {stores : StoreMeaning S D} {sources : SourceMeani
     abbrev Got : Files F D → OpenEnd → Moved → Type 0
     Got files y moved = GotSo stores sources Began Drafted Been its_path replaces files y moved
 
-    got_before : (pad : ℕ) (files : Files F D) → HasStored programs (By_run pad) old x files → Got files x before
-    got_before pad (Source source) has = (
+    got_before : (files : Files F D) → HasStored programs pad old x files → Got files x before
+    got_before (Source source) has = (
       has.sender,
       subst (λ (a : Endpoint). GaveSo x (moved_at programs a old.run)) x_place has.gave,
       record {
@@ -423,7 +373,7 @@ module _ {S F D G K : Type 0} {stores : StoreMeaning S D} {sources : SourceMeani
             (moved_at programs a old.run).bytes source) x_place has.given.since;
       },
     )
-    got_before pad (Sink draft) has = (
+    got_before (Sink draft) has = (
       has.receiver,
       subst (λ (a : Endpoint). TookSo x (moved_at programs a old.run)) x_place has.took,
       record {
@@ -441,22 +391,22 @@ module _ {S F D G K : Type 0} {stores : StoreMeaning S D} {sources : SourceMeani
       },
     )
 
-    opened_then : (pad : ℕ) (files : Files F D) → HasStored programs (By_run pad) old x files → IsOpened programs old x
-    opened_then pad (Source source) has = has.opened
-    opened_then pad (Sink draft) has = has.opened
+    opened_then : (files : Files F D) → HasStored programs pad old x files → IsOpened programs old x
+    opened_then (Source source) has = has.opened
+    opened_then (Sink draft) has = has.opened
 
-    text_is : (pad : ℕ) (files : Files F D) → HasStored programs (By_run pad) old x files →
+    text_is : (files : Files F D) → HasStored programs pad old x files →
         is_sender x.state.role.side ≡ true → x.text ≡ place_text programs pad place
-    text_is pad (Source source) has sender = has.text ∙ ap (place_text programs pad) x_place
-    text_is pad (Sink draft) has sender = absurd (true≢false (sym sender ∙ has.receiver))
+    text_is (Source source) has sender = has.text ∙ ap (place_text programs pad) x_place
+    text_is (Sink draft) has sender = absurd (true≢false (sym sender ∙ has.receiver))
 
     told : IsToldAt programs now place
     told = fresh_now.told place (kept.server.opened port taken.transfer place (inl (taken.found, refl)))
 
-    long : (pad : ℕ) (files : Files F D) → HasStored programs (By_run pad) old x files →
+    long : (files : Files F D) → HasStored programs pad old x files →
         length_of (opened_at programs place programs.server.run) ≡ x.state.role.length
-    long pad files has =
-        let h = opened_then pad files has in
+    long files has =
+        let h = opened_then files has in
         ap length_of (sym told.opened ∙ (ap (λ (a : Endpoint). opened_at programs a old.run) (sym x_place) ∙ h.opened))
         ∙ ap (λ (r : Role). r.length) h.role
 
@@ -532,49 +482,47 @@ module _ {S F D G K : Type 0} {stores : StoreMeaning S D} {sources : SourceMeani
           moved_then.bytes draft) (sym was.path) h.since));
     }
 
-    got_has : (pad : ℕ) (files files' : Files F D) → AreSame (λ (a b : F). ⊤) (λ (a b : D). ⊤) files files' →
-        HasStored programs (By_run pad) old x files → (content : Files (List ℕ) Holding) →
+    got_has : (files files' : Files F D) → AreSame (λ (a b : F). ⊤) (λ (a b : D). ⊤) files files' →
+        HasStored programs pad old x files → (content : Files (List ℕ) Holding) →
         Got files' (end_after x turn content) moved_then →
-        HasStored programs (By_run pad) now (end_after x turn content) files'
-    got_has pad (Source source) (Source source') kind has (Source left) got = record {
+        HasStored programs pad now (end_after x turn content) files'
+    got_has (Source source) (Source source') kind has (Source left) got = record {
       sender = has.sender;
       opened = opened_after (Source left) has.opened;
       text = has.text;
       gave = moved_after GaveSo (Source left) got.1;
       given = given_left source' left got.2;
     }
-    got_has pad (Sink draft) (Sink draft') kind has (Sink holding) got = record {
+    got_has (Sink draft) (Sink draft') kind has (Sink holding) got = record {
       receiver = has.receiver;
       opened = opened_after (Sink holding) has.opened;
       took = moved_after TookSo (Sink holding) got.1;
       taken = taken_held draft' holding got.2;
     }
-    got_has pad (Source source) (Source source') kind has (Sink holding) got = record {
+    got_has (Source source) (Source source') kind has (Sink holding) got = record {
       sender = has.sender;
       opened = opened_after (Sink holding) has.opened;
       text = has.text;
       gave = moved_after GaveSo (Sink holding) got.1;
       given = given_held source' holding got.2;
     }
-    got_has pad (Sink draft) (Sink draft') kind has (Source left) got = record {
+    got_has (Sink draft) (Sink draft') kind has (Source left) got = record {
       receiver = has.receiver;
       opened = opened_after (Source left) has.opened;
       took = moved_after TookSo (Source left) got.1;
       taken = taken_left draft' left got.2;
     }
-    got_has pad (Source source) (Sink draft') kind has content got = absurd kind
-    got_has pad (Sink draft) (Source source') kind has content got = absurd kind
+    got_has (Source source) (Sink draft') kind has content got = absurd kind
+    got_has (Sink draft) (Source source') kind has content got = absurd kind
 
-    run_keeps : (pad : ℕ) → how ≡ By_run pad → is_some (outcome_of x.state.position.phase) ≡ false →
-        IsKept programs how now
+    open_keeps : is_some (outcome_of x.state.position.phase) ≡ false → IsKept programs pad now
     unfolding becomes
-    run_keeps pad by o =
-        let has : HasStored programs (By_run pad) old x taken.transfer.files =
-        subst (λ (w : How programs). HasStored programs w old x taken.transfer.files) by was.has in
+    open_keeps o =
+        let has : HasStored programs pad old x taken.transfer.files = was.has in
         let all : List ℕ = (moved_at programs place programs.server.run).bytes in
         let text : is_sender x.state.role.side ≡ true → x.text ≡ pad_to pad x.state.role.length all =
-        λ sender. text_is pad taken.transfer.files has sender ∙ ap (λ (n : ℕ). pad_to pad n all)
-        (long pad taken.transfer.files has) in
+        λ sender. text_is taken.transfer.files has sender ∙ ap (λ (n : ℕ). pad_to pad n all)
+        (long taken.transfer.files has) in
         let Over : EndState → Type 0 =
         λ (e : EndState). (step : step_x e) → IsPrefixOf (after_by e step).bytes all →
         MovesOver stores sources Began Drafted Been its_path replaces x from bytes turn taken.next.files
@@ -584,33 +532,25 @@ module _ {S F D G K : Type 0} {stores : StoreMeaning S D} {sources : SourceMeani
         (no_outcome (outcome_of x.state.position.phase) o)
         from bytes turn old.state.server.store serves.next.server.store (inl store_is) taken.next.path
         pad all text before taken.transfer.files taken.next.files taken.takes.kind
-        (got_before pad taken.transfer.files has) step begins
+        (got_before taken.transfer.files has) step begins
         in
         let begins : IsPrefixOf moved_then.bytes all =
         subst (λ (m : Moved). IsPrefixOf m.bytes all) moved_now told.bytes in
         let over = subst Over was.state at_x taken.takes.steps begins in
-        let goes = goes_over x over.content refl (open_now o x.refuses) (peered o) over.steps in
-        then_keeps x.refuses
-        (becomes x.refuses over.content goes
-        (subst (λ (w : How programs). HasStored programs w now (end_after x turn over.content) taken.next.files)
-        (sym by) (got_has pad taken.transfer.files taken.next.files taken.takes.kind has over.content over.got)))
-        (seated_after x.refuses over.content)
-        (subst (λ (w : How programs). IsKnown programs w new) (sym by) tt)
-        (subst (λ (w : How programs). FilesStay programs w old.state new) (sym by) tt)
-
-    open_by : (w : How programs) → how ≡ w → is_some (outcome_of x.state.position.phase) ≡ false →
-        IsKept programs how now
-    open_by (By_models models) by o = models_keep models by o
-    open_by (By_run pad) by o = run_keeps pad by o
+        let goes = goes_over x over.content refl (open_now o) (peered o) over.steps in
+        then_keeps
+        (becomes over.content goes
+        (got_has taken.transfer.files taken.next.files taken.takes.kind has over.content over.got))
+        (seated_after over.content)
 
     -- a closed one
-    closed_keeps : is_some (outcome_of x.state.position.phase) ≡ true → IsKept programs how now
+    closed_keeps : is_some (outcome_of x.state.position.phase) ≡ true → IsKept programs pad now
     closed_keeps c =
         rests_keeps (λ decoded. closed_datagram_goes (joined programs) kept.shown.0 kept.views kept.messages
         was.viewed.index x stands was.viewed.kept c from bytes decoded) (λ state. seated x state)
 
-    pub datagram_keeps : IsKept programs how now
+    pub datagram_keeps : IsKept programs pad now
     datagram_keeps = elim (cases_Bool (is_some (outcome_of x.state.position.phase))) [
       | inl c ↦ closed_keeps c
-      | inr o ↦ open_by how refl o
+      | inr o ↦ open_keeps o
     ]

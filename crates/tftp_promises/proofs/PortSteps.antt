@@ -1,6 +1,6 @@
 -- What a step of the server at the port of a transfer leaves as it was, and what it noted.
 use Rattle.std.proofs.Common.{◌≡◌, ℕ, false, List, [], ◌∷◌, ◌++◌, Option, Some, None, refl, sym, ap, ◌∙◌, subst}
-use Rattle.std.specs.Prelude.{◌⊎◌, is_some, IsSome}
+use Rattle.std.specs.Prelude.{◌⊎◌, is_some}
 use Rattle.std.specs.List.{Contains}
 use Rattle.std.proofs.lemmas.Bool.{true≢false}
 use Rattle.tftp_file.specs.Sink.{SinkMeaning}
@@ -9,22 +9,17 @@ use Rattle.tftp_ends.specs.Step.{Reply}
 use Rattle.tftp_ends.specs.declared.outcome.Outcome.{Outcome}
 use Rattle.tftp_store.specs.Store.{StoreMeaning}
 use Rattle.tftp_server.specs.State.{ServerState}
-use Rattle.tftp_sockets.specs.Journal.{SocketEvent, answered}
-use Rattle.tftp_sockets.specs.Journal.SocketEvent.{Received, Sent}
+use Rattle.tftp_sockets.specs.Trace.{SocketEvent, answered}
+use Rattle.tftp_sockets.specs.Trace.SocketEvent.{Received, Sent}
 use Rattle.tftp_loop.specs.Steps.{LoopState, ServesPort, At_port}
 use Rattle.tftp_rules.specs.Machine.{Endpoint}
 use Rattle.tftp_promises.specs.Joint.{CanTake, WasSentBefore}
 use Rattle.tftp_promises.specs.Order.{Programs, MayCome}
 use Rattle.tftp_promises.specs.Programs.{endpoint}
 use Rattle.tftp_promises.specs.Snapshots.{Snapshot}
-use Rattle.tftp_promises.proofs.Invariant.{How, IsKnown, IsKept}
+use Rattle.tftp_promises.proofs.Invariant.{IsKept}
 use Rattle.tftp_promises.proofs.KeptEvents.{IsSilent, SendsOnly, only_one, added_by, answered_has, answered_sends}
-use Rattle.tftp_promises.proofs.ServerStays.{FilesStay, ServerStays}
-
--- what is known
-pub some_is : {A : Type 0} (o : Option A) → IsSome o → (x : A) × (o ≡ Some x)
-some_is (Some x) h = (x, refl)
-some_is None h = absurd (true≢false (sym h))
+use Rattle.tftp_promises.proofs.ServerStays.{ServerStays}
 
 -- an open end has no outcome
 pub no_outcome : (o : Option Outcome) → is_some o ≡ false → o ≡ None
@@ -38,25 +33,22 @@ datagram_silent own from bytes port to b c =
 
 module _ {S F D G K : Type 0} {stores : StoreMeaning S D} {sources : SourceMeaning F} {inputs : SourceMeaning G}
     {outputs : SinkMeaning K}
-    (programs : Programs stores sources inputs outputs) {how : How programs} (old : Snapshot programs)
-    (kept : IsKept programs how old) {new : LoopState S F D} (serves : ServesPort stores sources old.state new)
+    (programs : Programs stores sources inputs outputs) {pad : ℕ} (old : Snapshot programs)
+    (kept : IsKept programs pad old) {new : LoopState S F D} (serves : ServesPort stores sources old.state new)
     (added : List SocketEvent) (events : new.events ≡ added ++ old.state.events) where
   -- the server after it
   pub server_is : new.server ≡ serves.next.server
   server_is = ap (λ (s : LoopState S F D). s.server) serves.is
 
-  pub stays_by : serves.next.server.config ≡ old.state.server.config → IsKnown programs how new →
-      FilesStay programs how old.state new → ServerStays programs old kept (At_port serves)
-  stays_by config known files = record {
+  pub stays_by : serves.next.server.config ≡ old.state.server.config → ServerStays programs old kept (At_port serves)
+  stays_by config = record {
     opens = refl;
     seats = λ port. refl;
     removes = λ port transfer h. h;
     requests = ap (λ (s : LoopState S F D). s.requests) serves.is;
     config = ap (λ (s : ServerState S F D). s.config) server_is ∙ config;
-    known = known;
     pending =
         λ from bytes e. kept.server.pending from bytes (sym (ap (λ (s : LoopState S F D). s.pending) serves.is) ∙ e);
-    files = files;
   }
 
   -- the events of the step

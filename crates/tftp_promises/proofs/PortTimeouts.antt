@@ -1,5 +1,5 @@
 -- A timeout that the server delivers to a transfer keeps the invariant.
-use Rattle.std.proofs.Common.{◌≡◌, ℕ, true, false, List, [], ◌∷◌, ◌++◌, Some, None, refl, sym, ap, ◌∙◌, subst, inl, inr}
+use Rattle.std.proofs.Common.{◌≡◌, ℕ, true, List, [], ◌∷◌, ◌++◌, None, refl, sym, ap, ◌∙◌, subst, inl, inr}
 use Rattle.std.specs.Prelude.{◌⊎◌, ◌==◌, is_some}
 use Rattle.std.proofs.lemmas.Bool.{true≢false, cases_Bool}
 use Rattle.tftp_file.specs.Sink.{Holding, SinkMeaning}
@@ -13,38 +13,35 @@ use Rattle.tftp_ends.specs.declared.action.Response.{Response}
 use Rattle.tftp_ends.specs.declared.action.Response.TheVariants.{Retransmit, Close}
 use Rattle.tftp_ends.specs.declared.outcome.Outcome.TheVariants as outcomes
 use Rattle.tftp_ends.specs.Action.{timeout_response}
-use Rattle.tftp_ends.specs.End.{EndState, is_sender, is_complete, outcome_of}
+use Rattle.tftp_ends.specs.End.{EndState, outcome_of}
 use Rattle.tftp_ends.specs.Step.{Turn, after, after_turn, timeout_turn}
 use Rattle.tftp_store.specs.Store.{StoreMeaning}
 use Rattle.tftp_server.specs.State.{TransferState, ServerState, with_next}
 use Rattle.tftp_server.specs.Steps.{TimesOutLent, with_end}
-use Rattle.tftp_sockets.specs.Journal.{SocketEvent}
-use Rattle.tftp_sockets.specs.Journal.SocketEvent.{Elapsed}
+use Rattle.tftp_sockets.specs.Trace.{SocketEvent}
+use Rattle.tftp_sockets.specs.Trace.SocketEvent.{Elapsed}
 use Rattle.tftp_loop.specs.Steps.{LoopState, ServesPort, At_port, AnswersTimeout}
 use Rattle.tftp_rules.specs.EndShown.{Stands, Goes}
-use Rattle.tftp_rules.specs.KnownFiles.{HasLeft}
 use Rattle.tftp_rules.specs.Machine.{Endpoint}
 use Rattle.tftp_rules.specs.OpenEnds.{OpenEnd, files_of, holding_of, in_state, end_after, open_view}
 use Rattle.tftp_rules.proofs.EndTurns.{timeout_goes}
 use Rattle.tftp_rules.proofs.PhaseMoves.{if_acts}
 use Rattle.tftp_promises.specs.Openings.{moved_at, place_at}
 use Rattle.tftp_promises.specs.Order.{Programs, IsStranger}
-use Rattle.tftp_promises.specs.Ports.{IsStored, WasStored}
 use Rattle.tftp_promises.specs.Programs.{endpoint}
-use Rattle.tftp_promises.specs.Promises.{joined}
+use Rattle.tftp_promises.specs.Network.{joined}
 use Rattle.tftp_promises.specs.Snapshots.{Snapshot, server_did}
 use Rattle.tftp_promises.proofs.ClosedEnds.{closed_timeout_goes}
 use Rattle.tftp_promises.proofs.DraftsTake.{took_still}
 use Rattle.tftp_promises.proofs.GivenSteps.{gave_still}
-use Rattle.tftp_promises.proofs.Invariant.{How, By_models, By_run, HasStored, IsOpened, TransferKept, IsKept, IsFreshBy}
+use Rattle.tftp_promises.proofs.Invariant.{HasStored, IsOpened, TransferKept, IsKept, IsFreshBy}
 use Rattle.tftp_promises.proofs.Invariant.{IsStrangers}
 use Rattle.tftp_promises.proofs.KeptEvents.{SendsOnly, elapsed_silent}
 use Rattle.tftp_promises.proofs.KeptFiles.{left_is, now_is, sink_is, sink_no_source, source_is}
 use Rattle.tftp_promises.proofs.MovedSteps.{MovesNone}
 use Rattle.tftp_promises.proofs.PortEnds.{after_rest}
 use Rattle.tftp_promises.proofs.PortSteps.{no_outcome, server_is, stays_by, sends_only}
-use Rattle.tftp_promises.proofs.ServerStays.{AllStored, FilesStay, known_if, stay_if, stored_after}
-use Rattle.tftp_promises.proofs.StoredFiles.{IsIn}
+use Rattle.tftp_promises.proofs.ServerStays.{stored_after}
 use Rattle.tftp_promises.proofs.WrongPeers.{stays_strangers, timeout_stays}
 use Rattle.tftp_promises.proofs.TurnsAtPort.{Becomes, IsSeated, turn_keeps}
 
@@ -71,8 +68,8 @@ open_before e o = elim (cases_Bool (is_some (outcome_of e.position.phase))) [
 
 module _ {S F D G K : Type 0} {stores : StoreMeaning S D} {sources : SourceMeaning F} {inputs : SourceMeaning G}
     {outputs : SinkMeaning K}
-    (programs : Programs stores sources inputs outputs) {how : How programs} (old : Snapshot programs)
-    (kept : IsKept programs how old) (fresh : IsFreshBy programs old)
+    (programs : Programs stores sources inputs outputs) {pad : ℕ} (old : Snapshot programs)
+    (kept : IsKept programs pad old) (fresh : IsFreshBy programs old)
     {new : LoopState S F D} (serves : ServesPort stores sources old.state new) (added : List SocketEvent)
     (events : new.events ≡ added ++ old.state.events) (none : (a : Endpoint) →
     MovesNone programs old.run (At_port serves) a) where
@@ -91,7 +88,7 @@ module _ {S F D G K : Type 0} {stores : StoreMeaning S D} {sources : SourceMeani
     abbrev timed : TimesOutLent port old.state.server.held serves.next.server.held step answers.outgoing
     timed = answers.times_out
 
-    abbrev was : TransferKept programs how kept.views kept.messages old port timed.transfer place
+    abbrev was : TransferKept programs pad kept.views kept.messages old port timed.transfer place
     was = kept.transfers port timed.transfer place (inl (timed.found, refl))
 
     abbrev x : OpenEnd
@@ -112,16 +109,6 @@ module _ {S F D G K : Type 0} {stores : StoreMeaning S D} {sources : SourceMeani
     held : new.server.held ≡ with_next port next old.state.server.held
     held = ap (λ (s : ServerState S F D). s.held) (server_is programs old kept serves added events) ∙ timed.held
 
-    -- the store is the same
-    store_is : new.server.store ≡ old.state.server.store
-    store_is = ap (λ (s : ServerState S F D). s.store) (server_is programs old kept serves added events ∙ answers.rest)
-
-    stay_all : AllStored programs old.state new
-    stay_all o path file h = subst (λ (s : S). IsIn (stores.stored s) path file) (sym store_is) h
-
-    stay : FilesStay programs how old.state new
-    stay = stay_if programs how old.state new stay_all
-
     opened_now : (content : Files (List ℕ) Holding) → IsOpened programs now x →
         IsOpened programs now (end_after x turn content)
     opened_now (Source left) was =
@@ -130,36 +117,11 @@ module _ {S F D G K : Type 0} {stores : StoreMeaning S D} {sources : SourceMeani
         record { opening = was.opening; opened = was.opened; path = was.path; role = was.role }
 
     -- so is the file: what a timeout leaves is what was there
-    has_left : (w : How programs) (files : Files F D) → HasStored programs w now x files →
+    has_left : (w : ℕ) (files : Files F D) → HasStored programs w now x files →
         (content : Files (List ℕ) Holding) → content ≡ files_of x →
         (outcome_of turn.position.phase ≡ None → outcome_of x.state.position.phase ≡ None) →
-        (is_sender x.state.role.side ≡ false → (end_after x turn content).committed ≡ is_complete turn.position.phase) →
         HasStored programs w now (end_after x turn content) files
-    has_left (By_models models) (Source source) h (Source left) e still done =
-        let l = left_is left x.left (e ∙ sym (source_is x h.sender)) in
-        record {
-          sender = h.sender;
-          text = h.text;
-          left = λ o. subst (λ (t : List ℕ). HasLeft sources source t) (sym l) (h.left (still o));
-          was = h.was;
-          stays = h.stays;
-        }
-    has_left (By_models models) (Sink draft) h (Sink held) e still done =
-        let n = now_is held (holding_of x) (e ∙ sym (sink_is x h.receiver)) in
-        record {
-          receiver = h.receiver;
-          drafted =
-              h.drafted ∙ ap (λ (z : Holding). Some (record { bytes = z.bytes; committed = z.committed })) (sym n);
-          was = λ c.
-              subst (λ (bs : List ℕ). WasStored now.run x.path bs) (ap (λ (z : Holding). z.bytes) (sym n))
-              (h.was (sym (was.viewed.kept.committed h.receiver)
-              ∙ (ap (λ (z : Holding). z.committed) (sym n) ∙ (done h.receiver ∙ c))));
-          stays = λ o c.
-              subst (λ (bs : List ℕ). IsStored stores new x.path bs) (ap (λ (z : Holding). z.bytes) (sym n))
-              (h.stays o (sym (was.viewed.kept.committed h.receiver)
-              ∙ (ap (λ (z : Holding). z.committed) (sym n) ∙ (done h.receiver ∙ c))));
-        }
-    has_left (By_run pad) (Source source) h (Source left) e still done =
+    has_left pad (Source source) h (Source left) e still =
         let l = left_is left x.left (e ∙ sym (source_is x h.sender)) in
         record {
           sender = h.sender;
@@ -179,7 +141,7 @@ module _ {S F D G K : Type 0} {stores : StoreMeaning S D} {sources : SourceMeani
                 since = gave_still refl still h.given.since;
               };
         }
-    has_left (By_run pad) (Sink draft) h (Sink held) e still done =
+    has_left pad (Sink draft) h (Sink held) e still =
         let n = now_is held (holding_of x) (e ∙ sym (sink_is x h.receiver)) in
         record {
           receiver = h.receiver;
@@ -195,24 +157,15 @@ module _ {S F D G K : Type 0} {stores : StoreMeaning S D} {sources : SourceMeani
             since = took_still (ap (λ (z : Holding). z.committed) n) still h.taken.since;
           };
         }
-    has_left (By_models models) (Source source) h (Sink held) e still done =
+    has_left pad (Source source) h (Sink held) e still =
         absurd (sink_no_source held x.left (e ∙ sym (source_is x h.sender)))
-    has_left (By_run pad) (Source source) h (Sink held) e still done =
-        absurd (sink_no_source held x.left (e ∙ sym (source_is x h.sender)))
-    has_left (By_models models) (Sink draft) h (Source left) e still done =
-        absurd (sink_no_source (holding_of x) left (sym (e ∙ sym (sink_is x h.receiver))))
-    has_left (By_run pad) (Sink draft) h (Source left) e still done =
+    has_left pad (Sink draft) h (Source left) e still =
         absurd (sink_no_source (holding_of x) left (sym (e ∙ sym (sink_is x h.receiver))))
 
-    has : Goes (joined programs) kept.shown.0 kept.views kept.messages was.viewed.index x turn y →
-        HasStored programs how now y timed.transfer.files
-    has goes =
-        has_left how timed.transfer.files (stored_after programs how old (At_port serves) added stay x (none x.address)
+    has : HasStored programs pad now y timed.transfer.files
+    has =
+        has_left pad timed.transfer.files (stored_after programs pad old (At_port serves) added x (none x.address)
         timed.transfer.files was.has) (files_of x) refl (open_before x.state)
-        (λ r. subst (λ (e : EndState). (end_after x turn (files_of x)).committed ≡ is_complete e.position.phase)
-        (after_rest (in_state (after_turn x.state turn) x) (files_of x)).1
-        (goes.kept.committed (ap (λ (e : EndState). is_sender e.role.side)
-        (after_rest (in_state (after_turn x.state turn) x) (files_of x)).1 ∙ r)))
 
     becomes : Goes (joined programs) kept.shown.0 kept.views kept.messages was.viewed.index x turn y →
         Becomes programs old kept (At_port serves) added port timed.transfer timed.found x turn next
@@ -227,7 +180,7 @@ module _ {S F D G K : Type 0} {stores : StoreMeaning S D} {sources : SourceMeani
           request = rest.3 ∙ was.request;
           path_stays = refl;
           request_stays = refl;
-          has = has goes;
+          has = has;
         }
 
     stands : Stands (joined programs) kept.shown.0 kept.views kept.messages was.viewed.index (open_view x)
@@ -265,11 +218,10 @@ module _ {S F D G K : Type 0} {stores : StoreMeaning S D} {sources : SourceMeani
               (sym (stays.replies reply says)) s.last_sent_to);
         })
 
-    pub timeout_keeps : IsKept programs how now
+    pub timeout_keeps : IsKept programs pad now
     unfolding becomes
     timeout_keeps =
         turn_keeps programs old kept (At_port serves) added port timed.transfer timed.found fresh
-        (stays_by programs old kept serves added events (ap (λ (s : ServerState S F D). s.config) answers.rest)
-        (known_if programs how old.state new (ap stores.stored store_is) kept.server.known) stay)
+        (stays_by programs old kept serves added events (ap (λ (s : ServerState S F D). s.config) answers.rest))
         x was.address was.side was.viewed.last_sent turn next held (becomes its_turn) only_reply (seated was.seat)
         (λ a n. none a)

@@ -6,7 +6,7 @@ use Rattle.tftp_wire.specs.declared.mode.Mode.{Mode}
 use Rattle.tftp_negotiate.specs.declared.known.Known.{Known}
 use Rattle.tftp_negotiate.specs.declared.limits.TheConstants.{DEFAULT_BLOCK}
 use Rattle.tftp_file.specs.Block.{IsPrefixOf, block}
-use Rattle.tftp_ends.specs.End.{is_complete, is_sender}
+use Rattle.tftp_ends.specs.End.{is_sender}
 use Rattle.tftp_ends.specs.Opening.{serving_read, serving_write}
 use Rattle.tftp_ends.specs.Step.{block_length}
 use Rattle.tftp_rules.specs.EndOpens.{left_at_first, sending}
@@ -27,11 +27,6 @@ pub write_stores : (agreed : List Known) (peer : Endpoint) (mode : Mode) (retrie
     is_sender (serving_write agreed peer mode retries).role.side ≡ false
 write_stores [] peer mode retries = refl
 write_stores (known ∷ agreed) peer mode retries = refl
-
-pub write_begins : (agreed : List Known) (peer : Endpoint) (mode : Mode) (retries : ℕ) →
-    is_complete (serving_write agreed peer mode retries).position.phase ≡ false
-write_begins [] peer mode retries = refl
-write_begins (known ∷ agreed) peer mode retries = refl
 
 pub read_mode : (agreed : List Known) (peer : Endpoint) (mode : Mode) (text : List ℕ) (retries : ℕ) →
     (sending agreed peer mode text retries).role.mode ≡ mode

@@ -1,4 +1,4 @@
--- Journals of which only the older events are seen, so that the last step is seen in part.
+-- Traces of which only the older events are seen, so that the last step is seen in part.
 use Rattle.std.proofs.Common.{◌≡◌, ℕ, List, [], ◌∷◌, ◌++◌, append_assoc, length, sym, ap, ◌∙◌, subst, suc, arith, inl}
 use Rattle.std.proofs.Common.{inr}
 use Rattle.std.specs.List.{Contains, AllByRecursion}
@@ -6,12 +6,12 @@ use Rattle.std.proofs.lemmas.List.{append_cancel_right}
 use Rattle.std.proofs.lemmas.List.Elements.{Contains-append_cases, Contains-append_right, All-from_recursion}
 use Rattle.std.proofs.lemmas.List.Elements.{All-contains}
 use Rattle.tftp_rules.specs.Machine.{Endpoint}
-use Rattle.tftp_sockets.specs.Journal.{SocketEvent}
-use Rattle.tftp_sockets.specs.Journal.SocketEvent.{Received}
+use Rattle.tftp_sockets.specs.Trace.{SocketEvent}
+use Rattle.tftp_sockets.specs.Trace.SocketEvent.{Received}
 use Rattle.tftp_promises.proofs.Orders.{one_in}
 use Rattle.tftp_promises.proofs.StepEvents.{IsOther, IsQuiet, OldestOnly}
 
--- the last step added `ahead ++ x ∷ rest`, of which what is seen of the journal has `x ∷ rest`
+-- the last step added `ahead ++ x ∷ rest`, of which what is seen of the trace has `x ∷ rest`
 pub data Split (old_events events old_noted noted seen : List SocketEvent) : Type 0 where
   split : (ahead : List SocketEvent) (x : SocketEvent) (rest : List SocketEvent) → AllByRecursion IsOther ahead → OldestOnly x rest →
       events ≡ (ahead ++ x ∷ rest) ++ old_events → noted ≡ (ahead ++ x ∷ rest) ++ old_noted →
@@ -72,14 +72,14 @@ before_waits events waits e quiet other i = elim (Contains-append_cases events w
   | inr late ↦ absurd (other (All-contains IsQuiet waits e (All-from_recursion IsQuiet waits quiet) late))
 ]
 
--- what a journal has after a step, past where it began
+-- what a trace has after a step, past where it began
 pub past : (added old_noted before old_events events noted : List SocketEvent) → events ≡ added ++ old_events →
     old_events ≡ old_noted ++ before → events ≡ noted ++ before → noted ≡ added ++ old_noted
 past added old_noted before old_events events noted is old_is noted_is =
     append_cancel_right noted (added ++ old_noted) before
     (sym noted_is ∙ (is ∙ (ap (λ (es : List SocketEvent). added ++ es) old_is ∙ sym (append_assoc added old_noted before))))
 
--- nothing is noted by a journal that is where it began
+-- nothing is noted by a trace that is where it began
 pub at_first : (before events noted : List SocketEvent) → events ≡ before → events ≡ noted ++ before → noted ≡ []
 at_first before events noted is noted_is = append_cancel_right noted [] before (sym noted_is ∙ is)
 

@@ -7,9 +7,9 @@ use Rattle.tftp_file.specs.declared.files.Files.{Files}
 use Rattle.tftp_ends.specs.Step.{Reply, timeout_turn}
 use Rattle.tftp_rules.specs.Machine.{Endpoint}
 use Rattle.tftp_store.specs.Store.{StoreMeaning}
-use Rattle.tftp_sockets.specs.Journal.{SocketEvent, answered, replied}
-use Rattle.tftp_sockets.specs.Journal.SocketEvent.{Received, Sent, Watched, Elapsed, Printed, Quiet}
-use Rattle.tftp_sockets.specs.Journal.QuietEvent.{Drain_signalled, Empty, Failed, Slept, Woke}
+use Rattle.tftp_sockets.specs.Trace.{SocketEvent, answered, replied}
+use Rattle.tftp_sockets.specs.Trace.SocketEvent.{Received, Sent, Watched, Elapsed, Printed, Quiet}
+use Rattle.tftp_sockets.specs.Trace.QuietEvent.{Drain_signalled, Empty, Failed, Slept, Woke}
 use Rattle.tftp_loop.specs.Steps.{LoopState, PortState, LoopStep, PortStep, A_datagram, A_lost_datagram}
 use Rattle.tftp_loop.specs.Steps.{A_late_datagram, Nothing_found, A_failed_receive, A_timeout, A_missed_timeout, Work, Waited, At_port}
 use Rattle.tftp_loop.specs.Steps.{Request_received, No_request_found, Request_not_received, Request_noted}
@@ -25,7 +25,7 @@ use Rattle.tftp_promises.specs.Snapshots.{}
 abbrev pub IsOther : SocketEvent → Type 0
 IsOther (Received port from bytes) = ⊥
 IsOther (Sent port to bytes) = Unit {0}
-IsOther (Watched time) = Unit {0}
+IsOther (Watched watch) = Unit {0}
 IsOther (Elapsed port time) = Unit {0}
 IsOther (Printed line) = Unit {0}
 IsOther (Quiet event) = Unit {0}
@@ -34,7 +34,7 @@ IsOther (Quiet event) = Unit {0}
 abbrev pub IsQuiet : SocketEvent → Type 0
 IsQuiet (Received port from bytes) = ⊥
 IsQuiet (Sent port to bytes) = ⊥
-IsQuiet (Watched time) = ⊥
+IsQuiet (Watched watch) = ⊥
 IsQuiet (Elapsed port time) = ⊥
 IsQuiet (Printed line) = ⊥
 IsQuiet (Quiet event) = Unit {0}
@@ -44,7 +44,7 @@ abbrev pub OldestOnly : SocketEvent → List SocketEvent → Type 0
 OldestOnly e [] = Unit {0}
 OldestOnly e (older ∷ events) = IsOther e × OldestOnly older events
 
--- what a step adds to a journal
+-- what a step adds to a trace
 pub data Adds (before after : List SocketEvent) : Type 0 where
   Silent : after ≡ before → Adds before after
   Notes : (e : SocketEvent) (events : List SocketEvent) → OldestOnly e events → after ≡ (e ∷ events) ++ before → Adds before after
@@ -93,7 +93,7 @@ module _ {S F D : Type 0} {stores : StoreMeaning S D} {sources : SourceMeaning F
   -- a step of the server
   pub server_adds : {old new : LoopState S F D} → LoopStep stores sources old new → Adds old.events new.events
   server_adds (Waited r) =
-      Notes (Quiet (Woke r.ports)) (Quiet (Slept r.millis) ∷ Watched r.time ∷ []) (tt, (tt, tt))
+      Notes (Quiet (Woke r.ports)) (Quiet (Slept r.millis) ∷ Watched r.watch ∷ []) (tt, (tt, tt))
       (ap (λ (s : LoopState S F D). s.events) r.is)
   server_adds (At_port r) = then_is (port_adds r.does) (ap (λ (s : LoopState S F D). s.events) r.is)
   server_adds {old = old} (Request_received r) =
@@ -108,7 +108,7 @@ module _ {S F D : Type 0} {stores : StoreMeaning S D} {sources : SourceMeaning F
       reply_adds (answering_port old.requests r.left.opened.tid) r.left.opened.to r.left.sent
       (ap (λ (s : LoopState S F D). s.events) r.is)
   server_adds (Request_lost r) = Silent (ap (λ (s : LoopState S F D). s.events) r.is)
-  server_adds (Clock_read r) = Notes (Watched r.time) [] tt (ap (λ (s : LoopState S F D). s.events) r.is)
+  server_adds (Clock_read r) = Notes (Watched r.watch) [] tt (ap (λ (s : LoopState S F D). s.events) r.is)
   server_adds (Store_set r) = Silent (ap (λ (s : LoopState S F D). s.events) r.is)
   server_adds {old = old} {new = new} (Transfer_closed r) = Notes _ [] tt (ap (λ (s : LoopState S F D). s.events) r.is)
   server_adds (Drain_begun r) =
@@ -131,12 +131,12 @@ module _ {G K : Type 0} {inputs : SourceMeaning G} {outputs : SinkMeaning K} whe
   -- a step of a client
   pub client_adds : {port : ℕ} {s : State} {files : Files G K} {next : State} {files' : Files G K} →
       ClientDoes inputs outputs port s files next files' → AddsAfter s.events next.events
-  client_adds {port = port} {s = s} (Receives_one {from = from} {bytes = bytes} {time = time} may later handles) =
+  client_adds {port = port} {s = s} (Receives_one {from = from} {bytes = bytes} {watch = watch} may later handles) =
       after_wait (Quiet (Slept (wait_at s)) ∷ []) (tt, tt)
-      (handle_adds handles (Watched time) (Received port from bytes ∷ []) (tt, tt) refl)
-  client_adds (Reads_clock progress {time} later) = Acts (Watched time) [] [] tt tt refl
-  client_adds {s = s} (Waits_until {event = event} {time = time} may which later) =
-      Acts (Watched time) [] (Quiet event ∷ Quiet (Slept (wait_at s)) ∷ []) tt (tt, (tt, tt)) refl
+      (handle_adds handles (Watched watch) (Received port from bytes ∷ []) (tt, tt) refl)
+  client_adds (Reads_clock progress {watch} later) = Acts (Watched watch) [] [] tt tt refl
+  client_adds {s = s} (Waits_until {event = event} {watch = watch} may which later) =
+      Acts (Watched watch) [] (Quiet event ∷ Quiet (Slept (wait_at s)) ∷ []) tt (tt, (tt, tt)) refl
   client_adds (Times_out elapses) = after_wait [] tt (elapse_adds elapses)
   client_adds (File_works works) = Rests refl
   client_adds (Prints_line line) = Acts (Printed line) [] [] tt tt refl

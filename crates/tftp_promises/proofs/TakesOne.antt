@@ -43,7 +43,8 @@ use Rattle.tftp_ends.specs.Step.{committed_turn, data_bytes, holding, response_t
 use Rattle.tftp_ends.specs.Text.{is_readable}
 use Rattle.tftp_ends.specs.Waiting.{accept_action, agreed_terms, begin_action, begin_with_action, default_terms}
 use Rattle.tftp_ends.specs.Waiting.{no_answer, reader_action, refusal_action, writer_action}
-use Rattle.tftp_client.specs.Converses.{HandlesReceived, IsOpen, MayElapse, MayWait, State, received}
+use Rattle.tftp_client.specs.Converses.{HandlesReceived, IsOpen, IsReadBy, MayElapse, MayWait, State, received}
+use Rattle.tftp_sockets.specs.declared.watch.Watch.{Watch}
 use Rattle.tftp_client.specs.Converses.HandlesReceived.{Answers, Loses}
 use Rattle.tftp_client.specs.Converses.MayElapse.{Stays, Elapses}
 use Rattle.tftp_rules.specs.EndKept.{IsAnswer}
@@ -55,7 +56,7 @@ use Rattle.tftp_promises.specs.ClientRuns.{ClientDoes, ClientRun, Starts, Goes_o
 use Rattle.tftp_promises.specs.ClientRuns.{Times_out, File_works, Prints_line}
 use Rattle.tftp_promises.specs.Others.{ClientsTakeOne, DoesOwn, IsOtherAnswer, TakesOwn}
 use Rattle.tftp_promises.specs.Programs.{ClientProgram}
-use Rattle.tftp_promises.proofs.ClientJournals.{asks_there}
+use Rattle.tftp_promises.proofs.ClientTraces.{asks_there}
 use Rattle.tftp_promises.proofs.WrongPeers.{datagram_stays, timeout_stays}
 
 -- ---- an end that has a peer once it is open
@@ -341,8 +342,8 @@ module _ {G K : Type 0} {inputs : SourceMeaning G} {outputs : SinkMeaning K} (to
 
   answered : {port : ℕ} {first : State} {file : Files G K} {s : State} {files : Files G K}
       (run : ClientRun inputs outputs port first file s files) {next : State} {files' : Files G K} {from : Endpoint}
-      {bytes : List ℕ} {time : ℕ} (may : MayWait s) (later : s.now ≤ time)
-      (handles : HandlesReceived inputs outputs port from bytes (received port from bytes time s) files next files') →
+      {bytes : List ℕ} {watch : Watch} (may : MayWait s) (later : IsReadBy s watch)
+      (handles : HandlesReceived inputs outputs port from bytes (received port from bytes watch s) files next files') →
       Takes run → Takes (Goes_on run (Receives_one may later handles))
   answered run may later (Loses lost keeps) h =
       rests run (Receives_one may later (Loses lost keeps)) refl (λ others. tt) h

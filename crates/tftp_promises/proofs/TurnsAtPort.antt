@@ -8,8 +8,8 @@ use Rattle.tftp_ends.specs.End.{is_client}
 use Rattle.tftp_ends.specs.Step.{Reply, Turn}
 use Rattle.tftp_store.specs.Store.{StoreMeaning}
 use Rattle.tftp_server.specs.State.{TransferState, at, with_next}
-use Rattle.tftp_sockets.specs.Journal.{SocketEvent}
-use Rattle.tftp_sockets.specs.Journal.SocketEvent.{Sent}
+use Rattle.tftp_sockets.specs.Trace.{SocketEvent}
+use Rattle.tftp_sockets.specs.Trace.SocketEvent.{Sent}
 use Rattle.tftp_loop.specs.Steps.{LoopState, LoopStep}
 use Rattle.tftp_rules.specs.EndShown.{Goes}
 use Rattle.tftp_rules.specs.Machine.{Endpoint}
@@ -17,9 +17,9 @@ use Rattle.tftp_rules.specs.OpenEnds.{OpenEnd}
 use Rattle.tftp_promises.specs.Openings.{place_at}
 use Rattle.tftp_promises.specs.Order.{Programs, IsStranger}
 use Rattle.tftp_promises.specs.Programs.{endpoint}
-use Rattle.tftp_promises.specs.Promises.{joined}
+use Rattle.tftp_promises.specs.Network.{joined}
 use Rattle.tftp_promises.specs.Snapshots.{Snapshot, server_did}
-use Rattle.tftp_promises.proofs.Invariant.{How, IsThere, HasStored, TransferKept, IsKept, IsFreshBy, IsStrangers}
+use Rattle.tftp_promises.proofs.Invariant.{IsThere, HasStored, TransferKept, IsKept, IsFreshBy, IsStrangers}
 use Rattle.tftp_promises.proofs.KeptEvents.{SendsOnly}
 use Rattle.tftp_promises.proofs.KeptPorts.{PortTurns, port_keeps}
 use Rattle.tftp_promises.proofs.KeptTurns.{reply_there, newest_there}
@@ -29,15 +29,15 @@ use Rattle.tftp_promises.proofs.ServerStays.{ServerStays}
 
 module _ {S F D G K : Type 0} {stores : StoreMeaning S D} {sources : SourceMeaning F} {inputs : SourceMeaning G}
     {outputs : SinkMeaning K}
-    (programs : Programs stores sources inputs outputs) {how : How programs} (old : Snapshot programs)
-    (kept : IsKept programs how old) {new : LoopState S F D} (does : LoopStep stores sources old.state new)
+    (programs : Programs stores sources inputs outputs) {pad : ℕ} (old : Snapshot programs)
+    (kept : IsKept programs pad old) {new : LoopState S F D} (does : LoopStep stores sources old.state new)
     (added : List SocketEvent)
     (port : ℕ) (transfer : TransferState F D) (found : at port old.state.server.held ≡ Some transfer) where
   -- its place, and the end before
   abbrev place : Endpoint
   place = place_at programs port old.run
 
-  abbrev was : TransferKept programs how kept.views kept.messages old port transfer place
+  abbrev was : TransferKept programs pad kept.views kept.messages old port transfer place
   was = kept.transfers port transfer place (inl (found, refl))
 
   -- the end x and its transfer after a turn
@@ -50,7 +50,7 @@ module _ {S F D G K : Type 0} {stores : StoreMeaning S D} {sources : SourceMeani
     pub request : end.request ≡ next.request
     pub path_stays : next.path ≡ transfer.path
     pub request_stays : next.request ≡ transfer.request
-    pub has : HasStored programs how (server_did programs old does added) end next.files
+    pub has : HasStored programs pad (server_did programs old does added) end next.files
 
   -- the turn of a stranger's transfer: it is one still, and what it answers is for a stranger, or is there from its
   -- port
@@ -122,5 +122,5 @@ module _ {S F D G K : Type 0} {stores : StoreMeaning S D} {sources : SourceMeani
       has = becomes.has;
     }
 
-    pub turn_keeps : IsKept programs how (server_did programs old does added)
+    pub turn_keeps : IsKept programs pad (server_did programs old does added)
     turn_keeps = port_keeps programs old kept fresh does stays added port transfer found turns none

@@ -28,9 +28,9 @@ use Rattle.tftp_rules.specs.ViewSafety.{IsAmong}
 use Rattle.tftp_promises.specs.Openings.{HasClosed}
 use Rattle.tftp_promises.specs.Order.{Programs}
 use Rattle.tftp_promises.specs.Ports.{Removes}
-use Rattle.tftp_promises.specs.Promises.{joined}
+use Rattle.tftp_promises.specs.Network.{joined}
 use Rattle.tftp_promises.specs.Snapshots.{Snapshot, Has_asked}
-use Rattle.tftp_promises.proofs.Invariant.{How, HasTransferBy, IsKept}
+use Rattle.tftp_promises.proofs.Invariant.{HasTransferBy, IsKept}
 use Rattle.tftp_promises.proofs.KeptViews.{view_there}
 
 -- ---- the transfers that a server holds
@@ -105,8 +105,8 @@ closed_over x closed busy = true≢false (sym (over_in x.state.position.phase cl
 
 module _ {S F D G K : Type 0} {stores : StoreMeaning S D} {sources : SourceMeaning F} {inputs : SourceMeaning G}
     {outputs : SinkMeaning K}
-    (programs : Programs stores sources inputs outputs) {how : How programs} (old : Snapshot programs)
-    (kept : IsKept programs how old) (from : Endpoint) (packet : WirePacket) where
+    (programs : Programs stores sources inputs outputs) {pad : ℕ} (old : Snapshot programs)
+    (kept : IsKept programs pad old) (from : Endpoint) (packet : WirePacket) where
   -- a transfer that was removed had closed
   has_closed : {first last : LoopState S F D} (run : Run (LoopStep stores sources) first last) (port : ℕ)
       (t : TransferState F D) (b : Endpoint) → HasClosed programs run port t b → is_closed t ≡ true

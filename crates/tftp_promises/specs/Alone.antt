@@ -11,16 +11,14 @@ use Rattle.tftp_ends.specs.End.{is_complete, is_sender}
 use Rattle.tftp_store.specs.Store.{StoreMeaning}
 use Rattle.tftp_client.specs.Runs.{begun}
 use Rattle.tftp_rules.specs.Machine.{Endpoint}
-use Rattle.tftp_sockets.specs.Journal.SocketEvent.{Received, Sent}
+use Rattle.tftp_sockets.specs.Trace.SocketEvent.{Received, Sent}
 use Rattle.tftp_promises.specs.AnyFiles.{IsEnd, KeepAnyFiles, ProgramEnd, has_of, peer_of}
 use Rattle.tftp_promises.specs.ClientRuns.{Starts}
 use Rattle.tftp_promises.specs.Joined.{AreJoined}
-use Rattle.tftp_promises.specs.Modelled.{AreModelled}
 use Rattle.tftp_promises.specs.Openings.{ArePortsFresh}
 use Rattle.tftp_promises.specs.Order.{Noted, Programs, IsError, IsStranger}
 use Rattle.tftp_promises.specs.Others.{TakesOwn}
 use Rattle.tftp_promises.specs.Programs.{endpoint, client_at}
-use Rattle.tftp_promises.specs.Promises.{KeepPromises}
 use Rattle.tftp_promises.specs.Several.{Several, OneServer, OneClient, AreHonest, AreInOrder}
 use Rattle.tftp_promises.specs.Several.{known_ports, number_of, other_ports}
 
@@ -99,9 +97,10 @@ module _ {S F D G K : Type 0} {stores : StoreMeaning S D} {sources : SourceMeani
       record {
         ip = client.ip;
         port = client.port;
+        reading = client.reading;
         first = client.first;
         before = client.before;
-        last = begun client.port client.first client.before;
+        last = begun client.port client.reading client.first client.before;
         files = client.file;
         file = client.file;
         runs = Starts;
@@ -140,18 +139,8 @@ module _ {S F D G K : Type 0} (stores : StoreMeaning S D) (sources : SourceMeani
       → slice_get several.servers i ≡ Some server → slice_get several.clients k ≡ Some client
       → IsServed several order i server k client → KeepAnyFiles (alone several i server client)
 
-  -- and over files of known content
-  abbrev pub EachKeepsPromises : Type 0
-  EachKeepsPromises =
-      (several : Several stores sources inputs outputs) (order : List Noted)
-      (i : ℕ) (server : OneServer several) (k : ℕ) (client : OneClient several)
-      → slice_get several.servers i ≡ Some server → slice_get several.clients k ≡ Some client
-      → IsServed several order i server k client
-      → (models : AreModelled (alone several i server client))
-      → KeepPromises (alone several i server client) models
-
   -- a client takes no server's answer, or the answers of one port: those of the server that has the
-  -- port for it. So its own journal and those of the servers decide which one serves it
+  -- port for it. So its own trace and those of the servers decide which one serves it
   abbrev pub EachTakesOne : Type 0
   EachTakesOne =
       (several : Several stores sources inputs outputs) (client : OneClient several)

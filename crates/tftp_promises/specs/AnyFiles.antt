@@ -1,4 +1,4 @@
--- The promises of a transfer in the end state of the journals, over any store and any files: what
+-- The promises of a transfer in the end state of the traces, over any store and any files: what
 -- moved at an end is read off its run.
 use Rattle.std.specs.Prelude.{ℕ, ◌≡◌, ◌⊎◌, true, false, not, List, [], length, slice_get}
 use Rattle.std.specs.Prelude.{Option, Some, Ok}
@@ -23,9 +23,9 @@ use Rattle.tftp_promises.specs.Openings.{moved_at, opened_at}
 use Rattle.tftp_promises.specs.Order.{Programs, IsStranger, requests_at}
 use Rattle.tftp_promises.specs.Programs.{endpoint, ClientProgram, client_at, name_of}
 use Rattle.tftp_promises.specs.Programs.{packet_of}
-use Rattle.tftp_promises.specs.Promises.{HasOpened}
+use Rattle.tftp_promises.specs.Network.{HasOpened}
 
--- an end in the end state of the journals: its endpoint, its state, and what moved between its file
+-- an end in the end state of the traces: its endpoint, its state, and what moved between its file
 -- and its datagrams
 pub record ProgramEnd : Type 0 where
   pub address : Endpoint

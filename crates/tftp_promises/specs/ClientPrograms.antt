@@ -8,7 +8,7 @@ use Rattle.tftp_file.specs.declared.files.Files.{Files}
 use Rattle.tftp_ends.specs.End.{EndState, is_complete}
 use Rattle.tftp_ends.specs.declared.side.Side.TheVariants.{ClientRead, ClientWrite}
 use Rattle.tftp_rules.specs.Machine.{Endpoint}
-use Rattle.tftp_sockets.specs.Journal.{SocketEvent}
+use Rattle.tftp_sockets.specs.Trace.{SocketEvent}
 use Rattle.tftp_client.specs.Converses.{Converses, State}
 use Rattle.tftp_client.specs.Moved.{Moved, nothing_moved, run_moves}
 use Rattle.tftp_client.specs.Runs.{Dallies, begun, printed}
@@ -28,7 +28,7 @@ module _ {G K : Type 0} {inputs : SourceMeaning G} {outputs : SinkMeaning K} whe
 
 module _ {G K : Type 0} (inputs : SourceMeaning G) (outputs : SinkMeaning K) {to : Endpoint} where
   -- a program at this address whose end opened so, which reached this state and noted what leads to
-  -- it from that journal, and in whose run this moved
+  -- it from that trace, and in whose run this moved
   pub record IsClientRun (ip : List ℕ) {first : EndState} {file : Files G K}
       (opens : ClientOpens inputs outputs to first file) (before : List SocketEvent) (s : State)
       (moved : Moved) : Type 0 where
@@ -43,12 +43,13 @@ module _ {G K : Type 0} (inputs : SourceMeaning G) (outputs : SinkMeaning K) {to
 
   -- from its request on, and up to its line and from then on
   pub record IsProgramRun (ip : List ℕ) {first : EndState} {file : Files G K}
-      (opens : ClientOpens inputs outputs to first file) (before : List SocketEvent) (port : ℕ) (s : State)
-      (files : Files G K)
-      (run : Converses inputs outputs port (begun port first before) file s files) : Type 0 where
+      (opens : ClientOpens inputs outputs to first file) (before : List SocketEvent) (port reading : ℕ)
+      (s : State) (files : Files G K)
+      (run : Converses inputs outputs port (begun port reading first before) file s files)
+      : Type 0 where
     pub runs_so : IsClientRun ip opens before s (run_moves run nothing_moved)
-    pub stays_so : (count : ℕ) (after : List SocketEvent)
-        (stays : Dallies inputs outputs port (printed count s) files after)
+    pub stays_so : (line : List ℕ) (after : List SocketEvent)
+        (stays : Dallies inputs outputs port (printed line s) files after)
         → IsClientRun ip opens before stays.last
         (run_moves stays.converses (run_moves run nothing_moved))
 
@@ -56,7 +57,7 @@ module _ {G K : Type 0} (inputs : SourceMeaning G) (outputs : SinkMeaning K) whe
   abbrev pub ClientsArePrograms : Type 0
   ClientsArePrograms =
       (to : Endpoint) (ip : List ℕ) (first : EndState) (file : Files G K)
-      (opens : ClientOpens inputs outputs to first file) (before : List SocketEvent) (port : ℕ) (s : State)
-      (files : Files G K)
-      (run : Converses inputs outputs port (begun port first before) file s files)
-      → IsProgramRun inputs outputs ip opens before port s files run
+      (opens : ClientOpens inputs outputs to first file) (before : List SocketEvent) (port reading : ℕ)
+      (s : State) (files : Files G K)
+      (run : Converses inputs outputs port (begun port reading first before) file s files)
+      → IsProgramRun inputs outputs ip opens before port reading s files run

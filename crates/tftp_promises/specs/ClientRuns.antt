@@ -1,15 +1,17 @@
 -- The run of a client, step by step: what its end does over its socket, and the lines that it
 -- prints.
-use Rattle.std.specs.Prelude.{ℕ, ◌≡◌, ◌≤◌, ◌⊎◌, Bool, List, ◌∷◌}
+use Rattle.std.specs.Prelude.{ℕ, ◌≡◌, ◌⊎◌, Bool, List, ◌∷◌}
 use Rattle.tftp_file.specs.Sink.{SinkMeaning}
 use Rattle.tftp_file.specs.Source.{SourceMeaning}
 use Rattle.tftp_file.specs.declared.files.Files.{Files}
 use Rattle.tftp_ends.specs.End.{EndState}
 use Rattle.tftp_rules.specs.Machine.{Endpoint}
-use Rattle.tftp_sockets.specs.Journal.{SocketEvent, QuietEvent}
-use Rattle.tftp_sockets.specs.Journal.SocketEvent.{Printed}
-use Rattle.tftp_sockets.specs.Journal.QuietEvent.{Empty, Failed}
-use Rattle.tftp_client.specs.Converses.{State, HandlesReceived, MayElapse, MayWait, WorksOnFile}
+use Rattle.tftp_sockets.specs.declared.watch.Watch.{Watch}
+use Rattle.tftp_sockets.specs.Trace.{SocketEvent, QuietEvent}
+use Rattle.tftp_sockets.specs.Trace.SocketEvent.{Printed}
+use Rattle.tftp_sockets.specs.Trace.QuietEvent.{Empty, Failed}
+use Rattle.tftp_client.specs.Converses.{State, HandlesReceived, IsReadBy, MayElapse, MayWait}
+use Rattle.tftp_client.specs.Converses.{WorksOnFile}
 use Rattle.tftp_client.specs.Converses.{received, renewed, waited}
 use Rattle.tftp_client.specs.Runs.{Runs, Dallies, begun, printed}
 use Rattle.tftp_promises.specs.Moved.{Moved, nothing_moved, handling_moves}
@@ -22,18 +24,18 @@ line_printed line s = record s { events = Printed line ∷ s.events }
 pub data ClientDoes {G K : Type 0} (inputs : SourceMeaning G) (outputs : SinkMeaning K) (port : ℕ)
     (s : State) (files : Files G K) : State → Files G K → Type 0 where
   -- a datagram was received
-  Receives_one : {next : State} {files' : Files G K} {from : Endpoint} {bytes : List ℕ} {time : ℕ}
-      → MayWait s → s.now ≤ time
-      → HandlesReceived inputs outputs port from bytes (received port from bytes time s) files next
+  Receives_one : {next : State} {files' : Files G K} {from : Endpoint} {bytes : List ℕ} {watch : Watch}
+      → MayWait s → IsReadBy s watch
+      → HandlesReceived inputs outputs port from bytes (received port from bytes watch s) files next
       files'
       → ClientDoes inputs outputs port s files next files'
   -- the clock was read again, once a datagram was handled
-  Reads_clock : (progress : Bool) {time : ℕ} → s.now ≤ time
-      → ClientDoes inputs outputs port s files (renewed progress time s) files
-  -- none was received until this time: the port was empty, or the receive failed
-  Waits_until : {event : QuietEvent} {time : ℕ} → MayWait s
-      → (event ≡ Empty port) ⊎ (event ≡ Failed port) → s.now ≤ time
-      → ClientDoes inputs outputs port s files (waited event time s) files
+  Reads_clock : (progress : Bool) {watch : Watch} → IsReadBy s watch
+      → ClientDoes inputs outputs port s files (renewed progress watch s) files
+  -- none was received until the clock was read: the port was empty, or the receive failed
+  Waits_until : {event : QuietEvent} {watch : Watch} → MayWait s
+      → (event ≡ Empty port) ⊎ (event ≡ Failed port) → IsReadBy s watch
+      → ClientDoes inputs outputs port s files (waited event watch s) files
   -- a timeout was due
   Times_out : {next : State} → MayElapse port s next
       → ClientDoes inputs outputs port s files next files
@@ -75,11 +77,11 @@ module _ {G K : Type 0} (inputs : SourceMeaning G) (outputs : SinkMeaning K) whe
   -- that is complete, with its line and what it did after it
   pub record IsOneRun (port : ℕ) (end : EndState) (before : List SocketEvent) (s : State)
       (files : Files G K) (runs : Runs inputs outputs port end before s files) : Type 0 where
-    pub runs_so : ClientRun inputs outputs port (begun port end before) runs.file s files
-    pub stays_so : (count : ℕ) (after : List SocketEvent)
-        → Dallies inputs outputs port (printed count s) files after
+    pub runs_so : ClientRun inputs outputs port (begun port runs.reading end before) runs.file s files
+    pub stays_so : (line : List ℕ) (after : List SocketEvent)
+        → Dallies inputs outputs port (printed line s) files after
         → (last : State) × (files' : Files G K)
-        × ClientRun inputs outputs port (begun port end before) runs.file last files'
+        × ClientRun inputs outputs port (begun port runs.reading end before) runs.file last files'
         × (last.events ≡ after)
 
   abbrev pub ClientsAreRuns : Type 0

@@ -8,7 +8,7 @@ use Rattle.tftp_rules.specs.Machine.{Endpoint, At_server, At_client, Elsewhere}
 use Rattle.tftp_promises.specs.Openings.{ArePortsFresh, server_ports}
 use Rattle.tftp_promises.specs.Order.{Programs, IsStranger, requests_at}
 use Rattle.tftp_promises.specs.Programs.{endpoint, ClientProgram, client_at}
-use Rattle.tftp_promises.specs.Promises.{joined}
+use Rattle.tftp_promises.specs.Network.{joined}
 
 module _ {S F D G K : Type 0} {stores : StoreMeaning S D} {sources : SourceMeaning F}
     {inputs : SourceMeaning G} {outputs : SinkMeaning K}

@@ -4,12 +4,10 @@ use Rattle.tftp_file.specs.Sink.{SinkMeaning}
 use Rattle.tftp_file.specs.Source.{SourceMeaning}
 use Rattle.tftp_store.specs.Store.{StoreMeaning}
 use Rattle.tftp_promises.specs.AnyFiles.{KeepAnyFiles}
-use Rattle.tftp_promises.specs.Modelled.{AreModelled}
 use Rattle.tftp_promises.specs.Openings.{ArePortsFresh}
 use Rattle.tftp_promises.specs.Order.{Noted, Programs, IsOrder, IsHonest, requests_at}
 use Rattle.tftp_promises.specs.Others.{TakesOwn}
 use Rattle.tftp_promises.specs.Programs.{ClientProgram}
-use Rattle.tftp_promises.specs.Promises.{KeepPromises, AreShown}
 
 module _ {S F D G K : Type 0} (stores : StoreMeaning S D) (sources : SourceMeaning F)
     (inputs : SourceMeaning G) (outputs : SinkMeaning K) where
@@ -33,21 +31,8 @@ module _ {S F D G K : Type 0} (stores : StoreMeaning S D) (sources : SourceMeani
       → IsHonest stores sources inputs outputs programs order → ArePortsFresh programs
       → AreJoined programs order
 
-  -- a server and any number of clients, over files of known content: in the end state of their
-  -- journals the ends keep the promises. Other servers at the address are strangers
-  abbrev pub ProgramsKeepPromises : Type 0
-  ProgramsKeepPromises =
-      (programs : Programs stores sources inputs outputs) (order : List Noted)
-      → AreJoined programs order → (models : AreModelled programs) → KeepPromises programs models
-
   -- over any files: what a receiver handed to its file is what its peer's file gave
   abbrev pub ProgramsKeepAnyFiles : Type 0
   ProgramsKeepAnyFiles =
       (programs : Programs stores sources inputs outputs) (order : List Noted)
       → AreJoined programs order → KeepAnyFiles programs
-
-  -- rules of the guarded machine lead to these ends, over files of known content
-  abbrev pub ProgramsAreShown : Type 0
-  ProgramsAreShown =
-      (programs : Programs stores sources inputs outputs) (order : List Noted)
-      → AreJoined programs order → (models : AreModelled programs) → AreShown programs models

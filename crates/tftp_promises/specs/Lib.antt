@@ -8,12 +8,11 @@ pub mod Ports
 pub mod Openings
 pub mod Given
 pub mod Drafts
-pub mod Modelled
 pub mod Arrived
-pub mod Promises
+pub mod Network
 pub mod AnyFiles
 pub mod Hosts
-pub mod Journals
+pub mod Traces
 pub mod Joined
 pub mod Several
 pub mod Alone

@@ -5,14 +5,14 @@ use Rattle.tftp_store.specs.Store.{StoreMeaning}
 use Rattle.tftp_lines.specs.Printed.{line_text}
 use Rattle.tftp_lines.specs.declared.printed.Printed.TheVariants.{Closed}
 use Rattle.tftp_server.specs.State.{ServerState}
-use Rattle.tftp_sockets.specs.Journal.{SocketEvent}
-use Rattle.tftp_sockets.specs.Journal.SocketEvent.{Printed}
+use Rattle.tftp_sockets.specs.Trace.{SocketEvent}
+use Rattle.tftp_sockets.specs.Trace.SocketEvent.{Printed}
 use Rattle.tftp_loop.specs.Run.{Run}
 use Rattle.tftp_loop.specs.Run.Run.{Start, Then}
 use Rattle.tftp_loop.specs.Steps.{LoopState, LoopStep, Transfer_closed, at_start}
 use Rattle.tftp_loop.specs.declared.serving.LoopConfig.{LoopConfig}
 
--- the printed lines of a journal, the newest first
+-- the printed lines of a trace, the newest first
 abbrev pub lines_of : List SocketEvent → List (List ℕ)
 lines_of [] = []
 lines_of (Printed line ∷ events) = line ∷ lines_of events
@@ -37,7 +37,7 @@ module _ {S F D : Type 0} where
   -- at each time of a run its lines are those of the transfers that it removed, in their order
   abbrev pub EachLineIsAClose : StoreMeaning S D → SourceMeaning F → Type 0
   EachLineIsAClose stores sources =
-      (config : LoopConfig) (port : ℕ) (first : ServerState S F D) (before : List SocketEvent)
-      (now : LoopState S F D)
-      (run : Run (LoopStep stores sources) (at_start config port first before) now)
+      (config : LoopConfig) (port reading : ℕ) (first : ServerState S F D)
+      (before : List SocketEvent) (now : LoopState S F D)
+      (run : Run (LoopStep stores sources) (at_start config port first reading before) now)
       → lines_of now.events ≡ closed_lines run ++ lines_of before

@@ -8,8 +8,8 @@ use Rattle.tftp_file.specs.Sink.{SinkMeaning}
 use Rattle.tftp_file.specs.Source.{SourceMeaning}
 use Rattle.tftp_store.specs.Store.{StoreMeaning}
 use Rattle.tftp_rules.specs.Machine.{Endpoint}
-use Rattle.tftp_sockets.specs.Journal.{SocketEvent}
-use Rattle.tftp_sockets.specs.Journal.SocketEvent.{Received, Sent, Watched, Elapsed, Printed, Quiet}
+use Rattle.tftp_sockets.specs.Trace.{SocketEvent}
+use Rattle.tftp_sockets.specs.Trace.SocketEvent.{Received, Sent, Watched, Elapsed, Printed, Quiet}
 use Rattle.tftp_promises.specs.Programs.{endpoint, ServerProgram, ClientProgram, client_at}
 
 -- an event and its program, by a number: first the servers, by their indices, then the clients.
@@ -58,7 +58,7 @@ module _ (ips : List (List ℕ)) where
         (to : Endpoint) × IsAtOf program port to
         × (WasSentOf earlier from to bytes ⊎ (Strange from ⊎ IsError bytes))
     CanComeOf program (Sent port to bytes) earlier = Unit {0}
-    CanComeOf program (Watched time) earlier = Unit {0}
+    CanComeOf program (Watched watch) earlier = Unit {0}
     CanComeOf program (Elapsed port time) earlier = Unit {0}
     CanComeOf program (Printed line) earlier = Unit {0}
     CanComeOf program (Quiet event) earlier = Unit {0}

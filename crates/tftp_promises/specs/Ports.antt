@@ -1,20 +1,13 @@
 -- The transfers of a run: their ports, the one that a step removes, and the files under their
 -- paths.
-use Rattle.std.specs.Prelude.{ℕ, ◌≡◌, ◌⊎◌, List, [], ◌++◌, slice_get, Some}
+use Rattle.std.specs.Prelude.{ℕ, ◌≡◌, List, [], ◌++◌, slice_get, Some}
 use Rattle.std.specs.Prelude.{option_to_list}
 use Rattle.tftp_file.specs.Source.{SourceMeaning}
-use Rattle.tftp_store.specs.Store.{StoreMeaning, FileList, file_at, files_of}
+use Rattle.tftp_store.specs.Store.{StoreMeaning}
 use Rattle.tftp_server.specs.State.{TransferState, at}
 use Rattle.tftp_loop.specs.Run.{Run}
 use Rattle.tftp_loop.specs.Run.Run.{Start, Then}
 use Rattle.tftp_loop.specs.Steps.{LoopState, LoopStep, Request_answered, Transfer_closed}
-
--- the file is under the path in the server's store
-abbrev pub IsStored : {S F D : Type 0} → StoreMeaning S D → LoopState S F D → List ℕ → List ℕ
-    → Type 0
-IsStored stores state path file =
-    (files : FileList) × (files_of (stores.stored state.server.store) ≡ Some files)
-    × (file_at path files ≡ Some file)
 
 module _ {S F D : Type 0} {stores : StoreMeaning S D} {sources : SourceMeaning F} where
   -- the port of the transfer that a step opens
@@ -34,13 +27,6 @@ module _ {S F D : Type 0} {stores : StoreMeaning S D} {sources : SourceMeaning F
   Removes {old} (Transfer_closed closes) port transfer =
       (port ≡ closes.timer.port) × (at port old.server.held ≡ Some transfer)
   Removes does port transfer = ⊥
-
-  -- the file was under the path at some time of the run
-  abbrev pub WasStored : {first last : LoopState S F D} → Run (LoopStep stores sources) first last
-      → List ℕ → List ℕ → Type 0
-  WasStored {first} Start path file = IsStored stores first path file
-  WasStored {first} {last} (Then run does) path file =
-      IsStored stores last path file ⊎ WasStored run path file
 
 -- no port is there twice
 abbrev pub AreDistinct : List ℕ → Type 0

@@ -1,5 +1,5 @@
 -- The programs of a network: servers and their clients, each with its address, its run, and what
--- the run noted in its journal (RFC 1350, section 4).
+-- the run noted in its trace (RFC 1350, section 4).
 use Rattle.std.specs.Prelude.{ℕ, ◌≡◌, ◌==◌, ◌&&◌, not, Bool, true, false, if◌then◌else◌, List, []}
 use Rattle.std.specs.Prelude.{◌∷◌, ◌++◌, None}
 use Rattle.tftp_wire.specs.declared.mode.Mode.{Mode}
@@ -16,7 +16,7 @@ use Rattle.tftp_ends.specs.Opening.{MayGet, MayPut, getting, putting, request_of
 use Rattle.tftp_store.specs.Store.{StoreMeaning}
 use Rattle.tftp_rules.specs.Machine.{Endpoint, is_same, is_same_ip, At_server, At_client}
 use Rattle.tftp_rules.specs.Machine.{Elsewhere, Network}
-use Rattle.tftp_sockets.specs.Journal.{SocketEvent}
+use Rattle.tftp_sockets.specs.Trace.{SocketEvent}
 use Rattle.tftp_loop.specs.Run.{Run}
 use Rattle.tftp_loop.specs.Steps.{LoopState, LoopStep}
 use Rattle.tftp_client.specs.Converses.{State}
@@ -106,13 +106,15 @@ module _ {G K : Type 0} (inputs : SourceMeaning G) (outputs : SinkMeaning K) (to
     pub ip : List ℕ
     -- the port of its socket
     pub port : ℕ
+    -- the reading of the clock at which its watch starts
+    pub reading : ℕ
     pub first : EndState
     pub before : List SocketEvent
     pub last : State
     pub files : Files G K
     -- its file before the run
     pub file : Files G K
-    pub runs : ClientRun inputs outputs port (begun port first before) file last files
+    pub runs : ClientRun inputs outputs port (begun port reading first before) file last files
     pub opens : ClientOpens first file
     -- the events of the run, the newest first
     pub noted : List SocketEvent

@@ -1,4 +1,4 @@
--- Several servers that share an address and a request port, each with a journal of its own, and
+-- Several servers that share an address and a request port, each with a trace of its own, and
 -- their clients. A request may come to any of the servers, and a repeated one to two: the client
 -- takes the first that answers, and the other closes (RFC 1350, section 4).
 use Rattle.std.specs.Prelude.{ℕ, ◌≡◌, ◌+◌, zero, suc, if◌then◌else◌, List, [], ◌∷◌, ◌++◌, length}
@@ -7,8 +7,8 @@ use Rattle.tftp_file.specs.Sink.{SinkMeaning}
 use Rattle.tftp_file.specs.Source.{SourceMeaning}
 use Rattle.tftp_store.specs.Store.{StoreMeaning}
 use Rattle.tftp_rules.specs.Machine.{Endpoint, is_same}
-use Rattle.tftp_sockets.specs.Journal.{SocketEvent}
-use Rattle.tftp_sockets.specs.Journal.SocketEvent.{Sent}
+use Rattle.tftp_sockets.specs.Trace.{SocketEvent}
+use Rattle.tftp_sockets.specs.Trace.SocketEvent.{Sent}
 use Rattle.tftp_loop.specs.Run.{Run}
 use Rattle.tftp_loop.specs.Run.Run.{Start, Then}
 use Rattle.tftp_loop.specs.Steps.{LoopState, LoopStep, Request_answered}

@@ -5,8 +5,8 @@ use Rattle.tftp_file.specs.Source.{SourceMeaning}
 use Rattle.tftp_file.specs.declared.files.Files.{Files}
 use Rattle.tftp_store.specs.Store.{StoreMeaning}
 use Rattle.tftp_rules.specs.Machine.{Endpoint}
-use Rattle.tftp_sockets.specs.Journal.{SocketEvent}
-use Rattle.tftp_sockets.specs.Journal.SocketEvent.{Sent}
+use Rattle.tftp_sockets.specs.Trace.{SocketEvent}
+use Rattle.tftp_sockets.specs.Trace.SocketEvent.{Sent}
 use Rattle.tftp_loop.specs.Run.{Run}
 use Rattle.tftp_loop.specs.Run.Run.{Start, Then}
 use Rattle.tftp_loop.specs.Steps.{LoopState, LoopStep}
@@ -34,7 +34,7 @@ module _ {G K : Type 0} {inputs : SourceMeaning G} {outputs : SinkMeaning K} whe
   -- a client that has sent its request, and no more
   abbrev pub just_asked : {to : Endpoint} → ClientProgram inputs outputs to → ClientStage G K
   just_asked client =
-      Has_asked (begun client.port client.first client.before) client.file
+      Has_asked (begun client.port client.reading client.first client.before) client.file
       (Sent client.port client.first.position.last_sent_to client.first.position.last_sent ∷ [])
       nothing_moved
 

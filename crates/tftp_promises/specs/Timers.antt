@@ -6,7 +6,7 @@ use Rattle.std.specs.Map.{keys_of}
 use Rattle.tftp_file.specs.Source.{SourceMeaning}
 use Rattle.tftp_store.specs.Store.{StoreMeaning}
 use Rattle.tftp_server.specs.State.{ServerState, at}
-use Rattle.tftp_sockets.specs.Journal.{SocketEvent}
+use Rattle.tftp_sockets.specs.Trace.{SocketEvent}
 use Rattle.tftp_loop.specs.Run.{Run}
 use Rattle.tftp_loop.specs.Steps.{Timer, LoopState, LoopStep, at_start}
 use Rattle.tftp_loop.specs.declared.serving.LoopConfig.{LoopConfig}
@@ -30,7 +30,7 @@ module _ {S F D : Type 0} where
   -- at each time of a run that began with no transfer
   abbrev pub EachHasOneTimer : StoreMeaning S D → SourceMeaning F → Type 0
   EachHasOneTimer stores sources =
-      (config : LoopConfig) (port : ℕ) (first : ServerState S F D) (before : List SocketEvent)
-      (now : LoopState S F D)
-      → first.held ≡ [] → Run (LoopStep stores sources) (at_start config port first before) now
+      (config : LoopConfig) (port reading : ℕ) (first : ServerState S F D)
+      (before : List SocketEvent) (now : LoopState S F D)
+      → first.held ≡ [] → Run (LoopStep stores sources) (at_start config port first reading before) now
       → HasOneTimerEach now

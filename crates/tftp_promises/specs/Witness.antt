@@ -1,12 +1,12 @@
--- An exchange of programs over files in memory that the premises of the laws admit. A client reads
--- a file in blocks of 8 bytes, by an OACK, and a stranger sends a datagram to the port of its
+-- Exchanges of programs over files in memory that the premises of the laws admit. In one a client
+-- reads a file in blocks of 8 bytes, by an OACK, and a stranger sends a datagram to the port of its
 -- transfer; once that has closed, another program reads the file at the same port, which may be a
--- stranger or a client (RFC 1350, sections 2, 4 and 6; RFC 2347).
+-- stranger or a client. In another a client writes a file (RFC 1350, sections 2, 4 and 6; RFC 2347).
 use Rattle.std.specs.Prelude.{ℕ, ◌≡◌, zero, suc, true, List, [], ◌∷◌, map, reverse, slice_get, Some}
 use Rattle.std.specs.Prelude.{None}
 use Rattle.tftp_wire.specs.Spelling.{canonical}
 use Rattle.tftp_wire.specs.declared.mode.Mode.TheVariants.{Octet}
-use Rattle.tftp_wire.specs.declared.packet.Packet.TheVariants.{Read}
+use Rattle.tftp_wire.specs.declared.packet.Packet.TheVariants.{Read, Write}
 use Rattle.tftp_negotiate.specs.declared.asked.Asked.{Asked}
 use Rattle.tftp_negotiate.specs.declared.known.Known.{Known}
 use Rattle.tftp_negotiate.specs.declared.known.Known.TheVariants.{Blksize}
@@ -19,22 +19,23 @@ use Rattle.tftp_ends.specs.Step.{ack_bytes, data_bytes, error_bytes}
 use Rattle.tftp_ends.specs.declared.error_reply.ErrorReply.TheVariants.{UnknownTransferId}
 use Rattle.tftp_ends.specs.declared.outcome.Outcome.TheVariants as outcomes
 use Rattle.tftp_store.specs.Memory.{memory_meaning}
-use Rattle.tftp_store.specs.Store.{Drafted}
+use Rattle.tftp_store.specs.Store.{Drafted, file_at}
 use Rattle.tftp_lines.specs.ClientOutcome.{end_text}
 use Rattle.tftp_lines.specs.Printed.{line_text}
 use Rattle.tftp_lines.specs.declared.client_outcome.ClientOutcome.TheVariants as ends
 use Rattle.tftp_lines.specs.declared.printed.Printed.TheVariants.{Closed}
 use Rattle.tftp_rules.specs.Machine.{Endpoint}
 use Rattle.tftp_server.specs.State.{TransferState}
-use Rattle.tftp_sockets.specs.Journal.SocketEvent.{Received, Sent, Watched, Printed, Quiet}
-use Rattle.tftp_sockets.specs.Journal.QuietEvent.{Slept, Woke}
+use Rattle.tftp_sockets.specs.declared.watch.Watch.{Watch}
+use Rattle.tftp_sockets.specs.Trace.SocketEvent.{Received, Sent, Watched, Printed, Quiet}
+use Rattle.tftp_sockets.specs.Trace.QuietEvent.{Slept, Woke}
 use Rattle.tftp_promises.specs.Alone.{IsPassedOver, IsServed, alone}
 use Rattle.tftp_promises.specs.Joined.{AreJoined}
-use Rattle.tftp_promises.specs.Modelled.{AreModelled}
 use Rattle.tftp_promises.specs.Openings.{HasClosed, our_ports}
 use Rattle.tftp_promises.specs.Order.{Noted, Programs, requests_at}
 use Rattle.tftp_promises.specs.Ports.{opened_ports}
 use Rattle.tftp_promises.specs.Programs.{endpoint, ClientProgram}
+use Rattle.tftp_promises.specs.Network.{HasOpened}
 use Rattle.tftp_promises.specs.Several.{Several, OneServer, OneClient, other_ports}
 
 -- ---- the addresses and ports
@@ -80,6 +81,10 @@ agreed = Blksize 8 ∷ []
 abbrev pub read_request : List ℕ
 read_request = canonical (Read (request_of read_name Octet blocks_of_8))
 
+-- a watch that started at the reading 0
+abbrev pub read_at : ℕ → Watch
+read_at time = record { now = time; reading = time }
+
 -- ---- the exchange, the oldest event first: 0 is the server, and 1 reads
 abbrev pub exchange : List Noted
 exchange =
@@ -88,17 +93,17 @@ exchange =
     ∷ (0, Received 69 reader read_request) ∷ (0, Sent 1024 reader (oack_bytes agreed))
     ∷ (0, Received 1024 stranger (ack_bytes 0))
     ∷ (0, Sent 1024 stranger (error_bytes UnknownTransferId))
-    ∷ (1, Quiet (Slept 1000)) ∷ (1, Received 5000 read_port (oack_bytes agreed)) ∷ (1, Watched 10)
+    ∷ (1, Quiet (Slept 1000)) ∷ (1, Received 5000 read_port (oack_bytes agreed)) ∷ (1, Watched (read_at 10))
     ∷ (1, Sent 5000 read_port (ack_bytes 0))
     -- the file has one block
     ∷ (0, Received 1024 reader (ack_bytes 0)) ∷ (0, Sent 1024 reader (data_bytes 1 read_file))
     ∷ (1, Quiet (Slept 990)) ∷ (1, Received 5000 read_port (data_bytes 1 read_file))
-    ∷ (1, Watched 20) ∷ (1, Sent 5000 read_port (ack_bytes 1))
+    ∷ (1, Watched (read_at 20)) ∷ (1, Sent 5000 read_port (ack_bytes 1))
     ∷ (1, Printed (end_text (ends.Complete 1)))
     ∷ (0, Received 1024 reader (ack_bytes 1))
     ∷ (0, Printed (line_text (Closed 1024 5000 outcomes.Complete)))
     -- another reads at the same port, after a wait: a server receives one request between two waits
-    ∷ (0, Watched 0) ∷ (0, Quiet (Slept 0)) ∷ (0, Quiet (Woke (69 ∷ []))) ∷ (0, Watched 0)
+    ∷ (0, Watched (read_at 0)) ∷ (0, Quiet (Slept 0)) ∷ (0, Quiet (Woke (69 ∷ []))) ∷ (0, Watched (read_at 0))
     ∷ (0, Received 69 latecomer read_request) ∷ (0, Sent 1024 latecomer (oack_bytes agreed)) ∷ []
 
 -- these programs noted it, and the latecomer is a stranger; the client is complete and has the
@@ -107,7 +112,6 @@ pub record HasExchanged
     (programs : Programs memory_meaning memory_source memory_source memory_sink) : Type 0 where
   pub joined : AreJoined memory_meaning memory_source memory_source memory_sink programs
       (reverse exchange)
-  pub modelled : AreModelled programs
   pub reads : ClientProgram memory_source memory_sink
       (requests_at programs)
   pub is_reader : slice_get programs.clients 0 ≡ Some reads
@@ -121,6 +125,51 @@ pub record HasExchanged
   pub ended : is_complete transfer.end.position.phase ≡ true
   pub opened : opened_ports programs.server.run ≡ 1024 ∷ 1024 ∷ []
 
+-- ---- a put: a client writes a file of one block, without options
+abbrev pub writer : Endpoint
+writer = endpoint client_ip 5001
+
+abbrev pub write_name : List ℕ
+write_name = 98 ∷ []
+
+abbrev pub write_file : List ℕ
+write_file = 66 ∷ []
+
+abbrev pub no_options : Asked
+no_options = record { blksize = None; timeout = None; tsize = None }
+
+abbrev pub write_request : List ℕ
+write_request = canonical (Write (request_of write_name Octet no_options))
+
+-- the exchange, the oldest event first: 0 is the server, and 1 writes
+abbrev pub put_exchange : List Noted
+put_exchange =
+    (1, Sent 5001 requests write_request)
+    ∷ (0, Received 69 writer write_request) ∷ (0, Sent 1024 writer (ack_bytes 0))
+    ∷ (1, Quiet (Slept 1000)) ∷ (1, Received 5001 read_port (ack_bytes 0))
+    ∷ (1, Watched (read_at 10))
+    ∷ (1, Sent 5001 read_port (data_bytes 1 write_file))
+    -- the file has one block, and is committed before its ACK
+    ∷ (0, Received 1024 writer (data_bytes 1 write_file)) ∷ (0, Sent 1024 writer (ack_bytes 1))
+    ∷ (1, Quiet (Slept 990)) ∷ (1, Received 5001 read_port (ack_bytes 1))
+    ∷ (1, Watched (read_at 20))
+    ∷ (1, Printed (end_text (ends.Complete 1))) ∷ []
+
+-- these programs noted it; both ends are complete, and the server's store has the file
+pub record HasWritten
+    (programs : Programs memory_meaning memory_source memory_source memory_sink) : Type 0 where
+  pub joined : AreJoined memory_meaning memory_source memory_source memory_sink programs
+      (reverse put_exchange)
+  pub writes : ClientProgram memory_source memory_sink (requests_at programs)
+  pub is_writer : slice_get programs.clients 0 ≡ Some writes
+  pub has_written : is_complete writes.last.end.position.phase ≡ true
+  pub transfer : TransferState (List ℕ) Drafted
+  pub has_opened : HasOpened programs 1024 transfer read_port
+  pub has_received : is_complete transfer.end.position.phase ≡ true
+  pub missed : file_at write_name programs.server.start.server.store.files ≡ None
+  pub has_stored : file_at write_name programs.server.last.server.store.files ≡ Some write_file
+
+-- ---- two clients of a server
 -- the same with the latecomer's request, which it sends first of all, the newest event first
 abbrev pub late_exchange : List Noted
 late_exchange = reverse ((2, Sent 7001 requests read_request) ∷ exchange)
@@ -176,6 +225,11 @@ abbrev pub SomeAreJoined : Type 0
 SomeAreJoined =
     (programs : Programs memory_meaning memory_source memory_source memory_sink)
     × HasExchanged programs
+
+abbrev pub SomeHaveWritten : Type 0
+SomeHaveWritten =
+    (programs : Programs memory_meaning memory_source memory_source memory_sink)
+    × HasWritten programs
 
 abbrev pub SomeAreServed : Type 0
 SomeAreServed =

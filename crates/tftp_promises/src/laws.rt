@@ -2,15 +2,14 @@
 //! types: those of a store, and of the clients' sources and sinks.
 
 ghost use Rattle.tftp_rules.specs.Machine.{Endpoint};
-ghost use Rattle.tftp_promises.specs.Alone.{EachIsJoined, EachKeepsAnyFiles, EachKeepsPromises};
+ghost use Rattle.tftp_promises.specs.Alone.{EachIsJoined, EachKeepsAnyFiles};
 ghost use Rattle.tftp_promises.specs.Alone.{EachTakesOne, OthersHaveNothing};
 ghost use Rattle.tftp_promises.specs.ClientPrograms.{ClientsArePrograms};
 ghost use Rattle.tftp_promises.specs.ClientRuns.{ClientsAreRuns};
 ghost use Rattle.tftp_promises.specs.Hosts.{ClientsAreThere, ServerIsThere, StrangersAreElsewhere};
-ghost use Rattle.tftp_promises.specs.Joined.{ProgramsAreShown, ProgramsKeepAnyFiles};
-ghost use Rattle.tftp_promises.specs.Joined.{ProgramsKeepPromises, ServersAloneAreJoined};
-ghost use Rattle.tftp_promises.specs.Joint.{JournalsAreJoint};
-ghost use Rattle.tftp_promises.specs.Journals.{AsksFirst};
+ghost use Rattle.tftp_promises.specs.Joined.{ProgramsKeepAnyFiles, ServersAloneAreJoined};
+ghost use Rattle.tftp_promises.specs.Joint.{TracesAreJoint};
+ghost use Rattle.tftp_promises.specs.Traces.{AsksFirst};
 ghost use Rattle.tftp_promises.specs.Lines.{EachLineIsAClose};
 ghost use Rattle.tftp_promises.specs.Openings.{DistinctPortsAreFresh};
 ghost use Rattle.tftp_promises.specs.Order.{Programs};
@@ -18,21 +17,19 @@ ghost use Rattle.tftp_promises.specs.Others.{ClientsTakeOne};
 ghost use Rattle.tftp_promises.specs.Programs.{ClientProgram, ServersAreRuns};
 ghost use Rattle.tftp_promises.specs.Timers.{EachHasOneTimer};
 ghost use Rattle.tftp_promises.specs.Witness.{SomeAreJoined, SomeAreServed, SomeAreShared};
+ghost use Rattle.tftp_promises.specs.Witness.{SomeHaveWritten};
 
 use tftp_file::{Sink, Source};
 use tftp_store::Store;
 
 /// The ends of a server and its clients in an honest network keep the promises of a transfer. Over
-/// any store and any files, in the end state of their journals: they have one block size; what a
+/// any store and any files, in the end state of their traces: they have one block size; what a
 /// receiver handed to its file is a prefix of what its peer's file gave, and all of it,
-/// committed, once it is complete; a sender is complete only after its receiver. Over files with
-/// models the same holds of what these hold, and rules of the guarded machine lead to these ends.
-/// Other servers at the address are strangers; of a server that is alone there nothing is asked of
-/// them (RFC 1350, sections 2, 4 and 6).
+/// committed, once it is complete; a sender is complete only after its receiver. Other servers at
+/// the address are strangers; of a server that is alone there nothing is asked of them (RFC 1350,
+/// sections 2, 4 and 6).
 pub fn programs_keep_promises<T: Store, G: Source, K: Sink>()
     ensures any_files { ProgramsKeepAnyFiles T.meaning T.Source.meaning G.meaning K.meaning }
-    ensures promises { ProgramsKeepPromises T.meaning T.Source.meaning G.meaning K.meaning }
-    ensures shown { ProgramsAreShown T.meaning T.Source.meaning G.meaning K.meaning }
     ensures alone { ServersAloneAreJoined T.meaning T.Source.meaning G.meaning K.meaning }
 {}
 
@@ -40,12 +37,11 @@ pub fn programs_keep_promises<T: Store, G: Source, K: Sink>()
 /// whatever ports the transfers of other clients have, before and after: for these two programs the
 /// others are strangers, the other servers at the address, and the other clients at other addresses
 /// and other endpoints. A transfer at a server whose answer the client passes over has nothing of
-/// its file, and is not complete. Which server's answer it takes is in the journals. One server is
+/// its file, and is not complete. Which server's answer it takes is in the traces. One server is
 /// the list of one (RFC 1350, section 4).
 pub fn each_client_keeps_promises<T: Store, G: Source, K: Sink>()
     ensures joined { EachIsJoined T.meaning T.Source.meaning G.meaning K.meaning }
     ensures any_files { EachKeepsAnyFiles T.meaning T.Source.meaning G.meaning K.meaning }
-    ensures promises { EachKeepsPromises T.meaning T.Source.meaning G.meaning K.meaning }
     ensures passed_over { OthersHaveNothing T.meaning T.Source.meaning G.meaning K.meaning }
     ensures takes_one { EachTakesOne T.meaning T.Source.meaning G.meaning K.meaning }
 {}
@@ -57,11 +53,11 @@ pub fn ports_that_all_differ_are_fresh<T: Store, G: Source, K: Sink>()
         → DistinctPortsAreFresh programs }
 {}
 
-/// The programs of a network reach the end state of their journals by whole steps, one at a time,
+/// The programs of a network reach the end state of their traces by whole steps, one at a time,
 /// and each step receives only what was sent in the steps before it, or what is a stranger's (RFC
 /// 1350, sections 2 and 4).
-pub fn journals_are_joint<T: Store, G: Source, K: Sink>()
-    ensures { JournalsAreJoint T.meaning T.Source.meaning G.meaning K.meaning }
+pub fn traces_are_joint<T: Store, G: Source, K: Sink>()
+    ensures { TracesAreJoint T.meaning T.Source.meaning G.meaning K.meaning }
 {}
 
 /// In the network of the programs each client is at a client's endpoint, each port of the server
@@ -102,14 +98,17 @@ pub fn a_client_takes_one_answer<G: Source, K: Sink>()
     ensures { ClientsTakeOne G.meaning K.meaning }
 {}
 
-/// The premises of the laws over both ends can be met, by a real exchange: a client reads a file of
-/// one block by an OACK, and both ends are complete; a stranger sends a datagram between. At the
+/// The premises of the laws over both ends can be met, by two exchanges. In one a client reads a file
+/// of one block by an OACK, and both ends are complete; a stranger sends a datagram between. At the
 /// end another program reads at the port that the first client's transfer had: a stranger, and for
 /// the law over each client apart a client. And two servers share an address: both open a transfer
-/// for the first client's request, which takes one, and passes over the other. Memory is all that
-/// the files are in, and no file is written to a server (RFC 1350, sections 2, 4 and 6).
+/// for the first client's request, which takes one, and passes over the other. In the other exchange
+/// a client writes a file of one block, without options: both ends are complete, and the server's
+/// store has the file. All files are in memory: of the premises on arguments and disks this says
+/// nothing (RFC 1350, sections 2, 4 and 6).
 pub fn some_programs_are_joined()
     ensures joined { SomeAreJoined }
+    ensures written { SomeHaveWritten }
     ensures served { SomeAreServed }
     ensures shared { SomeAreShared }
 {}

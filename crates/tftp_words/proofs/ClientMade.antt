@@ -15,7 +15,7 @@ use Rattle.tftp_ends.specs.declared.endpoint.Endpoint.{Endpoint}
 use Rattle.tftp_ends.specs.declared.side.Side.TheVariants.{ClientRead, ClientWrite}
 use Rattle.tftp_lines.specs.declared.client_outcome.ClientOutcome.{ClientOutcome}
 use Rattle.tftp_lines.specs.declared.client_outcome.ClientOutcome.TheVariants as ends
-use Rattle.tftp_sockets.specs.Journal.{SocketEvent}
+use Rattle.tftp_sockets.specs.Trace.{SocketEvent}
 use Rattle.tftp_client.specs.Converses.{State, most_waits}
 use Rattle.tftp_client.specs.Moved.{Moved, nothing_moved, run_moves}
 use Rattle.tftp_client.specs.Ordered.{RunsOrder, RunsWords}
@@ -109,7 +109,7 @@ job_length Write job length is = refl
 
 module _ {G K : Type 0} {inputs : SourceMeaning G} {outputs : SinkMeaning K}
     (are_programs : ClientsArePrograms inputs outputs) (ran : ClientRan inputs outputs) (to : Endpoint) where
-  -- programs that noted what leads from the one journal to the other
+  -- programs that noted what leads from the one trace to the other
   record Made (done : Option Finished) (before after : List SocketEvent) : Type 0 where
     clients : List (ClientProgram inputs outputs to)
     noted : NotedBy before clients after
@@ -160,7 +160,7 @@ module _ {G K : Type 0} {inputs : SourceMeaning G} {outputs : SinkMeaning K}
           let f = failed.1 in
           let opened = job_opens inputs outputs tried.kind tried failed.0 f.fails.file server f.may f.side in
           let run =
-          are_programs to ran.ip (opens tried.kind tried failed.0) f.fails.file opened before f.fails.port
+          are_programs to ran.ip (opens tried.kind tried failed.0) f.fails.file opened before f.fails.port f.fails.reading
           f.fails.stops.last f.fails.stops.files f.fails.stops.converses in
           subst (λ (events : List SocketEvent). Made None before events) f.fails.stops.events
           (made_one failed.0 f.fails.file f.may f.side run.runs_so None tt)
@@ -171,9 +171,9 @@ module _ {G K : Type 0} {inputs : SourceMeaning G} {outputs : SinkMeaning K}
       made_stopped most before after ends.Memory failed = made_none failed.1
 
       -- it is complete, and stayed
-      module _ {port count : ℕ} {before after : List SocketEvent} {last : State} {files : Files G K}
+      module _ {port count : ℕ} {line : List ℕ} {before after : List SocketEvent} {last : State} {files : Files G K}
           (runs : RunsAs inputs outputs port tried.kind tried before last files count)
-          (stays : Dallies inputs outputs port (printed count last) files after)
+          (stays : Dallies inputs outputs port (printed line last) files after)
           (stayed : is_complete stays.last.end.position.phase ≡ true)
           (still : (moved : Moved) → run_moves stays.converses moved ≡ moved)
           (file : IsFileOf inputs outputs tried.kind files) where
@@ -201,8 +201,8 @@ module _ {G K : Type 0} {inputs : SourceMeaning G} {outputs : SinkMeaning K}
         made_complete whole =
             let opened = job_opens inputs outputs tried.kind tried runs.length runs.runs.file server runs.may runs.side in
             let run =
-            (are_programs to ran.ip (opens tried.kind tried runs.length) runs.runs.file opened before port last files
-            runs.runs.converses).stays_so count after stays in
+            (are_programs to ran.ip (opens tried.kind tried runs.length) runs.runs.file opened before port runs.runs.reading last files
+            runs.runs.converses).stays_so line after stays in
             let side_is : run.client.first.role.side ≡ side_of tried.kind =
             ap (λ (e : EndState). e.role.side) run.end ∙ job_side tried.kind tried runs.length in
             let mode_is : run.client.first.role.mode ≡ tried.mode =
@@ -234,9 +234,9 @@ module _ {G K : Type 0} {inputs : SourceMeaning G} {outputs : SinkMeaning K}
     abbrev done_by : ℕ → Moved → Option Finished
     done_by count moved = Some (record { job = job; count = count; moved = moved })
 
-    made_completes : (before after : List SocketEvent) (h : Completes inputs outputs job before after) →
+    made_completes : (status : ℕ) (before after : List SocketEvent) (h : Completes inputs outputs status job before after) →
         Made (done_by h.count (moved_by inputs outputs h.transfers)) before after
-    made_completes before after h = by_transfers h.transfers h.whole where
+    made_completes status before after h = by_transfers h.transfers h.whole where
       by_transfers : (transfers : Transfers inputs outputs (most_waits before) h.port job before h.last h.files h.count) →
           IsWhole inputs outputs h.files h.count (moved_by inputs outputs transfers).bytes →
           Made (done_by h.count (moved_by inputs outputs transfers)) before after
@@ -257,7 +257,7 @@ module _ {G K : Type 0} {inputs : SourceMeaning G} {outputs : SinkMeaning K}
 
     made_order : (status : ℕ) (before after : List SocketEvent) (h : RunsOrder inputs outputs job status before after) →
         Made (finished_by inputs outputs job status before after h) before after
-    made_order status before after (inl done) = made_completes before after done.1
+    made_order status before after (inl done) = made_completes status before after done.1
     made_order status before after (inr failed) = made_failed (most_waits before) before after failed.1 failed.3
 
   -- what the command did

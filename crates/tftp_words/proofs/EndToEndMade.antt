@@ -1,9 +1,7 @@
 -- What the file of a complete get was handed is what the server's source gave, and what that of a complete put gave is
 -- what the server's draft was handed.
-use Rattle.std.proofs.Common.{◌≡◌, ℕ, List, [], ◌∷◌, ◌++◌, append_assoc, append-nil, length, Some, refl, sym, ap}
-use Rattle.std.proofs.Common.{◌∙◌, subst, inl, inr}
+use Rattle.std.proofs.Common.{◌≡◌, ℕ, List, [], ◌∷◌, ◌++◌, append-nil, length, Some, refl, sym, ap, ◌∙◌, subst}
 use Rattle.std.specs.Prelude.{slice_get}
-use Rattle.std.specs.List.{AllByRecursion}
 use Rattle.tftp_wire.specs.declared.mode.Mode.{Mode}
 use Rattle.tftp_negotiate.specs.declared.known.Kind.{Kind}
 use Rattle.tftp_negotiate.specs.declared.known.Kind.TheVariants.{Read, Write}
@@ -15,13 +13,12 @@ use Rattle.tftp_file.specs.declared.files.Files.{Files}
 use Rattle.tftp_file.specs.declared.files.Files.TheVariants.{Source, Sink}
 use Rattle.tftp_ends.specs.End.{is_sender}
 use Rattle.tftp_ends.specs.declared.side.Side.TheVariants.{ClientRead, ClientWrite}
-use Rattle.tftp_disk.specs.DiskJournal.{DiskEvent}
+use Rattle.tftp_disk.specs.DiskTrace.{DiskEvent}
 use Rattle.tftp_store.specs.Store.{StoreMeaning}
-use Rattle.tftp_sockets.specs.Journal.{SocketEvent}
 use Rattle.tftp_client.specs.Moved.{Moved}
-use Rattle.tftp_client.specs.Ordered.{RunsOrder, RunsWords}
-use Rattle.tftp_client.specs.Runs.{IsFileOf, moved_by}
+use Rattle.tftp_client.specs.Runs.{IsFileOf}
 use Rattle.tftp_folder.specs.declared.folder_store.FolderStore.{FolderStore}
+use Rattle.tftp_promises.specs.Alone.{alone}
 use Rattle.tftp_promises.specs.AnyFiles.{HasGot, HasPut, KeepAnyFiles}
 use Rattle.tftp_promises.specs.ClientPrograms.{IsCounted}
 use Rattle.tftp_promises.specs.ClientRuns.{moved_in}
@@ -30,14 +27,12 @@ use Rattle.tftp_promises.specs.Given.{StoreOpened}
 use Rattle.tftp_promises.specs.Openings.{moved_at}
 use Rattle.tftp_promises.specs.Order.{Programs, requests_at}
 use Rattle.tftp_promises.specs.Programs.{ClientProgram}
-use Rattle.tftp_words.specs.EndToEnd.{FileDone, GotFile, HasDone, OrderComplete, PutFile, WordsComplete, WordsMoveFiles}
-use Rattle.tftp_words.specs.Ran.{AreAllRuns, ClientRan, IsRunFor, Job, LastDid, finished_by, finished_in, side_of}
-use Rattle.tftp_words.specs.WordsKept.{WordsKeepAnyFiles}
-
--- the element after some others
-slice_get-after : {X : Type 0} (xs ys : List X) (x : X) → slice_get (xs ++ x ∷ ys) (length xs) ≡ Some x
-slice_get-after [] ys x = refl
-slice_get-after (z ∷ xs) ys x = slice_get-after xs ys x
+use Rattle.tftp_promises.specs.Several.{Several, OneServer}
+use Rattle.tftp_words.specs.EndToEnd.{FileDone, GotFile, PutFile, WordsMoveFiles}
+use Rattle.tftp_words.specs.OverSeveral.{FileDoneThere, SeveralMoveFiles}
+use Rattle.tftp_words.specs.Ran.{IsRunFor, Job, side_of}
+use Rattle.tftp_words.specs.WordsKept.{SeveralKeepAnyFiles, WordsKeepAnyFiles}
+use Rattle.tftp_words.proofs.LastPrograms.{IsDoneBy, all_hold}
 
 -- a job whose file is received reads
 reads_then : {S K : Type 0} (inputs : SourceMeaning S) (outputs : SinkMeaning K) (kind : Kind) (sink : K) →
@@ -145,56 +140,31 @@ module _ {S F D G K : Type 0} {stores : StoreMeaning S D} {sources : SourceMeani
           ∙ (put.stored ∙ ap (λ (m : Moved). m.bytes) is_moved);
     }
 
-  -- what one command did, whose programs are these, between the others
-  module _ (earlier own later : List Program) (all : programs.clients ≡ earlier ++ (own ++ later)) where
-    -- where the last of them is
-    its_program : (job : Job) (count : ℕ) (moved : Moved)
-        (last : LastDid (Some (record { job = job; count = count; moved = moved })) own) →
-        (k : ℕ) × (slice_get programs.clients k ≡ Some last.1)
-    its_program job count moved last =
-        let before = earlier ++ last.0 in
-        let at : programs.clients ≡ before ++ last.1 ∷ later =
-        all ∙ (ap (λ (xs : List Program). earlier ++ (xs ++ later)) last.2
-        ∙ (ap (λ (xs : List Program). earlier ++ xs) (append_assoc last.0 (last.1 ∷ []) later)
-        ∙ sym (append_assoc earlier last.0 (last.1 ∷ later)))) in (
-          length before,
-          ap (λ (xs : List Program). slice_get xs (length before)) at ∙ slice_get-after before later last.1,
-        )
+  -- a complete job of a program of the network
+  pub file_done : (job : Job) (files : Files G K) (count : ℕ) (moved : Moved) →
+      IsDoneBy programs.clients job files count moved → FileDone programs job files count moved.bytes
+  file_done job (Source source) count moved done =
+      put_file job count moved (writes_then inputs outputs job.kind source done.of) done.k done.program done.found
+      done.runs done.counted done.moves
+  file_done job (Sink sink) count moved done =
+      got_file job count moved (reads_then inputs outputs job.kind sink done.of) done.k done.program done.found
+      done.runs done.counted done.moves
 
-    its_file : (job : Job) (files : Files G K) (count : ℕ) (moved : Moved) → IsFileOf inputs outputs job.kind files →
-        LastDid (Some (record { job = job; count = count; moved = moved })) own →
-        FileDone programs job files count moved.bytes
-    its_file job (Source source) count moved of last =
-        let at = its_program job count moved last in
-        put_file job count moved (writes_then inputs outputs job.kind source of) at.0 last.1 at.1 last.3 last.4 last.5
-    its_file job (Sink sink) count moved of last =
-        let at = its_program job count moved last in
-        got_file job count moved (reads_then inputs outputs job.kind sink of) at.0 last.1 at.1 last.3 last.4 last.5
-
-    its_order : (job : Job) (status : ℕ) (before after : List SocketEvent)
-        (h : RunsOrder inputs outputs job status before after) →
-        LastDid (finished_by inputs outputs job status before after h) own →
-        OrderComplete inputs outputs (FileDone programs) job status before after h
-    its_order job status before after (inl done) last =
-        its_file job done.1.files done.1.count (moved_by inputs outputs done.1.transfers) done.1.side last
-    its_order job status before after (inr failed) last = tt
-
-    its_words : (words : List (List ℕ)) (status : ℕ) (before after : List SocketEvent)
-        (h : RunsWords inputs outputs words status before after) →
-        LastDid (finished_in inputs outputs words status before after h) own →
-        WordsComplete inputs outputs (FileDone programs) words status before after h
-    its_words words status before after (inl none) last = tt
-    its_words words status before after (inr did) last = its_order did.0 status before after did.2 last
-
-  -- and all of them
-  pub all_done : (earlier : List Program) (clients : List (ClientRan inputs outputs)) (all : List Program) →
-      programs.clients ≡ earlier ++ all → AreAllRuns clients all → AllByRecursion (HasDone programs) clients
-  all_done earlier [] all same runs = tt
-  all_done earlier (ran ∷ clients) all same runs =
-      let here = same ∙ ap (λ (xs : List Program). earlier ++ xs) runs.2 in (
-        its_words earlier runs.0 runs.1 here ran.words ran.status ran.before ran.after ran.ran runs.3.last,
-        all_done (earlier ++ runs.0) clients runs.1 (here ∙ sym (append_assoc earlier runs.0 runs.1)) runs.4,
-      )
+-- the client of a network of two did it there, too
+alone_done : {S F D G K : Type 0} {stores : StoreMeaning S D} {sources : SourceMeaning F} {inputs : SourceMeaning G}
+    {outputs : SinkMeaning K}
+    (several : Several stores sources inputs outputs) (i : ℕ) (server : OneServer several) (job : Job) (files : Files G K)
+    (count : ℕ) (moved : Moved) (done : IsDoneBy several.clients job files count moved) →
+    IsDoneBy (done.program ∷ []) job files count moved
+alone_done several i server job files count moved done = record {
+  of = done.of;
+  k = 0;
+  program = done.program;
+  found = refl;
+  runs = done.runs;
+  counted = done.counted;
+  moves = done.moves;
+}
 
 -- from the words
 pub words_move : {R G H W F D I K : Type 0} (log : R → List DiskEvent) (stores : StoreMeaning (FolderStore R G H W) D)
@@ -206,5 +176,35 @@ words_move log stores sources inputs outputs keep server port clients bound asks
       made.1,
       λ order is_order honest fresh.
           let keeps = made.2 order is_order honest fresh in
-          (keeps, all_done made.0 keeps [] clients made.0.clients refl made.1.of_clients),
+          let programs = made.0 in (
+            keeps,
+            all_hold programs.clients (FileDone programs) (file_done programs keeps) [] clients programs.clients refl
+                made.1.of_clients,
+          ),
+    )
+
+-- and from those of several servers
+pub several_move : {R G H W F D I K : Type 0} (log : R → List DiskEvent) (stores : StoreMeaning (FolderStore R G H W) D)
+    (sources : SourceMeaning F) (inputs : SourceMeaning I) (outputs : SinkMeaning K) →
+    SeveralKeepAnyFiles log stores sources inputs outputs → SeveralMoveFiles log stores sources inputs outputs
+several_move log stores sources inputs outputs keep ip port servers clients serve asks =
+    let made = keep ip port servers clients serve asks in
+    let several = made.0 in (
+      several,
+      made.1,
+      λ order. all_hold several.clients (FileDoneThere several order)
+          (λ job files count moved done. record {
+            k = done.k;
+            client = done.program;
+            found = done.found;
+            runs = done.runs;
+            with_each =
+                λ i server at served.
+                let keeps = (made.2 order i server done.k done.program at done.found).0 served in (
+                  keeps,
+                  file_done (alone several i server done.program) keeps job files count moved
+                      (alone_done several i server job files count moved done),
+                );
+          })
+          [] clients several.clients refl made.1.of_clients,
     )

@@ -1,7 +1,10 @@
 pub mod ClientMade
 pub mod WordsMade
+pub mod LastPrograms
 pub mod EndToEndMade
+pub mod AlsoThere
 pub mod OpenedAt
 pub mod BegunAt
 pub mod FromDiskMade
 pub mod PutFromDiskMade
+pub mod SharedFolderLemmas

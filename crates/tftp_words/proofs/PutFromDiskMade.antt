@@ -7,11 +7,11 @@ use Rattle.tftp_file.specs.Source.{SourceMeaning}
 use Rattle.tftp_file.specs.declared.files.Files.{Files}
 use Rattle.tftp_file.specs.declared.files.Files.TheVariants.{Source, Sink}
 use Rattle.tftp_store.specs.Store.{StoreMeaning}
-use Rattle.tftp_disk.specs.DiskJournal.{DiskEvent}
+use Rattle.tftp_disk.specs.DiskTrace.{DiskEvent}
 use Rattle.tftp_disk.specs.declared.disk_source.DiskSource.{DiskSource}
 use Rattle.tftp_loop.specs.Steps.{LoopState, LoopStep}
 use Rattle.tftp_loop.specs.Run.{Run}
-use Rattle.tftp_sockets.specs.Journal.{SocketEvent}
+use Rattle.tftp_sockets.specs.Trace.{SocketEvent}
 use Rattle.tftp_client.specs.Ordered.{RunsOrder, RunsWords}
 use Rattle.tftp_client.specs.Sent.{IsSentFrom, OrderSent, WordsSent}
 use Rattle.tftp_daemon.specs.Leaves.{RunKeepsSettings}
@@ -21,9 +21,12 @@ use Rattle.tftp_folder.specs.Stored.{IsStoredAt, StoresWhatItTook}
 use Rattle.tftp_folder.specs.declared.folder_draft.FolderDraft.{FolderDraft}
 use Rattle.tftp_folder.specs.declared.folder_store.FolderStore.{FolderStore}
 use Rattle.tftp_promises.specs.Order.{Programs}
-use Rattle.tftp_words.specs.EndToEnd.{FileDone, HasDone, OrderComplete, PutFile, WordsComplete, WordsMoveFiles}
-use Rattle.tftp_words.specs.PutFromDisk.{ClientSent, FileLeaves, LeavesDisk, PutsFromDiskToDisk, run_of}
-use Rattle.tftp_words.specs.Ran.{Job}
+use Rattle.tftp_words.specs.EndToEnd.{FileDone, OrderComplete, PutFile, WordsComplete, WordsMoveFiles}
+use Rattle.tftp_words.specs.OverSeveral.{FileDoneThere, SeveralMoveFiles}
+use Rattle.tftp_words.specs.PutFromDisk.{ClientSent, FileLeaves, PutsFromDiskToDisk, run_of}
+use Rattle.tftp_words.specs.Ran.{ClientRan, Job}
+use Rattle.tftp_words.specs.SeveralFromDisk.{FileLeavesThere, SeveralPutsFromDiskToDisk}
+use Rattle.tftp_words.proofs.AlsoThere.{also_there}
 use Rattle.tftp_words.proofs.BegunAt.{BegunBy, began_there}
 
 -- what the models of a store of a folder and of its drafts say
@@ -78,24 +81,34 @@ module _ {L K : Type 0} {inputs : SourceMeaning (DiskSource L)} {outputs : SinkM
         }
     its_file job (Sink sink) count bytes sent done = done
 
+  -- from what was done with the files to what left the disk, of each job
+  module _ (Done Leaves : Job → Files (DiskSource L) K → ℕ → List ℕ → Type 0)
+      (leaves : (job : Job) (files : Files (DiskSource L) K) (count : ℕ) (bytes : List ℕ) →
+      IsSentFrom job files count bytes → Done job files count bytes → Leaves job files count bytes) where
     its_order : (job : Job) (status : ℕ) (before after : List SocketEvent)
         (h : RunsOrder inputs outputs job status before after) → OrderSent inputs outputs job status before after h →
-        OrderComplete inputs outputs (FileDone programs) job status before after h →
-        OrderComplete inputs outputs (FileLeaves inputs outputs log programs) job status before after h
-    its_order job status before after (inl done) sent moved = its_file job done.1.files done.1.count _ sent moved
+        OrderComplete inputs outputs Done job status before after h →
+        OrderComplete inputs outputs Leaves job status before after h
+    its_order job status before after (inl done) sent moved = leaves job done.1.files done.1.count _ sent moved
     its_order job status before after (inr failed) sent moved = tt
 
     its_words : (words : List (List ℕ)) (status : ℕ) (before after : List SocketEvent)
         (h : RunsWords inputs outputs words status before after) →
         WordsSent inputs outputs words status before after h →
-        WordsComplete inputs outputs (FileDone programs) words status before after h →
-        WordsComplete inputs outputs (FileLeaves inputs outputs log programs) words status before after h
+        WordsComplete inputs outputs Done words status before after h →
+        WordsComplete inputs outputs Leaves words status before after h
     its_words words status before after (inl none) sent moved = tt
     its_words words status before after (inr did) sent moved = its_order did.0 status before after did.2 sent moved
 
+    abbrev DoneOf : ClientRan inputs outputs → Type 0
+    DoneOf ran = WordsComplete inputs outputs Done ran.words ran.status ran.before ran.after ran.ran
+
+    abbrev LeavesOf : ClientSent inputs outputs → Type 0
+    LeavesOf client =
+        WordsComplete inputs outputs Leaves client.words client.status client.before client.after client.sent.0
+
     all_leave : (clients : List (ClientSent inputs outputs)) →
-        AllByRecursion (HasDone programs) (map (run_of inputs outputs) clients) →
-        AllByRecursion (LeavesDisk inputs outputs log programs) clients
+        AllByRecursion DoneOf (map (run_of inputs outputs) clients) → AllByRecursion LeavesOf clients
     all_leave [] done = tt
     all_leave (client ∷ clients) done = (
       its_words client.words client.status client.before client.after client.sent.0 client.sent.1 done.0,
@@ -113,5 +126,27 @@ module _ {L K : Type 0} {inputs : SourceMeaning (DiskSource L)} {outputs : SinkM
         made.1,
         λ order is_order honest fresh.
             let done = made.2 order is_order honest fresh in
-            (done.0, all_leave keeps made.0 clients done.1),
+            let programs = made.0 in (
+              done.0,
+              all_leave (FileDone programs) (FileLeaves inputs outputs log programs) (its_file keeps programs) clients
+                  done.1,
+            ),
+      )
+
+  -- and from those of several servers
+  pub several_puts_from_disk : {R G H W E B : Type 0} (log : R → List DiskEvent)
+      (stores : StoreMeaning (FolderStore R G H W) (FolderDraft B)) (sources : SourceMeaning E) →
+      KeepsFolder log stores sources → SeveralMoveFiles log stores sources inputs outputs →
+      SeveralPutsFromDiskToDisk inputs outputs log stores sources
+  several_puts_from_disk log stores sources keeps move ip port servers clients serve asks =
+      let made = move ip port servers (map (run_of inputs outputs) clients) serve asks in
+      let several = made.0 in (
+        several,
+        made.1,
+        λ order. all_leave (FileDoneThere several order) (FileLeavesThere inputs outputs log several order)
+            (λ job files count bytes sent done. also_there several order
+            (λ programs. FileDone programs job files count bytes)
+            (λ programs. FileLeaves inputs outputs log programs job files count bytes) job
+            (λ programs moved. its_file keeps programs job files count bytes sent moved) done)
+            clients (made.2 order),
       )

@@ -15,7 +15,7 @@ use Rattle.tftp_loop.specs.LoopStates.{noted_at_end}
 use Rattle.tftp_loop.specs.WholeRun.{RunsServer, RunsServerFrom, Unbound, Bound, listening}
 use Rattle.tftp_loop.specs.declared.serving.LoopFault.{LoopFault}
 use Rattle.tftp_folder.specs.declared.folder_store.FolderStore.{FolderStore}
-use Rattle.tftp_disk.specs.DiskJournal.{DiskEvent}
+use Rattle.tftp_disk.specs.DiskTrace.{DiskEvent}
 use Rattle.tftp_folder.specs.Opened.{IsRootOf}
 use Rattle.tftp_daemon.specs.Configured.{IsServerOf, ListensAt, ServesWords, service_at}
 use Rattle.tftp_daemon.specs.Words.{WordsConfigure}
@@ -56,7 +56,8 @@ module _ {R G H W F D : Type 0} {log : R → List DiskEvent} {stores : StoreMean
         ran.after → Made
     from_port {result} bound same is_bound serves =
         let before = listening at.ip bound ran.before in
-        let start : LoopState (FolderStore R G H W) F D = at_start (service_at config at) bound server before in
+        let start : LoopState (FolderStore R G H W) F D = at_start (service_at config at) bound server
+        serves.reading before in
         let limits : IsBlockSize server.config.limits.max_block =
         subst (λ (c : Config). IsBlockSize c.limits.max_block) (sym of.limits) of.valid.max_block in
         let r = are_runs (endpoint ip port) start serves.last serves.run same of.empty refl limits in (

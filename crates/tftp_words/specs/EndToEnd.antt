@@ -10,10 +10,10 @@ use Rattle.tftp_file.specs.Sink.{SinkMeaning}
 use Rattle.tftp_file.specs.Source.{SourceMeaning, GivesInTurn}
 use Rattle.tftp_file.specs.declared.files.Files.{Files}
 use Rattle.tftp_file.specs.declared.files.Files.TheVariants.{Source, Sink}
-use Rattle.tftp_disk.specs.DiskJournal.{DiskEvent}
+use Rattle.tftp_disk.specs.DiskTrace.{DiskEvent}
 use Rattle.tftp_store.specs.Store.{StoreMeaning}
 use Rattle.tftp_store.specs.declared.store.Opening.{Opening}
-use Rattle.tftp_sockets.specs.Journal.{SocketEvent}
+use Rattle.tftp_sockets.specs.Trace.{SocketEvent}
 use Rattle.tftp_client.specs.Ordered.{RunsOrder, RunsWords}
 use Rattle.tftp_client.specs.Runs.{moved_by}
 use Rattle.tftp_folder.specs.declared.folder_store.FolderStore.{FolderStore}
@@ -102,9 +102,9 @@ module _ {S F D G K : Type 0} {stores : StoreMeaning S D} {sources : SourceMeani
   HasDone ran =
       WordsComplete inputs outputs FileDone ran.words ran.status ran.before ran.after ran.ran
 
--- `tftpd` ran these words, and its request port was bound; each `tftp` ran those, which name that
--- server: then there are programs that noted just that, and in whatever order an honest network
--- joined them, if their ports are fresh they keep the promises; what the file of a complete get was
+-- a run of `tftpd` whose request port was bound, and runs of `tftp` whose arguments name that
+-- server: there are programs with just these traces. In whatever order an honest network joined
+-- them, if their ports are fresh, they keep the promises; what the file of a complete get was
 -- handed is just what the server's source gave, and what that of a complete put gave is just what
 -- the server's draft took before a commit of it succeeded
 abbrev pub WordsMoveFiles : {R G H W F D I K : Type 0} (log : R → List DiskEvent)

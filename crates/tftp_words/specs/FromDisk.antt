@@ -11,10 +11,10 @@ use Rattle.tftp_file.specs.Source.{SourceMeaning}
 use Rattle.tftp_file.specs.declared.files.Files.{Files}
 use Rattle.tftp_file.specs.declared.files.Files.TheVariants.{Source, Sink}
 use Rattle.tftp_store.specs.Store.{StoreMeaning}
-use Rattle.tftp_sockets.specs.Journal.{SocketEvent}
+use Rattle.tftp_sockets.specs.Trace.{SocketEvent}
 use Rattle.tftp_client.specs.OnDisk.{IsStored, StoresWords}
 use Rattle.tftp_client.specs.declared.local.LocalFile.{LocalFile}
-use Rattle.tftp_disk.specs.DiskJournal.{DiskEvent}
+use Rattle.tftp_disk.specs.DiskTrace.{DiskEvent}
 use Rattle.tftp_disk.specs.declared.disk.Looks as looks
 use Rattle.tftp_disk.specs.DiskSourceLaws.{GivenInOrder}
 use Rattle.tftp_folder.specs.Source.{OpensSource, text_of}
@@ -31,8 +31,8 @@ module _ {S D F U I : Type 0} {logs : looks.Ghosts D} {writes : write.Ghosts F}
     {views : looks.Ghosts U} {reads : read.Ghosts I} {seeks : seek.Ghosts I}
     (inputs : SourceMeaning S)
     (outputs : SinkMeaning (LocalFile D F U I logs writes views reads seeks)) where
-  -- a `tftp` ran these words, over a disk of which it had asked nothing before, and of which these are
-  -- the calls
+  -- a run of `tftp`: the address of its host, its arguments, its status, its trace before and
+  -- after, and its calls on a disk of which it had asked nothing before
   pub record ClientStored : Type 0 where
     pub ip : List ℕ
     pub words : List (List ℕ)
@@ -79,10 +79,10 @@ module _ {S D F U I : Type 0} {logs : looks.Ghosts D} {writes : write.Ghosts F}
         WordsComplete inputs outputs (FileReaches client.calls) client.words client.status client.before
         client.after client.stored.0
 
-  -- `tftpd` ran these words, and its request port was bound; each `tftp` ran those, which name that
-  -- server: then there are programs that noted just that, and in whatever order an honest network
-  -- joined them, if their ports are fresh they keep the promises, and each file that a complete get
-  -- named has just the bytes that reads of the file of its name in the server's folder returned
+  -- a run of `tftpd` whose request port was bound, and runs of `tftp` whose arguments name that
+  -- server: there are programs with just these traces. In whatever order an honest network joined
+  -- them, if their ports are fresh, they keep the promises, and each file that a complete get named
+  -- has just the bytes that reads of the file of its name in the server's folder returned
   abbrev pub FromDiskToDisk : {R G H W V E B : Type 0} (log : R → List DiskEvent)
       (looked : V → List DiskEvent) (stores : StoreMeaning (FolderStore R G H W) B)
       (sources : SourceMeaning (FolderSource V E)) → Type 0

@@ -3,3 +3,6 @@ pub mod WordsKept
 pub mod EndToEnd
 pub mod FromDisk
 pub mod PutFromDisk
+pub mod OverSeveral
+pub mod SeveralFromDisk
+pub mod SharedFolder

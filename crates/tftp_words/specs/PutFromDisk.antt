@@ -7,9 +7,9 @@ use Rattle.tftp_file.specs.Source.{SourceMeaning}
 use Rattle.tftp_file.specs.declared.files.Files.{Files}
 use Rattle.tftp_file.specs.declared.files.Files.TheVariants.{Source, Sink}
 use Rattle.tftp_store.specs.Store.{StoreMeaning}
-use Rattle.tftp_disk.specs.DiskJournal.{DiskEvent}
+use Rattle.tftp_disk.specs.DiskTrace.{DiskEvent}
 use Rattle.tftp_disk.specs.declared.disk_source.DiskSource.{DiskSource}
-use Rattle.tftp_sockets.specs.Journal.{SocketEvent}
+use Rattle.tftp_sockets.specs.Trace.{SocketEvent}
 use Rattle.tftp_client.specs.Sent.{IsSent, SendsWords}
 use Rattle.tftp_folder.specs.Changing.{limits_of}
 use Rattle.tftp_folder.specs.Stored.{IsStoredAt}
@@ -23,7 +23,7 @@ use Rattle.tftp_words.specs.EndToEnd.{GotFile, PutFile, WordsComplete}
 use Rattle.tftp_words.specs.Ran.{AllAsk, AreRan, ClientRan, Job, ServerRan, port_of}
 
 module _ {L K : Type 0} (inputs : SourceMeaning (DiskSource L)) (outputs : SinkMeaning K) where
-  -- a `tftp` ran these words, with the file that it sends on the disk
+  -- a run of `tftp`, with the file that it sends on the disk
   pub record ClientSent : Type 0 where
     pub ip : List ℕ
     pub words : List (List ℕ)
@@ -68,10 +68,10 @@ module _ {L K : Type 0} (inputs : SourceMeaning (DiskSource L)) (outputs : SinkM
         WordsComplete inputs outputs FileLeaves client.words client.status client.before client.after
         client.sent.0
 
-  -- `tftpd` ran these words, and its request port was bound; each `tftp` ran those, which name that
-  -- server: then there are programs that noted just that, and in whatever order an honest network
-  -- joined them, if their ports are fresh they keep the promises, and what reads of LOCAL returned
-  -- to each complete put is what the server wrote to the file that it made and named
+  -- a run of `tftpd` whose request port was bound, and runs of `tftp` whose arguments name that
+  -- server: there are programs with just these traces. In whatever order an honest network joined
+  -- them, if their ports are fresh, they keep the promises, and what reads of LOCAL returned to
+  -- each complete put is what the server wrote to the file that it made and named
   abbrev pub PutsFromDiskToDisk : {R G H W E B : Type 0} (log : R → List DiskEvent)
       (stores : StoreMeaning (FolderStore R G H W) (FolderDraft B)) (sources : SourceMeaning E) → Type 0
   PutsFromDiskToDisk log stores sources =

@@ -13,7 +13,7 @@ use Rattle.tftp_ends.specs.declared.side.Side.TheVariants.{ClientRead, ClientWri
 use Rattle.tftp_store.specs.Store.{StoreMeaning}
 use Rattle.tftp_server.specs.State.{ServerState}
 use Rattle.tftp_sockets.specs.Bound.{IsBoundTo}
-use Rattle.tftp_sockets.specs.Journal.{SocketEvent}
+use Rattle.tftp_sockets.specs.Trace.{SocketEvent}
 use Rattle.tftp_loop.specs.LoopStates.{noted_at_end}
 use Rattle.tftp_loop.specs.WholeRun.{RunsServer, Unbound, Bound, listening}
 use Rattle.tftp_loop.specs.declared.serving.LoopConfig.{LoopConfig}
@@ -23,7 +23,7 @@ use Rattle.tftp_client.specs.Ordered.{RunsOrder, RunsWords}
 use Rattle.tftp_client.specs.Runs.{moved_by}
 use Rattle.tftp_client.specs.Words.{WordsName}
 use Rattle.tftp_folder.specs.declared.folder_store.FolderStore.{FolderStore}
-use Rattle.tftp_disk.specs.DiskJournal.{DiskEvent}
+use Rattle.tftp_disk.specs.DiskTrace.{DiskEvent}
 use Rattle.tftp_folder.specs.Opened.{IsRootOf}
 use Rattle.tftp_daemon.specs.Configured.{ListensAt, ServesWords}
 use Rattle.tftp_daemon.specs.Words.{WordsConfigure}
@@ -44,8 +44,8 @@ Job = Named WordsName
 abbrev pub DaemonConfig : Type 0
 DaemonConfig = Named WordsConfigure
 
--- `tftpd` ran these words at this address, over a disk of which it had asked nothing, with this
--- status, from the one history to the other
+-- a run of `tftpd`: the address of its host, its arguments, its status, and its trace before and
+-- after; it had asked nothing of its disk before
 pub record ServerRan {R G H W F D : Type 0} (log : R → List DiskEvent)
     (stores : StoreMeaning (FolderStore R G H W) D) (sources : SourceMeaning F) : Type 0 where
   pub ip : List ℕ
@@ -55,7 +55,7 @@ pub record ServerRan {R G H W F D : Type 0} (log : R → List DiskEvent)
   pub after : List SocketEvent
   pub ran : ServesWords log [] stores sources words status before after
 
--- a `tftp` ran these
+-- a run of `tftp`: the same of it
 pub record ClientRan {G K : Type 0} (inputs : SourceMeaning G) (outputs : SinkMeaning K)
     : Type 0 where
   pub ip : List ℕ
@@ -115,7 +115,7 @@ side_of Read = ClientRead
 side_of Write = ClientWrite
 
 module _ {G K : Type 0} {inputs : SourceMeaning G} {outputs : SinkMeaning K} where
-  -- the words of all of them name this server
+  -- the arguments of all of them name this server
   abbrev pub AllAsk : Endpoint → List (ClientRan inputs outputs) → Type 0
   AllAsk to clients =
       AllByRecursion (λ (ran : ClientRan inputs outputs).
@@ -137,7 +137,7 @@ module _ {G K : Type 0} {inputs : SourceMeaning G} {outputs : SinkMeaning K} whe
     pub named : WordsName ran.words job
     pub runs : IsRunFor job client
 
-  -- the programs noted all that leads from the one journal to the other, one after another
+  -- the programs noted all that leads from the one trace to the other, one after another
   abbrev pub NotedBy : {to : Endpoint} → List SocketEvent → List (ClientProgram inputs outputs to)
       → List SocketEvent → Type 0
   NotedBy before [] after = after ≡ before
@@ -174,7 +174,7 @@ module _ {G K : Type 0} {inputs : SourceMeaning G} {outputs : SinkMeaning K} whe
 
 module _ {R G H W F D : Type 0} {log : R → List DiskEvent}
     {stores : StoreMeaning (FolderStore R G H W) D} {sources : SourceMeaning F} where
-  -- this program is what `tftpd` ran from its request port on, which is where the words say
+  -- this program is that run of `tftpd` from its request port on, which is where its arguments say
   pub record IsServerRan (ran : ServerRan log stores sources) (port : ℕ) {to : Endpoint}
       (server : ServerProgram stores sources to) : Type 0 where
     pub address : to.ip ≡ ran.ip
@@ -182,7 +182,7 @@ module _ {R G H W F D : Type 0} {log : R → List DiskEvent}
     pub config : DaemonConfig
     pub named : WordsConfigure ran.words config
     pub limits : server.start.server.config ≡ config.config
-    -- its folder is the one that the system said that the word ROOT leads to, by the oldest calls on
+    -- its folder is the one to which the system resolved the argument ROOT, by the oldest calls on
     -- its disk
     pub root : IsRootOf config.root.now (string_bytes server.start.server.store.folder.root) []
         (log server.start.server.store.disk)
@@ -190,7 +190,7 @@ module _ {R G H W F D : Type 0} {log : R → List DiskEvent}
     pub listens : ListensAt config.listen at
     pub bound : IsBoundTo at at.ip port
     pub begins : server.start.events ≡ listening at.ip port ran.before
-    -- what it noted, and last what stopped it, if memory was refused or its output has no reader
+    -- its trace, and last what stopped it, if memory was refused or its output has no reader
     pub result : Result (Unit {0}) LoopFault
     pub noted : ran.after ≡ noted_at_end result (server.noted ++ server.start.events)
 
@@ -214,7 +214,7 @@ abbrev pub root_of : {R G H W F D I K : Type 0} {stores : StoreMeaning (FolderSt
     → Programs stores sources inputs outputs → List ℕ
 root_of programs = string_bytes programs.server.start.server.store.folder.root
 
--- these programs are what all the commands ran
+-- these programs are the runs of all the commands, and there is no other server
 pub record AreRan {R G H W F D I K : Type 0} {log : R → List DiskEvent}
     {stores : StoreMeaning (FolderStore R G H W) D} {sources : SourceMeaning F} {inputs : SourceMeaning I} {outputs : SinkMeaning K}
     (server : ServerRan log stores sources) (port : ℕ) (clients : List (ClientRan inputs outputs))

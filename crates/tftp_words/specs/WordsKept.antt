@@ -2,7 +2,7 @@
 use Rattle.std.specs.Prelude.{ℕ, ◌≡◌, List, slice_get, Some}
 use Rattle.tftp_file.specs.Sink.{SinkMeaning}
 use Rattle.tftp_file.specs.Source.{SourceMeaning}
-use Rattle.tftp_disk.specs.DiskJournal.{DiskEvent}
+use Rattle.tftp_disk.specs.DiskTrace.{DiskEvent}
 use Rattle.tftp_store.specs.Store.{StoreMeaning}
 use Rattle.tftp_folder.specs.declared.folder_store.FolderStore.{FolderStore}
 use Rattle.tftp_promises.specs.Alone.{HasNothing, IsPassedOver, IsServed, alone, just_asking}
@@ -14,9 +14,9 @@ use Rattle.tftp_promises.specs.Several.{Several, OneServer, OneClient}
 use Rattle.tftp_words.specs.Ran.{AllAsk, AllServe, AreRan, AreSeveralRan, ClientRan, ServerRan}
 use Rattle.tftp_words.specs.Ran.{port_of}
 
--- `tftpd` ran these words, and its request port was bound; each `tftp` ran those, which name that
--- server: then there are programs that noted just that, which keep the promises in whatever order
--- an honest network joined them, if their ports are fresh
+-- a run of `tftpd` whose request port was bound, and runs of `tftp` whose arguments name that
+-- server: there are programs with just these traces, which keep the promises in whatever order an
+-- honest network joined them, if their ports are fresh
 abbrev pub WordsKeepAnyFiles : {R G H W F D I K : Type 0} (log : R → List DiskEvent)
     (stores : StoreMeaning (FolderStore R G H W) D) (sources : SourceMeaning F) (inputs : SourceMeaning I) (outputs : SinkMeaning K) → Type 0
 WordsKeepAnyFiles log stores sources inputs outputs =
@@ -27,10 +27,10 @@ WordsKeepAnyFiles log stores sources inputs outputs =
     → IsHonest stores sources inputs outputs programs order → ArePortsFresh programs
     → KeepAnyFiles programs)
 
--- each `tftpd` ran its words at one address, and the request ports were bound to one port; each
--- `tftp` ran others, which name that: then there are programs that noted just that, and in whatever
--- order an honest network joined them, each server and each client that it serves keep the
--- promises, and of a client that passes it over it has nothing
+-- runs of several `tftpd` at one address whose request ports were bound to one port, and runs of
+-- `tftp` whose arguments name it: there are programs with just these traces. In whatever order an
+-- honest network joined them, each server and each client that it serves keep the promises; a
+-- server that a client passes over has nothing of it
 abbrev pub SeveralKeepAnyFiles : {R G H W F D I K : Type 0} (log : R → List DiskEvent)
     (stores : StoreMeaning (FolderStore R G H W) D) (sources : SourceMeaning F)
     (inputs : SourceMeaning I) (outputs : SinkMeaning K) → Type 0

@@ -2,7 +2,11 @@
 
 ghost use Rattle.tftp_words.specs.EndToEnd.{WordsMoveFiles};
 ghost use Rattle.tftp_words.specs.FromDisk.{FromDiskToDisk};
+ghost use Rattle.tftp_words.specs.OverSeveral.{SeveralMoveFiles};
 ghost use Rattle.tftp_words.specs.PutFromDisk.{PutsFromDiskToDisk};
+ghost use Rattle.tftp_words.specs.SeveralFromDisk.{SeveralFromDiskToDisk};
+ghost use Rattle.tftp_words.specs.SeveralFromDisk.{SeveralPutsFromDiskToDisk};
+ghost use Rattle.tftp_words.specs.SharedFolder.{OneHasTheName, PutsAreNamed};
 ghost use Rattle.tftp_words.specs.WordsKept.{SeveralKeepAnyFiles, WordsKeepAnyFiles};
 
 use std::io::Read;
@@ -17,20 +21,23 @@ use tftp_promises::laws::{
 };
 use tftp_server::Store;
 
-/// If `tftpd` ran these words, and each `tftp` those, which name that server, then what they noted
-/// is what programs of a network noted, which keep the promises over any files if the network is
-/// honest and their ports are fresh. What the file of a complete get was handed is then just what
+/// Of a run of `tftpd`, and runs of `tftp` whose arguments name that server, the traces are those of
+/// programs of a network, which keep the promises over any files if the network is honest and their
+/// ports are fresh. What the file of a complete get was handed is then just what
 /// the source gave, call by call, that the server's store opened under the path of its name; and
 /// what that of a complete put gave is just what the draft took, call by call, that the store began
 /// under the path of its name, before its commit. Of several `tftpd` at one address and request
 /// port, each and each client that it serves keep the promises, and of one that passes it over it
-/// has nothing (RFC 1350, sections 2, 4 and 6).
+/// has nothing; and the files of a complete job moved so between the client and the server that
+/// serves it (RFC 1350, sections 2, 4 and 6).
 pub fn words_keep_promises<D: Disk, G: Source, K: Sink>()
     ensures one { WordsKeepAnyFiles D.log ⟦<FolderStore<D> as Store>⟧.meaning
         ⟦<FolderSource<D::View> as Source>⟧.meaning G.meaning K.meaning }
     ensures files { WordsMoveFiles D.log ⟦<FolderStore<D> as Store>⟧.meaning
         ⟦<FolderSource<D::View> as Source>⟧.meaning G.meaning K.meaning }
     ensures several { SeveralKeepAnyFiles D.log ⟦<FolderStore<D> as Store>⟧.meaning
+        ⟦<FolderSource<D::View> as Source>⟧.meaning G.meaning K.meaning }
+    ensures several_files { SeveralMoveFiles D.log ⟦<FolderStore<D> as Store>⟧.meaning
         ⟦<FolderSource<D::View> as Source>⟧.meaning G.meaning K.meaning }
 {
     a_client_is_one_run::<G, K>();
@@ -39,8 +46,8 @@ pub fn words_keep_promises<D: Disk, G: Source, K: Sink>()
     each_client_keeps_promises::<FolderStore<D>, G, K>();
 }
 
-/// From disk to disk: if `tftpd` ran these words, and each `tftp` those, which name that server,
-/// and an honest network joined them with fresh ports, then each `tftp get` that printed
+/// From disk to disk: if an honest network joined a run of `tftpd` and runs of `tftp` whose
+/// arguments name that server, with fresh ports, then each `tftp get` that printed
 /// `complete N` has made, written, synced and then named a file of N bytes, which are just what
 /// reads of the file of its name in ROOT returned at the server, in order, or a beginning of that.
 /// The server found that file at the path of the name in its folder, and opened it there. A `tftp get`
@@ -55,8 +62,8 @@ pub fn complete_gets_go_from_disk_to_disk<D: Disk, L: Disk, G: Source>()
     gives_its_file::<D::View>();
 }
 
-/// From disk to disk in the other direction: if `tftpd` ran these words, and each `tftp` those,
-/// which name that server, and an honest network joined them with fresh ports, then what each
+/// From disk to disk in the other direction: if an honest network joined a run of `tftpd` and runs
+/// of `tftp` whose arguments name that server, with fresh ports, then what each
 /// `tftp put` that printed `complete N` sent, N bytes in octet, is what reads of LOCAL returned, in
 /// order from its start, or a beginning of that. It is the wire text of just the bytes that the server
 /// wrote to a file that it made in the folder of its drafts, in order and each once. That was
@@ -70,3 +77,42 @@ pub fn complete_puts_go_from_disk_to_disk<D: Disk, F: Read, K: Sink>()
     a_run_keeps_the_settings::<D>();
     stores_what_it_took::<D>();
 }
+
+/// From disk to disk with several `tftpd` at one address and request port, as `tftpd --servers N`
+/// starts them: each `tftp get` that printed `complete N` has named a file of N bytes, which are just
+/// what reads of the file of its name returned, in the folder of the server that serves it, or a
+/// beginning of that. Each server has a disk trace of its own. Which server serves a client is in
+/// the traces: the client takes no other's answer (RFC 1350, sections 2, 4 and 6).
+pub fn gets_of_several_go_from_disk_to_disk<D: Disk, L: Disk, G: Source>()
+    ensures { SeveralFromDiskToDisk G.meaning ⟦<LocalFile<L> as Sink>⟧.meaning D.log D.View.log
+        ⟦<FolderStore<D> as Store>⟧.meaning ⟦<FolderSource<D::View> as Source>⟧.meaning }
+{
+    words_keep_promises::<D, G, LocalFile<L>>();
+    a_run_keeps_the_settings::<D>();
+    gives_its_file::<D::View>();
+}
+
+/// From disk to disk with several `tftpd` in the other direction: what each `tftp put` that printed
+/// `complete N` sent is what reads of LOCAL returned, in order from its start, or a beginning of
+/// that; and it is the wire text of just the bytes that the server which serves it wrote to a file
+/// that it made in the folder of its drafts, which was synced, and then got its name. Each server has
+/// a disk trace of its own (RFC 1350, sections 2, 4 and 6).
+pub fn puts_of_several_go_from_disk_to_disk<D: Disk, F: Read, K: Sink>()
+    ensures { SeveralPutsFromDiskToDisk ⟦<DiskSource<F> as Source>⟧.meaning K.meaning D.log
+        ⟦<FolderStore<D> as Store>⟧.meaning ⟦<FolderSource<D::View> as Source>⟧.meaning }
+{
+    words_keep_promises::<D, DiskSource<F>, K>();
+    a_run_keeps_the_settings::<D>();
+    stores_what_it_took::<D>();
+}
+
+/// Of a folder that several servers share, by the calls of all on its files in one order, with which
+/// the system's answers agree: a put that is stored got its name by one of these calls. Of two that
+/// got one name, one got it later, and that one alone can have it. If that one may replace no file,
+/// as without `--overwrite`, a call between had taken the name from the first. The one exception is
+/// a file system without hard links, on which two servers name files at one time: each looks, and
+/// then renames.
+pub fn one_put_has_the_name()
+    ensures named { PutsAreNamed }
+    ensures one { OneHasTheName }
+{}

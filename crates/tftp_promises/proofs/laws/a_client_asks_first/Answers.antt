@@ -1,5 +1,5 @@
 -- The lemma that is the law.
-use Rattle.tftp_promises.proofs.ClientJournals.{asks_first}
+use Rattle.tftp_promises.proofs.ClientTraces.{asks_first}
 use Rattle.tftp_promises.proofs.laws.a_client_asks_first.Goals as goal
 
 pub returns : goal.returns

@@ -1,13 +1,7 @@
 -- The lemmas that are the law.
 use Rattle.tftp_promises.proofs.OthersTaken.{alone_joined}
-use Rattle.tftp_promises.proofs.ProgramsShown.{programs_keep, programs_keep_any, programs_shown}
+use Rattle.tftp_promises.proofs.ProgramsShown.{programs_keep_any}
 use Rattle.tftp_promises.proofs.laws.programs_keep_promises.Goals as goal
-
-pub returns-clause-promises : goal.returns-clause-promises
-returns-clause-promises g c = programs_keep _ _ _ _
-
-pub returns-clause-shown : goal.returns-clause-shown
-returns-clause-shown g c = programs_shown _ _ _ _
 
 pub returns-clause-any_files : goal.returns-clause-any_files
 returns-clause-any_files g c = programs_keep_any _ _ _ _

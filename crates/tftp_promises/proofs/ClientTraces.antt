@@ -10,15 +10,15 @@ use Rattle.tftp_file.specs.declared.files.Files.{Files}
 use Rattle.tftp_ends.specs.End.{EndState}
 use Rattle.tftp_ends.specs.Step.{Reply}
 use Rattle.tftp_rules.specs.Machine.{Endpoint}
-use Rattle.tftp_sockets.specs.Journal.{SocketEvent, QuietEvent, answered}
-use Rattle.tftp_sockets.specs.Journal.SocketEvent.{Received, Sent, Watched, Elapsed, Printed, Quiet}
-use Rattle.tftp_sockets.specs.Journal.QuietEvent.{Empty, Failed, Slept}
+use Rattle.tftp_sockets.specs.Trace.{SocketEvent, QuietEvent, answered}
+use Rattle.tftp_sockets.specs.Trace.SocketEvent.{Received, Sent, Watched, Elapsed, Printed, Quiet}
+use Rattle.tftp_sockets.specs.Trace.QuietEvent.{Empty, Failed, Slept}
 use Rattle.tftp_client.specs.Converses.{State, HandlesReceived, MayElapse, wait_at}
 use Rattle.tftp_client.specs.Converses.HandlesReceived.{Answers, Loses}
 use Rattle.tftp_client.specs.Converses.MayElapse.{Stays, Elapses}
 use Rattle.tftp_promises.specs.ClientRuns.{ClientDoes, ClientRun, Starts, Goes_on, Receives_one, Reads_clock, Waits_until, Times_out}
 use Rattle.tftp_promises.specs.ClientRuns.{File_works, Prints_line}
-use Rattle.tftp_promises.specs.Journals.{IsOfPort, IsQuietAt, AsksFirst}
+use Rattle.tftp_promises.specs.Traces.{IsOfPort, IsQuietAt, AsksFirst}
 use Rattle.tftp_promises.specs.Programs.{ClientProgram, ClientOpens, To_read, To_write}
 
 -- the events since `first` are of this port
@@ -57,12 +57,12 @@ module _ {G K : Type 0} {inputs : SourceMeaning G} {outputs : SinkMeaning K} whe
   -- a step
   does_since : {first : List SocketEvent} {port : ℕ} {s : State} {files : Files G K} {s' : State} {files' : Files G K} →
       ClientDoes inputs outputs port s files s' files' → Since port first s.events → Since port first s'.events
-  does_since {port = port} {s = s} (Receives_one {from = from} {bytes = bytes} {time = time} may later handles) since =
-      handle handles (one_more (Watched time) tt
+  does_since {port = port} {s = s} (Receives_one {from = from} {bytes = bytes} {watch = watch} may later handles) since =
+      handle handles (one_more (Watched watch) tt
       (one_more (Received port from bytes) refl (one_more (Quiet (Slept (wait_at s))) tt since)))
-  does_since (Reads_clock progress {time} later) since = one_more (Watched time) tt since
-  does_since {port = port} {s = s} (Waits_until {event = event} {time = time} may which later) since =
-      one_more (Watched time) tt (one_more (Quiet event) (at_port port event which)
+  does_since (Reads_clock progress {watch} later) since = one_more (Watched watch) tt since
+  does_since {port = port} {s = s} (Waits_until {event = event} {watch = watch} may which later) since =
+      one_more (Watched watch) tt (one_more (Quiet event) (at_port port event which)
       (one_more (Quiet (Slept (wait_at s))) tt since))
   does_since (Times_out elapses) since = elapse elapses since
   does_since (File_works works) since = since

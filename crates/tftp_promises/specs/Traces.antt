@@ -4,10 +4,10 @@ use Rattle.std.specs.List.{AllByRecursion}
 use Rattle.tftp_file.specs.Sink.{SinkMeaning}
 use Rattle.tftp_file.specs.Source.{SourceMeaning}
 use Rattle.tftp_rules.specs.Machine.{Endpoint}
-use Rattle.tftp_sockets.specs.Journal.{SocketEvent, QuietEvent}
-use Rattle.tftp_sockets.specs.Journal.SocketEvent.{Received, Sent, Watched, Elapsed, Printed, Quiet}
-use Rattle.tftp_sockets.specs.Journal.QuietEvent.{Empty, Failed, New_socket, No_socket, Out_of_memory}
-use Rattle.tftp_sockets.specs.Journal.QuietEvent.{No_reader, Drain_signalled, Slept, Woke}
+use Rattle.tftp_sockets.specs.Trace.{SocketEvent, QuietEvent}
+use Rattle.tftp_sockets.specs.Trace.SocketEvent.{Received, Sent, Watched, Elapsed, Printed, Quiet}
+use Rattle.tftp_sockets.specs.Trace.QuietEvent.{Empty, Failed, New_socket, No_socket, Out_of_memory}
+use Rattle.tftp_sockets.specs.Trace.QuietEvent.{No_reader, Drain_signalled, Slept, Woke}
 use Rattle.tftp_promises.specs.Programs.{ClientProgram}
 
 -- a receive at this port without a datagram, or the begin of a wait; a client's waits report none,
@@ -27,7 +27,7 @@ IsQuietAt port Drain_signalled = ⊥
 abbrev pub IsOfPort : ℕ → SocketEvent → Type 0
 IsOfPort port (Received at from bytes) = at ≡ port
 IsOfPort port (Sent at to bytes) = at ≡ port
-IsOfPort port (Watched time) = Unit {0}
+IsOfPort port (Watched watch) = Unit {0}
 IsOfPort port (Elapsed at time) = at ≡ port
 IsOfPort port (Printed line) = Unit {0}
 IsOfPort port (Quiet event) = IsQuietAt port event

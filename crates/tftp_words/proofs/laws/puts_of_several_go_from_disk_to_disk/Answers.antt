@@ -1,0 +1,9 @@
+-- The lemma that is the law.
+use Rattle.tftp_words.proofs.PutFromDiskMade.{several_puts_from_disk}
+use Rattle.tftp_words.proofs.laws.puts_of_several_go_from_disk_to_disk.Goals as goal
+
+pub returns : goal.returns
+returns g c =
+    several_puts_from_disk _ _ _
+    (record { settings = c.a_run_keeps_the_settings.ensures; drafts = c.stores_what_it_took.ensures })
+    c.words_keep_promises.ensures.several_files
