@@ -1,5 +1,7 @@
 /* TFTP for C: the ends of a transfer and the packets (RFC 1350; RFC 2347 to 2349), without IO. For x86-64
- * Linux: its objects need the ABI of C there, and of the system malloc alone.
+ * Linux: its objects need the ABI of C there, and call malloc, realloc, free, memcpy, memmove, memset and
+ * memcmp alone: those of glibc, of musl, or of a program that is linked with -nostdlib, as
+ * examples/c/alone_machine.c.
  *
  * The caller owns the socket, the clock and the file. It passes each datagram and each timeout in,
  * sends what a call writes to its buffer, and stores or reads the bytes of the file.
