@@ -134,21 +134,23 @@ class Trial:
         self.is_complete, self.since = status == 0, time.monotonic()
 
     def take_line(self, transfer, outcome) -> None:
-        """The server has closed a transfer of this client."""
-        if outcome not in OUTCOMES or transfer not in self.network.opened():
-            raise Failure(f"{self.name}: the server closes {transfer} of {self.network.opened()} as {outcome}")
+        """The server has closed a transfer of this client. (Its line may be here before its last datagram.)"""
+        if outcome not in OUTCOMES:
+            raise Failure(f"{self.name}: the server closes {transfer} as {outcome}")
         self.outcomes.setdefault(transfer, []).append(outcome)
 
     def is_settled(self) -> bool:
-        """Whether the server has closed all transfers of this client, which it has to do in time; then each end has what
-        the other reports."""
+        """Whether the server has closed all transfers of this client, which it has to do in time, and no other; then each
+        end has what the other reports."""
         if self.is_complete is None:
             return False
-        waited = time.monotonic() - self.since
-        if self.network.opened() - set(self.outcomes) and waited > PATIENCE:
-            raise Failure(f"{self.name}: no line of {self.network.opened() - set(self.outcomes)}")
+        waited, opened, closed = time.monotonic() - self.since, self.network.opened(), set(self.outcomes)
+        if waited > PATIENCE and opened - closed:
+            raise Failure(f"{self.name}: no line of {opened - closed}")
+        if waited > PATIENCE and closed - opened:
+            raise Failure(f"{self.name}: the server closes {closed - opened} of {opened}")
         # (a request may still be on its way)
-        if self.network.opened() - set(self.outcomes) or waited < 1:
+        if opened != closed or waited < 1:
             return False
         reports = [outcome for each in self.outcomes.values() for outcome in each]
         if self.is_read and "Complete" in reports and not self.is_complete:
