@@ -17,6 +17,8 @@
 # make soak SECONDS=3600 SEED=2: trials of bin/tftp and bin/tftpd against a model, a bad network and a bad host, and
 #   bin/tftp-show beside two other readers; then five minutes of inputs for the library for C, from a corpus
 # make coverage: which functions of the programs no test runs, by qemu-x86_64
+# make walk: the calls from a received ACK to the block that answers it; make weights: what each crate weighs in the gate; make
+#   plants CRATE=NAME: which wrong bodies of `rt plant` a crate's contracts let through
 # make mutants SECONDS=3600 SEED=2: mutated lines, captures, scripts and command lines for the programs of bin/
 # make bench: the benchmarks of bench/, which are no tests
 # make bench-udp: tftpd and tftp beside the other servers and clients that are installed
@@ -41,13 +43,14 @@ TESTS := tools.tests.test_gate tools.tests.test_packages tools.tests.test_stand_
 # limit, whatever the others come to: tools/gate.py says what was skipped and what failed
 CHECKS := tools/same_options.py tools/check_install.py tools/check_documents.py tools/statement.py tools/definitions.py \
 	tools/figures.py tools/disk_trace.py tools/power_cuts.py tools/same_pictures.sh \
-	tools/lint.py tools/processors.py \
+	tools/lint.py tools/processors.py tools/walk.py \
 	'$(MAKE) --no-print-directory run' tools/statuses.py tools/captures.py tools/memory_in_turn.py tools/lost_requests.py \
 	tools/out_of_memory.py 'python3 -m unittest $(TESTS)' tools/mutants.py tools/c_library.py tools/library_abi.py \
-	tools/loopback/run.py tools/behaviours.py 'tools/network.py bin/tftp bin/tftpd' tools/soak/run.py 'tools/slips.py --few'
+	tools/library_chroot.py tools/loopback/run.py tools/behaviours.py 'tools/network.py bin/tftp bin/tftpd' \
+	tools/soak/run.py 'tools/slips.py --few'
 
 .PHONY: build programs libtftp run sample tftp-show tftp-play tftp tftpd test quick docs slips install uninstall dist deb soak \
-	behaviours coverage mutants bench bench-udp clean
+	behaviours coverage walk weights plants mutants bench bench-udp clean
 # one after another: each crate is proved by as many processors as there are
 .NOTPARALLEL:
 
@@ -128,6 +131,13 @@ behaviours: bin/tftp bin/tftpd
 
 coverage: $(PROGRAMS)
 	tools/coverage.py
+
+walk weights:
+	@tools/$@.py
+
+plants:
+	$(NEEDS_RT)
+	@tools/plants.py '$(CRATE)'
 
 bench: $(PROGRAMS)
 	bench/show/run.sh bin/tftp-show

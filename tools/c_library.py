@@ -2,13 +2,13 @@
 """Tries the library for C by its examples: c_library.py [TFTP TFTPD]
 
 Takes the programs of bin/, or else those that `rt ci` built, and builds examples/ for each checker that is here: in C and
-C++ by each compiler with AddressSanitizer and UndefinedBehaviorSanitizer, in C for valgrind, too; in Rust and in Python
-with AddressSanitizer and for valgrind; and in Go. Each example that gets or puts does so at tftpd, at the example that
-serves, and at each server of another project that is here (in.tftpd, atftpd, which ATFTPD may name, dnsmasq), through a
-good network and through one that loses, duplicates and reorders datagrams; each file is compared byte for byte. Each is
-refused a file that is not there. A get whose file fails ends at its server, too. Trials run side by side, each at an
-address of its own; one that fails while this host stalled is run once more, alone, and that is said. The last line is a
-count, and says what was skipped.
+C++ by each compiler with AddressSanitizer and UndefinedBehaviorSanitizer, in C for valgrind, too, over musl, and without a
+C library; in Rust and in Python with AddressSanitizer and for valgrind; and in Go. Each example that gets or puts does so
+at tftpd, at the example that serves, and at each server of another project that is here (in.tftpd, atftpd, which ATFTPD
+may name, dnsmasq), through a good network and through one that loses, duplicates and reorders datagrams; each file is
+compared byte for byte. Each is refused a file that is not there. A get whose file fails ends at its server, too. Trials
+run side by side, each at an address of its own; one that fails while this host stalled is run once more, alone, and that
+is said. The last line is a count, and says what was skipped.
 """
 import os
 import random

@@ -2,7 +2,8 @@
 """Runs each command line of tftp-show and tftp-play that a document or a manual shows, and compares what it prints with
 what stands there. Nothing is written to standard error, and the status is that of the manuals. Of each
 examples/NAME.script at least one document has to show the output. The tours of tftpd and tftp are run twice in a folder,
-and leave nothing there. A document shows no command that is neither, except those of which another check runs the like.
+and leave nothing there. The gets of README.md in C and in Rust are compiled. Any other command is one that ELSEWHERE,
+BESIDE or WITHIN names, with the check that runs it, or with why none does.
 
 The programs are those of bin/, or else those that the gate left in crates/*_main/out/.
 """
@@ -16,6 +17,7 @@ import sys
 import tempfile
 from typing import Optional
 
+from lib import snippets
 from lib.addresses import own_address
 from lib.programs import NAMES, TOP, program
 
@@ -25,6 +27,41 @@ ADDRESS, PORTS = "127.0.0.1:6969", re.compile(r"\d+ \d+ (?=Complete$)")
 # The documents with a tour; and the commands of programs that `rt ci`, tools/loopback/ and tools/captures.py run
 TOURS = ["README.md", "crates/tftp_main/README.md"]
 ELSEWHERE = re.compile(r"fetch_memory$|serve_memory |tftp get [\d.:]+ greeting |tshark -r FILE ")
+# Of the commands that stand without a `$`, by a part of their piece of code: the check that runs them, or why none does
+BESIDE = {
+    "apt install ./": "it needs root; tools/check_install.py unpacks the packages, and looks at what they install",
+    "systemctl enable --now tftpd\n": "it needs root and systemd; by hand tools/units.py starts the units",
+    "systemctl enable --now tftpd@": "it needs root and systemd; by hand tools/units.py; the rules: tools/network.py",
+    "tftpd /srv/tftp --listen 192.0.2.1:69 ": "it needs port 69; tools/network.py runs the units' lines, with these options",
+    "nft add table ip tftp\n": "tools/network.py",
+    "nft add table ip tftp_limit\n": "tools/network.py",
+    "table inet firewall {": "tools/network.py",
+    "table ip tftp_helper {": "tools/network.py",
+    "make run ": "the gate, which is `make test`; `make deb dist`: tools/check_install.py",
+    "rt try --test": "`rt ci` runs the tests; `rt try` needs no proof, and is for who writes one",
+    "memory_in_turn.py": "tools/memory_in_turn.py, by the gate",
+    "bench/udp/": "benchmarks are no tests",
+    "apt-get install tftpd-hpa": "it needs root and a network",
+}
+# The same of commands within a sentence, by their beginnings
+WITHIN = {
+    r"rt (?:check|test|run|lib|must-fail|ci|fmt|tidy)\b": "`rt ci` does it of every crate",
+    r"rt (?:doc|lemma|new|plant|try)\b": "for who changes the code; no page shows what they print",
+    r"make (?:test|run|libtftp|tftp(?:-show)?|docs|install)\b": "the gate, or a check of it",
+    r"make (?:bench|bench-udp|behaviours|coverage|mutants|plants|quick|slips|soak|walk|weights)\b": "by hand, since they take long; the gate tries a part",
+    r"python3 -m unittest$": "the gate",
+    r"tools/(?:library_abi|plants)\.py ": "by hand: they write, and search",
+    r"\./install\.sh install$": "tools/check_install.py",
+    r"find /srv/tftp ": "tools/network.py",
+    r"(?:exec tftpd /srv/tftp|tftp dgram udp4) ": "tools/loopback/handed_over.py, in place of inetd",
+    r"(?:apt install|setcap|systemctl|journalctl|docker run) ": "they need root, systemd or a network",
+    r"(?:boot\.sh|tcpdump|tshark) ": "they need machines in QEMU, or a capture",
+    r"(?:tftp|tftpd|tftp-show|tftp-play) (?:get|put|-)": "names of what is run elsewhere; the options: tools/same_options.py",
+}
+COMMAND = re.compile(r"(?:apt|apt-get|boot\.sh|docker|exec|find|journalctl|make|nft|python3|rt|setcap|systemctl|tcpdump|tftp|tftpd|"
+                     r"tftp-show|tftp-play|tshark|tools/\S+|\./install\.sh) ")
+# The pieces of code that show what a program wrote, and no command, by their first words
+WRITTEN = re.compile(r"(?:opened|closed|refused|transfer) ")
 # a line of tftp-show that makes its status 1, and one of tftp-play: a client that is not complete
 FAULTS = {"tftp-show": r"fault |not hex$", "tftp-play": r"end \d+ client-.* complete=no "}
 
@@ -110,8 +147,23 @@ def is_run(document, command) -> bool:
     return document.suffix != ".md" or str(document.relative_to(TOP)) in TOURS or bool(ELSEWHERE.match(command))
 
 
+def unnamed(document) -> list[str]:
+    """The pieces of a document's code with commands of which nothing says what runs them."""
+    found, text = [], document.read_text()
+    for piece in re.finditer(r"(?ms)^```(\w*)\n(.*?)^```$", text):
+        is_named = piece[1] or WRITTEN.match(piece[2]) or re.search(r"(?m)^\$ ", piece[2])
+        if not is_named and not any(part in piece[2] for part in BESIDE):
+            line = text[:piece.start()].count("\n") + 2
+            found.append(f"{document.relative_to(TOP)}:{line}: {piece[2].splitlines()[0]}: nothing says what runs it")
+    sentences = " ".join(re.sub(r"(?ms)^```.*?^```$", "", text).split())
+    return found + [f"{document.relative_to(TOP)}: {command}: nothing says what runs it"
+                    for command in re.findall("`([^`]+)`", sentences)
+                    if COMMAND.match(command) and not any(re.match(part, command) for part in WITHIN)]
+
+
 def main() -> int:
-    patterns = ["*.md", "docs/*.md", "crates/*/README.md", "examples/**/README.md", "bench/**/README.md", "man/*.[1-8]"]
+    patterns = ["*.md", "docs/*.md", "crates/*/README.md", "examples/**/README.md", "bench/**/README.md", "packaging/*.md",
+                "man/*.[1-8]"]
     documents = sorted(path for pattern in patterns for path in TOP.glob(pattern))
     failures, compared, manuals = 0, 0, 0
     scripts = {path.name for path in TOP.glob("examples/*.script")}
@@ -140,6 +192,14 @@ def main() -> int:
                     for line in [*printed, *errors.splitlines()]:
                         print(f"    {line}")
         failures += sum(tour(folder, document) for document in TOURS)
+    against, skipped = snippets.refused()
+    # (docs/STATEMENT.md is made, and has definitions alone)
+    pages = [document for document in documents if document.suffix == ".md" and document.name != "STATEMENT.md"]
+    for line in [*against, *(line for page in pages for line in unnamed(page))]:
+        failures += 1
+        print(line)
+    if skipped:
+        print(f"documents: skipped: no {', no '.join(skipped)}")
     for name in sorted(scripts):
         failures += 1
         print(f"examples/{name}: no document shows what it prints")

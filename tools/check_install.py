@@ -195,7 +195,8 @@ class Trial:
         root = ["--allow-root"] * (os.geteuid() == 0)
         for built in sorted((self.top / "out").glob("*_9_*.deb")):
             told = self.run("lintian", *root, "--fail-on", "none", built)
-            self.expect([line for line in told.splitlines() if line.startswith("E:")], [], f"lintian's errors of {built.name}")
+            found = [line for line in told.splitlines() if line.startswith(("E:", "W:"))]
+            self.expect(found, [], f"lintian's errors and warnings of {built.name}")
 
     def check_removal(self, package) -> None:
         """The package is installed below a folder, where its scripts start nothing, and a purge leaves nothing of it."""

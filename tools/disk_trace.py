@@ -24,7 +24,7 @@ from lib.addresses import own_address
 from lib.programs import TOP, programs
 
 # The trusted files, and what a function in them looks like that makes a call
-TRUSTED = {"system_disk.rt": r"^    fn (?!view\b)(\w+)", "disk_file.rt": r"^    (?:pub fn|fn(?= read\b| seek\b)) (?!journal\b)(\w+)"}
+TRUSTED = {"system_disk.rt": r"^    fn (?!view\b)(\w+)", "disk_file/calls.rt": r"^    (?:pub fn|fn) (\w+)"}
 HOST = own_address()
 PATIENCE = 60
 # A file of several blocks, and a text of as many bytes

@@ -1,6 +1,7 @@
 #!/usr/bin/env python3
 """Draws docs/crates.svg, which crate uses which, and docs/datagram.svg, the way of one datagram through `tftpd`; and counts
-the lines of the trusted files, for the table of docs/PROVED.md and where other documents have their sums.
+the lines of the trusted files, for the table of docs/PROVED.md and where other documents have their sums, and for
+docs/TESTING.md the lines of code, proofs and tests, and the mutants. Lines of code there are about: 5% off is no difference.
 
 figures.py --write writes them; without a word they are compared, and the status is 1 where one differs. The crates are
 those of crates.txt, and an arrow that follows from two others is left out. Each function on the way of the datagram is
@@ -8,9 +9,22 @@ looked for in the file that is named for it: one that is not there ends the prog
 """
 import re
 import sys
+from pathlib import Path
 from typing import NamedTuple
 
+import slips
 from lib.programs import TOP
+
+# What docs/TESTING.md says of the lines that are not empty: the beginning of a row, and the files
+SIZES = {
+    "definitions that clauses cite": "crates/*/specs/**/*.antt",
+    "proofs that were written by hand": "crates/*/proofs/**/*.antt",
+    "of these for the traces of programs": "crates/tftp_promises/proofs/**/*.antt",
+    "for worlds": "crates/tftp_player/proofs/**/*.antt",
+    "for the guarded machine": "crates/tftp_rules/proofs/**/*.antt",
+    "tests in Rattle": "crates/tests_*/src/**/*.rt",
+    "tests and tools in Python": "tools/**/*.py",
+}
 
 STYLE = """<style>
 text{font:12px ui-monospace,SFMono-Regular,Menlo,Consolas,'DejaVu Sans Mono',monospace;fill:#1f2328}
@@ -172,6 +186,38 @@ def lines_of(path: str) -> int:
     return len(place.read_text().splitlines())
 
 
+def filled(path: Path) -> list[str]:
+    """The lines of a file that are not empty."""
+    return [line.strip() for line in path.read_text().splitlines() if line.strip()]
+
+
+def parts_of(lines: list[str]) -> tuple[int, int]:
+    """How many lines of a file of Rattle are code, and how many are clauses and what else is ghost; comments are neither."""
+    code, clauses, depth, is_clause = 0, 0, 0, False
+    for line in lines:
+        is_clause = is_clause or bool(re.match(r"(?:ensures|requires|ghost|rule)\b", line))
+        if is_clause:
+            clauses, depth = clauses + 1, depth + line.count("{") - line.count("}")
+            is_clause = depth > 0 or not ("{" in line or line.endswith((";", "}")))
+        elif not line.startswith("//"):
+            code += 1
+    return code, clauses
+
+
+def sizes() -> dict[str, int]:
+    """The lines of the parts of the repository, by the rows of docs/TESTING.md."""
+    names = [name for name in uses() if not name.startswith("tests_")]
+    parts = [parts_of(filled(path)) for name in names for path in TOP.glob(f"crates/{name}/src/**/*.rt")]
+    found = {f"code in {len(names)} crates": sum(code for code, _ in parts), "clauses of its contracts": sum(it for _, it in parts)}
+    return {**found, **{row: sum(len(filled(path)) for path in TOP.glob(pattern) if "out" not in path.parts)
+                        for row, pattern in SIZES.items()}}
+
+
+def about(number: int) -> str:
+    """A number as a document says it."""
+    return f"{round(number, -2 if number < 20_000 else -3):,}"
+
+
 def counted() -> dict[str, str]:
     """The documents that have numbers of lines of the trusted files, with these as they are."""
     proved = (TOP / "docs/PROVED.md").read_text()
@@ -180,13 +226,14 @@ def counted() -> dict[str, str]:
     if not files:
         sys.exit("figures.py: docs/PROVED.md has no table of trusted files")
     total = f"{sum(map(lines_of, files)):,}"
-    # of two of them README.md has the sum, by their names
-    named = re.search(r"`(\w+\.rt)` and `(\w+\.rt)`, [\d,]+ lines", (TOP / "README.md").read_text())
-    both = sum(lines_of(path) for path in files if named and path.rpartition("/")[2] in named.groups())
+    recorded = [line.split()[1] != slips.UNKNOWN for line in slips.RECORD.read_text().splitlines()]
     places = {
-        "README.md": [(r"(`\w+\.rt` and `\w+\.rt`, )[\d,]+( lines)", f"{both:,}")],
-        "docs/TESTING.md": [(r"(\| trusted files: [^|]* \| )[\d,]+( \|)", total),
-                            (r"(\*\*The trusted files\*\* can be wrong: )[\d,]+( lines)", total)],
+        "README.md": [(r"(\[source files\]\([^)]*\) \()[\d,]+( lines\))", total)],
+        "docs/TESTING.md": [(r"(\| trusted files [^|]* \| )[\d,]+( \|)", total),
+                            (r"(\*\*The trusted files\*\* can be wrong: )[\d,]+( lines)", total),
+                            (r"(\*\*Mutants\.\*\* )\d+( wrong bodies)", str(len([*TOP.glob("crates/*/must-fail/*.edit")]))),
+                            (r"( Of )\d+( more \(`slips/`\))", str(len(recorded))),
+                            (r"(tools/slips\.txt has, for )\d+( of)", str(sum(map(bool, recorded))))],
     }
     found = {"docs/PROVED.md": rows.sub(lambda row: f"| `{row[1]}` | {lines_of(row[1])} |", proved)}
     for name, patterns in places.items():
@@ -195,6 +242,14 @@ def counted() -> dict[str, str]:
             found[name], count = re.subn(pattern, rf"\g<1>{number}\g<2>", found[name])
             if count != 1:
                 sys.exit(f"figures.py: {name}: {count} places have {pattern}")
+    page = found["docs/TESTING.md"]
+    for row, number in sizes().items():
+        said = re.search(rf"(?m)^\| {re.escape(row)}[^|]*\| ([\d,]+) \|$", page)
+        if not said:
+            sys.exit(f"figures.py: docs/TESTING.md has no row {row!r}")
+        if abs(int(said[1].replace(",", "")) - number) > number // 20:
+            page = page[:said.start(1)] + about(number) + page[said.end(1):]
+    found["docs/TESTING.md"] = page
     return found
 
 

@@ -2,12 +2,12 @@
 """Tries the packages of the library for C in a chroot: library_chroot.py [LIBTFTP1.deb LIBTFTP-DEV.deb]
 
 Packs what `make` left in bin/, as `make deb` does, or takes the packages that are named, and looks at them with lintian,
-which may have no error and no warning. Then it makes a folder with the compilers, valgrind, Python and Go of this host and what they need,
-file by file as the host's packages list them, and its Rust: no part of this repository is in it, and not the toolchain that
-proves. The packages are unpacked there, and in it, as its root, an example of each language is built from their files alone.
-Each gets, puts, does both through a network that loses, duplicates and reorders datagrams, and is refused a file, under
-AddressSanitizer or valgrind, at the example that serves. A language that this host has not is skipped, and that is said;
-so is all without root, or without mounts. The last line is a count.
+which may have no error and no warning. Then it makes a folder with the compilers, valgrind, Python and Go of this host and
+what they need, file by file as the host's packages list them, and its Rust: no part of this repository is in it, and not the
+toolchain that proves. The packages are unpacked there, and in it, as its root, an example of each language is built from
+their files alone. Each gets, puts, does both through a network that loses, duplicates and reorders datagrams, and is refused
+a file, under AddressSanitizer or valgrind, at the example that serves. A language that this host has not is skipped, and
+that is said; so is all without root, or without mounts. The last line is a count.
 """
 import os
 import re
@@ -15,6 +15,7 @@ import shutil
 import subprocess
 import sys
 import tempfile
+from concurrent.futures import ThreadPoolExecutor
 from functools import partial
 from pathlib import Path
 from typing import Any, Callable
@@ -22,7 +23,7 @@ from typing import Any, Callable
 import c_library
 from c_library import FEW, Site, Trials, content, expect, refused, serving_port, together, transfers
 from lib.examples import INTERPRETER, LEAKS, LOST, PLAIN, RUST_TARGET, SANITIZED, TOP, VALGRIND, WARNINGS, Built, run
-from lib.examples import rust_has_sanitizer
+from lib.examples import go_checks_pointers, rust_has_sanitizer
 from scene import next_line
 
 PACKAGES = ["libtftp1", "libtftp-dev"]
@@ -195,12 +196,13 @@ def in_go(inside: Inside) -> Built:
     """The package's test is run, and its client is built: Go checks each pointer that is passed, and valgrind does not know
     the stacks of Go."""
     shutil.copytree(inside.root / str(EXAMPLES / "go").lstrip("/"), inside.place("go"))
-    env = {"CGO_ENABLED": "1", "GOFLAGS": "-mod=mod", "GOPROXY": "off", "GODEBUG": "cgocheck=2"}
+    checks = {"GODEBUG": "cgocheck=2" if go_checks_pointers() else "cgocheck=1"}
+    env = {"CGO_ENABLED": "1", "GOFLAGS": "-mod=mod", "GOPROXY": "off", "GOTOOLCHAIN": "local", **checks}
     inside.run("go", "test", "./...", at=f"{ROOM}/go", **env)
     inside.run("go", "build", "-o", f"{ROOM}/go/gotten", "./cmd/client", at=f"{ROOM}/go", **env)
     built = Built("Go", False)
     for verb in ["get", "put"]:
-        built.words[f"{verb} in Go"] = inside.words(f"{ROOM}/go/gotten", verb, GODEBUG="cgocheck=2")
+        built.words[f"{verb} in Go"] = inside.words(f"{ROOM}/go/gotten", verb, **checks)
     return built
 
 
@@ -252,8 +254,9 @@ def at_serve(scene: Any, built: Built, server: Built, lossy: bool) -> None:
         read_back(server, way, scene, name, length, what)
 
     clients = [it for it in built.words if it != "serve"]
+    # (what runs under valgrind, as an interpreter, takes long to begin: it transfers the longer file alone)
     jobs = [partial(transfers, site, built, it, 10 * place, length, [0, 1428][place], is_read_back if it.startswith("put") else None)
-            for place, length in enumerate(FEW) for it in clients]
+            for place, length in enumerate(FEW) for it in clients if place or not built.is_slow]
     jobs += [partial(refused, site, built, it) for it in clients if it.startswith("get") and not lossy]
     together(jobs)
     process.terminate()
@@ -303,11 +306,12 @@ def main() -> None:
             run("dpkg-deb", "-x", package, root)
         furnish(root, has_rust)
         inside, built = Inside(root), list[Built]()
-        for make in to_build(inside, has_rust, skipped):
-            try:
-                built.append(make())
-            except AssertionError as fault:  # the others are tried
-                faults.append(f"it is not built: {fault}")
+        with ThreadPoolExecutor(4) as pool:
+            for done in [pool.submit(make) for make in to_build(inside, has_rust, skipped)]:
+                try:
+                    built.append(done.result())
+                except AssertionError as fault:  # the others are tried
+                    faults.append(f"it is not built: {fault}")
         trials = names_of(built) if built and built[0].has("serve") else []
         faults += Trials({}, inside.place("")).all(trials)
     print(*faults, sep="\n", end="\n" if faults else "")

@@ -19,7 +19,7 @@ MOST_NAMES = 1
 HEAD = """# The theorem, word by word
 
 Made by `make docs` from the definitions in `crates/*/specs`, which the prover checks as they stand there. It is read
-from the top.
+from the top. One premise is outside it: that the traces are true, for which docs/PROVED.md lists the trusted files.
 
 **Notation.** `A → B` is "if A then B", and before a value "for all"; `×` is "and", or "there is" before a name; `⊎` is
 "or"; `≡` is "equals", `≢` "differs from". `[]` is the empty list, `x ∷ xs` a list with a first element, `++` joins.
@@ -29,9 +29,9 @@ with that a. Lists of an order or a trace have the newest event first. A name th
 parameter of its module, as `programs`, or `stores`, `sources`, `inputs` and `outputs`: the models of the server's store
 and files and of the clients' files.
 
-**Words of the definitions.** *Words* are the arguments of a command line. A *journal* is a trace: what a program asked
-of the system and what it answered; what it *noted* is its trace. A *stranger* is a third party. A *draft* is the
-temporary file of a put.
+**Words of the definitions.** *Words* are the arguments of a command line. A *trace* is what a program asked
+of the system and what it answered; what it *noted* is there. A *stranger* is a third party. A *draft* is the temporary
+file of a put.
 """
 
 
@@ -54,12 +54,10 @@ class Theorem(NamedTuple):
 THEOREMS = [
     Theorem(
         "A get, from disk to disk",
-        "`tftpd` ran with its arguments, each `tftp` ran with arguments that name that server, and a network joined them. "
-        "Then there are programs whose traces are those, and in whatever order an honest network joined them, if their "
-        "ports are fresh, the transfers keep their promises, and each get that is complete has reached the disk. The law is "
-        "`tftp_words::laws::complete_gets_go_from_disk_to_disk`, a public function with an empty body. Its premises on the "
-        "runs, `ServerRan` and `ClientStored`, are the clauses `runs` of `tftp_daemon::tftpd_on` and "
-        "`tftp_client::tftp_on`.",
+        "If the network is honest and the ports are fresh, the transfers keep their promises, and each complete get has "
+        "reached the disk. The law is `tftp_words::laws::complete_gets_go_from_disk_to_disk`, a public function that does "
+        "nothing. Its premises on the runs, `ServerRan` and `ClientStored`, are the clauses `runs` of "
+        "`tftp_daemon::tftpd_on` and `tftp_client::tftp_on`.",
         "tftp_words.FromDisk.FromDiskToDisk",
         [
             Word("ServerRan", "A run of `tftpd`, by its arguments (`words`), its status and its trace before and after it. "
@@ -75,14 +73,16 @@ THEOREMS = [
                  "the one that the system resolved ROOT to, and it is bound where its arguments say. There is no other server.",
                  ["tftp_words.Ran.AreRan", "tftp_words.Ran.IsServerRan"]),
             Word("IsOrder", "One order of all events, which has those of each program in their own order.",
-                 ["tftp_sockets.Journal.SocketEvent", "tftp_promises.Order.Noted", "tftp_promises.Order.events_of",
+                 ["tftp_sockets.Trace.SocketEvent", "tftp_promises.Order.Noted", "tftp_promises.Order.events_of",
                   "tftp_promises.Order.IsOrder"]),
-            Word("IsHonest", "The premise on the network. Whatever a program received was sent to it before, or is a "
-                 "third party's, or is an ERROR. It may have come any number of times, in any order.",
+            Word("IsHonest", "The premises on the network, on third parties and on translation. Whatever a program received "
+                 "was sent to it before, from the endpoint that it bears; or is a third party's, which has neither the "
+                 "server's address nor a client's endpoint; or is an ERROR.",
                  ["tftp_promises.Order.IsHonest", "tftp_promises.Order.IsHonestOf", "tftp_promises.Order.CanComeOf",
                   "tftp_promises.Order.WasSentOf", "tftp_promises.Order.IsStranger", "tftp_promises.Order.IsStrangerTo",
                   "tftp_promises.Order.IsError"]),
-            Word("ArePortsFresh", "The premise on ports. Those of third parties may be any.",
+            Word("ArePortsFresh", "The premise on ports: the endpoints of these clients, of the transfers that the server "
+                 "opened for them, and of its requests all differ.",
                  ["tftp_promises.Openings.ArePortsFresh", "tftp_promises.Openings.AreEndsApart",
                   "tftp_promises.Openings.server_ports"]),
             Word("KeepAnyFiles", "The promises of a transfer, over any files. `sent` is what a sender's file gave, `has` what a "
@@ -117,9 +117,10 @@ THEOREMS = [
         "tftp_words.EndToEnd.WordsMoveFiles", [], False),
     Theorem(
         "Several servers",
-        "Of several `tftpd` at one address and request port, for each with each client that takes its answer. It is not "
-        "from disk to disk. A client takes the answers of one port only, so its trace says which server serves it and which "
-        "it passes over (`IsServed`, `IsPassedOver`). It is the clause `several` of that law.",
+        "Of several `tftpd` at one address and port, for each with each client that takes its answer. From disk "
+        "to disk: `gets_of_several_go_from_disk_to_disk`, `puts_of_several_..`. A client's trace says which server serves it "
+        "and which it passes over (`IsServed`, "
+        "`IsPassedOver`): clause `several` there.",
         "tftp_words.WordsKept.SeveralKeepAnyFiles",
         []),
     Theorem(
@@ -205,9 +206,8 @@ def document() -> str:
                 del left[key_of(each)]
             lines += [f"### {word.name}", "", *paragraph(word.says), *text_of(shown)]
     lines += ["## The rest, by name and file", "",
-              *paragraph(f"These {len(left)} definitions are needed by those above, too; of a file with more than "
-                         f"{MOST_NAMES} their number stands here. Each has a comment in plain words where it stands, "
-                         "`crates/CRATE/specs/FILE.antt`."), *rest_of(left)]
+              *paragraph(f"These {len(left)} definitions are needed, too; of a file with more than {MOST_NAMES} their number "
+                         "stands here. Each has a comment where it stands, `crates/CRATE/specs/FILE.antt`."), *rest_of(left)]
     return "\n".join(lines).rstrip() + "\n"
 
 

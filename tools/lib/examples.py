@@ -15,6 +15,12 @@ PATIENCE = 600
 WARNINGS = ["-std=c11", "-Wall", "-Wextra", "-Wpedantic", "-Werror"]
 SANITIZED = ["-g", "-O1", "-fsanitize=address,undefined", "-fno-sanitize-recover=all"]
 PLAIN = ["-g", "-O2"]
+# a program that takes all of its C library, or none, into itself
+STATIC = [*PLAIN, "-static"]
+ALONE = ["-O2", "-static", "-nostdlib", "-ffreestanding", "-fno-builtin", "-fno-stack-protector",
+         "-fno-tree-loop-distribute-patterns"]
+# what the archive calls and does not have: a program without a C library has these
+OF_C = {"malloc", "realloc", "free", "memcpy", "memmove", "memset", "memcmp"}
 # its calls of malloc are its own, by other names: those of the sanitizer's runtime are the sanitizer's
 OWN_NAMES = [f"{name}=arena_{name}" for name in ["malloc", "realloc", "free"]]
 VALGRIND = ["valgrind", "-q", "--error-exitcode=99"]
@@ -72,7 +78,7 @@ def of_the_arena(room: Path, folder: Path, words: Sequence[str], checker: str) -
 
 def in_c(room: Path, compiler: str, checker: str) -> Built:
     """The examples in C, by this compiler."""
-    flags = SANITIZED if checker == "sanitized" else PLAIN
+    flags = {"sanitized": SANITIZED, "valgrind": PLAIN, "static": STATIC}[checker]
     before = [*VALGRIND, *LEAKS] if checker == "valgrind" else []
     it = Built(f"C ({compiler}, {checker})", bool(before))
     folder, words = room / f"{compiler}-{checker}", [compiler, *WARNINGS, *flags]
@@ -88,6 +94,19 @@ def in_c(room: Path, compiler: str, checker: str) -> Built:
     wrapped = "-Wl,--wrap=malloc,--wrap=realloc"
     layout = linked(words, folder / "layout", TOP / "tools/c_library.c", wrapped, room / "libtftp.a")
     it.words["layout"] = [*before, layout]
+    return it
+
+
+def in_c_alone(room: Path) -> Built:
+    """The client without an operating system, linked to the library and to no C library: it has all that the library calls."""
+    listed = run("nm", "--undefined-only", "--format=just-symbols", room / "libtftp.a").split()
+    defined = run("nm", "--defined-only", "--extern-only", "--format=just-symbols", room / "libtftp.a").split()
+    wanted = {it for it in listed if not it.endswith(":")} - {*defined} - OF_C
+    if wanted:
+        raise AssertionError(f"the archive calls {', '.join(sorted(wanted))}")
+    it = Built("C (no C library)", False)
+    words = ["gcc", *WARNINGS, *ALONE, str(EXAMPLES / "c/bare.c")]
+    it.words["bare"] = [linked(words, room / "alone", EXAMPLES / "c/alone_machine.c", room / "libtftp.a")]
     return it
 
 
@@ -183,6 +202,8 @@ def to_build(room: Path, skipped: list[str]) -> list[Callable[[], Built]]:
     memcheck, objcopy = has("valgrind"), has("objcopy")
     found = [partial(in_c, room, it, "sanitized") for it in compilers if objcopy]
     found += [partial(in_c, room, it, "valgrind") for it in compilers[:1] if memcheck]
+    found += [partial(in_c, room, "musl-gcc", "static")] * has("musl-gcc", " (musl)")
+    found += [partial(in_c_alone, room)] * ("gcc" in compilers)
     found += [partial(in_cpp, room, it, "sanitized") for it in ["g++", "clang++"] if has(it)]
     if has("cargo", " (Rust)"):
         if rust_has_sanitizer():

@@ -167,10 +167,19 @@ def arrived(port, expected) -> tuple[float, tuple[str, int]]:
 
 
 def timed_port(scene) -> socket.socket:
-    """A port whose datagrams have the time at which they came."""
+    """A port whose datagrams have the time at which they came. The system begins to note times a moment after it is asked
+    to: what came before has the time at which it is read."""
     port = scene.port()
     port.socket.setsockopt(socket.SOL_SOCKET, SO_TIMESTAMPNS, 1)
-    return port
+    end = time.monotonic() + PATIENCE
+    while True:
+        port.send(b"noted?", port.address)
+        time.sleep(0.02)
+        _, notes, _, _ = port.socket.recvmsg(65_536, 64)
+        seconds, nanos = struct.unpack("qq", notes[0][2])
+        if time.time() - (seconds + nanos / 1e9) > 0.01:
+            return port
+        expect(time.monotonic() < end, True, "whether the system notes when a datagram came")
 
 
 def test_a_deadline_runs_from_a_slow_opening(scene) -> None:
