@@ -15,6 +15,8 @@ from typing import NamedTuple
 import slips
 from lib.programs import TOP
 
+# how a text says a small number
+NUMBERS = "no one two three four five six seven eight nine ten eleven twelve".split()
 # What docs/TESTING.md says of the lines that are not empty: the beginning of a row, and the files
 SIZES = {
     "definitions that clauses cite": "crates/*/specs/**/*.antt",
@@ -221,14 +223,15 @@ def about(number: int) -> str:
 def counted() -> dict[str, str]:
     """The documents that have numbers of lines of the trusted files, with these as they are."""
     proved = (TOP / "docs/PROVED.md").read_text()
-    rows = re.compile(r"(?m)^\| `(tftp_\w+/src/\w+\.rt)` \| \d+ \|")
+    rows = re.compile(r"(?m)^\| `([^`]+\.rt)` \| \d+ \|")
     files = [row[1] for row in rows.finditer(proved)]
     if not files:
         sys.exit("figures.py: docs/PROVED.md has no table of trusted files")
     total = f"{sum(map(lines_of, files)):,}"
     recorded = [line.split()[1] != slips.UNKNOWN for line in slips.RECORD.read_text().splitlines()]
     places = {
-        "README.md": [(r"(\[source files\]\([^)]*\) \()[\d,]+( lines\))", total)],
+        "README.md": [(r"(\*\*True traces\.\*\* )\w+( \[source files\]\()", NUMBERS[len(files)].capitalize()),
+                      (r"(\[source files\]\([^)]*\) \()[\d,]+( lines\))", total)],
         "docs/TESTING.md": [(r"(\| trusted files [^|]* \| )[\d,]+( \|)", total),
                             (r"(\*\*The trusted files\*\* can be wrong: )[\d,]+( lines)", total),
                             (r"(\*\*Mutants\.\*\* )\d+( wrong bodies)", str(len([*TOP.glob("crates/*/must-fail/*.edit")]))),
