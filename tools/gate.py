@@ -2,8 +2,9 @@
 """The gate: `rt ci`, and then the checks of the programs: gate.py CHECK..
 
 Each CHECK is a command line that runs at the top of the repository. Behind `rt ci` the programs are put into bin/ as
-`make` builds them (tools/shipped.py), and each check is run over them, once, with a limit. `rt ci` fails here also where
-an edit in must-fail/ is bad, or where fewer edits were refused than there are files.
+`make` builds them (tools/shipped.py), and each check is run over them, with a limit. One that fails is run once more: many
+measure time on a host that others use. It has failed if it fails again; that it did so once stands at the end. `rt ci` fails
+here also where an edit in must-fail/ is bad, or where fewer edits were refused than there are files.
 
 What was skipped and what was repeated stands at the end; with REQUIRE_ALL=1 in the environment what was skipped is a
 failure. The last line counts the proofs and edits of `rt ci` and the checks: N passed, N failed.
@@ -33,7 +34,7 @@ class Run:
 
     def __init__(self, words: Sequence[str], limit: Optional[float] = None) -> None:
         began, self.lines = time.monotonic(), []
-        self.is_late = False
+        self.limit, self.is_late = limit, False
         process = subprocess.Popen(words, cwd=TOP, stdin=subprocess.DEVNULL, stdout=subprocess.PIPE, env=UNBUFFERED,
                                    stderr=subprocess.STDOUT, text=True, errors="replace", start_new_session=True)
         timer = threading.Timer(limit or 10**6, self.end, [process])
@@ -95,6 +96,20 @@ def repeated_by(name: str, lines: Sequence[str]) -> list[str]:
     return [f"{name}: {line}" for line in lines if re.search(r"\bonce more\b", line)]
 
 
+def tried(check: str) -> Run:
+    """A check, run with its limit."""
+    print(f"\n== {check}", flush=True)
+    words = shlex.split(check)
+    return Run(words, LIMITS.get(words[0], LIMIT))
+
+
+def fault_of(check: str, run: Run) -> Optional[str]:
+    """Why a check has failed, if it has."""
+    if run.is_late:
+        return f"{check}: has not ended after {run.limit} s; its last line: {run.lines[-1:]}"
+    return f"{check}: status {run.status}" if run.status else None
+
+
 def main() -> int:
     checks = sys.argv[1:]
     if not checks or checks[0] in ("-h", "--help"):
@@ -105,17 +120,15 @@ def main() -> int:
     faults = [] if failed else [*faults_of(proved.lines, edits), *[f"rt ci: status {proved.status}"] * bool(proved.status)]
     skipped, repeated, times = [], [], [f"rt ci {proved.seconds:.0f} s"]
     for check in ["tools/shipped.py", *checks] if not failed else []:
-        print(f"\n== {check}", flush=True)
-        words = shlex.split(check)
-        limit = LIMITS.get(words[0], LIMIT)
-        run = Run(words, limit)
+        run = tried(check)
+        if fault := fault_of(check, run):
+            repeated.append(f"{fault}; once more")
+            run = tried(check)
         times.append(f"{check} {run.seconds:.0f} s")
         skipped += skipped_by(check, run.lines)
         repeated += repeated_by(check, run.lines)
-        if run.is_late:
-            faults.append(f"{check}: has not ended after {limit} s; its last line: {run.lines[-1:]}")
-        elif run.status:
-            faults.append(f"{check}: status {run.status}")
+        if fault := fault_of(check, run):
+            faults.append(fault)
         else:
             passed += 1
     if os.environ.get("REQUIRE_ALL") == "1":

@@ -50,6 +50,11 @@ class Gate(unittest.TestCase):
         said = self.ends([SAID.format(2), "40 passed, 0 failed"], ["./bad", "./good"], 1, "42 passed, 1 failed")
         self.assertIn("FAILED: ./bad: status 3", said)
 
+    def test_a_check_fails_once(self) -> None:
+        self.script("once", "test -e been || { touch been; exit 4; }")
+        said = self.ends([SAID.format(2), "40 passed, 0 failed"], ["./once"], 0, "42 passed, 0 failed")
+        self.assertIn("repeated: ./once: status 4; once more", said)
+
     def test_the_proof_fails(self) -> None:
         self.ends(["rt: FAILED: a", "39 passed, 1 failed"], ["./good"], 1, "39 passed, 1 failed")
 
