@@ -78,9 +78,15 @@ def recorded() -> dict[str, Refusal]:
 
 
 def is_fresh(slip: str, refusal: Refusal) -> bool:
-    """Whether neither the slip nor its crate has changed since it was refused."""
-    paths = [*(f"crates/{crate_of(slip)}/{part}" for part in PARTS), str(path_of(slip).relative_to(TOP))]
-    return refusal.commit != UNKNOWN and git("diff", "--quiet", refusal.commit, "--", *paths).returncode == 0
+    """Whether neither the slip, which may have been an edit in must-fail/ by then, nor its crate has changed since it was
+    refused."""
+    crate, path = crate_of(slip), path_of(slip)
+    if refusal.commit == UNKNOWN:
+        return False
+    if git("diff", "--quiet", refusal.commit, "--", *(f"crates/{crate}/{part}" for part in PARTS)).returncode:
+        return False
+    before = (git("show", f"{refusal.commit}:crates/{crate}/{folder}/{path.name}").stdout for folder in ("slips", "must-fail"))
+    return path.read_text() in before
 
 
 def record(slip: str, function: str, crate: Any) -> None:

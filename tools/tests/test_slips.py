@@ -96,6 +96,16 @@ class Few(unittest.TestCase):
         self.record.write_text("a/two -\nb/two 0123456789\n")
         self.assertEqual(self.ends(a=False, b=False)[0], 0)
 
+    def test_one_that_was_an_edit_of_the_gate(self) -> None:
+        slip, edit = (self.top / "crates/a" / folder / "two.edit" for folder in ("slips", "must-fail"))
+        edit.parent.mkdir()
+        slip.rename(edit)
+        self.record.write_text(f"a/two {self.committed()}\n")
+        edit.rename(slip)
+        self.assertTrue(slips.is_fresh("a/two", slips.recorded()["a/two"]))
+        slip.write_text(slip.read_text().replace("two", "three"))
+        self.assertFalse(slips.is_fresh("a/two", slips.recorded()["a/two"]))
+
     def test_which_are_stale(self) -> None:
         self.assertEqual(slips.chosen_by(["--stale"]), ["b/two"])
         self.assertEqual(slips.chosen_by(["a"]), ["a/two"])
