@@ -228,8 +228,8 @@ def by_library(scene, built, lossy) -> None:
 def is_aborted(scene, built, way, process) -> None:
     """A get whose file cannot be stored, as on a disk that is full: its server has an ERROR in place of a silent client, and
     ends the transfer at once. A client that leaves in silence is one that has timed out (outcome 2)."""
-    begun = time.monotonic()
     run(*built.command("get", *way, "memory", "/dev/full"), cwd=scene.folder, env=built.env, status=1)
+    begun = time.monotonic()
     while "read memory" not in (line := next_line(process.stdout)) or not re.search("outcome [^1]", line):
         expect(line != "", True, "that serve says how the get of /dev/full has ended")
     expect(line.split(" outcome ")[1], "3\n", "how a get of /dev/full has ended at its server")

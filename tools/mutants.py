@@ -28,7 +28,7 @@ from lib.seeds import commit_seed
 
 HOST = own_address()
 # Of a run: the kilobytes of address space, the blocks of a file, and the seconds
-MEMORY, FILE, SECONDS = 400_000, 20_000, 20
+MEMORY, FILE, SECONDS = 400_000, 20_000, 120
 # What a program may write to standard error in its first line; a second has the cause
 REFUSALS = {
     "tftp-show": r"tftp-show: (out of memory|input unreadable|no such transfer|svg unwritable)",

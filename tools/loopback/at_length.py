@@ -195,6 +195,8 @@ FIRST, SECOND = 1_000, 2_000
 PUT_EACH, WAIT_EACH, WAIT = 50, 200, 0.15
 # what a server may have more of after SECOND transfers, in KB: half of a KB each
 MOST_MORE = 1_000
+# by how many milliseconds the time of its log may be off, since the clock is read once a round
+NEARLY = 20
 
 
 class Log:
@@ -235,8 +237,10 @@ def usage_of(pid) -> tuple[int, int]:
 class Transfers:
     """Transfers one after the other, and what the log of each has to say, by its client's port."""
 
-    def __init__(self, scene, server) -> None:
-        self.scene, self.server, self.closes, self.waits = scene, server, {}, {}
+    def __init__(self, scene, server, log) -> None:
+        self.scene, self.server, self.log, self.closes = scene, server, log, {}
+        # how long those that wait are open for their client at least, and at most, in seconds
+        self.waits = {}
         # how many were asked for, and how many opened
         self.asked, self.count = 0, 0
 
@@ -264,16 +268,18 @@ class Transfers:
         end.port.close()
 
     def get(self, name, content, wait=0.0) -> None:
-        begun = time.monotonic()
+        asked = time.monotonic()
         end = opened(self.scene, self.server, rrq(name, **PATIENT), oack(**PATIENT))
-        blocks = [content[at:at + 512] for at in range(0, len(content) + 1, 512)]
+        begun, blocks = time.monotonic(), [content[at:at + 512] for at in range(0, len(content) + 1, 512)]
         for number, block in enumerate(blocks):
             end.is_answered(ack(number), data(number + 1, block))
             time.sleep(wait)
+        least = time.monotonic() - begun
         end.send(ack(len(blocks)))
         self.expects(end, f"RRQ {name} octet timeout=255", "OACK timeout=255", len(content), 0, "Complete")
         if wait:
-            self.waits[f"{end.peer[1]} {end.port.word}"] = time.monotonic() - begun
+            self.log.has(self.log.printed, self.count)
+            self.waits[f"{end.peer[1]} {end.port.word}"] = least, time.monotonic() - asked
         self.close(end)
 
     def put(self) -> None:
@@ -301,11 +307,14 @@ def test_three_thousand_transfers(scene) -> None:
     scene.make("b", bytes_of(600))
     words = [".", "--listen", f"{scene.address}:0", "--log", "--forever", "--cap", "64", "--retries", "10"]
     server = Server(scene.start("tftpd", words))
-    log, them, usages = Log(server.process), Transfers(scene, server), []
+    log, usages = Log(server.process), []
+    them = Transfers(scene, server, log)
     for count in [FIRST, SECOND]:
         for _ in range(count):
             them.one()
         log.has(log.printed, them.count)
+        # (a port is closed behind its line, and before the next request is answered)
+        is_refused(scene, server, rrq("none"), FILE_NOT_FOUND)
         usages.append(usage_of(server.process.pid))
     is_slow = has_checks(server.process.pid)
     server.kill()
@@ -320,13 +329,17 @@ def test_three_thousand_transfers(scene) -> None:
     missing = Counter(them.closes) - found
     expect((len(closed), list(missing)[:3], list(found - Counter(them.closes))[:3]), (them.count, [], []), "the closes")
     expect(sum(line.startswith("opened ") for line in log.logged), them.count, "the lines of openings")
-    # the clock is read before a transfer opens and before it closes: half of those that wait have the time of their client
-    late = []
+    # the clock is read before a transfer opens and before it closes: of those that wait most have a time between the two of
+    # their client
+    early, late = [], []
     for line in closed:
         own = them.waits.get(" ".join(line.split()[1:3]))
         if own:
-            late.append(int(re.search(r", (\d+) ms,", line)[1]) - 1_000 * own)
-    expect(len(late) >= 10 and abs(median(late)) < 100, True, f"whether the milliseconds are the client's own: {late}")
+            millis = int(re.search(r", (\d+) ms,", line)[1])
+            early.append(1_000 * own[0] - millis)
+            late.append(millis - 1_000 * own[1])
+    is_own = len(late) >= 10 and median(early) < NEARLY and median(late) < NEARLY
+    expect(is_own, True, f"whether the milliseconds are the client's own: {early}, {late}")
 
 
 # ---- what is closed, and how long a block takes

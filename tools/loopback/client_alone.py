@@ -188,7 +188,7 @@ def test_a_failed_get_leaves_what_it_acknowledged(scene) -> None:
             end.send(closing)
             client.fails(outcome)
             scene.has_files({"local.part": content})
-    client, end = has_taken(scene, content, "--retries", "0")
+    client, end = has_taken(scene, content, "--retries", "3")
     client.fails("TimedOut")
     scene.has_files({"local.part": content})
 

@@ -40,7 +40,7 @@ struct control {
     int is_busy;     /* a poll that found nothing repeats what the last one found */
     int exchanges;   /* before the next call on a path that ends with `name`, `path` is moved to `away` and is a link; if it
                         is 2, a link is no such call */
-    int nap;         /* so many milliseconds pass before each rename */
+    int nap;         /* so many milliseconds pass before each rename, unless it becomes 0 meanwhile */
     int only;        /* the letter of the calls that fail, if it is none of 0; */
     int after;       /* so many of those that would fail do not, first */
     char name[256], path[512], away[512], target[256];
@@ -119,8 +119,8 @@ int fdatasync(int file) {
 }
 
 int rename(const char *from, const char *to) {
-    if (control->nap)
-        syscall(SYS_POLL, 0, 0, control->nap);
+    for (int slept = 0; slept < control->nap; slept++)
+        syscall(SYS_POLL, 0, 0, 1);
     return is_refused('m', control->error) ? -1 : syscall(SYS_RENAME, from, to);
 }
 

@@ -72,7 +72,8 @@ def test_a_transfer_that_is_silent_ends_a_drain(scene) -> None:
     scene.make("a", b"ABC")
     server = scene.serve("--forever", "--retries", "0", "--log", "--drain", FILE)
     port = scene.port()
-    port.send(rrq("a", timeout=2), server.address)
+    # (until the server drains, however slow the host is)
+    port.send(rrq("a", timeout=8), server.address)
     port.receive()
     drains(scene, server, 1)
     server.has_closed("TimedOut")
@@ -127,7 +128,8 @@ def answered_now(ports) -> list[Port]:
 
 
 def test_requests_in_the_moment_of_a_restart(scene) -> None:
-    """64 ask once each while one server drains and the next starts: all are answered, by one or the other."""
+    """64 ask once each while one server drains and the next starts: all are answered, by one or the other. The first looks
+    for the file once a second: the requests behind the file take longer than that, so that it leaves some."""
     scene.make("a", b"ABC")
     bound = scene.port()
     server = scene.serve_at(bound, "--cap", "64", "--forever", "--log", "--drain", FILE)
@@ -137,7 +139,7 @@ def test_requests_in_the_moment_of_a_restart(scene) -> None:
             scene.make(FILE, b"")
         port.send(rrq("a"), bound.address)
         open_now.append(port)
-        time.sleep(0.02)
+        time.sleep(0.04)
         for done in answered_now(open_now):
             open_now.remove(done)
     while server.process.poll() is None:

@@ -62,13 +62,13 @@ def other_clients() -> dict[str, str]:
 
 
 def test_sessions_of_other_clients(scene) -> None:
-    """After a get of a missing file the next gets of the same session succeed. It needs tftp-hpa or GNU inetutils."""
+    """After a get of a missing file the next gets of the same session succeed. Either client is enough."""
     texts = {name: bytes([65 + at]) * length for at, (name, length) in enumerate({"a": 3, "b": 1_400, "c": 512}.items())}
     for name, text in texts.items():
         scene.make(f"served/{name}", text)
     clients = other_clients()
-    for missing in {"tftp-hpa", "GNU inetutils"} - set(clients):
-        print(f"requests only: no session of {missing}, which is not installed")
+    if not clients:
+        print("test_sessions_of_other_clients: skipped, neither tftp-hpa nor GNU inetutils is installed")
     for kind, path in clients.items():
         server = scene.serve("--requests-only", "--transfers", "3", root="served")
         local = scene.folder / kind

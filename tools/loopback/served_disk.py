@@ -2,6 +2,7 @@
 before it."""
 import mmap
 import os
+import select
 import struct
 import time
 
@@ -220,21 +221,25 @@ def test_without_hard_links(scene) -> None:
 
 
 def test_servers_without_hard_links(scene) -> None:
-    """Of puts of one name at two servers, on a file system without hard links, one is acknowledged, and its file stays,
-    though time passes between a look at the name and the rename to it."""
+    """Of puts of one name at two servers, on a file system without hard links, one is acknowledged, and its file stays:
+    the other is refused between the first one's look at the name and its rename, which waits for that."""
     disk = Disk(scene)
     servers = [serve_on(scene, disk, "--log") for _ in range(2)]
-    disk.orders(lacks_links=True, nap=300)
+    disk.orders(lacks_links=True, nap=1_000 * PATIENCE)
     texts = [b"one", b"other"]
     ends = [writing(scene, server, "n") for server in servers]
     for end, text in zip(ends, texts):
         end.send(data(1, text))
-    answers = [end.port.receive(end.newest)[0] for end in ends]
-    expect(sorted(answers), sorted([ack(1), FILE_EXISTS]), "the answers to the last blocks")
-    taken = answers.index(ack(1))
-    expect((scene.folder / "n").read_bytes(), texts[taken], "the file")
+    answered = select.select([end.port.socket for end in ends], [], [], PATIENCE)[0]
+    refused = [end.port.socket for end in ends].index(answered[0])
+    first, second = ends[1 - refused], ends[refused]
+    expect(second.port.receive(second.newest)[0], FILE_EXISTS, "the answer before the rename")
+    scene.lacks("n")
+    disk.orders(lacks_links=True)
+    expect(first.port.receive(first.newest)[0], ack(1), "the answer behind the rename")
+    expect((scene.folder / "n").read_bytes(), texts[1 - refused], "the file")
     expect(list(scene.folder.rglob("*~tftp")), [], "the locks")
-    log = servers[1 - taken].has_logged(2)
+    log = servers[refused].has_logged(2)
     expect(log[1].endswith("StoreFault, name locked"), True, f"the log {log}")
 
 

@@ -138,6 +138,7 @@ def test_a_group_is_that_of_the_drafts_folder(scene) -> None:
     theirs to new files."""
     groups = [4242, 4343] if os.geteuid() == 0 else sorted({os.getgid(), *os.getgroups()})[:2]
     if len(groups) < 2:
+        print("test_a_group_is_that_of_the_drafts_folder: skipped, this user has one group")
         return
     scene.make("served/sub/old", b"old")
     for name, group in zip(["served", "served/sub"], groups):
@@ -227,9 +228,9 @@ def test_the_log_says_that_a_file_was_cut(scene) -> None:
 COMMONER = ["setpriv", "--inh-caps", "-all", "--bounding-set", "-dac_override,-dac_read_search,-net_bind_service"]
 
 
-def start_as_commoner(scene, words) -> "subprocess.Popen[bytes]":
-    """Starts a tftpd without privileges."""
-    program, *rest = [*(COMMONER if os.geteuid() == 0 else []), scene.programs["tftpd"], *words]
+def start_as_commoner(scene, words, apart=()) -> "subprocess.Popen[bytes]":
+    """Starts a tftpd without privileges, by a command that sets it apart."""
+    program, *rest = [*apart, *(COMMONER if os.geteuid() == 0 else []), scene.programs["tftpd"], *words]
     return scene.start(program, rest)
 
 
@@ -259,10 +260,15 @@ def test_a_server_that_does_not_start(scene) -> None:
         ([".", "--listen", "192.0.2.1:6969"], "socket", "192.0.2.1:6969: address not available"),
     ]:
         ends_with(scene.start("tftpd", words), words, 2, f"tftpd: {fault} fault\ntftpd: {reason}\n")
-    if int(Path("/proc/sys/net/ipv4/ip_unprivileged_port_start").read_text()) > 69:
-        words = [".", "--listen", f"{scene.address}:69"]
-        ends_with(start_as_commoner(scene, words), words, 2,
-                  f"tftpd: socket fault\ntftpd: {scene.address}:69: permission denied\n")
+    # where every user may have port 69, a network of its own has it for root alone
+    is_for_root = int(Path("/proc/sys/net/ipv4/ip_unprivileged_port_start").read_text()) > 69
+    apart = [] if is_for_root else ["unshare", "--net"]
+    if subprocess.run([*apart, "true"], capture_output=True, check=False).returncode != 0:
+        print("test_a_server_that_does_not_start: skipped, a port of root alone: every user has port 69, and no other network")
+        return
+    words = [".", "--listen", "0.0.0.0:69"]
+    ends_with(start_as_commoner(scene, words, apart), words, 2,
+              "tftpd: socket fault\ntftpd: 0.0.0.0:69: permission denied\n")
 
 
 def as_commoner(scene, *words, root=".") -> Server:
@@ -430,7 +436,7 @@ def test_a_draft_of_a_failed_transfer(scene) -> None:
     port = free_ports(1)
     words = ["--ports", f"{port}:{port}"]
     blocks = [bytes([number]) * 512 for number in range(1, 21)]
-    for asked, outcome in [(PATIENT, "PeerError(0)"), ({"timeout": 1}, "TimedOut")]:
+    for asked, outcome in [(PATIENT, "PeerError(0)"), ({"timeout": 3}, "TimedOut")]:
         server = scene.serve(*words, "--retries", "1")
         end = opened(scene, server, wrq("n", **asked), oack(**asked))
         for number, block in enumerate(blocks, 1):

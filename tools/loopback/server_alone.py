@@ -57,6 +57,7 @@ def test_a_request_from_port_0_is_ignored(scene) -> None:
     try:
         send_from_port_0(scene.address, rrq("a"), server.address)
     except PermissionError:
+        print("test_a_request_from_port_0_is_ignored: skipped, no raw sockets")
         return
     end = first_block_of(scene, server, "a", b"ABC")
     end.send(ack(1))

@@ -221,8 +221,8 @@ def test_words_of_several_servers(scene) -> None:
     words = ["--listen", f"{scene.address}:0", "--servers", "2", "--forever", "--max-block", "8192", "--max-file", "99999",
              "--retries", "7", "--cap", "9", "--overwrite", "--uploads", "in", "--longest", "77", "--log",
              "--requests-only", "--ports", "40001:40003", "--", "-odd root"]
-    server = Server(scene.start("tftpd", words))
-    wait_until(lambda: len(children_of(server.process)) == 2, "both servers")
+    # (a child has the words of its supervisor until it executes its own)
+    server = served(scene.start("tftpd", words), 2)
     shared = ["--max-block=8192", "--max-file=99999", "--retries=7", "--cap=9", "--overwrite", "--uploads=in",
               "--longest=77", "--forever", "--log", "--", "-odd root"]
     for number, pid, ports in zip((1, 2), children_of(server.process), ("40001:40001", "40002:40003")):
@@ -296,7 +296,7 @@ def test_a_server_of_several_by_hand(scene) -> None:
 def test_several_servers_without_proc(scene) -> None:
     """The fault names what is missing."""
     if os.geteuid() != 0:
-        print("several servers: only root can take /proc away")
+        print("test_several_servers_without_proc: skipped, only root can take /proc away")
         return
     taken = 'mount -t tmpfs none /proc && exec "$@"'
     words = [scene.programs["tftpd"], ".", "--listen", f"{scene.address}:0", "--servers", "2", "--forever"]

@@ -8,6 +8,7 @@ import subprocess
 import sys
 import tempfile
 import unittest
+from contextlib import suppress
 from pathlib import Path
 from unittest import mock
 
@@ -61,6 +62,15 @@ class Lossy(Stand):
         self.fails("reports a read as complete", lossy.run, stand_in("giving_up_tftp"), stand_in("lying_tftpd"), 1)
 
 
+def calm(paths, folder, *more, **limits) -> None:
+    """One trial of raw clients, and others where this host stalled."""
+    for at in range(9):
+        (folder / f"{at}").mkdir()
+        with suppress(Stalled):
+            raw.run_once(paths, folder / f"{at}", *more, **limits)
+            return
+
+
 class Raw(Stand):
     def test_every_trial_stalls(self) -> None:
         with mock.patch.object(raw, "run_once", side_effect=Stalled):
@@ -75,7 +85,7 @@ class Raw(Stand):
 
     def test_a_file_of_no_transfer(self) -> None:
         with mock.patch.dict(os.environ, TFTPD=self.served()):
-            self.fails("litter.* differ", raw.run, stand_in("idle"), stand_in("littering_tftpd"), 1, retries=0)
+            self.fails("litter.* differ", calm, stand_in("idle"), stand_in("littering_tftpd"), 1, retries=0)
 
 
 class Others(Stand):
