@@ -24,11 +24,11 @@ TRIES = 8
 # as long. A single life may take longer where the host is busy
 LONGER, SOON = 40, 20
 # how many times slower the clocks of servers go in a test of what they do within milliseconds of their own, which other
-# servers have then to act in, however busy the host is: the pauses of `tftp_handed/src/share.rt`; and where shares are
-# counted, whose pauses are a tenth of a millisecond
-SLOWER, SLOWER_YET = 50, 200
-# how long a server that is full leaves a request to the others, and the longest that it may, by its clock in seconds
-LEFT, LEFT_AT_MOST = 0.01, 0.4
+# servers have then to act in, however busy the host is: the pauses of `tftp_handed/src/share.rt`
+SLOWER = 200
+# how long a server that is full leaves a request to the others at least, by its clock in seconds: 10 ms, some of which may be
+# over when the request comes, since the clock is read before; and the longest that it may
+LEFT, LEFT_AT_MOST = 0.005, 0.3
 # how often each kill is tried, at so many ports at once; without LIVES in the environment, for so many seconds at most
 LIVES_ARE_GIVEN = "LIVES" in os.environ
 LIVES, AT_ONCE, LIVES_SECONDS = int(os.environ.get("LIVES", "100")), 5, 20
@@ -57,9 +57,9 @@ def serve(scene, count, *words, **how) -> Server:
     return served(started(scene, count, *words, **how), count)
 
 
-def serve_slowly(scene, count, *words, slower=SLOWER) -> Server:
+def serve_slowly(scene, count, *words) -> Server:
     """The same, with clocks that go so many times slower."""
-    return serve(scene, count, *words, env=preloaded(scene, "slow_clock.c", SLOWER=slower))
+    return serve(scene, count, *words, env=preloaded(scene, "slow_clock.c", SLOWER=SLOWER))
 
 
 def ended(server) -> tuple[int, list[str], list[str]]:
@@ -380,7 +380,7 @@ def shares(scene, pause) -> list[int]:
     """How many transfers each of four servers has, once 64 clients have asked, with such a pause between two of them, in
     seconds. They stay open."""
     first = free_ports(256)
-    server = serve_slowly(scene, 4, "--cap", "64", "--ports", f"{first}:{first + 255}", slower=SLOWER_YET)
+    server = serve_slowly(scene, 4, "--cap", "64", "--ports", f"{first}:{first + 255}")
     clients = [scene.port() for _ in range(64)]
     for port in clients:
         port.send(rrq("a", **PATIENT), server.address)

@@ -22,8 +22,8 @@ STALL = stalls.LIMIT
 MOST_CLIENTS = 64
 # The most requests of a burst
 MOST_ASKED = 6
-# How many transfers of each kind have to be complete
-LEAST = 1
+# How many transfers of each kind have to be complete, and the shortest time of a further trial for them, in seconds
+LEAST, SHORTEST = 1, 5
 # The texts of a server's ERRORs
 ERRORS = {*model.TEXTS}
 # The most steps of a burst
@@ -422,19 +422,25 @@ class Trial:
 
 
 def run(programs, folder, rng, seconds, **limits) -> dict[str, int]:
-    """Runs a trial, and others where this host stalled. Returns their counts together."""
+    """Runs a trial, and others where this host stalled, or was too slow for the least of transfers. Returns their counts
+    together."""
     counts, end, at = Counter(stalls=0), time.monotonic() + seconds, 0
-    while at == 0 or time.monotonic() < end:
+    ways = ["reads complete"] + ["writes complete"] * (not limits.get("is_read_only"))
+    while at == 0 or time.monotonic() < end or (lacking(counts, ways) and time.monotonic() < end + PATIENCE):
         place, at = folder / f"{at}", at + 1
         place.mkdir()
         try:
-            counts += run_once(programs, place, rng, max(end - time.monotonic(), 1), **limits)
+            counts += run_once(programs, place, rng, max(end - time.monotonic(), SHORTEST if at > 1 else 1), **limits)
         except Stalled:
             counts["stalls"] += 1
-    for way in ["reads complete"] + ["writes complete"] * (not limits.get("is_read_only")):
-        if counts[way] < LEAST:
-            raise Failure(f"too few {way}: {dict(counts)}")
+    if lacking(counts, ways):
+        raise Failure(f"too few {lacking(counts, ways)[0]}: {dict(counts)}")
     return counts
+
+
+def lacking(counts, ways) -> list[str]:
+    """Of which transfers there are too few."""
+    return [way for way in ways if counts[way] < LEAST]
 
 
 def run_once(programs, folder, rng, seconds, **limits) -> dict[str, int]:

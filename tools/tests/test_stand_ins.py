@@ -73,7 +73,7 @@ def calm(paths, folder, *more, **limits) -> None:
 
 class Raw(Stand):
     def test_every_trial_stalls(self) -> None:
-        with mock.patch.object(raw, "run_once", side_effect=Stalled):
+        with mock.patch.object(raw, "PATIENCE", 0), mock.patch.object(raw, "run_once", side_effect=Stalled):
             self.fails("too few", raw.run, stand_in("idle"), stand_in("silent_tftpd"), 0)
 
     def test_nothing_is_answered(self) -> None:
