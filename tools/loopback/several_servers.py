@@ -263,12 +263,13 @@ def test_lines_of_several_servers_are_whole(scene) -> None:
 
 
 def test_a_supervisor_takes_the_port_of_the_one_before(scene) -> None:
-    """Which was ended a moment ago, so that its servers may have the port."""
+    """Which was ended a moment ago, so that its servers may have the port: it is tried for half a second, which lasts long
+    enough here for them to end on a busy host."""
     scene.make("a", b"ABC")
-    port = free_ports(1)
+    port, env = free_ports(1), preloaded(scene, "long_waits.c", LONGER=LONGER)
     words = [".", "--listen", f"{scene.address}:{port}", "--servers", "4", "--forever"]
     for name in ["first", "second", "third"]:
-        server = served(scene.start("tftpd", words), 4)
+        server = served(scene.start("tftpd", words, env=env), 4)
         scene.tftp("get", server.word, "a", name, "--no-dally").completes(3)
         server.process.terminate()
         expect(server.process.wait(PATIENCE), -signal.SIGTERM, "how a supervisor ends")
