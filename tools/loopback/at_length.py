@@ -215,11 +215,11 @@ class Log:
             for line in text:
                 lines.append(line.rstrip("\n"))
 
-    def has(self, lines, count) -> None:
-        """Waits until there are so many lines."""
+    def has(self, lines, count, kind="") -> None:
+        """Waits until there are so many lines that begin so."""
         end = time.monotonic() + PATIENCE
-        while len(lines) < count:
-            expect(time.monotonic() < end, True, f"whether {count} lines come, not {len(lines)}: {lines[-3:]}")
+        while (found := sum(line.startswith(kind) for line in list(lines))) < count:
+            expect(time.monotonic() < end, True, f"whether {count} lines {kind!r} come, not {found}: {lines[-3:]}")
             time.sleep(0.02)
 
 
@@ -232,6 +232,14 @@ def usage_of(pid) -> tuple[int, int]:
     """A process's descriptors, and the KB of its data: all that it asked for, and never what is shared."""
     text = Path(f"/proc/{pid}/status").read_text()
     return len(os.listdir(f"/proc/{pid}/fd")), int(re.search(r"(?m)^VmData:\s*(\d+) kB", text)[1])
+
+
+def has_no_more(pid, fds) -> None:
+    """A process comes to have so many descriptors at most: a port is closed behind the line of its transfer."""
+    end = time.monotonic() + PATIENCE
+    while (found := usage_of(pid)[0]) > fds:
+        expect(time.monotonic() < end, True, f"whether {found} descriptors become {fds}")
+        time.sleep(0.02)
 
 
 class Transfers:
@@ -313,16 +321,15 @@ def test_three_thousand_transfers(scene) -> None:
         for _ in range(count):
             them.one()
         log.has(log.printed, them.count)
-        # (a port is closed behind its line, and before the next request is answered)
-        is_refused(scene, server, rrq("none"), FILE_NOT_FOUND)
         usages.append(usage_of(server.process.pid))
+    (fds, before), (_, after) = usages
+    log.has(log.logged, them.count, "closed ")
+    has_no_more(server.process.pid, fds)
     is_slow = has_checks(server.process.pid)
     server.kill()
     for thread in log.threads:
         thread.join(PATIENCE)
     expect(them.count, FIRST + SECOND, "the transfers that opened")
-    (fds, before), (fds_then, after) = usages
-    expect(fds_then, fds, "the descriptors")
     expect(is_slow or after - before < MOST_MORE, True, f"whether {after - before} KB more are few")
     closed = [line for line in log.logged if line.startswith("closed ")]
     found = Counter(re.sub(r", \d+ ms,", ", N ms,", line) for line in closed)
