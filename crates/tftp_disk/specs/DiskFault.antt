@@ -1,5 +1,7 @@
 -- The faults that a disk error may become (ours).
-use Rattle.std.specs.Prelude.{◌≡◌, Bool, true, false}
+use Rattle.std.specs.Prelude.{◌≡◌, ◌⊎◌, Bool, true, false}
+use Rattle.std.specs.declared.io.ErrorKind.{ErrorKind}
+use Rattle.std.specs.declared.io.ErrorKind.TheVariants as kinds
 use Rattle.tftp_file.specs.declared.fault.StoreFault.{StoreFault}
 use Rattle.tftp_file.specs.declared.fault.StoreFault.TheVariants.{Missing, Exists, Full, Io, Memory}
 use Rattle.tftp_disk.specs.declared.existing.Existing.{Existing}
@@ -9,6 +11,16 @@ use Rattle.tftp_disk.specs.declared.existing.Existing.TheVariants.{Refused, Repl
 abbrev pub is_replaced : Existing → Bool
 is_replaced Refused = false
 is_replaced Replaced = true
+
+-- no file is there, by the kind of an error
+abbrev pub IsNotThere : ErrorKind → Type 0
+IsNotThere kind = (kind ≡ kinds.NotFound) ⊎ (kind ≡ kinds.NotADirectory)
+
+-- the system has no space for what was written, by the kind of an error
+abbrev pub IsNoSpace : ErrorKind → Type 0
+IsNoSpace kind =
+    (kind ≡ kinds.StorageFull) ⊎ ((kind ≡ kinds.QuotaExceeded)
+    ⊎ ((kind ≡ kinds.FileTooLarge) ⊎ (kind ≡ kinds.OutOfMemory)))
 
 -- at the opening of a file: it is missing, it may not be served, or out of memory
 abbrev pub MayNotOpen : StoreFault → Type 0

@@ -1,10 +1,12 @@
 -- One pass over a file, by the calls on it (ours).
-use Rattle.std.specs.Prelude.{ℕ, ◌≡◌, List, length, Option, IfSome, option_map}
+use Rattle.std.specs.Prelude.{ℕ, ◌≡◌, List, ◌∷◌, length, Option, IfSome, option_map}
+use Rattle.std.specs.declared.io.Error.{Error}
 use Rattle.tftp_wire.specs.declared.mode.Mode.TheVariants.{Netascii}
 use Rattle.tftp_file.specs.Length.{up_to}
 use Rattle.tftp_file.specs.Netascii.{wire_text}
 use Rattle.tftp_file.specs.declared.length.TheConstants.{MAX_WIRE}
 use Rattle.tftp_disk.specs.DiskTrace.{DiskEvent}
+use Rattle.tftp_disk.specs.DiskTrace.DiskEvent.{Not_given}
 use Rattle.tftp_disk.specs.Given.{IsAtEnd, Reads, examined, opened_at}
 use Rattle.tftp_disk.specs.declared.disk_file.DiskFile.{DiskFile}
 use Rattle.tftp_disk.specs.declared.measuring.TextLength.{TextLength}
@@ -18,6 +20,10 @@ module _ {F : Type 0} where
   pub record StaysOpen (before after : DiskFile F) : Type 0 where
     pub place : opened_at (calls_on after) ≡ opened_at (calls_on before)
     pub found : examined (calls_on after) ≡ examined (calls_on before)
+
+-- the newest of these calls is a read that failed with this error
+abbrev pub IsNotGiven : List DiskEvent → Error → Type 0
+IsNotGiven calls error = (before : List DiskEvent) × (calls ≡ Not_given error ∷ before)
 
 -- one read counted its bytes, and so much wire text in netascii: none only at the end of the file
 pub record CountsChunk (before after : List DiskEvent) (counted : TextLength) : Type 0 where

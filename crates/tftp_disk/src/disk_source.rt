@@ -73,7 +73,7 @@ impl<F: Read> Source for DiskSource<F> {
       may_fail = λ _ _. ⊤;
       fails = λ source _. IsSome (source_error source);
       gives = GivesPiece;
-      opens = λ _ _ _ _. ⊤;
+      opens = λ _ _ _ _ _. ⊤;
     } };
 
     /// Always true: it constrains nothing.

@@ -1,10 +1,10 @@
 //! A file that is written block by block, after the blocks are acknowledged.
 
 ghost use Rattle.std.specs.Prelude.{◌≡◌, ◌≢◌, ◌<◌, ◌≤◌, ◌-◌, ◌++◌, ◌∷◌, [], IfOk, OnOk, OnErr};
-ghost use Rattle.std.specs.Prelude.{length, take, drop, vec_len};
+ghost use Rattle.std.specs.Prelude.{length, take, drop, vec_len, vec_capacity, IsTrue, ◌↔◌, ◌⊎◌};
 ghost use Rattle.tftp_disk.specs.DiskTrace.{written};
 ghost use Rattle.tftp_disk.specs.DiskTrace.DiskEvent.{Examined, Synced, Mode_set};
-ghost use Rattle.tftp_disk.specs.DiskWriter.{calls_of, handed, IsRefused, NoSyncs};
+ghost use Rattle.tftp_disk.specs.DiskWriter.{calls_of, handed, IsRefused, IsShort, NoSyncs};
 
 use crate::disk_file::DiskFile;
 use crate::found::Found;
@@ -32,7 +32,10 @@ pub struct DiskWriter<F> {
 }
 
 /// A buffer for a [`DiskWriter`].
-pub fn write_buffer(alloc: Global) -> Result<Vec<u8>, AllocError> {
+pub fn write_buffer(alloc: Global) -> Result<Vec<u8>, AllocError>
+    ensures empty { IfOk result (λ buffer. buffer.items ≡ []) }
+    ensures room { IfOk result (λ buffer. WRITE_BUFFER ≤ vec_capacity buffer) }
+{
     Vec::with_capacity(alloc, WRITE_BUFFER)
 }
 
@@ -41,6 +44,7 @@ impl<F: Write> DiskWriter<F> {
     pub fn new(file: DiskFile<F>, mut buffer: Vec<u8>) -> DiskWriter<F>
         ensures file { result.file ≡ file }
         ensures empty { result.buffer.items ≡ [] }
+        ensures room { vec_capacity buffer ≤ vec_capacity result.buffer }
     {
         buffer.clear();
         DiskWriter { file, buffer }
@@ -50,7 +54,10 @@ impl<F: Write> DiskWriter<F> {
     pub fn append(&mut self, bytes: &[u8]) -> io::Result<()>
         ensures ok { OnOk result (handed self.new ≡ handed self.old ++ bytes.now) }
         ensures err { OnErr result (handed self.new ≡ handed self.old) }
+        ensures refused { OnErr result (IsRefused (calls_of self.new)
+            ⊎ IsShort (length bytes.now) self.old) }
         ensures same { NoSyncs (calls_of self.old) (calls_of self.new) }
+        ensures room { vec_capacity self.old.buffer ≤ vec_capacity self.new.buffer }
     {
         if self.buffer.len().saturating_add(bytes.len()) > WRITE_BUFFER {
             self.flush()?;
@@ -67,6 +74,7 @@ impl<F: Write> DiskWriter<F> {
         ensures empty { OnOk result (self.new.buffer.items ≡ []) }
         ensures refused { OnErr result (IsRefused (calls_of self.new)) }
         ensures same { NoSyncs (calls_of self.old) (calls_of self.new) }
+        ensures room { vec_capacity self.old.buffer ≤ vec_capacity self.new.buffer }
     {
         while !self.buffer.is_empty() {
             self.write_some()?;
@@ -81,6 +89,7 @@ impl<F: Write> DiskWriter<F> {
         ensures fewer { OnOk result (vec_len self.new.buffer < vec_len self.old.buffer) }
         ensures refused { OnErr result (IsRefused (calls_of self.new)) }
         ensures same { NoSyncs (calls_of self.old) (calls_of self.new) }
+        ensures room { vec_capacity self.old.buffer ≤ vec_capacity self.new.buffer }
     {
         match write_again(&mut self.file, self.buffer.as_slice()) {
             Ok(0) => Err(io::Error::from(ErrorKind::WriteZero)),
@@ -93,7 +102,9 @@ impl<F: Write> DiskWriter<F> {
     }
 
     /// Whether the buffer is to be written.
-    pub fn is_due(&self) -> bool {
+    pub fn is_due(&self) -> bool
+        ensures { IsTrue result ↔ FLUSH_AT ≤ vec_len self.now.buffer }
+    {
         self.buffer.len() >= FLUSH_AT
     }
 
@@ -168,6 +179,7 @@ fn remove_front(buffer: &mut Vec<u8>, count: usize)
     requires { count ≤ vec_len buffer.old }
     ensures items { buffer.new.items ≡ drop count buffer.old.items }
     ensures len { vec_len buffer.new ≡ vec_len buffer.old - count }
+    ensures room { vec_capacity buffer.old ≤ vec_capacity buffer.new }
 {
     let len = buffer.len();
     buffer.as_mut_slice().copy_within(count..len, 0);

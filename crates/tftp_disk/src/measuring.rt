@@ -1,7 +1,7 @@
 //! The length of a file in netascii, by one pass over it.
 
-ghost use Rattle.std.specs.Prelude.{◌≤◌, IfOk};
-ghost use Rattle.tftp_disk.specs.Measuring.{CountsChunk, CountsPass, StaysOpen, calls_on};
+ghost use Rattle.std.specs.Prelude.{◌≤◌, IfOk, IfErr};
+ghost use Rattle.tftp_disk.specs.Measuring.{CountsChunk, CountsPass, IsNotGiven, StaysOpen, calls_on};
 
 use crate::disk_file::DiskFile;
 use std::io::{self, Read};
@@ -27,6 +27,7 @@ pub struct TextLength {
 /// its end, at most until the text is longer than `MAX_WIRE`: then it is `None`.
 pub fn count_netascii<F: Read + Drop>(file: &mut DiskFile<F>) -> io::Result<Option<TextLength>>
     ensures counts { IfOk result (CountsPass (calls_on file.old) (calls_on file.new)) }
+    ensures refused { IfErr result (IsNotGiven (calls_on file.new)) }
     ensures stays { StaysOpen file.old file.new }
 {
     let mut chunk = [0; CHUNK];
@@ -54,6 +55,7 @@ fn count_next<F: Read + Drop>(
     ensures few { IfOk result (λ count. count.bytes ≤ count.wire_bytes) }
     ensures counts { IfOk result (λ count. CountsChunk (calls_on file.old) (calls_on file.new)
         count) }
+    ensures refused { IfErr result (IsNotGiven (calls_on file.new)) }
     ensures stays { StaysOpen file.old file.new }
 {
     match file.read(&mut chunk[..]) {

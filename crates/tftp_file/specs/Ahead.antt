@@ -34,5 +34,5 @@ ahead_meaning sources is_same =
       may_fail = λ a want. (a.failed ≡ true) ⊎ MayFailLater sources is_same a.source;
       fails = λ a want. (a.failed ≡ true) ⊎ ((a.held ≡ []) × sources.fails a.source want);
       gives = λ a piece b. ⊤;
-      opens = λ root path mode a. ⊤;
+      opens = λ root path mode length a. ⊤;
     }

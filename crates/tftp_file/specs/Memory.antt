@@ -68,5 +68,5 @@ memory_source =
       may_fail = λ text want. ⊥;
       fails = λ text want. ⊥;
       gives = λ text piece rest. ⊤;
-      opens = λ root path mode text. ⊤;
+      opens = λ root path mode length text. ⊤;
     }

@@ -17,8 +17,9 @@ pub record SourceMeaning (S : Type 0) : Type 1 where
   -- the effect of a call on the source: of a fill that gave these bytes, or of a fill that failed or
   -- a read ahead, which give none
   pub gives : S → List ℕ → S → Type 0
-  -- a source that a store opens, of this root, at this path, in this mode, is such
-  pub opens : List ℕ → List ℕ → Mode → S → Type 0
+  -- a source that a store opens, of this root, at this path, in this mode, and which it says to be so
+  -- long, is such
+  pub opens : List ℕ → List ℕ → Mode → ℕ → S → Type 0
 
 -- the model of sources of which nothing is known: each fill may fail, and none must
 abbrev pub unknown_source : {S : Type 0} → SourceMeaning S
@@ -28,7 +29,7 @@ unknown_source =
       may_fail = λ s want. ⊤;
       fails = λ s want. ⊥;
       gives = λ s piece t. ⊤;
-      opens = λ root path mode s. ⊤;
+      opens = λ root path mode length s. ⊤;
     }
 
 -- the model of a value that contains a source
@@ -39,7 +40,7 @@ source_through meaning seen =
       may_fail = λ s want. meaning.may_fail (seen s) want;
       fails = λ s want. meaning.fails (seen s) want;
       gives = λ s piece t. meaning.gives (seen s) piece (seen t);
-      opens = λ root path mode s. meaning.opens root path mode (seen s);
+      opens = λ root path mode length s. meaning.opens root path mode length (seen s);
     }
 
 -- the model of a borrow of a source

@@ -66,7 +66,7 @@ impl Source for FaultSource {
       may_fail = FailsAt;
       fails = FailsAt;
       gives = λ _ _ _. ⊤;
-      opens = λ _ _ _ _. ⊤;
+      opens = λ _ _ _ _ _. ⊤;
     } };
 
     /// It holds no borrow: whether it is set to fail does not change.

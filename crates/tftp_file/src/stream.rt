@@ -79,7 +79,7 @@ impl<R: Read> Source for ReadSource<R> {
       may_fail = λ _ _. ⊤;
       fails = λ _ _. ⊥;
       gives = λ _ _ _. ⊤;
-      opens = λ _ _ _ _. ⊤;
+      opens = λ _ _ _ _ _. ⊤;
     } };
 
     /// Always true: it does not constrain the reader.

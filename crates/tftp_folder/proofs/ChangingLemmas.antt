@@ -10,9 +10,10 @@ use Rattle.tftp_disk.specs.DiskTrace.DiskEvent.{Folder_opened, Folder_synced, Ex
 use Rattle.tftp_disk.specs.DiskTrace.DiskEvent.{Written, Not_written, Synced, Mode_set}
 use Rattle.tftp_disk.specs.DiskWriter.{calls_of}
 use Rattle.tftp_disk.specs.NamedFolder.{OpensFolder, SyncsFolder, SyncsNoFolder}
+use Rattle.tftp_disk.specs.Still.{LeavesPath}
 use Rattle.tftp_disk.specs.declared.disk_file.DiskFolder.{DiskFolder}
 use Rattle.tftp_folder.specs.Begin.{draft_name, BeginsNone}
-use Rattle.tftp_folder.specs.Changing.{limits_of, Admits, AreChanges, BeginStaysWithin, BeginsOwn, CommitStaysWithin, IsGiven, IsMade}
+use Rattle.tftp_folder.specs.Changing.{limits_of, Admits, AreChanges, BeginStaysWithin, BeginsOwn, CommitStaysWithin, HoldsLock, IsGiven}
 use Rattle.tftp_folder.specs.Changing.{IsOwn, IsWithin, KeepsRoot, KeepsWithin, Limits, ReadOnlyChangesNothing}
 use Rattle.tftp_folder.specs.Commit.{lock_of, MayRemoveNew, Names, RefusesLocked, RefusesName}
 use Rattle.tftp_folder.specs.Draft.{IsDraftBelow, LosesName, NamesNothingIn, SameNames}
@@ -23,6 +24,7 @@ use Rattle.tftp_folder.specs.Settings.{AsksNothing, SameSettings}
 use Rattle.tftp_folder.specs.declared.folder_draft.FolderDraft.{FolderDraft}
 use Rattle.tftp_folder.specs.declared.folder_store.FolderStore.{FolderStore}
 use Rattle.tftp_file.specs.declared.fault.StoreFault.{StoreFault}
+use Rattle.tftp_folder.proofs.ApartLemmas.{draft_apart, lock_apart}
 use Rattle.tftp_folder.proofs.InsideLemmas.{in_folder}
 
 along : (limits : Limits) (before after : List DiskEvent) → after ≡ before → AreChanges limits before
@@ -64,11 +66,33 @@ locks_within : (limits : Limits) (draft target : List ℕ) (answer : Done) (befo
 locks_within limits draft target answer before own changes =
     (record { admitted = own.admitted; change = inr (target, own.is_target, refl) }, changes)
 
+-- the lock that was just made is there, also once the draft was renamed
+holds_new : (path : List ℕ) (before : List DiskEvent) → HoldsLock path (Made path (Ok tt) ∷ before)
+holds_new path before = record { since = []; before = before; made = refl; left = tt }
+
+leaves_lock : (limits : Limits) (file : FileState) (draft target : List ℕ) (answer : Done)
+    → IsOwn limits draft target → LeavesPath (lock_of target) (Renamed file draft target answer)
+leaves_lock limits file draft target (Ok done) own = (
+  λ same. draft_apart limits.drafts target own.is_draft.0 (sym (same ∙ own.is_draft.1)),
+  lock_apart target,
+)
+leaves_lock limits file draft target (Err error) own = tt
+
+holds_renamed : (limits : Limits) (file : FileState) (draft target : List ℕ) (answer : Done) (before : List DiskEvent)
+    → IsOwn limits draft target
+    → HoldsLock (lock_of target) (Renamed file draft target answer ∷ Made (lock_of target) (Ok tt) ∷ before)
+holds_renamed limits file draft target answer before own = record {
+  since = Renamed file draft target answer ∷ [];
+  before = before;
+  made = refl;
+  left = (leaves_lock limits file draft target answer own, tt);
+}
+
 unlocks_within : (limits : Limits) (draft target : List ℕ) (answer : Done) (before : List DiskEvent)
-    → IsOwn limits draft target → IsMade (lock_of target) before → AreChanges limits before
+    → IsOwn limits draft target → HoldsLock (lock_of target) before → AreChanges limits before
     → AreChanges limits (Removed (lock_of target) answer ∷ before)
-unlocks_within limits draft target answer before own made changes = (
-  record { admitted = own.admitted; change = inr (inr ((target, own.is_target, refl), made)) },
+unlocks_within limits draft target answer before own holds changes = (
+  record { admitted = own.admitted; change = inr (inr ((target, own.is_target, refl), holds)) },
   changes,
 )
 
@@ -94,7 +118,8 @@ names_within limits file draft target before false after own (inr (refusal, (rem
     let renamed = Renamed file draft target (Ok tt) ∷ locked in (
       subst (IsGiven target) (sym names) (inl refl),
       along limits _ after names
-          (unlocks_within limits draft target removal renamed own (inl refl)
+          (unlocks_within limits draft target removal renamed own
+          (holds_renamed limits file draft target (Ok tt) linked own)
           (renames_within limits file draft target (Ok tt) locked own
           (locks_within limits draft target (Ok tt) linked own
           (links_within limits file draft target (Err refusal) before own changes)))),
@@ -109,13 +134,14 @@ locked_within limits file draft target before after own (inr (inl (failure, refu
 locked_within limits file draft target before after own (inr (inr (inl (removal, refused)))) changes =
     let locked = Made (lock_of target) (Ok tt) ∷ before in
     along limits _ after refused
-    (unlocks_within limits draft target removal locked own (inl refl)
+    (unlocks_within limits draft target removal locked own (holds_new (lock_of target) before)
     (locks_within limits draft target (Ok tt) before own changes))
 locked_within limits file draft target before after own (inr (inr (inr (failure, removal, refused)))) changes =
     let locked = Made (lock_of target) (Ok tt) ∷ before in
     let renamed = Renamed file draft target (Err failure) ∷ locked in
     along limits _ after refused
-    (unlocks_within limits draft target removal renamed own (inl refl)
+    (unlocks_within limits draft target removal renamed own
+    (holds_renamed limits file draft target (Err failure) before own)
     (renames_within limits file draft target (Err failure) locked own
     (locks_within limits draft target (Ok tt) before own changes)))
 

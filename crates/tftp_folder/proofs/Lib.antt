@@ -1,6 +1,7 @@
 pub mod ChangingLemmas
 mod ApartLemmas
 mod InsideLemmas
+mod LockLemmas
 mod NamingLemmas
 mod PlacedLemmas
 pub mod SourceLemmas

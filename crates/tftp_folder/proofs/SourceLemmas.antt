@@ -51,6 +51,6 @@ module _ {V F : Type 0} (log : V → List DiskEvent) (texts : SourceMeaning (Dis
       Gave_more (text_gives first before bytes turn) gives
 
   pub gives_its_file : GivesInOrder texts → GivesFile log (folder_source log texts)
-  gives_its_file in_order root path mode first last text opens turn =
+  gives_its_file in_order root path mode stated first last text opens turn =
       in_order mode (text_of first) (text_of last) text (text_gives first last text turn) opens.unread
       (nothing_given (calls_of first) opens.start)

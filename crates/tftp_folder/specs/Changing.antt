@@ -1,11 +1,12 @@
 -- What a store over a folder changes on the disk (ours).
-use Rattle.std.specs.Prelude.{ℕ, ◌≡◌, ◌⊎◌, ⊤, Bool, true, false, List, [], ◌∷◌, Ok, Option, IfSome}
+use Rattle.std.specs.Prelude.{ℕ, ◌≡◌, ◌⊎◌, ⊤, Bool, true, false, List, [], ◌∷◌, ◌++◌, Ok, Option, IfSome}
 use Rattle.std.specs.String.{string_bytes}
 use Rattle.tftp_file.specs.Path.{IsPath}
 use Rattle.tftp_disk.specs.Changes.{changes}
 use Rattle.tftp_disk.specs.DiskTrace.{DiskEvent}
 use Rattle.tftp_disk.specs.DiskTrace.DiskEvent.{Made, Linked, Renamed, Removed}
 use Rattle.tftp_disk.specs.DiskTrace.DiskEvent.{Folder_opened, Folder_synced}
+use Rattle.tftp_disk.specs.Still.{AllLeave}
 use Rattle.tftp_store.specs.Drafts.{CallsKeep}
 use Rattle.tftp_store.specs.Store.{StoreMeaning}
 use Rattle.tftp_folder.specs.Begin.{draft_name, BeginsNone}
@@ -60,11 +61,12 @@ abbrev pub IsLock : Limits → List ℕ → Type 0
 IsLock limits path =
     (target : List ℕ) × IsTarget limits target × (path ≡ lock_of target)
 
--- a file was made at this path
-abbrev pub IsMade : List ℕ → List DiskEvent → Type 0
-IsMade path [] = ⊥
-IsMade path (Made at (Ok done) ∷ events) = (path ≡ at) ⊎ IsMade path events
-IsMade path (event ∷ events) = IsMade path events
+-- the lock at this path was made by one of these calls, and each since has left it
+pub record HoldsLock (path : List ℕ) (calls : List DiskEvent) : Type 0 where
+  pub since : List DiskEvent
+  pub before : List DiskEvent
+  pub made : calls ≡ since ++ Made path (Ok tt) ∷ before
+  pub left : AllLeave path since
 
 -- a change by a store that does not refuse writes
 pub record Admits (limits : Limits) (Change : Type 0) : Type 0 where
@@ -73,14 +75,14 @@ pub record Admits (limits : Limits) (Change : Type 0) : Type 0 where
 
 -- a call after these others, the newest first, that changes something: a draft is made or removed,
 -- or is given a name that a client can spell, a name that was asked for is removed, and the lock of
--- one is made, and removed if it was made; no other file is made, removed or renamed. Folders are
--- opened and synced for such a name alone
+-- one is made, and removed by the store that made it; no other file is made, removed or renamed.
+-- Folders are opened and synced for such a name alone
 abbrev pub IsChange : Limits → DiskEvent → List DiskEvent → Type 0
 IsChange limits (Made path answer) before =
     Admits limits (IsDraftIn limits.drafts path ⊎ IsLock limits path)
 IsChange limits (Removed path answer) before =
     Admits limits (IsDraftIn limits.drafts path ⊎ (IsTarget limits path × IsGiven path before)
-    ⊎ (IsLock limits path × IsMade path before))
+    ⊎ (IsLock limits path × HoldsLock path before))
 IsChange limits (Linked file from to answer) before =
     Admits limits (IsDraftIn limits.drafts from × IsTarget limits to)
 IsChange limits (Renamed file from to answer) before =

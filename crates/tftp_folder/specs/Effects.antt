@@ -102,6 +102,7 @@ module _ {D G H K F : Type 0} (log : D → List DiskEvent) where
   folder_meaning =
       record {
         root = λ store. string_bytes store.folder.root;
+        is_set_to = λ store port. store.port ≡ port;
         stored = λ store. None;
         drafted = λ draft. None;
         may_refuse_open = λ store path fault. MayNotOpen fault;

@@ -5,6 +5,7 @@ pub mod Counted
 pub mod Draft
 pub mod Effects
 pub mod Inside
+pub mod Locks
 pub mod Looked
 pub mod Opened
 pub mod Placed

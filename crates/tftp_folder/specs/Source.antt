@@ -54,13 +54,17 @@ module _ {V F : Type 0} where
 
 module _ {V F : Type 0} (log : V → List DiskEvent) where
   -- the source of a file that was found at the path of a request and opened there, in this mode: it
-  -- begins with the first byte, and has read nothing since. The calls that found the file changed
-  -- nothing, and no path outside the root was passed to the system
-  pub record OpensSource (root path : List ℕ) (mode : Mode) (source : FolderSource V F) : Type 0 where
+  -- begins with the first byte, and has read nothing since. Its length is stated by what the system
+  -- said of it. The calls that found the file changed nothing, and no path outside the root was
+  -- passed to the system
+  pub record OpensSource (root path : List ℕ) (mode : Mode) (stated : ℕ)
+      (source : FolderSource V F) : Type 0 where
     pub opened : Found
     pub opens : OpensAt root path opened (log source.found) (calls_of source)
     pub start : is_at_start (calls_of source) ≡ true
     pub unread : IsUnread mode (text_of source)
+    pub longest : ℕ
+    pub states : StatesLength longest mode opened (counted_by source.stated.value) stated
     pub looks : changes (log source.found) ≡ []
     pub inside : AreInside root (log source.found)
 
@@ -80,6 +84,6 @@ module _ {V F : Type 0} (log : V → List DiskEvent) where
   -- but what the source still has, unless a read failed
   abbrev pub GivesFile : SourceMeaning (FolderSource V F) → Type 0
   GivesFile sources =
-      (root path : List ℕ) (mode : Mode) (first last : FolderSource V F) (text : List ℕ)
-      → OpensSource root path mode first → GivesInTurn sources first text last
+      (root path : List ℕ) (mode : Mode) (stated : ℕ) (first last : FolderSource V F) (text : List ℕ)
+      → OpensSource root path mode stated first → GivesInTurn sources first text last
       → GivenInOrder (text_of first) (text_of last) text

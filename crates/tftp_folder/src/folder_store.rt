@@ -373,7 +373,7 @@ impl<D: Disk> Store for FolderStore<D> {
     ) -> Result<Opening<FolderSource<D::View>>, StoreFault>
         ensures refused { IfErr result MayNotOpen }
         ensures opened { IfOk result (λ opening. OpensSource D.View.log
-            (string_bytes self.now.folder.root) path.now mode opening.source) }
+            (string_bytes self.now.folder.root) path.now mode opening.length opening.source) }
         ensures stated { IfOk result (StatesOpened self.now.lengths.longest mode) }
     {
         self.folder.reason.clear();

@@ -2,6 +2,7 @@
 
 ghost use Rattle.tftp_folder.specs.Changing.{BeginStaysWithin, BeginsOwn, CommitStaysWithin};
 ghost use Rattle.tftp_folder.specs.Changing.{KeepsRoot, KeepsWithin, ReadOnlyChangesNothing};
+ghost use Rattle.tftp_folder.specs.Locks.{StoresKeepLocks};
 ghost use Rattle.tftp_folder.specs.Source.{GivesFile};
 ghost use Rattle.tftp_folder.specs.Stored.{StoresWhatItTook};
 
@@ -59,4 +60,10 @@ pub fn keeps_its_root<D: Disk>()
 /// A store that refuses writes, and is within its limits, has changed nothing on the disk.
 pub fn read_only_changes_nothing()
     ensures { ReadOnlyChangesNothing }
+{}
+
+/// A store that changes nothing beyond its limits removes the lock of a name only if it holds it: by
+/// its own calls it made that file, and none of them took it away since.
+pub fn locks_are_removed_by_their_makers()
+    ensures { StoresKeepLocks }
 {}

@@ -103,6 +103,7 @@ abbrev pub fault_meaning : {S D : Type 0} → StoreMeaning S D → StoreMeaning 
 fault_meaning inner =
     record {
       root = λ s. inner.root s.inner;
+      is_set_to = λ s port. inner.is_set_to s.inner port;
       stored = λ s. never_armed (inner.stored s.inner);
       drafted = inner.drafted;
       may_refuse_open = λ s path fault.
@@ -139,5 +140,5 @@ opened_meaning inner =
       may_fail = λ s want. (s.fails ≡ true) ⊎ inner.may_fail s.source want;
       fails = λ s want. (s.fails ≡ true) ⊎ inner.fails s.source want;
       gives = λ s piece t. inner.gives s.source piece t.source;
-      opens = λ root path mode s. inner.opens root path mode s.source;
+      opens = λ root path mode length s. inner.opens root path mode length s.source;
     }

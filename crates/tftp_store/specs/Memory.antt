@@ -70,6 +70,7 @@ abbrev pub memory_meaning : StoreMeaning Stored Drafted
 memory_meaning =
     record {
       root = λ s. [];
+      is_set_to = λ s port. ⊤;
       stored = λ s. Some s;
       drafted = λ draft. Some draft;
       may_refuse_open = MayRefuseOpen;

@@ -34,6 +34,8 @@ pub record Drafted : Type 0 where
 pub record StoreMeaning (S D : Type 0) : Type 1 where
   -- where its files are: the path of its folder, or nothing of a store without one
   pub root : S → List ℕ
+  -- its next draft has the name of the transfer at this port, if it names drafts by ports
+  pub is_set_to : S → ℕ → Type 0
   -- the content of the store, or None if it is not known
   pub stored : S → Option Stored
   -- the content of a draft, or None if it is not known
@@ -67,6 +69,7 @@ abbrev pub unknown_store : {S D : Type 0} → StoreMeaning S D
 unknown_store =
     record {
       root = λ s. [];
+      is_set_to = λ s port. ⊤;
       stored = λ s. None;
       drafted = λ d. None;
       may_refuse_open = λ s path fault. ⊤;
@@ -142,10 +145,11 @@ module _ {F : Type 0} (sources : SourceMeaning F) where
       (want : ℕ) → must_fail want → sources.fails opening.source want
   FailsIf must_fail (Err fault) = ⊤
 
-  -- a source that is opened is one of this root, at this path, in this mode
+  -- a source that is opened is one of this root, at this path, in this mode, of the length that is
+  -- returned
   abbrev pub OpensAt : List ℕ → List ℕ → Mode → Result (Opening F) StoreFault → Type 0
   OpensAt root path mode result =
-      IfOk result (λ opening. sources.opens root path mode opening.source)
+      IfOk result (λ opening. sources.opens root path mode opening.length opening.source)
 
 module _ {K : Type 0} (drafted : K → Option Drafted) where
   -- the result of beginning a draft, by the content of the store; out of memory is the last

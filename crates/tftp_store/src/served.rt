@@ -1,6 +1,6 @@
 //! The store of a server's loop.
 
-ghost use Rattle.std.specs.Prelude.{◌≡◌};
+ghost use Rattle.std.specs.Prelude.{ℕ, ◌≡◌};
 
 use crate::memory::{MemDraft, MemStore};
 use crate::store::Store;
@@ -15,12 +15,15 @@ pub trait ServedStore<Reason>: Store {
     /// Sets the port of the next transfer, which names its draft. It leaves of the store what
     /// `write_behind` leaves.
     fn set_port(&mut self, port: u16)
+        ensures set { Self.meaning.is_set_to self.new port }
         ensures same { Self.meaning.stored self.new ≡ Self.meaning.stored self.old }
         ensures behind { Self.meaning.after_write_behind self.old self.new };
 
     /// Sets the longest length on the wire that can be sent, in bytes. A file with more bytes is
     /// not read to measure it. It leaves of the store what `write_behind` leaves.
     fn set_longest(&mut self, bytes: u64)
+        ensures set { (port : ℕ) → Self.meaning.is_set_to self.old port
+            → Self.meaning.is_set_to self.new port }
         ensures same { Self.meaning.stored self.new ≡ Self.meaning.stored self.old }
         ensures behind { Self.meaning.after_write_behind self.old self.new };
 

@@ -31,17 +31,19 @@ pub trait Store {
     /// A file that is written and not yet committed.
     type Draft: Drop;
 
-    /// The path of its folder, if it has one (`root`), the content of the store and of its drafts
-    /// (`stored`, `drafted`), the faults that its calls may return (`may_refuse_open`,
-    /// `may_refuse_begin`, `may_refuse_append`, `may_refuse_commit`), what an opening must return
-    /// (`must_refuse_open`, `must_fail`), and the effect of the other calls, and so which must be
-    /// refused (`begun`, `after_append`, `after_commit`, `after_write_behind`, `writes_behind`).
+    /// The path of its folder, if it has one (`root`), the port that names its next draft, if one
+    /// does (`is_set_to`), the content of the store and of its drafts (`stored`, `drafted`), the
+    /// faults that its calls may return (`may_refuse_open`, `may_refuse_begin`,
+    /// `may_refuse_append`, `may_refuse_commit`), what an opening must return (`must_refuse_open`,
+    /// `must_fail`), and the effect of the other calls, and so which must be refused (`begun`,
+    /// `after_append`, `after_commit`, `after_write_behind`, `writes_behind`).
     ghost meaning: { StoreMeaning Self Self.Draft };
 
     /// Opens the file for reading in the mode.
     ///
     /// It returns `Missing` if there is no such file, and `Memory` only if there is one. Any other
-    /// fault is specific to the store. The source that it opens is one of this root, path and mode.
+    /// fault is specific to the store. The source that it opens is one of this root, path, mode and
+    /// length.
     fn open(
         &self,
         alloc: Global,

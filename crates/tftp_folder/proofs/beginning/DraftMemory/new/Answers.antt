@@ -7,5 +7,5 @@ use Rattle.tftp_folder.proofs.beginning.DraftMemory.new.Goals as goal
 pub invariant_of-result : goal.invariant_of-result
 invariant_of-result c = record {
   apart = λ same. draft_apart (string_bytes c.args.served.now.drafts) (string_bytes c.in-Ok.target) c.args.port
-      c.ranges.port.fits (sym c.in_ok-draft_path.ensures ∙ same);
+      (sym c.in_ok-draft_path.ensures ∙ same);
 }
