@@ -25,13 +25,14 @@ use Rattle.tftp_rules.specs.OpenEnds.{OpenEnd, peer_of}
 use Rattle.tftp_rules.specs.Shows.{Matches}
 use Rattle.tftp_rules.proofs.Grows.{HasPeer, peer_of as peer_is}
 use Rattle.tftp_rules.proofs.Steps.{own_of}
+use Rattle.tftp_rules.proofs.BlamelessActions.{decoded_is}
 use Rattle.tftp_player.specs.Recovering.{IsReached, IsAnswering, Behaves, TakesPeer}
 use Rattle.tftp_player.specs.World.{WorldState, Open_end, datagram, view_of_end, new_world}
 use Rattle.tftp_player.specs.WorldKept.{Refines}
 use Rattle.tftp_player.specs.declared.datagram.Datagram.{Datagram}
 use Rattle.tftp_player.specs.declared.event.Event.TheVariants.{Timeout}
 use Rattle.tftp_player.proofs.WorldFacts.{holds, matched, spoken, m}
-use Rattle.tftp_player.proofs.SentAgain.{ready_with, decoded_is, Resent, resends, timed_out}
+use Rattle.tftp_player.proofs.SentAgain.{ready_with, Resent, resends, timed_out}
 use Rattle.tftp_player.proofs.StraightActions.{from_server}
 use Rattle.tftp_player.proofs.StraightRuns.{IsReady, stays_at, set_at}
 use Rattle.tftp_player.proofs.WorldRuns.{run_keeps, new_ok, any_may}

@@ -7,7 +7,6 @@ use Rattle.tftp_file.specs.declared.files.Files.TheVariants.{Source, Sink}
 use Rattle.tftp_file.specs.Sink.{Holding}
 use Rattle.tftp_ends.specs.declared.outcome.Outcome.{Outcome}
 use Rattle.tftp_ends.specs.End.{is_client, outcome_of}
-use Rattle.tftp_ends.specs.Action.{datagram_action}
 use Rattle.tftp_ends.specs.Step.{Turn, timeout_turn}
 use Rattle.tftp_rules.specs.Hosts.{host_of}
 use Rattle.tftp_rules.specs.Machine.{Endpoint, Elsewhere}
@@ -22,15 +21,14 @@ use Rattle.tftp_player.specs.declared.event.Event.{Event}
 use Rattle.tftp_player.proofs.EndsCame.{Came, Was, Opened, Armed, Timed, Took, came}
 use Rattle.tftp_player.proofs.OacksTaken.{ArePlain, Known_world, known_then}
 use Rattle.tftp_player.proofs.WorldRuns.{new_ok}
-use Rattle.tftp_player.proofs.BlamelessTurns.{Blameless, acts_blameless, timeout_blameless}
-use Rattle.tftp_player.proofs.BlamelessActions.{datagram_fine}
+use Rattle.tftp_player.proofs.BlamelessEnds.{Blameless, datagram_blameless, timeout_blameless}
 
 -- ---- every end of a world
 abbrev IsUnblamed : WorldEnd → Type 0
 IsUnblamed (Open_end x) = Unit {0}
 IsUnblamed (Closed_end x) =
-    (o : Outcome) → x.recorded.outcome ≡ Some o → Blames o → (p : Endpoint) → x.recorded.peer ≡ Some p →
-    host_of p ≢ Elsewhere → ⊥
+    (o : Outcome) → x.recorded.outcome ≡ Some o → (p : Endpoint) → x.recorded.peer ≡ Some p →
+    host_of p ≢ Elsewhere → Blames o → ⊥
 
 abbrev AreUnblamed : WorldState → Type 0
 AreUnblamed w = (k : ℕ) (z : WorldEnd) → slice_get w.ends k ≡ Some z → IsUnblamed z
@@ -60,9 +58,8 @@ came_unblamed w ok plain h j z (Timed x held i) =
     (timeout_blameless x.state (ok.ends j (Open_end x) i).stands.still)
 came_unblamed w ok plain h j z (Took x from bytes turn held i a d) =
     stands_unblamed x turn held
-    (acts_blameless (may_refuse_commit (is_client x.state.role.side) (in_the_way w.overwrite (file_at w.files x.path)))
-    from bytes x (datagram_action x.state from bytes d.decoded) held turn
-    (datagram_fine w ok plain j x i from bytes a d.decoded d.says) (ok.ends j (Open_end x) i).stands.still d.acts)
+    (datagram_blameless w ok plain j x i from bytes a
+    (may_refuse_commit (is_client x.state.role.side) (in_the_way w.overwrite (file_at w.files x.path))) held turn d)
 
 run_unblamed : (events : List Event) (w v : WorldState) → Known_world w → AreUnblamed w → PlaysAll w events v →
     AreUnblamed v
@@ -79,4 +76,4 @@ none_is_blamed w k x p outcome reached there peer own is blames =
       ok = new_ok true reached.files reached.config reached.max_block;
       plain = λ j z i. absurd (let f : None ≡ Some z = i in cc);
     })
-    (λ j z i. absurd (let f : None ≡ Some z = i in cc)) reached.plays k (Closed_end x) there outcome is blames p peer own
+    (λ j z i. absurd (let f : None ≡ Some z = i in cc)) reached.plays k (Closed_end x) there outcome is p peer own blames

@@ -26,11 +26,11 @@ use Rattle.tftp_rules.specs.Hosts.{host_of}
 use Rattle.tftp_rules.specs.Machine.{Endpoint, At_server, Elsewhere}
 use Rattle.tftp_rules.specs.OpenEnds.{peer_of}
 use Rattle.tftp_player.specs.Closing.{Blames}
-use Rattle.tftp_player.proofs.BlamelessTurns.{Blameless}
+use Rattle.tftp_player.proofs.BlamelessEnds.{Blameless}
 use Rattle.tftp_player.proofs.SentAgain.{second, acked_bytes}
 use Rattle.tftp_player.proofs.ErrorReasons.{IsErr, Tells, TellsBy, no_ack, no_data}
-use Rattle.tftp_player.proofs.TurnCases.{TurnBy, Responds, Sends_data, Cannot_read, Has_stored, Has_all, Cannot_append}
-use Rattle.tftp_player.proofs.TurnCases.{Cannot_commit}
+use Rattle.tftp_rules.proofs.TurnCases.{TurnBy, Responds, Sends_data, Cannot_read, Has_stored, Has_all, Cannot_append}
+use Rattle.tftp_rules.proofs.TurnCases.{Cannot_commit}
 
 -- the bytes of the ERROR for a fault of a store
 abbrev pub IsRefusal : List ℕ → Type 0
@@ -78,7 +78,7 @@ refuses_as turn fault to has closed b r is e = (
 blames_as : (turn : Turn) (outcome : Outcome) → outcome_of turn.position.phase ≡ Some outcome → Blames outcome →
     Answers turn
 blames_as turn outcome closed blames b r is e = (
-  λ p own. absurd (b outcome closed blames r.to p own),
+  λ p own. absurd (b outcome closed r.to p own blames),
   λ none still. absurd (let f : None ≡ Some outcome = sym still ∙ closed in cc),
 )
 

@@ -8,6 +8,7 @@ use Rattle.tftp_ends.specs.declared.action.Action.{Action}
 use Rattle.tftp_ends.specs.declared.action.Action.TheVariants.{Respond}
 use Rattle.tftp_ends.specs.declared.action.Response.{Response}
 use Rattle.tftp_ends.specs.declared.action.Response.TheVariants.{WrongPeer, Close, Refuse}
+use Rattle.tftp_ends.specs.declared.outcome.Outcome.{Outcome}
 use Rattle.tftp_ends.specs.declared.outcome.Outcome.TheVariants as outcomes
 use Rattle.tftp_ends.specs.declared.phase.Dally.TheVariants.{Fresh, Waited}
 use Rattle.tftp_ends.specs.declared.phase.Phase.{Phase}
@@ -19,8 +20,8 @@ use Rattle.tftp_ends.specs.Step.{ack_bytes, data_bytes}
 use Rattle.tftp_rules.specs.Machine.{Endpoint}
 use Rattle.tftp_player.specs.Closing.{Blames}
 use Rattle.tftp_player.proofs.SentAgain.{second}
-use Rattle.tftp_player.proofs.ActionCases.{MayTake, datagram_takes, Ignores, Resends, Completes, Stranger, Garbled}
-use Rattle.tftp_player.proofs.ActionCases.{Hears, Refuses_answer, Refuses_peer, Accepts, Sends_block, Stores_block}
+use Rattle.tftp_rules.proofs.ActionCases.{Accuses, MayTake, datagram_takes, Ignores, Resends, Completes, Stranger, Garbled}
+use Rattle.tftp_rules.proofs.ActionCases.{Hears, Refuses_answer, Refuses_peer, Accepts, Sends_block, Stores_block}
 
 -- the bytes of an ERROR
 abbrev pub IsErr : List ℕ → Type 0
@@ -37,6 +38,18 @@ no_ack n e = let z : ◌≡◌ {A = ℕ} 4 5 = e in omega (arith, z)
 -- the packet is an ERROR of this code
 abbrev pub IsErrorOf : ℕ → Option Packet → Type 0
 IsErrorOf code decoded = (text : List ℕ) × (decoded ≡ Some (Error code text))
+
+-- an outcome for what a peer sent blames it
+accused : (o : Outcome) → Accuses o → Blames o
+accused outcomes.Illegal h = tt
+accused outcomes.NotNetascii h = tt
+accused outcomes.TooLarge h = tt
+accused (outcomes.Refused refusal) h = tt
+accused outcomes.Complete h = h
+accused outcomes.TimedOut h = h
+accused (outcomes.PeerError code) h = h
+accused outcomes.StoreFault h = h
+accused outcomes.SourceFault h = tt
 
 -- ---- what an action says of the datagram that it is for
 module _ (known : Option Terms) (wrong : Bool) (decoded : Option Packet) where
@@ -71,8 +84,8 @@ module _ (known : Option Terms) (wrong : Bool) (decoded : Option Packet) where
   tells from action (Stranger is) = is
   tells from action Garbled = λ t e c z. absurd (let f : outcomes.Illegal ≡ outcomes.PeerError c = z in cc)
   tells from action (Hears code text right is) = told_error code text right is
-  tells from action (Refuses_answer reply outcome none blames) = blames
-  tells from action (Refuses_peer terms reply outcome h blames) = blames
+  tells from action (Refuses_answer reply outcome none blames) = accused outcome blames
+  tells from action (Refuses_peer terms reply outcome h blames) = accused outcome blames
   tells from action (Accepts ks none) = tt
   tells from action (Sends_block terms n h positive) = tt
   tells from action (Stores_block terms n h) = tt

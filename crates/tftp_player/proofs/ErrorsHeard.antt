@@ -14,6 +14,7 @@ use Rattle.tftp_file.specs.declared.fault.StoreFault.{StoreFault}
 use Rattle.tftp_file.specs.declared.fault.StoreFault.TheVariants as faults
 use Rattle.tftp_file.specs.declared.files.Files.{Files}
 use Rattle.tftp_file.specs.declared.files.Files.TheVariants.{Source, Sink}
+use Rattle.tftp_file.specs.Memory.{memory_source}
 use Rattle.tftp_file.specs.Sink.{Holding}
 use Rattle.tftp_ends.specs.declared.action.Action.{Action}
 use Rattle.tftp_ends.specs.declared.action.Response.{Response}
@@ -42,21 +43,21 @@ use Rattle.tftp_player.specs.World.{WorldState, WorldEnd, Open_end, Closed_end, 
 use Rattle.tftp_player.specs.World.{in_the_way, file_at, new_world, end_address, end_record}
 use Rattle.tftp_player.specs.WorldKept.{Refines}
 use Rattle.tftp_player.specs.WorldRuns.{PlaysAll}
-use Rattle.tftp_player.specs.WorldSteps.{may_refuse_commit, armed_end}
+use Rattle.tftp_player.specs.WorldSteps.{may_refuse_commit, armed_end, world_sink}
 use Rattle.tftp_player.specs.declared.datagram.Datagram.{Datagram}
 use Rattle.tftp_player.specs.declared.event.Event.{Event}
 use Rattle.tftp_player.proofs.AnsweringEnds.{reached_ok}
 use Rattle.tftp_player.proofs.Blameless.{none_is_blamed}
-use Rattle.tftp_player.proofs.BlamelessTurns.{waited_open}
+use Rattle.tftp_rules.proofs.BlamelessTurns.{waited_open}
 use Rattle.tftp_player.proofs.EndsCame.{Came, Was, Opened, Armed, Timed, Took, came}
 use Rattle.tftp_player.proofs.ErrorReasons.{IsErrorOf, Tells, TellsBy, datagram_tells, timeout_tells}
 use Rattle.tftp_player.proofs.ErrorsKnown.{refusals_are_told}
 use Rattle.tftp_player.proofs.OneLemmas.{events_add_one_at_most}
-use Rattle.tftp_player.proofs.StorableBlocks.{the_peer}
+use Rattle.tftp_rules.proofs.StorableBlocks.{the_peer}
 use Rattle.tftp_player.proofs.WorldFacts.{m, holds, matched}
 use Rattle.tftp_player.proofs.WorldRuns.{new_ok, step_keeps}
-use Rattle.tftp_player.proofs.TurnCases.{TurnBy, Responds, Sends_data, Cannot_read, Has_stored, Has_all, Cannot_append}
-use Rattle.tftp_player.proofs.TurnCases.{Cannot_commit, acts_by}
+use Rattle.tftp_rules.proofs.TurnCases.{TurnBy, Responds, Sends_data, Cannot_read, Has_stored, Has_all, Cannot_append}
+use Rattle.tftp_rules.proofs.TurnCases.{Cannot_commit, acts_by}
 
 -- ---- a turn closes by an ERROR only if that is the packet, and from the peer
 module _ (e : EndState) (wrong : Bool) (decoded : Option Packet) (still : outcome_of e.position.phase ≡ None) where
@@ -178,8 +179,9 @@ came_by w ok h j z (Took x from bytes turn held i arrives d) =
     let r =
     turn_hears e wrong d.decoded still from (datagram_action e from bytes d.decoded) turn
     (datagram_tells e from bytes d.decoded)
-    (acts_by (may_refuse_commit (is_client e.role.side) (in_the_way w.overwrite (file_at w.files x.path))) from bytes e
-    (datagram_action e from bytes d.decoded) _ held turn d.acts) code p o is in
+    (acts_by memory_source
+    (world_sink (may_refuse_commit (is_client e.role.side) (in_the_way w.overwrite (file_at w.files x.path)))) from bytes
+    e (datagram_action e from bytes d.decoded) _ held turn d.acts) code p o is in
     let sender : from ≡ p =
     sym (the_peer r.0 e.position.last_sent_to from
     (sym (ap (λ (t : Option Terms). is_wrong_peer t e.position.last_sent_to from) r.1) ∙ r.3))

@@ -14,6 +14,7 @@ use Rattle.tftp_wire.specs.declared.packet.Packet.TheVariants.{Error}
 use Rattle.tftp_negotiate.specs.declared.known.Known.{Known}
 use Rattle.tftp_file.specs.declared.files.Files.{Files}
 use Rattle.tftp_file.specs.declared.files.Files.TheVariants.{Source, Sink}
+use Rattle.tftp_file.specs.Memory.{memory_source}
 use Rattle.tftp_file.specs.Sink.{Holding}
 use Rattle.tftp_ends.specs.declared.error_reply.ErrorReply.TheVariants.{UnknownTransferId}
 use Rattle.tftp_ends.specs.declared.outcome.Outcome.{Outcome}
@@ -40,12 +41,11 @@ use Rattle.tftp_player.specs.WorldKept.{Refines}
 use Rattle.tftp_player.specs.declared.datagram.Datagram.{Datagram}
 use Rattle.tftp_player.specs.WorldRuns.{PlaysAll}
 use Rattle.tftp_player.specs.WorldSteps.{may_refuse_commit, WorldStep, ServiceStep, Delivery, At_request_port}
-use Rattle.tftp_player.specs.WorldSteps.{At_open_end, At_closed_end, At_nobody, Stays, TimeoutStep, armed_end}
+use Rattle.tftp_player.specs.WorldSteps.{At_open_end, At_closed_end, At_nobody, Stays, TimeoutStep, armed_end, world_sink}
 use Rattle.tftp_player.specs.declared.event.Event.{Event}
 use Rattle.tftp_player.specs.declared.event.Event.TheVariants.{Get, Put, Deliver, Timeout, RefuseStore, Stray}
 use Rattle.tftp_player.specs.declared.report.Report.{Report}
-use Rattle.tftp_player.proofs.BlamelessTurns.{Blameless, acts_blameless, timeout_blameless}
-use Rattle.tftp_player.proofs.BlamelessActions.{datagram_fine}
+use Rattle.tftp_player.proofs.BlamelessEnds.{Blameless, datagram_blameless, timeout_blameless}
 use Rattle.tftp_player.proofs.EndsCame.{Arrives}
 use Rattle.tftp_player.proofs.OacksTaken.{Known_world, known_then, waits_here}
 use Rattle.tftp_player.proofs.StraightActions.{peer_near}
@@ -56,7 +56,7 @@ use Rattle.tftp_player.proofs.WorldSafe.{kept_is_safe, ip_at_home}
 use Rattle.tftp_player.proofs.WorldTurns.{nothing_in, one_in}
 use Rattle.tftp_player.proofs.ErrorReasons.{IsErr, datagram_tells, no_ack, no_data}
 use Rattle.tftp_player.proofs.ErrorAnswers.{IsRefusal, Answers, ToldAt, turn_answers, timeout_answers}
-use Rattle.tftp_player.proofs.TurnCases.{acts_by}
+use Rattle.tftp_rules.proofs.TurnCases.{acts_by}
 
 -- ---- the ends of a world, by the ERRORs that they sent
 abbrev Told : WorldEnd → Endpoint → List ℕ → Type 0
@@ -379,17 +379,15 @@ module _ (old new : WorldState) (known : Known_world old) (ok' : Refines true ne
       let may = may_refuse_commit (is_client x.state.role.side) (in_the_way old.overwrite (file_at old.files x.path)) in
       let come = subst (λ (p : Endpoint). Arrives old from p bytes) (sym here) a in
       let d = takes.steps in
-      let still = (ok.ends k (Open_end x) there).stands.still in
       turn_spoken old new ok ok' spoken k x takes.turn takes.held there
       (ap (λ (w : WorldState). w.sent) takes.turns.is) (ap (λ (w : WorldState). w.ends) takes.turns.is)
       (turn_answers from x.state
       (is_wrong_peer (terms_of x.state.position.phase) x.state.position.last_sent_to from) d.decoded
       (stranger_told k x there from bytes (error_bytes UnknownTransferId) come) (newest_told k x there)
       (datagram_action x.state from bytes d.decoded) takes.turn (datagram_tells x.state from bytes d.decoded) d.again
-      (acts_by may from bytes x.state (datagram_action x.state from bytes d.decoded) (files_of x) takes.held takes.turn
-      d.acts))
-      (acts_blameless may from bytes x (datagram_action x.state from bytes d.decoded) takes.held takes.turn
-      (datagram_fine old ok known.plain k x there from bytes come d.decoded d.says) still d.acts)
+      (acts_by memory_source (world_sink may) from bytes x.state (datagram_action x.state from bytes d.decoded)
+      (files_of x) takes.held takes.turn d.acts))
+      (datagram_blameless old ok known.plain k x there from bytes come may takes.held takes.turn d)
       (λ t e. step_has t may from bytes x.state (files_of x) takes.held takes.turn e d)
   arrives_spoken from to bytes report a (At_closed_end k x there at s) = stays_spoken report s
   arrives_spoken from to bytes report a (At_nobody away nobody s) = stays_spoken report s

@@ -23,7 +23,8 @@ use Rattle.tftp_ends.specs.Receiver.{next_action, receiver_action}
 use Rattle.tftp_ends.specs.Waiting.{begin_action, default_terms, no_answer, reader_action, writer_action}
 use Rattle.tftp_rules.specs.Machine.{Endpoint}
 use Rattle.tftp_rules.specs.OpenEnds.{OpenEnd}
-use Rattle.tftp_player.proofs.StraightActions.{block_within, data_next}
+use Rattle.tftp_rules.proofs.NextBlocks.{block_within}
+use Rattle.tftp_player.proofs.StraightActions.{data_next}
 use Rattle.tftp_player.proofs.StraightRuns.{IsFit, next_is_stored}
 
 -- by whether it reads or writes

@@ -1,4 +1,3 @@
-pub mod HostBytes
 pub mod Standing
 pub mod KnownSteps
 pub mod Measured
@@ -33,8 +32,6 @@ pub mod StoredLemmas
 pub mod ArrivalLemmas
 pub mod RefusingLemmas
 pub mod RepeatedLemmas
-mod ActionCases
-mod TurnCases
 pub mod TermsKept
 pub mod RepeatingLemmas
 pub mod AskingLemmas
@@ -58,9 +55,7 @@ mod RecoveriesSettled
 mod RecoveringWitness
 mod AnsweringWitness
 mod OacksTaken
-mod StorableBlocks
-mod BlamelessTurns
-mod BlamelessActions
+mod BlamelessEnds
 mod Blameless
 mod ErrorReasons
 mod ErrorAnswers

@@ -46,7 +46,8 @@ use Rattle.tftp_player.proofs.RepeatingLemmas.{repeats_open_nothing}
 use Rattle.tftp_player.proofs.RunsLeft.{IsWilling}
 use Rattle.tftp_player.proofs.SentAgain.{Again, Ignored, MaySendAgain, Resent, handles_again, handles_ignored, resends}
 use Rattle.tftp_player.proofs.SentAgain.{retransmits, timed_out}
-use Rattle.tftp_player.proofs.StraightActions.{block_full, block_last, from_peer}
+use Rattle.tftp_rules.proofs.NextBlocks.{block_full, block_last}
+use Rattle.tftp_player.proofs.StraightActions.{from_peer}
 use Rattle.tftp_player.proofs.StraightRuns.{AwaitsAt, IsFit, set_at, stays_at, stored_more_phase}
 use Rattle.tftp_player.proofs.StraightRuns.{stored_last_phase}
 use Rattle.tftp_player.proofs.StraightSteps.{Becomes, Handles, HasStored, delivered, handles_data, is_armed, ports_of}

@@ -44,10 +44,10 @@ use Rattle.tftp_player.specs.declared.event.Event.{Event}
 use Rattle.tftp_player.specs.declared.event.Event.TheVariants.{Get, Put, Deliver, Timeout, RefuseStore, Stray}
 use Rattle.tftp_player.specs.declared.report.Report.{Report}
 use Rattle.tftp_server.specs.declared.config.Config.{Config}
-use Rattle.tftp_player.proofs.ActionCases.{MayTake, datagram_takes, Ignores, Resends, Completes, Stranger, Garbled}
-use Rattle.tftp_player.proofs.ActionCases.{Hears, Refuses_answer, Refuses_peer, Accepts, Sends_block, Stores_block}
-use Rattle.tftp_player.proofs.TurnCases.{TurnBy, Responds, Sends_data, Cannot_read, Has_stored, Has_all, Cannot_append}
-use Rattle.tftp_player.proofs.TurnCases.{Cannot_commit, acts_by}
+use Rattle.tftp_rules.proofs.ActionCases.{MayTake, datagram_takes, Ignores, Resends, Completes, Stranger, Garbled}
+use Rattle.tftp_rules.proofs.ActionCases.{Hears, Refuses_answer, Refuses_peer, Accepts, Sends_block, Stores_block}
+use Rattle.tftp_rules.proofs.TurnCases.{TurnBy, Responds, Sends_data, Cannot_read, Has_stored, Has_all, Cannot_append}
+use Rattle.tftp_rules.proofs.TurnCases.{Cannot_commit, acts_by}
 
 -- the newest datagram of a sender at this number
 abbrev pub IsNewest : List ℕ → ℕ → Type 0
@@ -149,7 +149,7 @@ module _ (client : Bool) where
         let action = datagram_action e from bytes d.decoded in
         turn_has from e action turn
         (names (terms_of e.position.phase) from d.decoded _ action (datagram_takes e from bytes d.decoded)) h
-        (acts_by refuses_commit from bytes e action files files' turn d.acts)
+        (acts_by memory_source (world_sink refuses_commit) from bytes e action files files' turn d.acts)
 
 -- ---- the ends of a world
 abbrev pub EndNewest : WorldEnd → Type 0

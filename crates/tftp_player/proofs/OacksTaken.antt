@@ -37,7 +37,10 @@ use Rattle.tftp_rules.specs.Machine.{Endpoint, At_server, Elsewhere, Machine, Pa
 use Rattle.tftp_rules.specs.OpenEnds.{OpenEnd, end_after, files_of}
 use Rattle.tftp_rules.proofs.Grows.{AllGrow}
 use Rattle.tftp_rules.proofs.HostLemmas.{host_server}
-use Rattle.tftp_rules.proofs.Steps.{own_server, own_of, server_end}
+use Rattle.tftp_rules.proofs.ActionCases.{IsPlainAnswer}
+use Rattle.tftp_rules.proofs.PlainPeers.{HasPlainPeer, plain_answer as answers_plainly}
+use Rattle.tftp_rules.proofs.Steps.{own_server, own_of}
+use Rattle.tftp_rules.proofs.TermsTaken.{step_are, timeout_are}
 use Rattle.tftp_player.specs.World.{WorldState, WorldEnd, Open_end, Closed_end, standing, by_outcome, datagram}
 use Rattle.tftp_player.specs.World.{in_the_way, file_at}
 use Rattle.tftp_player.specs.WorldKept.{Refines}
@@ -47,125 +50,9 @@ use Rattle.tftp_player.specs.declared.report.Report.{Report}
 use Rattle.tftp_player.proofs.EndsCame.{Came, Was, Opened, Armed, Timed, Took, Arrives, came}
 use Rattle.tftp_player.proofs.WorldFacts.{m, holds, matched, attests}
 use Rattle.tftp_player.proofs.EndsStay.{grown}
-use Rattle.tftp_player.proofs.ActionCases.{IsPlainAnswer, HasTerms, MayTake, datagram_takes, Agreed, By_default}
-use Rattle.tftp_player.proofs.ActionCases.{By_oack, Ignores, Resends, Completes, Stranger, Garbled, Hears}
-use Rattle.tftp_player.proofs.ActionCases.{Refuses_answer, Refuses_peer, Accepts, Sends_block, Stores_block}
-use Rattle.tftp_player.proofs.TurnCases.{TurnBy, Responds, Sends_data, Cannot_read, Has_stored, Has_all, Cannot_append}
-use Rattle.tftp_player.proofs.TurnCases.{Cannot_commit, acts_by}
-
--- ---- the terms that an end has after a step are of a kind
-module _ (P : Terms → Type 0) where
-  abbrev Are : Option Terms → Type 0
-  Are terms = (t : Terms) → terms ≡ Some t → P t
-
-  are_some : (terms : Terms) → P terms → Are (Some terms)
-  are_some terms p t e = subst P (same_Some terms t e) p
-
-  are_none : Are None
-  are_none t e = absurd (let f : None ≡ Some t = e in cc)
-
-  abbrev Says : Response → Type 0
-  Says (Refuse terms reply outcome) = Are terms
-  Says (Accept terms) = P terms
-  Says response = Unit {0}
-
-  abbrev Names : Action → Type 0
-  Names (Respond response) = Says response
-  Names (Send terms number) = P terms
-  Names (Store terms number) = P terms
-
-  says_either : (b : Bool) (one two : Response) → Says one → Says two → Says (if b then one else two)
-  says_either true one two h k = h
-  says_either false one two h k = k
-
-  -- the terms that an action names
-  module _ (from : Endpoint) (known : Option Terms) (decoded : Option Packet) (wrong : Bool) (old : Are known)
-      (agreed : (ks : List Known) → P (agreed_terms from ks))
-      (plain : wrong ≡ false → known ≡ None → IsPlainAnswer decoded → P (default_terms from)) where
-    its_own : (terms : Terms) → HasTerms known from decoded wrong terms → P terms
-    its_own terms (Agreed own e) = old own e
-    its_own terms (By_default right none answer) = plain right none answer
-    its_own terms (By_oack ks none) = agreed ks
-
-    names : (action : Action) → MayTake known from decoded wrong action → Names action
-    names action Ignores = tt
-    names action Resends = tt
-    names action Completes = tt
-    names action (Stranger is) = tt
-    names action Garbled = tt
-    names action (Hears code text right is) = tt
-    names action (Refuses_answer reply outcome none blames) = are_none
-    names action (Refuses_peer terms reply outcome h blames) = are_some terms (its_own terms h)
-    names action (Accepts ks none) = agreed ks
-    names action (Sends_block terms n h positive) = its_own terms h
-    names action (Stores_block terms n h) = its_own terms h
-
-  timeout_says : (left : ℕ) (phase : Phase) → Says (timeout_response left phase)
-  timeout_says left (Waiting asked limit) = says_either (left == 0) _ _ tt tt
-  timeout_says left (Sending terms n) = says_either (left == 0) _ _ tt tt
-  timeout_says left (Receiving terms n) = says_either (left == 0) _ _ tt tt
-  timeout_says left (Dallying terms n Fresh) = tt
-  timeout_says left (Dallying terms n Waited) = tt
-  timeout_says left (Closed terms n complete outcome) = says_either (left == 0) _ _ tt tt
-
-  abbrev Has : Position → Type 0
-  Has position = Are (terms_of position.phase)
-
-  waited_terms : (phase : Phase) → Are (terms_of phase) → Are (terms_of (waited phase))
-  waited_terms (Waiting asked limit) h = h
-  waited_terms (Sending terms n) h = h
-  waited_terms (Receiving terms n) h = h
-  waited_terms (Dallying terms n dally) h = h
-  waited_terms (Closed terms n complete outcome) h = h
-
-  response_has : (response : Response) (from : Endpoint) (e : EndState) → Says response → Has e.position →
-      Has (response_turn response from e).position
-  response_has Ignore from e s h = h
-  response_has WrongPeer from e s h = h
-  response_has ResendReply from e s h = h
-  response_has Retransmit from e s h = h
-  response_has Wait from e s h = waited_terms e.position.phase h
-  response_has (Close outcome) from e s h = h
-  response_has (Refuse terms reply outcome) from e s h = s
-  response_has (Accept terms) from e s h = are_some terms s
-  response_has Complete from e s h = h
-
-  -- after a timeout
-  pub timeout_are : (e : EndState) → Has e.position → Has (timeout_turn e).position
-  timeout_are e h =
-      response_has (timeout_response e.position.retries_left e.position.phase) e.position.last_sent_to e
-      (timeout_says e.position.retries_left e.position.phase) h
-
-  turn_has : (from : Endpoint) (e : EndState) (action : Action) (turn : Turn) → Names action → Has e.position →
-      TurnBy from e action turn → Has turn.position
-  turn_has from e action turn s h (Responds response) = response_has response from e s h
-  turn_has from e action turn s h (Sends_data terms n piece) = are_some terms s
-  turn_has from e action turn s h (Cannot_read terms n) = are_some terms s
-  turn_has from e action turn s h (Has_stored terms n after positive) = are_some terms s
-  turn_has from e action turn s h (Has_all terms n after) = are_some terms s
-  turn_has from e action turn s h (Cannot_append terms n) = are_some terms s
-  turn_has from e action turn s h (Cannot_commit terms n after fault) = are_some terms s
-
-  module _ (refuses_commit : Holding → StoreFault → Type 0) (from : Endpoint) (bytes : List ℕ) (e : EndState) where
-    -- after a datagram
-    pub step_are : (files files' : Files (List ℕ) Holding) (turn : Turn) → Has e.position →
-        ((ks : List Known) → P (agreed_terms from ks)) →
-        ((decoded : Option Packet) → Decodes bytes decoded →
-        is_wrong_peer (terms_of e.position.phase) e.position.last_sent_to from ≡ false →
-        terms_of e.position.phase ≡ None → IsPlainAnswer decoded → P (default_terms from)) →
-        DatagramStep memory_source (world_sink refuses_commit) from bytes e files turn files' → Has turn.position
-    step_are files files' turn h agreed plain d =
-        let action = datagram_action e from bytes d.decoded in
-        turn_has from e action turn
-        (names from (terms_of e.position.phase) d.decoded
-        (is_wrong_peer (terms_of e.position.phase) e.position.last_sent_to from) h agreed (plain d.decoded d.says) action
-        (datagram_takes e from bytes d.decoded)) h (acts_by refuses_commit from bytes e action files files' turn d.acts)
 
 -- ---- the clients of a world
-abbrev pub HasPlainPeer : (Endpoint → Party) → Terms → Type 0
-HasPlainPeer ends t = t.by_oack ≡ false → ((ends t.peer).is_open ≡ true) × ((ends t.peer).plain ≡ true)
-
--- so it is of a client, if the end is open
+-- a client that took no OACK has such a peer, if the end is open
 abbrev pub PlainEnd : (Endpoint → Party) → WorldEnd → Type 0
 PlainEnd ends (Open_end x) =
     is_client x.state.role.side ≡ true → (t : Terms) → terms_of x.state.position.phase ≡ Some t → HasPlainPeer ends t
@@ -254,35 +141,18 @@ module _ (w : WorldState) (ok : Refines true w) where
           | inl c ↦ c
           | inr far ↦ absurd (own far)
         ] in
-        by own here sent decoded says plain where
-          by : host_of from ≢ Elsewhere → host_of from ≡ At_server → Contains w.sent (datagram from x.address bytes) →
-              (d : Option Packet) → Decodes bytes d → IsPlainAnswer d →
+        let at_x = matched w ok k (Open_end x) there in
+        let own_x = own_of two_hosts (m w ok) (holds w ok) x.address at_x.is_open in
+        let nobody : (ends_now x.address).peer ≡ None = at_x.peer ∙ ap (option_map (λ (t : Terms). t.peer)) none in
+        by decoded says plain own_x nobody own here sent where
+          by : (d : Option Packet) → Decodes bytes d → IsPlainAnswer d → host_of x.address ≢ Elsewhere →
+              (ends_now x.address).peer ≡ None → host_of from ≢ Elsewhere → host_of from ≡ At_server →
+              Contains w.sent (datagram from x.address bytes) →
               ((ends_now from).is_open ≡ true) × ((ends_now from).plain ≡ true)
-          by own here sent None says plain = absurd plain
-          by own here sent (Some (Read r)) says plain = absurd plain
-          by own here sent (Some (Write r)) says plain = absurd plain
-          by own here sent (Some (Data n piece)) says plain =
-              let t = attests w ok from x.address bytes (Data n piece) own sent says in
-              let c = server_end two_hosts (m w ok) (holds w ok) from t.is_open here in
-              let at_x = matched w ok k (Open_end x) there in
-              let own_x = own_of two_hosts (m w ok) (holds w ok) x.address at_x.is_open in
-              let low = t.first in
-              let many = t.number in
-              let begun : 1 ≤ (ends_now from).number = omega (arith, low, many) in
-              elim (cases_Bool (ends_now from).plain) [
-                | inl p ↦ (t.is_open, p)
-                | inr p ↦ absurd
-                    (let back = ((holds w ok).ends from t.is_open).begun c t.sender p begun x.address t.peer own_x in
-                    let nobody : (ends_now x.address).peer ≡ None =
-                    at_x.peer ∙ ap (option_map (λ (t : Terms). t.peer)) none in
-                    let f : None ≡ Some from = sym nobody ∙ back in cc)
-              ]
-          by own here sent (Some (Ack n)) says plain =
-              let t = attests w ok from x.address bytes (Ack n) own sent says in
-              let c = server_end two_hosts (m w ok) (holds w ok) from t.is_open here in
-              (t.is_open, t.plain plain c)
-          by own here sent (Some (Error code text)) says plain = absurd plain
-          by own here sent (Some (Oack options)) says plain = absurd plain
+          by None says plain own_x nobody own here sent = absurd plain
+          by (Some p) says plain own_x nobody own here sent =
+              answers_plainly two_hosts (m w ok) (holds w ok) x.address from own_x nobody here p
+              (attests w ok from x.address bytes p own sent says) plain
 
   came_plain : ArePlain w ok → (j : ℕ) (z : WorldEnd) → Came w j z → PlainEnd ends_now z
   came_plain h j z (Was y i) = h j y i
@@ -293,8 +163,9 @@ module _ (w : WorldState) (ok : Refines true w) where
       (λ c. timeout_are (HasPlainPeer ends_now) x.state (h j (Open_end x) i c))
   came_plain h j z (Took x from bytes turn held i a d) =
       stands_plain ends_now x turn held
-      (λ c. step_are (HasPlainPeer ends_now)
-      (may_refuse_commit (is_client x.state.role.side) (in_the_way w.overwrite (file_at w.files x.path))) from bytes
+      (λ c. step_are (HasPlainPeer ends_now) memory_source
+      (world_sink
+      (may_refuse_commit (is_client x.state.role.side) (in_the_way w.overwrite (file_at w.files x.path)))) from bytes
       x.state (files_of x) held turn (h j (Open_end x) i c)
       (λ ks b. absurd (true≢false b)) (plain_answer j x i from bytes a) d)
 

@@ -11,7 +11,6 @@ use Rattle.tftp_wire.specs.declared.options.RawOption.{RawOption}
 use Rattle.tftp_wire.specs.declared.packet.Packet.{Packet}
 use Rattle.tftp_wire.specs.declared.packet.Packet.TheVariants.{Read, Write, Data, Ack, Error, Oack}
 use Rattle.tftp_wire.specs.Spelling.{Spells, canonical}
-use Rattle.tftp_wire.proofs.SpellingLemmas.{one_meaning, spelled_has_no_fault}
 use Rattle.tftp_file.specs.Memory.{memory_source}
 use Rattle.tftp_file.specs.Sink.{Holding}
 use Rattle.tftp_file.specs.declared.fault.StoreFault.{StoreFault}
@@ -31,6 +30,8 @@ use Rattle.tftp_ends.specs.Step.{Turn, Acts, AcksAgain, IsAck, Reply, response_t
 use Rattle.tftp_ends.specs.Step.{timeout_turn}
 use Rattle.tftp_rules.specs.Machine.{Endpoint}
 use Rattle.tftp_rules.specs.OpenEnds.{OpenEnd, files_of, holding_of, with_files, in_state, end_after}
+use Rattle.tftp_rules.proofs.BlamelessActions.{decoded_is}
+use Rattle.tftp_rules.proofs.NextBlocks.{less}
 use Rattle.tftp_rules.proofs.SaidLemmas.{data_of}
 use Rattle.tftp_player.specs.World.{WorldState, WorldEnd, Open_end, datagram, replied, standing, by_outcome, in_the_way}
 use Rattle.tftp_player.specs.World.{file_at}
@@ -71,13 +72,6 @@ data_short n piece (Data m other) s =
 data_short n piece (Ack m) s = absurd (let e : ◌≡◌ {A = ℕ} 3 4 = ap second s.whole in omega (arith, e))
 data_short n piece (Error code text) s = absurd (let e : ◌≡◌ {A = ℕ} 3 5 = ap second s.whole in omega (arith, e))
 data_short n piece (Oack options) s = absurd (let e : ◌≡◌ {A = ℕ} 3 6 = ap second s.whole in omega (arith, e))
-
--- bytes that spell a packet are decoded as that one
-pub decoded_is : (bytes : List ℕ) (packet : Packet) (decoded : Option Packet) → Spells packet bytes →
-    Decodes bytes decoded → decoded ≡ Some packet
-decoded_is bytes packet (Some q) s t = ap (λ (p : Packet). Some p) (one_meaning q packet bytes t s)
-decoded_is bytes packet None s t =
-    absurd (let f : None ≡ Some t.0 = sym (spelled_has_no_fault packet bytes s) ∙ t.1 in cc)
 
 same_with : (b : Bool) (z : OpenEnd) → with_files z (if b then Source z.left else Sink (holding_of z)) ≡ z
 same_with true z = refl
@@ -278,13 +272,6 @@ ready_with w v event report d ok s sent = record {
   newest = ap (λ (ds : List Datagram). slice_get ds (length w.sent)) sent ∙ slice_get-push_new w.sent d;
   count = let l = ap length sent in let f = length-append w.sent (d ∷ []) in omega (arith, l, f);
 }
-
--- of two numbers one is smaller, or they are in order
-pub less : (a b : ℕ) → (b < a) ⊎ (a ≤ b)
-less a b = elim (cases_Bool (nat_lt b a)) [
-  | inl h ↦ inl (ltb-true b a h)
-  | inr h ↦ inr (ltb-false b a h)
-]
 
 -- a number that is one more at most, no less and another is the next one
 pub next_of : (n k : ℕ) → n ≤ k + 1 → k ≤ n → n ≢ k → n ≡ k + 1

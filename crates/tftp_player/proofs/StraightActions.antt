@@ -1,19 +1,12 @@
 -- What an end does at the datagram that it waits for.
-use Rattle.std.proofs.Common.{◌≡◌, ℕ, ◌+◌, ◌*◌, ◌-◌, ◌/◌, ◌<◌, ◌≤◌, Bool, true, false, List, [], ◌∷◌, ◌++◌, length}
-use Rattle.std.proofs.Common.{drop, Option, Some, None, refl, sym, ap, ◌∙◌, subst, arith, inl, append_assoc}
+use Rattle.std.proofs.Common.{◌≡◌, ℕ, ◌+◌, ◌/◌, ◌<◌, ◌≤◌, Bool, true, false, List, [], ◌∷◌, length, Option, Some, None}
+use Rattle.std.proofs.Common.{refl, ap, ◌∙◌, arith}
 use Rattle.std.specs.Prelude.{◌&&◌, ◌==◌, not, if◌then◌else◌, nat_eq, nat_lt}
 use Rattle.std.specs.Cmp.Lexicographic.{pointwise}
-use Rattle.std.proofs.Math.Nat.{div-lt_iff_lt-mul}
-use Rattle.std.proofs.lemmas.Bool.{ltb-true, eqb-true, lt-ltb, le-ltb, eq-eqb, ne_eqb}
-use Rattle.std.proofs.lemmas.List.{append-nil, length-drop, nil_from_length}
+use Rattle.std.proofs.lemmas.Bool.{eqb-true, lt-ltb, le-ltb, eq-eqb, ne_eqb}
 use Rattle.tftp_wire.specs.declared.mode.Mode.{Mode}
-use Rattle.tftp_wire.specs.declared.mode.Mode.TheVariants.{Octet, Netascii}
 use Rattle.tftp_wire.specs.declared.packet.Packet.{Packet}
 use Rattle.tftp_wire.specs.Reading.{has_error_opcode}
-use Rattle.tftp_file.specs.Block.{block, block_count, Fits}
-use Rattle.tftp_file.specs.Netascii.{netascii_text, wire_text}
-use Rattle.tftp_file.proofs.BlockLemmas.{last_short, others_full}
-use Rattle.tftp_file.proofs.CutLemmas.{begins_front}
 use Rattle.tftp_ends.specs.declared.action.Action.TheVariants.{Respond, Send, Store}
 use Rattle.tftp_ends.specs.declared.action.Response.TheVariants.{Ignore, WrongPeer, ResendReply, Complete, Refuse}
 use Rattle.tftp_ends.specs.declared.error_reply.ErrorReply.TheVariants.{FileTooLarge, NotNetascii}
@@ -24,12 +17,8 @@ use Rattle.tftp_ends.specs.End.{EndState, terms_of}
 use Rattle.tftp_ends.specs.Action.{same_endpoint, is_wrong_peer, garbled_response, packet_action, datagram_action}
 use Rattle.tftp_ends.specs.Receiver.{next_action, data_action}
 use Rattle.tftp_ends.specs.Sender.{illegal_action, acked_action}
-use Rattle.tftp_ends.specs.Text.{is_readable, begins_netascii, ends_in_cr}
-use Rattle.tftp_ends.proofs.TextLemmas.{decoded_begins, decoded_ends}
+use Rattle.tftp_ends.specs.Text.{is_readable}
 use Rattle.tftp_rules.specs.Machine.{Endpoint}
-use Rattle.tftp_rules.proofs.Blocks.{length-block}
-use Rattle.tftp_rules.proofs.StoredTexts.{wire_text-append}
-use Rattle.tftp_player.proofs.HostBytes.{wire_prefix}
 
 -- ---- from whom it is
 pub same_list : (xs : List ℕ) → pointwise nat_eq xs xs ≡ true
@@ -100,42 +89,6 @@ acked_last length n terms last =
     ∙ ap (λ (b : Bool). if b then Send terms (n + 1) else Respond Complete) (le-ltb n (length / terms.size + 1) last)
 
 -- ---- a receiver with its next block
--- a prefix of a text in netascii can be read
-begins_text : (text rest more : List ℕ) → text ++ rest ≡ netascii_text more → begins_netascii text ≡ true
-begins_text text rest more e =
-    let b = begins_front text rest (more, [], (inl refl, e ∙ sym (append-nil (netascii_text more)))) in
-    decoded_begins [] text b.0 b.1 b.2
-
--- a whole text does not end in a CR
-ends_text : (text more : List ℕ) → text ≡ netascii_text more → ends_in_cr text ≡ false
-ends_text text more e = decoded_ends [] text more [] (inl refl, e ∙ sym (append-nil (netascii_text more)))
-
-drop_front : (xs ys zs : List ℕ) → xs ++ ys ≡ xs ++ zs → ys ≡ zs
-drop_front [] ys zs e = e
-drop_front (x ∷ xs) ys zs e = drop_front xs ys zs (let f : x ∷ (xs ++ ys) ≡ x ∷ (xs ++ zs) = e in cc)
-
-readable_by : (last : Bool) (begins ends : Bool) → begins ≡ true → (last ≡ true → ends ≡ false) →
-    (begins && not (last && ends)) ≡ true
-readable_by true begins ends b e = ap (λ (c : Bool). c && not (true && ends)) b ∙ ap (λ (c : Bool). not c) (e refl)
-readable_by false begins ends b e = ap (λ (c : Bool). c && not (false && ends)) b
-
--- the next piece of the text of a file can be read
-pub piece_readable : (mode : Mode) (file stored held piece rest : List ℕ) (last : Bool) →
-    ((wire_text mode stored ++ held) ++ piece) ++ rest ≡ wire_text mode file → (last ≡ true → rest ≡ []) →
-    is_readable mode held piece last ≡ true
-piece_readable Octet file stored held piece rest last e none = refl
-piece_readable Netascii file stored held piece rest last e none =
-    let t = held ++ piece in
-    let joined : netascii_text stored ++ (t ++ rest) ≡ netascii_text file =
-    sym (append_assoc (netascii_text stored) t rest)
-    ∙ (ap (λ (z : List ℕ). z ++ rest) (sym (append_assoc (netascii_text stored) held piece)) ∙ e) in
-    let more = wire_prefix Netascii stored file (t ++ rest, joined) in
-    let whole_is : t ++ rest ≡ netascii_text more.0 =
-    drop_front (netascii_text stored) (t ++ rest) (netascii_text more.0)
-    (joined ∙ (ap netascii_text (sym more.1) ∙ wire_text-append Netascii stored more.0)) in
-    readable_by last (begins_netascii t) (ends_in_cr t) (begins_text t rest more.0 whole_is)
-    (λ l. ends_text t more.0 (sym (append-nil t) ∙ (ap (λ (z : List ℕ). t ++ z) (sym (none l)) ∙ whole_is)))
-
 not_both : (a b : Bool) → (a ≡ true → b ≡ true → ⊥) → (a && b) ≡ false
 not_both true true h = absurd (h refl refl)
 not_both true false h = refl
@@ -167,35 +120,3 @@ data_next mode held terms n piece =
     (ne_eqb (n + 1) n (λ e. omega arith))
     ∙ (ap (λ (b : Bool). if b then Respond Ignore else last) (le-ltb (n + 1) n (omega arith))
     ∙ ap (λ (b : Bool). if b then next else illegal_action terms) (eq-eqb (n + 1) (n + 1) refl))
-
--- ---- how long a block is
-module _ (text : List ℕ) (size : ℕ) (positive : 0 < size) (fits : Fits text size) where
-  pub numbered : block_count text size ≤ 65535
-  numbered = let d : length text / size < 65535 =
-      (div-lt_iff_lt-mul {k = size} {x = length text} {y = 65535} positive).1 fits in omega (arith, d)
-
-  pub block_full : (n : ℕ) → n + 1 < block_count text size → length (block text size (n + 1)) ≡ size
-  block_full n l = others_full text size positive (n + 1) (omega arith) l
-
-  pub block_last : (n : ℕ) → n + 1 ≡ block_count text size → length (block text size (n + 1)) < size
-  block_last n e = subst (λ (k : ℕ). length (block text size k) < size) (sym e) (last_short text size positive)
-
-  pub block_within : (n : ℕ) → n + 1 ≤ block_count text size → length (block text size (n + 1)) ≤ size
-  block_within n l = let e = length-block text n size in omega (arith, e)
-
-  -- a full block is never the last that could be numbered
-  pub never_long : (n : ℕ) → n + 1 ≤ block_count text size → n + 1 ≡ 65535 → length (block text size (n + 1)) ≡ size → ⊥
-  never_long n l e full =
-      let most = numbered in
-      let last : n + 1 ≡ block_count text size = omega arith in
-      let short = block_last n last in
-      omega (arith, short, full)
-
-  -- after a short block nothing is left
-  pub last_rest : (n : ℕ) → nat_lt (length (block text size (n + 1))) size ≡ true → drop ((n + 1) * size) text ≡ []
-  last_rest n e =
-      let short = ltb-true (length (block text size (n + 1))) size e in
-      let l = length-block text n size in
-      let past : length text ≤ (n + 1) * size = omega (arith, short, l) in
-      nil_from_length (drop ((n + 1) * size) text)
-      (length-drop ((n + 1) * size) text ∙ (let z : length text - (n + 1) * size ≡ 0 = omega (arith, past) in z))

@@ -38,8 +38,8 @@ use Rattle.tftp_player.specs.declared.report.Report.{Report}
 use Rattle.tftp_rules.proofs.Blocks.{take-block}
 use Rattle.tftp_rules.proofs.Indices.{slice_get-set_same, slice_get-set_other, slice_get-push_new}
 use Rattle.tftp_player.proofs.RunsLeft.{UnlessReads, IsWilling, IsLeft, IsOver, Reaches, walks, ends_here}
-use Rattle.tftp_player.proofs.StraightActions.{from_peer, acked_more, acked_last, piece_readable, next_stores}
-use Rattle.tftp_player.proofs.StraightActions.{data_next, block_full, block_last, block_within, never_long, last_rest}
+use Rattle.tftp_rules.proofs.NextBlocks.{piece_readable, block_full, block_last, block_within, never_long, last_rest}
+use Rattle.tftp_player.proofs.StraightActions.{from_peer, acked_more, acked_last, next_stores, data_next}
 use Rattle.tftp_player.proofs.StraightSteps.{ports_of, Handles, delivered, Becomes, handles_send, handles_last}
 use Rattle.tftp_player.proofs.StraightSteps.{is_armed, HasStored, stored_phase, takes_data, handles_data}
 use Rattle.tftp_player.proofs.WorldRuns.{step_keeps}

@@ -24,11 +24,11 @@ use Rattle.tftp_ends.specs.Step.{Turn, DatagramStep, response_turn, timeout_turn
 use Rattle.tftp_rules.specs.Machine.{Endpoint}
 use Rattle.tftp_rules.specs.OpenEnds.{peer_of}
 use Rattle.tftp_player.specs.WorldSteps.{world_sink}
-use Rattle.tftp_player.proofs.ActionCases.{HasTerms, MayTake, datagram_takes, Agreed, By_default, By_oack, Ignores}
-use Rattle.tftp_player.proofs.ActionCases.{Resends, Completes, Stranger, Garbled, Hears, Refuses_answer, Refuses_peer}
-use Rattle.tftp_player.proofs.ActionCases.{Accepts, Sends_block, Stores_block}
-use Rattle.tftp_player.proofs.TurnCases.{TurnBy, Responds, Sends_data, Cannot_read, Has_stored, Has_all, Cannot_append}
-use Rattle.tftp_player.proofs.TurnCases.{Cannot_commit, acts_by}
+use Rattle.tftp_rules.proofs.ActionCases.{HasTerms, MayTake, datagram_takes, Agreed, By_default, By_oack, Ignores}
+use Rattle.tftp_rules.proofs.ActionCases.{Resends, Completes, Stranger, Garbled, Hears, Refuses_answer, Refuses_peer}
+use Rattle.tftp_rules.proofs.ActionCases.{Accepts, Sends_block, Stores_block}
+use Rattle.tftp_rules.proofs.TurnCases.{TurnBy, Responds, Sends_data, Cannot_read, Has_stored, Has_all, Cannot_append}
+use Rattle.tftp_rules.proofs.TurnCases.{Cannot_commit, acts_by}
 
 module _ (agreed : Terms) where
   -- the response and the action name no other terms
@@ -125,7 +125,7 @@ module _ (agreed : Terms) where
         let action = datagram_action e from bytes d.decoded in
         turn_has from e action turn
         (names (terms_of e.position.phase) from d.decoded _ action h (datagram_takes e from bytes d.decoded)) h
-        (acts_by refuses_commit from bytes e action files files' turn d.acts)
+        (acts_by memory_source (world_sink refuses_commit) from bytes e action files files' turn d.acts)
 
 -- the peer stays known
 pub still_known : (old new : Option Terms) → ((agreed : Terms) → old ≡ Some agreed → new ≡ Some agreed) →

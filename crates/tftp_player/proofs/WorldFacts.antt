@@ -31,9 +31,9 @@ use Rattle.tftp_rules.proofs.Steps.{own_of, same_size}
 use Rattle.tftp_player.specs.Recovering.{IsEstablished}
 use Rattle.tftp_player.specs.World.{WorldState, WorldEnd, Open_end, datagram, view_of_end, end_address}
 use Rattle.tftp_player.specs.WorldKept.{Refines}
+use Rattle.tftp_rules.proofs.NextBlocks.{less}
 use Rattle.tftp_rules.proofs.NumbersNear.{AreNear, near_run, near_start}
 use Rattle.tftp_player.proofs.WorldTurns.{view_at}
-use Rattle.tftp_player.proofs.SentAgain.{less}
 
 -- ---- what holds of the two ends
 module _ (w : WorldState) (ok : Refines true w) where

@@ -33,7 +33,7 @@ use Rattle.tftp_player.specs.World.{view_of_end}
 use Rattle.tftp_player.specs.WorldSafety.{HasPeer, HasRequested, IsIn, IsSafe, AnswersClient, endpoint_of_end, safety_of}
 use Rattle.tftp_player.specs.WorldKept.{IsKeptIn, Refines, WasAsked}
 use Rattle.tftp_player.specs.WorldRuns.{WorldsAreSafe, PeersStayHome, KeptIsSafe}
-use Rattle.tftp_player.proofs.HostBytes.{wire_prefix, wire_same}
+use Rattle.tftp_rules.proofs.HostBytes.{wire_prefix, wire_same}
 use Rattle.tftp_rules.proofs.Endpoints.{endpoint_from}
 use Rattle.tftp_rules.proofs.ViewSafe.{IsPrefixOf-trans, first_of_empty, shown_safe}
 use Rattle.tftp_player.proofs.WorldTurns.{home_not_elsewhere, view_at, viewed_at}

@@ -28,4 +28,14 @@ pub mod EndTurns
 pub mod Granted
 pub mod FirstSent
 pub mod EndOpenings
+pub mod HostBytes
+pub mod NextBlocks
+pub mod StorableBlocks
+pub mod ActionCases
+pub mod TurnCases
+pub mod TermsTaken
+pub mod PlainPeers
+pub mod BlamelessTurns
+pub mod BlamelessActions
+pub mod UnblamedEnds
 mod StandardFacts

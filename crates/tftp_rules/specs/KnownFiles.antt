@@ -12,7 +12,7 @@ known_source =
       may_fail = λ text want. ⊤;
       fails = λ text want. ⊥;
       gives = λ text piece rest. ⊤;
-      opens = λ root path mode text. ⊤;
+      opens = λ root path mode length text. ⊤;
     }
 
 -- a sink whose content is known; each append and each commit may return any fault

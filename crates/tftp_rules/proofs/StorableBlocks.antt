@@ -15,8 +15,7 @@ use Rattle.tftp_ends.specs.Text.{is_readable}
 use Rattle.tftp_rules.specs.Machine.{Endpoint}
 use Rattle.tftp_rules.proofs.Blocks.{count_is_past, take-block}
 use Rattle.tftp_rules.proofs.Endpoints.{endpoint_from}
-use Rattle.tftp_player.proofs.SentAgain.{less}
-use Rattle.tftp_player.proofs.StraightActions.{piece_readable, block_within, never_long, last_rest}
+use Rattle.tftp_rules.proofs.NextBlocks.{less, piece_readable, block_within, never_long, last_rest}
 
 -- ---- small facts
 pub and_true : (a b : Bool) → (a && b) ≡ true → (a ≡ true) × (b ≡ true)
@@ -28,7 +27,8 @@ pub and_false : (a b : Bool) → (a && b) ≡ false → a ≡ true → b ≡ fal
 and_false true b e a = e
 and_false false b e a = absurd (true≢false (sym a))
 
-not_false : (b : Bool) → not b ≡ false → b ≡ true
+-- one whose negation fails
+pub not_false : (b : Bool) → not b ≡ false → b ≡ true
 not_false true e = refl
 not_false false e = absurd (true≢false e)
 
@@ -57,16 +57,18 @@ by_one j n low high a b = elim (less (n + 1) j) [
 ]
 
 -- ---- the next block of a text is stored
-pub record IsStorable (mode : Mode) (held : List ℕ) (size number : ℕ) (piece : List ℕ) : Type 0 where
+-- it is short enough, and can be read if what is sent is the text of a file
+pub record IsStorable (IsText : Type 0) (mode : Mode) (held : List ℕ) (size number : ℕ) (piece : List ℕ) : Type 0 where
   pub within : length piece ≤ size
   pub short : number ≡ 65535 → length piece ≡ size → ⊥
-  pub readable : is_readable mode held piece (nat_lt (length piece) size) ≡ true
+  pub readable : IsText → is_readable mode held piece (nat_lt (length piece) size) ≡ true
 
 -- the next block of what the peer sends is stored
-pub storable : (mode : Mode) (file stored held text : List ℕ) (size n : ℕ) (piece : List ℕ) → 0 < size → Fits text size →
-    wire_text mode file ≡ text → wire_text mode stored ++ held ≡ take (n * size) text → n * size ≤ length text →
-    piece ≡ block text size (n + 1) → IsStorable mode held size (n + 1) piece
-storable mode file stored held text size n piece positive fits text_is received room piece_is =
+pub storable : (IsText : Type 0) (mode : Mode) (stored held text : List ℕ) (size n : ℕ) (piece : List ℕ) → 0 < size →
+    Fits text size → (IsText → (file : List ℕ) × (wire_text mode file ≡ text)) →
+    wire_text mode stored ++ held ≡ take (n * size) text → n * size ≤ length text → piece ≡ block text size (n + 1) →
+    IsStorable IsText mode held size (n + 1) piece
+storable IsText mode stored held text size n piece positive fits file received room piece_is =
     let more : n < block_count text size = elim (less (block_count text size) n) [
       | inl h ↦ h
       | inr h ↦ absurd (let past = count_is_past text n size positive h in omega (arith, past, room))
@@ -74,14 +76,14 @@ storable mode file stored held text size n piece positive fits text_is received 
     let l : n + 1 ≤ block_count text size = omega (arith, more) in
     let own = block text size (n + 1) in
     let rest = drop ((n + 1) * size) text in
-    let whole : ((wire_text mode stored ++ held) ++ own) ++ rest ≡ wire_text mode file =
+    let whole : ((wire_text mode stored ++ held) ++ own) ++ rest ≡ text =
     ap (λ (t : List ℕ). (t ++ own) ++ rest) received
-    ∙ (ap (λ (t : List ℕ). t ++ rest) (take-block text n size)
-    ∙ (take-append-drop ((n + 1) * size) text ∙ sym text_is)) in
-    subst (λ (b : List ℕ). IsStorable mode held size (n + 1) b) (sym piece_is) (record {
+    ∙ (ap (λ (t : List ℕ). t ++ rest) (take-block text n size) ∙ take-append-drop ((n + 1) * size) text) in
+    subst (λ (b : List ℕ). IsStorable IsText mode held size (n + 1) b) (sym piece_is) (record {
       within = block_within text size positive fits n l;
       short = λ a b. never_long text size positive fits n l a b;
-      readable =
-          piece_readable mode file stored held own rest (nat_lt (length own) size) whole
+      readable = λ is.
+          let f = file is in
+          piece_readable mode f.0 stored held own rest (nat_lt (length own) size) (whole ∙ sym f.1)
           (λ e. last_rest text size positive fits n e);
     })

@@ -1,9 +1,9 @@
 -- The turns by which an open end carries out an action.
--- For TermsKept, NewestKept, OacksTaken, ErrorAnswers and ErrorsHeard.
+-- For TermsTaken, and for the laws of worlds (tftp_player).
 use Rattle.std.proofs.Common.{◌≡◌, ℕ, Bool, true, false, List, Result, Ok, Err, sym, subst}
 use Rattle.std.specs.Prelude.{◌≢◌, if◌then◌else◌}
-use Rattle.tftp_file.specs.Memory.{memory_source}
-use Rattle.tftp_file.specs.Sink.{Holding}
+use Rattle.tftp_file.specs.Sink.{Holding, SinkMeaning}
+use Rattle.tftp_file.specs.Source.{SourceMeaning}
 use Rattle.tftp_file.specs.declared.fault.StoreFault.{StoreFault}
 use Rattle.tftp_file.specs.declared.files.Files.{Files}
 use Rattle.tftp_file.specs.declared.files.Files.TheVariants.{Source, Sink}
@@ -19,7 +19,6 @@ use Rattle.tftp_ends.specs.End.{EndState}
 use Rattle.tftp_ends.specs.Step.{Turn, Acts, SendsFrom, StoresIn, GoesOn, Done, response_turn, sent_turn, refused_turn}
 use Rattle.tftp_ends.specs.Step.{committed_turn, commit_reply, result_count_is, block_length, holding, ack_bytes, data_bytes}
 use Rattle.tftp_rules.specs.Machine.{Endpoint}
-use Rattle.tftp_player.specs.WorldSteps.{world_sink}
 
 -- a turn of the end that carries out this action, on a datagram from there
 pub data TurnBy (from : Endpoint) (e : EndState) : Action → Turn → Type 0 where
@@ -38,7 +37,8 @@ pub data TurnBy (from : Endpoint) (e : EndState) : Action → Turn → Type 0 wh
       TurnBy from e (Store terms n)
       (refused_turn terms (commit_reply fault) outcomes.StoreFault from (holding after e))
 
-module _ (refuses_commit : Holding → StoreFault → Type 0) (from : Endpoint) (bytes : List ℕ) (e : EndState) where
+module _ (sources : SourceMeaning (List ℕ)) (sinks : SinkMeaning Holding) (from : Endpoint) (bytes : List ℕ)
+    (e : EndState) where
   moved : (action : Action) (turn turn' : Turn) → turn ≡ turn' → TurnBy from e action turn' → TurnBy from e action turn
   moved action turn turn' is h = subst (λ (t : Turn). TurnBy from e action t) (sym is) h
 
@@ -55,7 +55,7 @@ module _ (refuses_commit : Holding → StoreFault → Type 0) (from : Endpoint) 
   goes :
       (terms : Terms) (number : ℕ) (last : Bool) (after : List ℕ) (mid sink' : Holding)
       (answer : Result Done StoreFault) (turn : Turn) → number ≢ 0 →
-      GoesOn (world_sink refuses_commit) terms number from e last after mid answer turn sink' →
+      GoesOn sinks terms number from e last after mid answer turn sink' →
       TurnBy from e (Store terms number) turn
   goes terms number last after mid sink' (Err fault) turn positive g =
       moved (Store terms number) turn _ g.0 (Cannot_append terms number)
@@ -66,7 +66,7 @@ module _ (refuses_commit : Holding → StoreFault → Type 0) (from : Endpoint) 
 
   stores : (terms : Terms) (number : ℕ) (piece : List ℕ) (files files' : Files (List ℕ) Holding) (turn : Turn) →
       number ≢ 0 →
-      StoresIn memory_source (world_sink refuses_commit) terms number from piece e files turn files' →
+      StoresIn sources sinks terms number from piece e files turn files' →
       TurnBy from e (Store terms number) turn
   stores terms number piece (Sink sink) (Sink sink') turn positive d =
       goes terms number _ d.after d.mid sink' d.answer turn positive d.rest
@@ -74,7 +74,7 @@ module _ (refuses_commit : Holding → StoreFault → Type 0) (from : Endpoint) 
   stores terms number piece (Source left) files' turn positive d = absurd d
 
   sends : (terms : Terms) (number : ℕ) (files files' : Files (List ℕ) Holding) (turn : Turn) →
-      SendsFrom memory_source (world_sink refuses_commit) terms number from e files turn files' →
+      SendsFrom sources sinks terms number from e files turn files' →
       TurnBy from e (Send terms number) turn
   sends terms number (Source left) (Source left') turn d =
       moved (Send terms number) turn _ d.answers
@@ -87,7 +87,7 @@ module _ (refuses_commit : Holding → StoreFault → Type 0) (from : Endpoint) 
 
   -- it carries it out by one of these
   pub acts_by : (action : Action) (files files' : Files (List ℕ) Holding) (turn : Turn) →
-      Acts memory_source (world_sink refuses_commit) action from bytes e files turn files' → TurnBy from e action turn
+      Acts sources sinks action from bytes e files turn files' → TurnBy from e action turn
   acts_by (Respond response) files files' turn a = moved (Respond response) turn _ a.0 (Responds response)
   acts_by (Send terms number) files files' turn a = sends terms number files files' turn a
   acts_by (Store terms number) files files' turn a = stores terms number a.0 files files' turn a.1.valid.0 a.2

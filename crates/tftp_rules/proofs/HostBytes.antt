@@ -1,5 +1,6 @@
 -- From wire text to the bytes of a file: a prefix on the wire is a prefix of the file.
-use Rattle.std.proofs.Common.{◌≡◌, ℕ, List, [], ◌∷◌, ◌++◌, sym, refl, ap, ◌∙◌, arith, inl, inr, append_assoc, length}
+use Rattle.std.proofs.Common.{◌≡◌, ℕ, suc, zero, List, [], ◌∷◌, ◌++◌, sym, refl, ap, ◌∙◌, arith, inl, inr, append_assoc}
+use Rattle.std.proofs.Common.{length, replicate}
 use Rattle.std.specs.Prelude.{◌≢◌, ◌==◌, if◌then◌else◌}
 use Rattle.std.proofs.lemmas.Bool.{cases_eq, eq-eqb, ne_eqb, cond-true, cond-false}
 use Rattle.std.proofs.lemmas.List.{append-nil, length-append, nil_from_length}
@@ -95,3 +96,68 @@ pub wire_same : (mode : Mode) (xs ys : List ℕ) → wire_text mode xs ≡ wire_
 wire_same mode xs ys e =
     both_prefixes xs ys (wire_prefix mode xs ys ([], append-nil (wire_text mode xs) ∙ e))
     (wire_prefix mode ys xs ([], append-nil (wire_text mode ys) ∙ sym e))
+
+-- ---- what begins the text of a file, and then zeros, is the text of a file
+zeros_text : (k : ℕ) → netascii_text (replicate k 0) ≡ replicate k 0
+zeros_text zero = refl
+zeros_text (suc k) = ap (λ (zs : List ℕ). 0 ∷ zs) (zeros_text k)
+
+-- a text, with as many zeros in the place of its rest
+abbrev IsPadded : List ℕ → List ℕ → Type 0
+IsPadded xs rest = (file : List ℕ) × (netascii_text file ≡ xs ++ replicate (length rest) 0)
+
+-- after a byte of two on the wire
+padded_two : (x y : ℕ) (ys xs rest : List ℕ) → wire_byte x ≡ 13 ∷ y ∷ [] → 13 ∷ y ∷ ys ≡ xs ++ rest →
+    ((zs : List ℕ) → ys ≡ zs ++ rest → IsPadded zs rest) → IsPadded xs rest
+padded_two x y ys [] rest form e next = (replicate (length rest) 0, zeros_text (length rest))
+padded_two x y ys (b ∷ []) rest form e next =
+    let first : 13 ≡ b = heads 13 b (y ∷ ys) rest e in
+    let left : y ∷ ys ≡ rest = tails 13 b (y ∷ ys) rest e in (
+      13 ∷ replicate (length ys) 0,
+      ap (λ (zs : List ℕ). 13 ∷ 0 ∷ zs) (zeros_text (length ys))
+          ∙ (ap (λ (zs : List ℕ). 13 ∷ replicate (length zs) 0) left
+          ∙ ap (λ (n : ℕ). n ∷ replicate (length rest) 0) first),
+    )
+padded_two x y ys (b ∷ (c ∷ cs)) rest form e next =
+    let first : 13 ≡ b = heads 13 b (y ∷ ys) (c ∷ (cs ++ rest)) e in
+    let left : y ∷ ys ≡ c ∷ (cs ++ rest) = tails 13 b (y ∷ ys) (c ∷ (cs ++ rest)) e in
+    let second : y ≡ c = heads y c ys (cs ++ rest) left in
+    let h = next cs (tails y c ys (cs ++ rest) left) in (
+      x ∷ h.0,
+      ap (λ (w : List ℕ). w ++ netascii_text h.0) form
+          ∙ (ap (λ (zs : List ℕ). 13 ∷ y ∷ zs) h.1
+          ∙ (ap (λ (n : ℕ). n ∷ y ∷ (cs ++ replicate (length rest) 0)) first
+          ∙ ap (λ (n : ℕ). b ∷ n ∷ (cs ++ replicate (length rest) 0)) second)),
+    )
+
+padded_one : (x : ℕ) (ys xs rest : List ℕ) → wire_byte x ≡ x ∷ [] → x ∷ ys ≡ xs ++ rest →
+    ((zs : List ℕ) → ys ≡ zs ++ rest → IsPadded zs rest) → IsPadded xs rest
+padded_one x ys [] rest form e next = (replicate (length rest) 0, zeros_text (length rest))
+padded_one x ys (b ∷ bs) rest form e next =
+    let first : x ≡ b = heads x b ys (bs ++ rest) e in
+    let h = next bs (tails x b ys (bs ++ rest) e) in (
+      x ∷ h.0,
+      ap (λ (w : List ℕ). w ++ netascii_text h.0) form
+          ∙ (ap (λ (zs : List ℕ). x ∷ zs) h.1 ∙ ap (λ (n : ℕ). n ∷ (bs ++ replicate (length rest) 0)) first),
+    )
+
+padded_by : (x : ℕ) (ys xs rest : List ℕ) → ByteForm x → wire_byte x ++ ys ≡ xs ++ rest →
+    ((zs : List ℕ) → ys ≡ zs ++ rest → IsPadded zs rest) → IsPadded xs rest
+padded_by x ys xs rest (Line a b) e next =
+    padded_two x 10 ys xs rest b (sym (ap (λ (w : List ℕ). w ++ ys) b) ∙ e) next
+padded_by x ys xs rest (Return a b) e next =
+    padded_two x 0 ys xs rest b (sym (ap (λ (w : List ℕ). w ++ ys) b) ∙ e) next
+padded_by x ys xs rest (Itself a b) e next =
+    padded_one x ys xs rest b (sym (ap (λ (w : List ℕ). w ++ ys) b) ∙ e) next
+
+padded_netascii : (file xs rest : List ℕ) → netascii_text file ≡ xs ++ rest → IsPadded xs rest
+padded_netascii [] [] rest e = (replicate (length rest) 0, zeros_text (length rest))
+padded_netascii [] (b ∷ bs) rest e = absurd (let f : [] ≡ b ∷ (bs ++ rest) = e in cc)
+padded_netascii (x ∷ file) xs rest e =
+    padded_by x (netascii_text file) xs rest (byte_form x) e (λ zs f. padded_netascii file zs rest f)
+
+-- in either mode
+pub padded_text : (mode : Mode) (file xs rest : List ℕ) → wire_text mode file ≡ xs ++ rest →
+    (other : List ℕ) × (wire_text mode other ≡ xs ++ replicate (length rest) 0)
+padded_text Octet file xs rest e = (xs ++ replicate (length rest) 0, refl)
+padded_text Netascii file xs rest e = padded_netascii file xs rest e

@@ -1,8 +1,8 @@
 -- The actions that a datagram may lead to, each with what is known where it does.
--- For TermsKept, NewestKept, OacksTaken and ErrorReasons.
+-- For TermsTaken, and for the laws of worlds (tftp_player).
 use Rattle.std.proofs.Common.{◌≡◌, ℕ, ◌+◌, Bool, true, false, List, [], length, Option, Some, None, Result, Ok, Err, refl, sym}
 use Rattle.std.proofs.Common.{subst, arith}
-use Rattle.std.specs.Prelude.{◌≢◌, ◌==◌, ◌/◌, ◌*◌, nat_lt, nat_le, is_none, ◌&&◌, if◌then◌else◌}
+use Rattle.std.specs.Prelude.{◌≢◌, ◌==◌, ◌/◌, ◌*◌, nat_lt, nat_le, is_none, ◌&&◌, if◌then◌else◌, ⊤}
 use Rattle.std.proofs.lemmas.Bool.{eqb-true}
 use Rattle.tftp_wire.specs.Reading.{has_error_opcode}
 use Rattle.tftp_wire.specs.declared.mode.Mode.{Mode}
@@ -34,7 +34,18 @@ use Rattle.tftp_ends.specs.Text.{is_readable}
 use Rattle.tftp_ends.specs.Waiting.{reader_action, writer_action, accept_action, begin_action, begin_with_action}
 use Rattle.tftp_ends.specs.Waiting.{refusal_action, default_terms, agreed_terms}
 use Rattle.tftp_rules.specs.Machine.{Endpoint}
-use Rattle.tftp_player.specs.Closing.{Blames}
+
+-- an outcome for what a peer sent
+abbrev pub Accuses : Outcome → Type 0
+Accuses outcomes.Illegal = ⊤
+Accuses outcomes.NotNetascii = ⊤
+Accuses outcomes.TooLarge = ⊤
+Accuses (outcomes.Refused refusal) = ⊤
+Accuses outcomes.Complete = ⊥
+Accuses outcomes.TimedOut = ⊥
+Accuses (outcomes.PeerError code) = ⊥
+Accuses outcomes.StoreFault = ⊥
+Accuses outcomes.SourceFault = ⊥
 
 -- an answer that is no OACK
 abbrev pub IsPlainAnswer : Option Packet → Type 0
@@ -60,10 +71,10 @@ pub data MayTake (known : Option Terms) (from : Endpoint) (decoded : Option Pack
     Garbled : MayTake known from decoded wrong (Respond (Close outcomes.Illegal))
     Hears : (code : ℕ) (text : List ℕ) → wrong ≡ false → decoded ≡ Some (Error code text) →
         MayTake known from decoded wrong (Respond (Close (outcomes.PeerError code)))
-    Refuses_answer : (reply : ErrorReply) (outcome : Outcome) → known ≡ None → Blames outcome →
+    Refuses_answer : (reply : ErrorReply) (outcome : Outcome) → known ≡ None → Accuses outcome →
         MayTake known from decoded wrong (Respond (Refuse None reply outcome))
     Refuses_peer : (terms : Terms) (reply : ErrorReply) (outcome : Outcome) → HasTerms known from decoded wrong terms →
-        Blames outcome → MayTake known from decoded wrong (Respond (Refuse (Some terms) reply outcome))
+        Accuses outcome → MayTake known from decoded wrong (Respond (Refuse (Some terms) reply outcome))
     Accepts : (ks : List Known) → known ≡ None → MayTake known from decoded wrong (Respond (Accept (agreed_terms from ks)))
     Sends_block : (terms : Terms) (n : ℕ) → HasTerms known from decoded wrong terms → n ≢ 0 →
         MayTake known from decoded wrong (Send terms n)

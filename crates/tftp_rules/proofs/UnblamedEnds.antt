@@ -1,0 +1,210 @@
+-- An end that has blamed no peer, and knows whether its peer was opened without options, does so after each turn.
+-- For the law on blame of programs (tftp_promises).
+use Rattle.std.proofs.Common.{◌≡◌, ℕ, true, false, List, ◌++◌, Option, Some, None, refl, sym, ap, ◌∙◌, subst}
+use Rattle.std.specs.Prelude.{◌≢◌, ⊤, option_map, slice_get}
+use Rattle.std.specs.List.{Contains}
+use Rattle.std.proofs.lemmas.Bool.{true≢false}
+use Rattle.std.proofs.lemmas.Option.{same_Some}
+use Rattle.tftp_wire.specs.Spelling.{Spells}
+use Rattle.tftp_wire.specs.declared.mode.Mode.{Mode}
+use Rattle.tftp_wire.specs.declared.packet.Packet.{Packet}
+use Rattle.tftp_wire.specs.declared.packet.Packet.TheVariants.{Read, Write, Data, Ack, Error, Oack}
+use Rattle.tftp_wire.proofs.SpellingLemmas.{one_meaning}
+use Rattle.tftp_negotiate.specs.declared.asked.Asked.{Asked}
+use Rattle.tftp_file.specs.Netascii.{wire_text}
+use Rattle.tftp_file.specs.Sink.{Holding}
+use Rattle.tftp_file.specs.declared.files.Files.{Files}
+use Rattle.tftp_ends.specs.declared.outcome.Outcome.{Outcome}
+use Rattle.tftp_ends.specs.declared.outcome.Outcome.TheVariants as outcomes
+use Rattle.tftp_ends.specs.declared.phase.Phase.{Phase}
+use Rattle.tftp_ends.specs.declared.phase.Phase.TheVariants.{Waiting, Sending, Receiving, Dallying, Closed}
+use Rattle.tftp_ends.specs.declared.phase.Terms.{Terms}
+use Rattle.tftp_ends.specs.declared.role.Role.{Role}
+use Rattle.tftp_ends.specs.End.{EndState, is_sender, is_client, outcome_of, terms_of}
+use Rattle.tftp_ends.specs.Action.{Decodes, is_wrong_peer, same_address, datagram_action}
+use Rattle.tftp_ends.specs.Step.{Turn, DatagramStep, after_turn, timeout_turn}
+use Rattle.tftp_ends.specs.Waiting.{default_terms}
+use Rattle.tftp_rules.specs.EndKept.{EndKept, PhaseKept, IsAnswer, IsFromServer}
+use Rattle.tftp_rules.specs.EndShown.{IsThere}
+use Rattle.tftp_rules.specs.Facts.{Attests, Holds}
+use Rattle.tftp_rules.specs.KnownFiles.{known_source, known_sink}
+use Rattle.tftp_rules.specs.Machine.{Endpoint, At_server, Elsewhere, Machine, Message, Network, Party, start}
+use Rattle.tftp_rules.specs.OpenEnds.{OpenEnd, files_of, open_view}
+use Rattle.tftp_rules.specs.Rules.{Rule, message, run}
+use Rattle.tftp_rules.specs.Said.{said}
+use Rattle.tftp_rules.specs.Shows.{EndView, IsShownAt, Matches}
+use Rattle.tftp_rules.proofs.ActionCases.{IsPlainAnswer}
+use Rattle.tftp_rules.proofs.BlamelessActions.{datagram_fine}
+use Rattle.tftp_rules.proofs.BlamelessTurns.{Blameless, IsCalm, acts_blameless, open_blameless, timeout_blameless}
+use Rattle.tftp_rules.proofs.PlainPeers.{HasPlainPeer, AreOpenedAs, opened_as, opened_still, plain_answer, run_opens}
+use Rattle.tftp_rules.proofs.PlainPeers.{start_opens}
+use Rattle.tftp_rules.proofs.Runs.{Holds-start, Holds-run}
+use Rattle.tftp_rules.proofs.Steps.{own_of, own_server, server_end}
+use Rattle.tftp_rules.proofs.StorableBlocks.{not_false}
+use Rattle.tftp_rules.proofs.TermsTaken.{step_are, timeout_are}
+
+-- which outcomes of an end blame its peer there: no netascii does if what that peer sends is the text of a file, and a
+-- fault of a source if the end sends nothing
+abbrev pub BlamesBy : (Endpoint → Mode → Type 0) → Role → Endpoint → Outcome → Type 0
+BlamesBy IsText role p outcomes.Illegal = ⊤
+BlamesBy IsText role p outcomes.NotNetascii = IsText p role.mode
+BlamesBy IsText role p outcomes.TooLarge = ⊤
+BlamesBy IsText role p (outcomes.Refused refusal) = ⊤
+BlamesBy IsText role p outcomes.Complete = ⊥
+BlamesBy IsText role p outcomes.TimedOut = ⊥
+BlamesBy IsText role p (outcomes.PeerError code) = ⊥
+BlamesBy IsText role p outcomes.StoreFault = ⊥
+BlamesBy IsText role p outcomes.SourceFault = is_sender role.side ≡ false
+
+calm : (IsText : Endpoint → Mode → Type 0) (role : Role) → IsCalm (BlamesBy IsText role)
+calm IsText role = record {
+  complete = λ p b. b;
+  timed_out = λ p b. b;
+  heard = λ p code b. b;
+  refused = λ p b. b;
+}
+
+-- the peer of these terms was opened without options, unless by an OACK
+abbrev IsPlain : List Message → Terms → Type 0
+IsPlain messages t = t.by_oack ≡ false → opened_as t.peer messages ≡ Some true
+
+-- the end has blamed no peer that is no stranger; a client that took no OACK has a peer that was opened without options
+pub record IsUnblamed (network : Network) (IsText : Endpoint → Mode → Type 0) (messages : List Message) (e : EndState)
+    : Type 0 where
+  pub blameless : Blameless network (BlamesBy IsText e.role) e.position
+  pub plain : is_client e.role.side ≡ true → (t : Terms) → terms_of e.position.phase ≡ Some t → t.by_oack ≡ false →
+      opened_as t.peer messages ≡ Some true
+
+module _ (network : Network) {IsText : Endpoint → Mode → Type 0} where
+  -- so it is once more was sent
+  pub unblamed_still : (messages more : List Message) (e : EndState) → IsUnblamed network IsText messages e →
+      IsUnblamed network IsText (messages ++ more) e
+  unblamed_still messages more e h = record {
+    blameless = h.blameless;
+    plain = λ c t is b. opened_still t.peer messages more true (h.plain c t is b);
+  }
+
+  -- so is an end that opens
+  pub opens_unblamed : (messages : List Message) (e : EndState) → outcome_of e.position.phase ≡ None →
+      (is_client e.role.side ≡ true → terms_of e.position.phase ≡ None) → IsUnblamed network IsText messages e
+  opens_unblamed messages e still none = record {
+    blameless = open_blameless network (BlamesBy IsText e.role) e.position still;
+    plain = λ c t is b. absurd (let f : None ≡ Some t = sym (none c) ∙ is in cc);
+  }
+
+  -- and one after a timeout
+  pub timeout_unblamed : (messages : List Message) (e : EndState) → IsUnblamed network IsText messages e →
+      IsUnblamed network IsText messages (after_turn e (timeout_turn e))
+  timeout_unblamed messages e h = record {
+    blameless = timeout_blameless network (BlamesBy IsText e.role) (calm IsText e.role) e h.blameless;
+    plain = λ c. timeout_are (IsPlain messages) e (h.plain c);
+  }
+
+-- an open end without terms waits
+waits : (phase : Phase) → outcome_of phase ≡ None → terms_of phase ≡ None →
+    (asked : Asked) × (limit : ℕ) × (phase ≡ Waiting asked limit)
+waits (Waiting asked limit) still none = (asked, limit, refl)
+waits (Sending terms n) still none = absurd (let f : Some terms ≡ None = none in cc)
+waits (Receiving terms n) still none = absurd (let f : Some terms ≡ None = none in cc)
+waits (Dallying terms n dally) still none = absurd (let f : Some terms ≡ None = none in cc)
+waits (Closed terms n complete outcome) still none = absurd (let f : Some outcome ≡ None = still in cc)
+
+plain_is_answer : (p : Packet) → IsPlainAnswer (Some p) → IsAnswer p
+plain_is_answer (Read r) h = h
+plain_is_answer (Write r) h = h
+plain_is_answer (Data n piece) h = tt
+plain_is_answer (Ack n) h = tt
+plain_is_answer (Error code text) h = h
+plain_is_answer (Oack options) h = absurd h
+
+-- ---- an open end that is shown, with a datagram that arrives there
+module _ (network : Network) (IsText : Endpoint → Mode → Type 0) (rules : List Rule) (views : List EndView)
+    (messages : List Message) (shown : IsShownAt network rules views messages) (k : ℕ) (x : OpenEnd)
+    (there : slice_get views k ≡ Some (open_view x)) (kept : EndKept network x)
+    (still : outcome_of x.state.position.phase ≡ None) (unblamed : IsUnblamed network IsText messages x.state)
+    (not_port : x.address ≢ network.request_port) (from : Endpoint) (bytes : List ℕ)
+    (arrives : network.host_of from ≢ Elsewhere → IsThere messages from x.address bytes)
+    (serves : IsFromServer network x from bytes)
+    (readable : network.host_of from ≢ Elsewhere → IsText from x.state.role.mode →
+    (Machine.party (run network rules start) from).is_open ≡ true →
+    (Machine.party (run network rules start) from).sender ≡ true →
+    (file : List ℕ) × (wire_text x.state.role.mode file ≡ (Machine.party (run network rules start) from).text))
+  where
+    abbrev m : Machine
+    m = run network rules start
+
+    abbrev ends : Endpoint → Party
+    ends = Machine.party m
+
+    holds : Holds network m
+    holds = Holds-run network rules start (Holds-start network) shown.0
+
+    opened : AreOpenedAs network messages ends
+    opened =
+        subst (λ (ms : List Message). AreOpenedAs network ms ends) shown.1.sent
+        (run_opens network rules start (Holds-start network) (start_opens network) shown.0)
+
+    at_x : Matches (open_view x) (ends x.address)
+    at_x = shown.1.ends k (open_view x) there
+
+    -- its peer was opened so
+    has_plain : is_client x.state.role.side ≡ true → (t : Terms) → terms_of x.state.position.phase ≡ Some t →
+        HasPlainPeer ends t
+    has_plain client t is b =
+        let peer : (ends x.address).peer ≡ Some t.peer =
+        at_x.peer ∙ ap (option_map (λ (u : Terms). u.peer)) is in
+        let serving = ((holds.ends x.address at_x.is_open).serving (at_x.client ∙ client) t.peer peer).1 in (
+          serving.is_open,
+          same_Some (ends t.peer).plain true
+              (sym (opened t.peer serving.is_open serving.client) ∙ unblamed.plain client t is b),
+        )
+
+    takes_plain : (p : Packet) → Spells p bytes →
+        is_wrong_peer (terms_of x.state.position.phase) x.state.position.last_sent_to from ≡ false →
+        terms_of x.state.position.phase ≡ None → IsPlainAnswer (Some p) → opened_as from messages ≡ Some true
+    takes_plain p spells right none plain =
+        let phase = waits x.state.position.phase still none in
+        let kept_now = subst (λ (q : Phase). PhaseKept network x q) phase.2 kept.phase in
+        let near : same_address network.request_port from ≡ true =
+        subst (λ (a : Endpoint). same_address a from ≡ true) kept_now.2
+        (not_false (same_address x.state.position.last_sent_to from)
+        (sym (ap (λ (o : Option Terms). is_wrong_peer o x.state.position.last_sent_to from) none) ∙ right)) in
+        let here =
+        serves (ap (option_map (λ (t : Terms). t.peer)) none) near p spells (plain_is_answer p plain) in
+        let own : network.host_of from ≢ Elsewhere = own_server network from here in
+        let sent = arrives own in
+        let truth : Attests (ends from) x.address (said p) =
+        holds.attested (message from x.address (said p))
+        (subst (λ (ms : List Message). Contains ms (message from x.address (said p))) (sym shown.1.sent)
+        (subst (λ (q : Packet). Contains messages (message from x.address (said q)))
+        (one_meaning sent.0 p bytes sent.1 spells) sent.2)) own in
+        let nobody : (ends x.address).peer ≡ None = at_x.peer ∙ ap (option_map (λ (t : Terms). t.peer)) none in
+        let is_plain =
+        plain_answer network m holds x.address from (own_of network m holds x.address at_x.is_open) nobody here p truth
+        plain in
+        opened from is_plain.0 (server_end network m holds from is_plain.0 here) ∙ ap Some is_plain.1
+
+    takes : (decoded : Option Packet) → Decodes bytes decoded →
+        is_wrong_peer (terms_of x.state.position.phase) x.state.position.last_sent_to from ≡ false →
+        terms_of x.state.position.phase ≡ None → IsPlainAnswer decoded → IsPlain messages (default_terms from)
+    takes None says right none plain b = absurd plain
+    takes (Some p) says right none plain b = takes_plain p says right none plain
+
+    -- a turn on a datagram
+    pub datagram_unblamed : (turn : Turn) (held : Files (List ℕ) Holding) →
+        DatagramStep known_source known_sink from bytes x.state (files_of x) turn held →
+        IsUnblamed network IsText messages (after_turn x.state turn)
+    datagram_unblamed turn held d =
+        let Blames = BlamesBy IsText x.state.role in
+        record {
+          blameless =
+              acts_blameless network Blames (calm IsText x.state.role) known_source (λ text. refl) known_sink from x
+              (λ sends left want may p b. true≢false (sym sends ∙ b)) bytes
+              (datagram_action x.state from bytes d.decoded) held turn
+              (datagram_fine network Blames (calm IsText x.state.role) rules views messages shown k x there kept not_port
+              from bytes arrives serves has_plain (λ own b is_open sender mode. readable own b is_open sender) d.decoded
+              d.says) still d.acts;
+          plain = λ c.
+              step_are (IsPlain messages) known_source known_sink from bytes x.state (files_of x) held turn
+              (unblamed.plain c) (λ ks b. absurd (true≢false b)) takes d;
+        }
