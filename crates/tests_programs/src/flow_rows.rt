@@ -2,7 +2,7 @@
 
 use crate::expect::{expect_bytes, expect_equal};
 use crate::faulty_streams::{Breaks, Full};
-use tftp_show::{flow_drawn, flow_reported};
+use tftp_show::{draw_flow, report_flow};
 
 /// A get of a file that does not exist.
 const ERROR: &str = "\
@@ -13,12 +13,12 @@ const ERROR: &str = "\
 fn faulty_files(rt: HostRuntime) {
     let mut output = Vec::new(rt.alloc());
     let mut errors = Vec::new(rt.alloc());
-    let status = flow_reported(rt.alloc(), Breaks(b"x\n"), &mut output, &mut errors);
+    let status = report_flow(rt.alloc(), Breaks(b"x\n"), &mut output, &mut errors);
     expect_equal(&rt, &status, &2, "a reader that fails");
-    let status = flow_reported(rt.alloc(), ERROR.as_bytes(), Full, &mut errors);
+    let status = report_flow(rt.alloc(), ERROR.as_bytes(), Full, &mut errors);
     expect_equal(&rt, &status, &2, "a writer that fails");
     let input = ERROR.as_bytes();
-    let status = flow_drawn(rt.alloc(), input, &mut output, 1, || Ok(Full), &mut errors);
+    let status = draw_flow(rt.alloc(), input, &mut output, 1, || Ok(Full), &mut errors);
     expect_equal(&rt, &status, &2, "a picture that fails");
     let message = b"tftp-show: input unreadable\ntftp-show: output unwritable\n\
         tftp-show: svg unwritable\n"

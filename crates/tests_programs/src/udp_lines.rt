@@ -7,8 +7,8 @@ use std::process::Abort;
 use std::test::Fail;
 use tftp_ends::{Endpoint, OpenFault, Outcome};
 use tftp_lines::{
-    ClientOutcome, LineClock, LogLine, Logged, Lost, Printed, ProgressLine, Reason, RequestLine,
-    Why, reason_of,
+    ClientOutcome, Hint, LineClock, LogLine, Logged, Lost, Printed, ProgressLine, Reason, RequestLine,
+    StampedLine, UtcTime, Why, reason_of,
 };
 
 /// A value prints this.
@@ -184,6 +184,12 @@ fn log_lines_of_the_system(rt: HostRuntime) -> Result<(), Fail> {
         lost: Lost::Port(Some(Reason::AddressInUse)),
     };
     let expected = "lost 10.0.0.2:1024 RRQ b octet: no port, address in use";
+    prints(&rt, &lost, expected)?;
+    let lost = LogLine::Lost {
+        request: asked("RRQ b octet"),
+        lost: Lost::Client(4),
+    };
+    let expected = "lost 10.0.0.2:1024 RRQ b octet: 4 transfers of this client";
     prints(&rt, &lost, expected)
 }
 
@@ -199,9 +205,10 @@ fn closing_log_line(rt: HostRuntime) -> Result<(), Fail> {
         again: 1,
         outcome: Outcome::PeerError(3),
         why: Some(Why::Error("ERROR 3 (disk full)")),
+        hint: Some(Hint::Listen),
     };
     let expected = "closed 1025 10.0.0.2:1024 RRQ a octet: DATA 1 3, 3 bytes, 12 ms, 1 sent again, \
-                    PeerError(3), ERROR 3 (disk full)";
+                    PeerError(3), ERROR 3 (disk full), answered from another address? --listen";
     prints(&rt, &closed, expected)
 }
 
@@ -230,6 +237,33 @@ fn priorities(rt: HostRuntime) -> Result<(), Fail> {
     };
     let expected = "<4>lost 10.0.0.2:1024 RRQ b octet: out of memory";
     prints(&rt, &logged(lost), expected)
+}
+
+/// Times as `date -u` prints them, the last second of a leap day and the last that has a text among
+/// them, and none.
+#[test]
+fn times(rt: HostRuntime) -> Result<(), Fail> {
+    for (millis, expected) in [
+        (0, "1970-01-01T00:00:00.000Z words"),
+        (951_868_799_005, "2000-02-29T23:59:59.005Z words"),
+        (1_795_889_411_123, "2026-11-28T18:10:11.123Z words"),
+        (253_402_207_200_999, "9999-12-30T22:00:00.999Z words"),
+        (253_402_207_201_000, "words"),
+        (u64::MAX, "words"),
+    ] {
+        let line = StampedLine::of("words", UtcTime::at(millis), None);
+        prints(&rt, &line, expected)?;
+    }
+    Ok(())
+}
+
+/// The priority of a warning stays before the time, and the server is behind it.
+#[test]
+fn stamped_lines(rt: HostRuntime) -> Result<(), Fail> {
+    let lost = StampedLine::of("<4>lost", UtcTime::at(1), Some(12));
+    prints(&rt, &lost, "<4>1970-01-01T00:00:00.001Z server 12: lost")?;
+    let opened = StampedLine::of("opened <4>", None, Some(1));
+    prints(&rt, &opened, "server 1: opened <4>")
 }
 
 /// Numbers of errno(3), and their words; the last has none.

@@ -1,2 +1,3 @@
-pub mod Flow
 pub mod CapturedTransfer
+pub mod DataLine
+pub mod Flow

@@ -7,10 +7,12 @@ ghost use Rattle.tftp_flow.specs.CapturedTransfer.{is_due, is_silent, micros_of}
 mod candidate;
 mod captured_transfer;
 mod choice;
+mod data_line;
 mod index;
 mod json;
 mod line;
 mod moment;
+mod payload;
 mod picture;
 mod recent;
 mod report;
@@ -22,13 +24,14 @@ use crate::flow::captured_transfer::Part;
 use crate::flow::index::Index;
 use crate::flow::line::read_fields;
 use crate::flow::recent::{Owner, Recent, index_of};
-use crate::flow::seen::line_of;
 pub use captured_transfer::{Aside, CapturedTransfer, Ending, Why};
+pub use data_line::DataLine;
 pub use json::Json;
 pub use line::LineFault;
 pub use moment::{Moment, Span};
+pub use payload::Payload;
 pub use report::{Ended, Opened};
-pub use seen::{Seen, Spot, show_seen};
+pub use seen::{Seen, Spot};
 use std::alloc::{AllocError, Global};
 use std::net::SocketAddrV4;
 use tftp_diagram::Diagram;
@@ -134,8 +137,7 @@ impl Flow {
                 at: line.at,
                 from: line.from,
                 to: line.to,
-                bytes: line.bytes.as_slice(),
-                length: line.bytes.len(),
+                payload: Payload::new(line.bytes.as_slice(), line.bytes.len()),
             }),
             Err(fault) => self.add_unread(number, fault),
         }
@@ -161,10 +163,9 @@ impl Flow {
         ensures ok { IfOk result (λ assigned. Adds self.old self.new assigned) }
         ensures err { OnErr result (IsSameLines self.old self.new) }
     {
-        let what = What::of(seen.bytes, seen.length);
-        match self.candidate_of(seen, what) {
-            Some(candidate) => self.give(candidate, seen, what),
-            None if what.is_request() && self.is_at_port(seen.to) => self.begin(seen, what),
+        match self.candidate_of(seen) {
+            Some(candidate) => self.give(candidate, seen),
+            None if seen.payload.what.is_request() && self.is_at_port(seen.to) => self.begin(seen),
             None if self.is_at_port(seen.to) || self.is_at_port(seen.from) => self.add_stray(seen),
             None => Ok(Assigned::Ignored),
         }
@@ -227,25 +228,25 @@ impl Flow {
     }
 
     /// The transfer that a datagram belongs to.
-    fn candidate_of(&mut self, seen: &Seen<'_>, what: What) -> Option<Candidate>
+    fn candidate_of(&mut self, seen: &Seen<'_>) -> Option<Candidate>
         ensures { IsSameLines self.old self.new }
     {
-        let at_hand = self.candidate_at_hand(seen, what);
+        let at_hand = self.candidate_at_hand(seen);
         if at_hand.is_some() {
             return at_hand;
         }
         let mut candidates = Candidates::new();
-        self.look(self.index.of_client(seen.from), seen, what, &mut candidates);
-        self.look(self.index.of_client(seen.to), seen, what, &mut candidates);
-        self.look_at(self.index.of_server(seen.from), seen, what, &mut candidates);
-        self.look_at(self.index.of_server(seen.to), seen, what, &mut candidates);
+        self.look(self.index.of_client(seen.from), seen, &mut candidates);
+        self.look(self.index.of_client(seen.to), seen, &mut candidates);
+        self.look_at(self.index.of_server(seen.from), seen, &mut candidates);
+        self.look_at(self.index.of_server(seen.to), seen, &mut candidates);
         candidates.chosen()
     }
 
     /// The transfer that a datagram belongs to, where one end alone is a client's, and it is between
     /// the two ends of that one's newest transfer. No other transfer is chosen before this one: what
     /// has the same two ends is older, and so is what waits for an answer there.
-    fn candidate_at_hand(&mut self, seen: &Seen<'_>, what: What) -> Option<Candidate>
+    fn candidate_at_hand(&mut self, seen: &Seen<'_>) -> Option<Candidate>
         ensures { IsSameLines self.old self.new }
     {
         let transfers = self.transfers.as_slice();
@@ -257,8 +258,8 @@ impl Flow {
             (Owner::Client(_), Owner::Client(_)) => return None,
             (Owner::Nobody, Owner::Nobody) => return None,
         };
-        match transfers.get(index)?.part_of(seen, what)? {
-            Part::Own(by) if !what.is_request() => Some(Candidate {
+        match transfers.get(index)?.part_of(seen)? {
+            Part::Own(by) if !seen.payload.what.is_request() => Some(Candidate {
                 index,
                 part: Part::Own(by),
             }),
@@ -267,13 +268,13 @@ impl Flow {
     }
 
     /// Looks at the newest transfer of a client's endpoint, and at those before it.
-    fn look(&self, newest: Option<u64>, seen: &Seen<'_>, what: What, candidates: &mut Candidates) {
+    fn look(&self, newest: Option<u64>, seen: &Seen<'_>, candidates: &mut Candidates) {
         let mut next = newest;
         for _ in 0..MOST_OF_PORT {
             if next.is_none() {
                 return;
             }
-            next = self.look_at(next, seen, what, candidates);
+            next = self.look_at(next, seen, candidates);
         }
     }
 
@@ -282,58 +283,41 @@ impl Flow {
         &self,
         number: Option<u64>,
         seen: &Seen<'_>,
-        what: What,
         candidates: &mut Candidates,
     ) -> Option<u64> {
         let index = index_of(self.transfers.as_slice(), number?)?;
         let transfer = self.transfers.get(index)?;
-        if let Some(part) = transfer.part_of(seen, what) {
+        if let Some(part) = transfer.part_of(seen) {
             candidates.add(Candidate { index, part }, transfer.is_open());
         }
         transfer.before
     }
 
     /// Gives a datagram to a transfer.
-    fn give(
-        &mut self,
-        candidate: Candidate,
-        seen: &Seen<'_>,
-        what: What,
-    ) -> Result<Assigned, AllocError>
+    fn give(&mut self, candidate: Candidate, seen: &Seen<'_>) -> Result<Assigned, AllocError>
         ensures ok { IfOk result (λ assigned. Adds self.old self.new assigned) }
         ensures err { OnErr result (IsSameLines self.old self.new) }
     {
         match candidate.part {
-            Part::Own(by) => self.give_own(candidate.index, seen, what, by),
-            Part::Answer => self.give_answer(candidate.index, seen, what),
+            Part::Own(by) => self.give_own(candidate.index, seen, by),
+            Part::Answer => self.give_answer(candidate.index, seen),
             Part::Beside(why) => self.give_aside(candidate.index, seen, why),
         }
     }
 
-    fn give_own(
-        &mut self,
-        index: usize,
-        seen: &Seen<'_>,
-        what: What,
-        by: Party,
-    ) -> Result<Assigned, AllocError>
+    fn give_own(&mut self, index: usize, seen: &Seen<'_>, by: Party) -> Result<Assigned, AllocError>
         ensures ok { IfOk result (λ assigned. Adds self.old self.new assigned) }
         ensures err { OnErr result (IsSameLines self.old self.new) }
     {
         let Some(transfer) = self.transfers.get_mut(index) else {
             return self.add_stray(seen);
         };
-        transfer.add(seen, what, by)?;
+        transfer.add(seen, by)?;
         Ok(Assigned::Given(index))
     }
 
     /// Gives the first answer, whose source is the server's end.
-    fn give_answer(
-        &mut self,
-        index: usize,
-        seen: &Seen<'_>,
-        what: What,
-    ) -> Result<Assigned, AllocError>
+    fn give_answer(&mut self, index: usize, seen: &Seen<'_>) -> Result<Assigned, AllocError>
         ensures ok { IfOk result (λ assigned. Adds self.old self.new assigned) }
         ensures err { OnErr result (IsSameLines self.old self.new) }
     {
@@ -342,7 +326,7 @@ impl Flow {
         };
         let number = transfer.number;
         self.index.add_server(seen.from, number)?;
-        self.give_own(index, seen, what, Party::Server)
+        self.give_own(index, seen, Party::Server)
     }
 
     fn give_aside(
@@ -361,12 +345,12 @@ impl Flow {
         Ok(Assigned::Given(index))
     }
 
-    fn begin(&mut self, seen: &Seen<'_>, what: What) -> Result<Assigned, AllocError>
+    fn begin(&mut self, seen: &Seen<'_>) -> Result<Assigned, AllocError>
         ensures ok { IfOk result (λ assigned. Adds self.old self.new assigned) }
         ensures err { OnErr result (IsSameLines self.old self.new) }
     {
         let number = self.begun.saturating_add(1);
-        let mut transfer = CapturedTransfer::new(self.alloc, number, seen, what)?;
+        let mut transfer = CapturedTransfer::new(self.alloc, number, seen)?;
         self.recent.open()?;
         self.recent.forget(seen.from);
         let before = self.index.of_client(seen.from);
@@ -397,7 +381,7 @@ impl Flow {
         ensures ok { IfOk result (λ assigned. Adds self.old self.new assigned) }
         ensures err { OnErr result (IsSameLines self.old self.new) }
     {
-        let text = line_of(self.alloc, seen)?;
+        let text = seen.payload.line(self.alloc)?;
         self.strays.push(Stray {
             spot: seen.spot,
             from: seen.from,

@@ -8,6 +8,6 @@
 mod flow;
 
 pub use flow::{
-    Aside, Assigned, CapturedTransfer, Ended, Ending, Flow, Json, LineFault, Moment, Opened, Party,
-    Seen, Span, Spot, Stray, TransferDatagram, Unread, What, Why, show_seen,
+    Aside, Assigned, CapturedTransfer, DataLine, Ended, Ending, Flow, Json, LineFault, Moment,
+    Opened, Party, Payload, Seen, Span, Spot, Stray, TransferDatagram, Unread, What, Why,
 };

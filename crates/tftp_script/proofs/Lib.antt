@@ -1,1 +1,2 @@
+pub mod PlayableLemmas
 pub mod ScriptLemmas

@@ -1,3 +1,4 @@
 pub mod Files
 pub mod Flaw
+pub mod Playable
 pub mod Setting

@@ -5,4 +5,4 @@
 
 mod script;
 
-pub use script::{FaultyLine, Flaw, Script, ScriptFault, Statement, StrayDatagram};
+pub use script::{FaultyLine, Flaw, PlayableEvent, Script, ScriptFault, Statement};

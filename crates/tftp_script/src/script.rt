@@ -17,7 +17,7 @@ mod word;
 pub use flaw::{FaultyLine, Flaw};
 use line::LineFault;
 use parser::Parser;
-pub use statement::{Statement, StrayDatagram};
+pub use statement::{PlayableEvent, Statement};
 use std::alloc::Global;
 use tftp_file::Path;
 use tftp_server::Config;

@@ -9,7 +9,8 @@ use Rattle.tftp_wire.specs.Datagram.{datagram_shown}
 use Rattle.tftp_wire.specs.Line.{line}
 use Rattle.tftp_wire.specs.Reading.{first_fault}
 use Rattle.tftp_wire.specs.declared.packet.Packet.TheVariants.{Data}
-use Rattle.tftp_show.specs.Data.{IsShownAs, data_line}
+use Rattle.tftp_flow.specs.DataLine.{data_line}
+use Rattle.tftp_show.specs.Data.{IsShownAs}
 use Rattle.tftp_show.specs.Digits.{bytes_of, pair_value}
 use Rattle.tftp_show.specs.Show.{decoded_shown, spells_packet}
 use Rattle.tftp_show.proofs.DigitsLemmas.{bytes_length, decodes}

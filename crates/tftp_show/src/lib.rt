@@ -11,6 +11,6 @@ mod show;
 mod task;
 
 pub use arguments::{show_command, show_words};
-pub use run::{flow_drawn, flow_reported, shown};
+pub use run::{draw_flow, report_flow, shown};
 pub use show::{ShowFault, show_lines, show_reported, show_run};
 pub use task::{Style, Task};

@@ -11,7 +11,7 @@ use std::io::Write;
 use tftp_capture::{CaptureFault, FrameFault, Record, read_datagram};
 use tftp_diagram::Diagram;
 use tftp_flow::{
-    Assigned, CapturedTransfer, Ended, Flow, Json, Moment, Opened, Seen, Spot, show_seen,
+    Assigned, CapturedTransfer, Ended, Flow, Json, Moment, Opened, Payload, Seen, Spot,
 };
 
 /// The frames that have no datagram.
@@ -96,12 +96,11 @@ impl<W: Write> Printer<W> {
             at: Moment::of_micros(record.micros),
             from: datagram.from,
             to: datagram.to,
-            bytes: datagram.payload,
-            length: datagram.length,
+            payload: Payload::new(datagram.payload, datagram.length),
         };
         let assigned = self.flow.add_seen(&seen)?;
         if self.task.style == Style::Packets && !matches!(assigned, Assigned::Ignored) {
-            self.print_packet(&seen)?;
+            self.print_packet(&seen.payload)?;
         }
         self.print_assigned(assigned)
     }
@@ -196,9 +195,9 @@ impl<W: Write> Printer<W> {
         Ok(())
     }
 
-    fn print_packet(&mut self, seen: &Seen<'_>) -> Result<(), ShowFault> {
+    fn print_packet(&mut self, payload: &Payload<'_>) -> Result<(), ShowFault> {
         self.text.clear();
-        self.are_packets &= show_seen(seen, &mut self.text)?;
+        self.are_packets &= payload.show(&mut self.text)?;
         self.text.push('\n')?;
         self.output.write_all(self.text.as_bytes())?;
         Ok(())

@@ -21,7 +21,7 @@ const FIELDS: usize = 128;
 /// Reads a capture, and writes what happened in each transfer.
 ///
 /// See [`shown`]; the requests of a capture of frames are those to port 69.
-pub fn flow_reported<R: Read + Drop, W: Write + Drop, E: Write + Drop>(
+pub fn report_flow<R: Read + Drop, W: Write + Drop, E: Write + Drop>(
     alloc: Global,
     input: R,
     output: W,
@@ -61,12 +61,12 @@ pub fn shown<R: Read + Drop, W: Write + Drop, E: Write + Drop>(
     }
 }
 
-/// As [`flow_reported`], and draws a transfer, whose number is counted from 1, on the writer that
+/// As [`report_flow`], and draws a transfer, whose number is counted from 1, on the writer that
 /// `picture` opens after the report.
 ///
 /// The status is 2, with a message on `errors`, also if there is no such transfer, or the picture
 /// cannot be opened or written.
-pub fn flow_drawn<R, W, E, P, F>(
+pub fn draw_flow<R, W, E, P, F>(
     alloc: Global,
     input: R,
     output: W,

@@ -13,7 +13,7 @@ ghost use Rattle.hex.specs.Hex.{decode_of};
 ghost use Rattle.tftp_show.specs.Show.{line_shown, spells_packet, are_packets, input_shown};
 ghost use Rattle.tftp_show.specs.Show.{status_of};
 
-use crate::show::data::DataLine;
+use crate::show::data::line_of_data;
 use crate::show::digits::{decode_digits, is_hex};
 pub use fault::ShowFault;
 pub(crate) use lines::read_line;
@@ -134,8 +134,8 @@ fn show_line(digits: &[u8], bytes: &mut Vec<u8>, text: &mut String) -> Result<bo
         text.push_str("not hex")?;
         return Ok(false);
     }
-    if let Some(line) = DataLine::of(digits) {
-        line.append_to(text)?;
+    if let Some(line) = line_of_data(digits) {
+        write!(text, "{line}")?;
         return Ok(true);
     }
     decode_digits(digits, bytes)?;

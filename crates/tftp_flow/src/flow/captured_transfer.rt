@@ -5,13 +5,13 @@ ghost use Rattle.tftp_flow.specs.Flow.{given_to};
 ghost use Rattle.tftp_flow.specs.CapturedTransfer.{is_open, is_silent, reported};
 
 use crate::flow::moment::{Moment, Span};
-use crate::flow::seen::{Seen, Spot, is_same, line_of};
+use crate::flow::payload::Payload;
+use crate::flow::seen::{Seen, Spot, is_same_endpoint};
 use crate::flow::transfer_datagram::{Party, TransferDatagram, What};
 use std::alloc::{AllocError, Global};
 use std::fmt;
 use std::net::SocketAddrV4;
 use tftp_diagram::Count;
-use tftp_wire::{OptionsRef, PacketRef, decode_ref};
 
 /// The block size where none is agreed (RFC 1350, section 2).
 const DEFAULT_BLOCK: usize = 512;
@@ -135,12 +135,12 @@ impl CapturedTransfer {
         alloc: Global,
         number: u64,
         seen: &Seen<'_>,
-        what: What,
     ) -> Result<CapturedTransfer, AllocError>
         ensures { IfOk result (λ transfer. given_to transfer ≡ 1) }
     {
-        let request = line_of(alloc, seen)?;
-        let request_bytes = Vec::from_slice(alloc, seen.bytes)?;
+        let what = seen.payload.what;
+        let request = seen.payload.line(alloc)?;
+        let request_bytes = Vec::from_slice(alloc, seen.payload.bytes)?;
         let mut datagrams = Vec::new(alloc);
         datagrams.push(TransferDatagram {
             spot: seen.spot,
@@ -148,7 +148,7 @@ impl CapturedTransfer {
             by: Party::Client,
             what,
             gap: None,
-            is_cut: seen.is_cut(),
+            is_cut: seen.payload.is_cut(),
         })?;
         Ok(CapturedTransfer {
             alloc,
@@ -181,8 +181,8 @@ impl CapturedTransfer {
     /// How a datagram belongs to it, if at all (RFC 1350, section 4): it is known by its two
     /// transfer identifiers, and the first answer to the client from the host that was asked has
     /// the server's. A request belongs to it only as a repeat of its own.
-    pub(crate) fn part_of(&self, seen: &Seen<'_>, what: What) -> Option<Part> {
-        if what.is_request() {
+    pub(crate) fn part_of(&self, seen: &Seen<'_>) -> Option<Part> {
+        if seen.payload.what.is_request() {
             return self.part_of_request(seen);
         }
         match self.server {
@@ -192,9 +192,9 @@ impl CapturedTransfer {
     }
 
     fn part_of_request(&self, seen: &Seen<'_>) -> Option<Part> {
-        let is_repeat = is_same(seen.from, self.client)
-            && is_same(seen.to, self.asked_at)
-            && seen.bytes == self.request_bytes.as_slice();
+        let is_repeat = is_same_endpoint(seen.from, self.client)
+            && is_same_endpoint(seen.to, self.asked_at)
+            && seen.payload.bytes == self.request_bytes.as_slice();
         if is_repeat {
             Some(Part::Own(Party::Client))
         } else {
@@ -203,10 +203,10 @@ impl CapturedTransfer {
     }
 
     fn part_of_bound(&self, server: SocketAddrV4, seen: &Seen<'_>) -> Option<Part> {
-        let is_to_client = is_same(seen.to, self.client);
-        let is_from_client = is_same(seen.from, self.client);
-        let is_from_server = is_same(seen.from, server);
-        let is_to_server = is_same(seen.to, server);
+        let is_to_client = is_same_endpoint(seen.to, self.client);
+        let is_from_client = is_same_endpoint(seen.from, self.client);
+        let is_from_server = is_same_endpoint(seen.from, server);
+        let is_to_server = is_same_endpoint(seen.to, server);
         if is_from_server && is_to_client {
             Some(Part::Own(Party::Server))
         } else if is_from_client && is_to_server {
@@ -223,12 +223,12 @@ impl CapturedTransfer {
     }
 
     fn part_of_answer(&self, seen: &Seen<'_>) -> Option<Part> {
-        let is_to_client = is_same(seen.to, self.client);
+        let is_to_client = is_same_endpoint(seen.to, self.client);
         if is_to_client && seen.from.ip() == self.asked_at.ip() {
             Some(Part::Answer)
         } else if is_to_client {
             Some(Part::Beside(Why::Stranger))
-        } else if is_same(seen.from, self.client) {
+        } else if is_same_endpoint(seen.from, self.client) {
             Some(Part::Beside(Why::ToAnother))
         } else {
             None
@@ -236,19 +236,20 @@ impl CapturedTransfer {
     }
 
     /// Adds a datagram that one end sent.
-    pub(crate) fn add(&mut self, seen: &Seen<'_>, what: What, by: Party) -> Result<(), AllocError>
+    pub(crate) fn add(&mut self, seen: &Seen<'_>, by: Party) -> Result<(), AllocError>
         ensures ok { OnOk result (given_to self.new ≡ given_to self.old + 1) }
         ensures err { OnErr result (given_to self.new ≡ given_to self.old) }
     {
+        let what = seen.payload.what;
         let gap = self.gap_of(seen.at, what, by);
-        self.learn_text(seen, what, by)?;
+        self.learn_text(&seen.payload, by)?;
         self.datagrams.push(TransferDatagram {
             spot: seen.spot,
             at: seen.at,
             by,
             what,
             gap,
-            is_cut: seen.is_cut(),
+            is_cut: seen.payload.is_cut(),
         })?;
         self.newest = self.newest.later(seen.at);
         if by == Party::Server && self.server.is_none() {
@@ -263,7 +264,7 @@ impl CapturedTransfer {
         ensures ok { OnOk result (given_to self.new ≡ given_to self.old + 1) }
         ensures err { OnErr result (given_to self.new ≡ given_to self.old) }
     {
-        let text = line_of(self.alloc, seen)?;
+        let text = seen.payload.line(self.alloc)?;
         self.asides.push(Aside {
             spot: seen.spot,
             at: seen.at,
@@ -296,17 +297,17 @@ impl CapturedTransfer {
     }
 
     /// Keeps the texts of the options that were agreed on and of the ERROR.
-    fn learn_text(&mut self, seen: &Seen<'_>, what: What, by: Party) -> Result<(), AllocError>
+    fn learn_text(&mut self, payload: &Payload<'_>, by: Party) -> Result<(), AllocError>
         ensures { given_to self.new ≡ given_to self.old }
     {
-        match what {
+        match payload.what {
             What::Options if self.agreed.is_none() => {
-                self.agreed = Some(line_of(self.alloc, seen)?);
-                self.block_size = block_size_of(seen.bytes);
-                self.silence = silence_of(seen.bytes);
+                self.agreed = Some(payload.line(self.alloc)?);
+                self.block_size = block_size_of(payload);
+                self.silence = silence_of(payload);
             }
             What::Error { .. } if self.is_open() => {
-                let text = line_of(self.alloc, seen)?;
+                let text = payload.line(self.alloc)?;
                 self.ending = Ending::Error { by, text };
             }
             _ => {}
@@ -452,29 +453,23 @@ fn is_ahead(newest: Option<u16>, block: u16) -> bool {
 }
 
 /// The block size that an OACK agrees on (RFC 2348), or the default.
-fn block_size_of(bytes: &[u8]) -> usize {
-    match stated(bytes, b"blksize") {
+fn block_size_of(payload: &Payload<'_>) -> usize {
+    match stated(payload, b"blksize") {
         Some(size) => size as usize,
         None => DEFAULT_BLOCK,
     }
 }
 
 /// The silence after which a transfer is over that agrees on a timeout (RFC 2349).
-fn silence_of(bytes: &[u8]) -> Span {
-    let timeout = stated(bytes, b"timeout").unwrap_or(0);
+fn silence_of(payload: &Payload<'_>) -> Span {
+    let timeout = stated(payload, b"timeout").unwrap_or(0);
     Span::of_seconds(timeout.saturating_mul(TIMEOUTS).max(SILENCE))
 }
 
 /// The number that an OACK states for an option.
-fn stated(bytes: &[u8], name: &[u8]) -> Option<u64> {
-    match decode_ref(bytes) {
-        Ok(PacketRef::Oack(options)) => stated_in(&options, name),
-        _ => None,
-    }
-}
-
-fn stated_in(options: &OptionsRef<'_>, name: &[u8]) -> Option<u64> {
-    let option = options
+fn stated(payload: &Payload<'_>, name: &[u8]) -> Option<u64> {
+    let option = payload
+        .agreed()?
         .iter()
         .find(|option| option.name.eq_ignore_ascii_case(name))?;
     let number = str::from_utf8(option.value).ok()?.parse::<u32>().ok()?;

@@ -3,7 +3,7 @@
 
 use crate::flow::captured_transfer::CapturedTransfer;
 use crate::flow::index::Index;
-use crate::flow::seen::is_same;
+use crate::flow::seen::is_same_endpoint;
 use std::alloc::{AllocError, Global};
 use std::net::SocketAddrV4;
 
@@ -53,7 +53,7 @@ impl Recent {
     ) -> Option<Owner> {
         let slot = slot_of(at);
         if let Some(Some(known)) = self.known.get(slot) {
-            if is_same(known.at, at) {
+            if is_same_endpoint(known.at, at) {
                 return Some(known.owner);
             }
         }

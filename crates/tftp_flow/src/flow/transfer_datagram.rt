@@ -1,9 +1,10 @@
 //! A datagram of a transfer: who sent it, what it is, and whether it repeats an earlier one.
 
+use crate::flow::data_line::DataLine;
 use crate::flow::moment::{Moment, Span};
 use crate::flow::seen::Spot;
 use std::fmt;
-use tftp_wire::{HEADER, PacketFaultKind, PacketRef, decode_ref, has_error_opcode};
+use tftp_wire::{HEADER, PacketFault, PacketFaultKind, PacketRef, has_error_opcode};
 
 /// One of the two ends of a transfer.
 #[derive(Clone, Copy, PartialEq, Eq)]
@@ -53,10 +54,15 @@ pub enum What {
 }
 
 impl What {
-    /// What the payload of a datagram is, by its beginning and by its length.
-    pub(crate) fn of(bytes: &[u8], length: usize) -> What {
-        match decode_ref(bytes) {
-            Ok(packet) => What::of_packet(&packet, length.saturating_sub(HEADER)),
+    /// What a payload of this length is, of which these bytes were seen, which spell a packet or have
+    /// a fault.
+    pub(crate) fn of(
+        packet: &Result<PacketRef<'_>, PacketFault>,
+        bytes: &[u8],
+        length: usize,
+    ) -> What {
+        match packet {
+            Ok(packet) => What::of_packet(packet, length.saturating_sub(HEADER)),
             Err(_) if has_error_opcode(bytes) => What::Error {
                 code: error_code(bytes),
             },
@@ -106,7 +112,11 @@ impl fmt::Display for What {
         match self {
             What::Read => write!(f, "RRQ"),
             What::Write => write!(f, "WRQ"),
-            What::Data { block, length } => write!(f, "DATA {block} {length}"),
+            What::Data { block, length } => {
+                let (block, length) = (*block, *length);
+                let line = DataLine { block, length };
+                write!(f, "{line}")
+            }
             What::Ack { block } => write!(f, "ACK {block}"),
             What::Error { code } => write!(f, "ERROR {code}"),
             What::Options => write!(f, "OACK"),

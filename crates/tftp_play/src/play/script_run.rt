@@ -16,7 +16,7 @@ use std::io::{BufWriter, Write};
 use tftp_ends::{Record, Side};
 use tftp_file::Path;
 use tftp_player::{Event, Report, World, WorldFault, draw};
-use tftp_script::{Statement, StrayDatagram};
+use tftp_script::Statement;
 use tftp_server::Config;
 
 /// The most deliveries of one `settle`.
@@ -68,24 +68,7 @@ impl<W: Write + Drop> ScriptRun<W> {
     /// Executes a statement, and writes its effect.
     pub(crate) fn execute(&mut self, statement: Statement) -> Result<(), PlayFault> {
         match statement {
-            Statement::Get { name, mode, asked } => self.play(Event::Get { name, mode, asked }),
-            Statement::Put {
-                name,
-                mode,
-                asked,
-                bytes,
-            } => self.play(Event::Put {
-                name,
-                mode,
-                asked,
-                bytes,
-            }),
-            Statement::Deliver(index) => self.play(Event::Deliver(index)),
-            Statement::Timeout(port) => self.play(Event::Timeout(port)),
-            Statement::Refuse(port) => self.play(Event::RefuseStore(port)),
-            Statement::Stray(StrayDatagram { from, to, bytes }) => {
-                self.play(Event::Stray(from, to, bytes))
-            }
+            Statement::Event(playable) => self.play(playable.into_event()),
             Statement::Settle(index) => self.settle(index),
             Statement::Random { seed, count } => self.play_drawn(seed, count),
             Statement::Comment(text) => {

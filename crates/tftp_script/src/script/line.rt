@@ -15,6 +15,7 @@ use crate::script::word::{content, number, path};
 use std::alloc::{AllocError, AllocFailed, Global};
 use std::str::FromStr;
 use tftp_file::Path;
+use tftp_player::Event;
 use tftp_wire::Bytes;
 
 /// Why a line is refused.
@@ -65,9 +66,12 @@ impl Parser {
                 let statement = put(self.alloc, arguments, &mut self.left)?;
                 self.push(statement)
             }
-            Keyword::Deliver => self.push(Statement::Deliver(only_number(arguments)?)),
-            Keyword::Timeout => self.push(Statement::Timeout(only_number(arguments)?)),
-            Keyword::Refuse => self.push(Statement::Refuse(only_number(arguments)?)),
+            Keyword::Deliver => self.push(Statement::of(Event::Deliver(only_number(arguments)?))),
+            Keyword::Timeout => self.push(Statement::of(Event::Timeout(only_number(arguments)?))),
+            Keyword::Refuse => {
+                let event = Event::RefuseStore(only_number(arguments)?);
+                self.push(Statement::of(event))
+            }
             Keyword::Settle => self.push(Statement::Settle(only_number(arguments)?)),
             Keyword::Random => self.push(random(arguments)?),
             Keyword::Stray => self.push(stray(self.alloc, arguments)?),

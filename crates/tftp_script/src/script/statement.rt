@@ -1,72 +1,57 @@
 //! The statements of a script.
 
 ghost use Rattle.std.specs.Prelude.{◌≡◌};
-ghost use Rattle.tftp_rules.specs.Hosts.{host_of};
-ghost use Rattle.tftp_rules.specs.Machine.{Elsewhere};
+ghost use Rattle.tftp_player.specs.Arriving.{IsPlayable};
+ghost use Rattle.tftp_script.specs.Playable.{IsOfNeitherHost};
 
 use crate::script::flaw::{Flaw, Word};
 use crate::script::line::{LineFault, WORD_COUNT};
 use crate::script::word::{asked, bytes, content, endpoint, mode, number};
 use std::alloc::Global;
-use tftp_ends::Endpoint;
-use tftp_negotiate::Asked;
+use tftp_player::Event;
 use tftp_rules::is_foreign;
-use tftp_wire::{Bytes, Mode};
+use tftp_wire::Bytes;
 
-/// A line on which something happens: an `Event` of `tftp_player`, or one of two statements for a
-/// sequence of events, [`Statement::Settle`] and [`Statement::Random`]; or a comment, at which nothing
-/// happens. This crate does not use `tftp_player`, so that both are proved in parallel.
+/// A line on which something happens: an event, or one of two statements for a sequence of events;
+/// or a comment, at which nothing happens.
 #[derive(Drop)]
 pub enum Statement {
-    /// A client reads the server's file of this name.
-    Get {
-        /// The name in the request.
-        name: Bytes,
-        /// The mode of the transfer.
-        mode: Mode,
-        /// The options of the request.
-        asked: Asked,
-    },
-    /// A client writes a file to the server, under this name.
-    Put {
-        /// The name in the request.
-        name: Bytes,
-        /// The mode of the transfer.
-        mode: Mode,
-        /// The options of the request.
-        asked: Asked,
-        /// The file, as the client's host stores it.
-        bytes: Bytes,
-    },
-    /// The datagram at this index of all that was sent arrives, counted from 0.
-    Deliver(usize),
-    /// A timeout of the end at this port.
-    Timeout(u16),
-    /// The receiver at this port is set to refuse its next append or commit, as a full store does.
-    Refuse(u16),
-    /// A datagram of neither host arrives.
-    Stray(StrayDatagram),
+    /// One event.
+    Event(PlayableEvent),
     /// The datagram at this index arrives, then the next, and so on, new ones too.
     Settle(usize),
     /// `count` events are drawn, by the generator of this seed.
-    Random {
-        seed: u64,
-        count: u64,
-    },
+    Random { seed: u64, count: u64 },
     /// A line that begins with `#`: what is after it.
     Comment(Bytes),
 }
 
-/// A datagram whose sender is at neither host.
+/// An event that a world plays: a stray datagram is of neither host.
 #[derive(Drop)]
-pub struct StrayDatagram {
-    /// The sender.
-    pub from: Endpoint,
-    /// The destination, at which there may be no end.
-    pub to: Endpoint,
-    /// Its bytes.
-    pub bytes: Bytes,
-    ghost foreign: { host_of from ≡ Elsewhere },
+pub struct PlayableEvent {
+    event: Event,
+    ghost foreign: { IsOfNeitherHost event },
+}
+
+impl PlayableEvent {
+    /// The event.
+    #[tactic(auto, using(crate::proofs::PlayableLemmas::plays))]
+    pub fn into_event(self) -> Event
+        ensures event { result ≡ self.event }
+        ensures playable { IsPlayable result }
+    {
+        self.event
+    }
+}
+
+impl Statement {
+    /// The statement for one event.
+    #[tactic(auto, using(crate::proofs::PlayableLemmas::of_neither))]
+    pub(crate) fn of(event: Event) -> Statement
+        requires { IsPlayable event }
+    {
+        Statement::Event(PlayableEvent { event })
+    }
 }
 
 /// `get NAME MODE OPTIONS`: a client reads a file.
@@ -77,7 +62,7 @@ pub(crate) fn get(alloc: Global, arguments: &[Word<'_>]) -> Result<Statement, Li
     let mode = mode(word)?;
     let asked = asked(options, 0)?;
     let name = Bytes::from_slice(alloc, name.bytes)?;
-    Ok(Statement::Get { name, mode, asked })
+    Ok(Statement::of(Event::Get { name, mode, asked }))
 }
 
 /// `put NAME MODE CONTENT OPTIONS`: a client writes a file.
@@ -94,12 +79,12 @@ pub(crate) fn put(
     let asked = asked(options, file.len() as u64)?;
     let name = Bytes::from_slice(alloc, name.bytes)?;
     let bytes = Bytes::from(file);
-    Ok(Statement::Put {
+    Ok(Statement::of(Event::Put {
         name,
         mode,
         asked,
         bytes,
-    })
+    }))
 }
 
 /// `stray FROM TO HEX`: a datagram of neither host arrives.
@@ -113,11 +98,7 @@ pub(crate) fn stray(alloc: Global, arguments: &[Word<'_>]) -> Result<Statement, 
     }
     let to = endpoint(to)?;
     let bytes = bytes(alloc, digits)?;
-    Ok(Statement::Stray(StrayDatagram {
-        from: sender,
-        to,
-        bytes,
-    }))
+    Ok(Statement::of(Event::Stray(sender, to, bytes)))
 }
 
 /// `random SEED COUNT`: that many events are drawn.

@@ -2,7 +2,7 @@
 use Rattle.std.proofs.Common.{sym, arith}
 use Rattle.std.specs.Cmp.Lexicographic.{same_text}
 use Rattle.tftp_show.proofs.DataLemmas.{data_shown, half_length, with_opcode}
-use Rattle.tftp_show.proofs.show.data.DataLine.of.Goals as goal
+use Rattle.tftp_show.proofs.show.data.line_of_data.Goals as goal
 
 pub returns : goal.returns
 returns c =
@@ -12,4 +12,4 @@ returns c =
     data_shown c.args.digits.now rest _ _ c.requires (with_opcode _ rest (same_text _ _ (sym found.0)) found.1) long
     (omega (arith, c.from.ensures, c.from-2.ensures, c.byte_of.ensures, c.byte_of-2.ensures))
     (omega (arith, c.if-block-eq0.false))
-    (half_length rest long) (omega (arith, c.if-len-from.false, c.from-else-block-eq0.ensures))
+    (half_length rest long) (omega (arith, c.if-length-from.false, c.from-else-block-eq0.ensures))
