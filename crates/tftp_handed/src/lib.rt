@@ -6,12 +6,14 @@
 //! Begin with [`HandedSocket::new`], and serve by [`HandedUdp`].
 #![tactic(auto)]
 
+mod descriptor;
 mod fault;
 pub mod laws;
 mod share;
 mod socket;
 mod udp;
 
+pub use descriptor::{Input, standard_input};
 pub use fault::HandedFault;
-pub use socket::{HandedSocket, Input, standard_input};
+pub use socket::HandedSocket;
 pub use udp::HandedUdp;

@@ -1,6 +1,6 @@
 //! Which of several servers takes a request.
 
-ghost use Rattle.std.specs.Prelude.{◌≡◌, ◌≤◌, ◌<◌, ◌-◌, ◌⊎◌, ◌↔◌, IfNone, IfSome, IsSome, IsTrue};
+ghost use Rattle.std.specs.Prelude.{◌≡◌, ◌≢◌, ◌≤◌, ◌<◌, ◌-◌, ◌↔◌, None, IfNone, IfSome, IsSome, IsTrue};
 ghost use Rattle.tftp_handed.specs.Looks.{MayLeave, noted_at, settled_at};
 ghost use Rattle.tftp_handed.specs.Share.{debt_at, left_since, owed_after, pause_of, used_after};
 
@@ -106,7 +106,9 @@ impl Share {
     }
 
     /// Whether a server that may open no more leaves what waits, from this sender, to the others.
-    fn leaves_when_full(&self, sender: Option<Endpoint>, load: Load, now: u64) -> bool {
+    fn leaves_when_full(&self, sender: Option<Endpoint>, load: Load, now: u64) -> bool
+        ensures { IsTrue result → IsSome sender }
+    {
         let left = left_by(sender, self.left.get(), load, now);
         self.left.set(left);
         left.is_some()
@@ -194,7 +196,10 @@ fn used_after(used: u64, now: u64, left: u64) -> u64
 }
 
 /// What a server that may open no more leaves of what this sender, if there is one, has sent.
-fn left_by(sender: Option<Endpoint>, left: Option<Left>, load: Load, now: u64) -> Option<Left> {
+fn left_by(sender: Option<Endpoint>, left: Option<Left>, load: Load, now: u64) -> Option<Left>
+    ensures none { IfNone sender (result ≡ None) }
+    ensures over { IfSome result (λ left. now - left.found < pause_of load) }
+{
     let from = sender?;
     let left = first_found(left, Left { from, found: now });
     if is_over(left.found, now, pause_of(load)) {
@@ -207,7 +212,8 @@ fn left_by(sender: Option<Endpoint>, left: Option<Left>, load: Load, now: u64) -
 /// own, since it would be refused.
 fn first_found(left: Option<Left>, new: Left) -> Left
     ensures none { IfNone left (result ≡ new) }
-    ensures some { IfSome left (λ left. (result ≡ left) ⊎ (result ≡ new)) }
+    ensures same { IfSome left (λ left. left.from ≡ new.from → result ≡ left) }
+    ensures other { IfSome left (λ left. left.from ≢ new.from → result ≡ new) }
 {
     match left {
         Some(left) => if left.from == new.from { left } else { new },

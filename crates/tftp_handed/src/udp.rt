@@ -1,6 +1,7 @@
 //! A device whose request port may be a socket that was handed over.
 
 ghost use Rattle.std.specs.Prelude.{◌≡◌, ◌≤◌, IfOk, IsSome, IsSomeAnd, IsTrue, None, OnOk, Some};
+ghost use Rattle.std.specs.Prelude.{option_map};
 
 use crate::share::Share;
 use crate::socket::HandedSocket;
@@ -10,13 +11,10 @@ use std::fmt::Display;
 use std::io;
 use std::net::UdpSocket;
 use tftp_ends::Endpoint;
-use tftp_lines::{Printed, Reason};
+use tftp_lines::{Printed, Reason, StampedLine, UtcTime};
 use tftp_sockets::{
     DrainSignal, Load, PortPoll, Receipt, Reports, ServerSocket, ServerUdp, Udp, Watch,
 };
-
-/// The priority of a warning, for a standard error that is systemd's journal.
-const WARNING: &str = "<4>";
 
 /// A device of a server that may have been handed its request port, and may be one of several. Its
 /// trace is that of the device that it wraps.
@@ -27,6 +25,8 @@ pub struct HandedUdp<N> {
     socket: Option<HandedSocket>,
     /// Which server this is, if it is one of several.
     several: Option<OneOfSeveral>,
+    /// The allocator for lines on standard error with their times, if they have them.
+    times: Option<Global>,
 }
 
 /// A server of several.
@@ -45,11 +45,13 @@ impl<N: ServerUdp> HandedUdp<N> {
         ensures net { result.net ≡ net }
         ensures socket { result.socket ≡ None }
         ensures alone { result.several ≡ None }
+        ensures times { result.times ≡ None }
     {
         HandedUdp {
             net,
             socket: None,
             several: None,
+            times: None,
         }
     }
 
@@ -58,8 +60,48 @@ impl<N: ServerUdp> HandedUdp<N> {
         ensures socket { self.new.socket ≡ Some socket }
         ensures net { self.new.net ≡ self.old.net }
         ensures several { self.new.several ≡ self.old.several }
+        ensures times { self.new.times ≡ self.old.times }
     {
         self.socket = Some(socket);
+    }
+
+    /// From now on each line on standard error begins with the time of the wall clock, where it can be
+    /// read.
+    pub fn log_times(&mut self, alloc: Global)
+        ensures times { IsSome self.new.times }
+        ensures net { self.new.net ≡ self.old.net }
+        ensures socket { self.new.socket ≡ self.old.socket }
+        ensures several { self.new.several ≡ self.old.several }
+    {
+        self.times = Some(alloc);
+    }
+
+    /// The time of a line, if lines have times.
+    fn time(&self) -> Option<UtcTime>
+        ensures { self.now.times ≡ None → result ≡ None }
+    {
+        match self.times {
+            Some(_) => UtcTime::at(self.net.utc_millis()?),
+            None => None,
+        }
+    }
+
+    /// Which server this is, if it is one of several.
+    fn server(&self) -> Option<u8>
+        ensures { result ≡ option_map (λ several. several.server) self.now.several }
+    {
+        match &self.several {
+            Some(several) => Some(several.server),
+            None => None,
+        }
+    }
+
+    /// The allocator for a line that has more than its words.
+    fn line_alloc(&self) -> Option<Global> {
+        match &self.several {
+            Some(several) => Some(several.alloc),
+            None => self.times,
+        }
     }
 
     /// From now on the server is one of several. Its lines on standard error say which one it is, and
@@ -69,6 +111,7 @@ impl<N: ServerUdp> HandedUdp<N> {
             (λ several. several.server ≡ server)) }
         ensures log { N.log self.new.net ≡ N.log self.old.net }
         ensures socket { self.new.socket ≡ self.old.socket }
+        ensures times { self.new.times ≡ self.old.times }
     {
         self.net.watch_reader(alloc)?;
         self.several = Some(OneOfSeveral {
@@ -183,6 +226,10 @@ impl<N: ServerUdp> ServerUdp for HandedUdp<N> {
         self.net.micros()
     }
 
+    fn utc_millis(&self) -> Option<u64> {
+        self.net.utc_millis()
+    }
+
     fn out_of_memory(&mut self) {
         self.net.out_of_memory()
     }
@@ -208,28 +255,20 @@ impl<N: ServerUdp> ServerUdp for HandedUdp<N> {
     }
 }
 
-impl<N: Eprint> Eprint for HandedUdp<N> {
+impl<N: ServerUdp + Eprint> Eprint for HandedUdp<N> {
     fn eprint<D: Display + Drop>(&self, value: D) -> io::Result<()> {
         self.net.eprint(value)
     }
 
+    /// Writes a line with its time and with which server it is of, if lines have them.
     fn eprintln<D: Display + Drop>(&self, value: D) -> io::Result<()> {
-        match &self.several {
-            Some(several) => several.eprintln(&self.net, value),
+        match self.line_alloc() {
+            Some(alloc) => {
+                let text = format!(in alloc; "{value}")?;
+                let line = StampedLine::of(text.as_str(), self.time(), self.server());
+                self.net.eprintln(line)
+            }
             None => self.net.eprintln(value),
-        }
-    }
-}
-
-impl OneOfSeveral {
-    /// Writes a line with which server it is of. The priority of a warning, where it has one, stays
-    /// before all else.
-    fn eprintln<E: Eprint, D: Display + Drop>(&self, rt: &E, value: D) -> io::Result<()> {
-        let text = format!(in self.alloc; "{value}")?;
-        let server = self.server;
-        match text.as_str().strip_prefix(WARNING) {
-            Some(line) => eprintln!(rt; "{WARNING}server {server}: {line}"),
-            None => eprintln!(rt; "server {server}: {text}"),
         }
     }
 }

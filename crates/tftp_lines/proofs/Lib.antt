@@ -1,1 +1,2 @@
+pub mod UtcTexts
 pub mod WholeLines

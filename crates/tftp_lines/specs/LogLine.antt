@@ -16,6 +16,7 @@ use Rattle.tftp_lines.specs.declared.log_line.LogLine.TheVariants.{Lost, Unsent,
 use Rattle.tftp_lines.specs.declared.log_line.Logged.{Logged}
 use Rattle.tftp_lines.specs.declared.log_line.Why.{Why}
 use Rattle.tftp_lines.specs.declared.log_line.Why.TheVariants as whys
+use Rattle.tftp_lines.specs.Hint.{hinted_text}
 use Rattle.tftp_lines.specs.Reason.{reason_text}
 
 -- the reason, if known
@@ -27,6 +28,7 @@ because_text None = []
 abbrev pub lost_text : LostReason → List ℕ
 lost_text (lost_reasons.Port reason) = codes "no port" ++ because_text reason
 lost_text lost_reasons.Memory = codes "out of memory"
+lost_text (lost_reasons.Client most) = decimal most ++ codes " transfers of this client"
 
 -- why a transfer closed, if more is known than its outcome
 abbrev pub why_text : Option Why → List ℕ
@@ -57,7 +59,7 @@ log_text (Lost request lost) =
 log_text (Unsent port request reason) =
     codes "unsent "
     ++ (decimal port ++ (codes " " ++ (request_text request ++ (codes ": " ++ reason_text reason))))
-log_text (Closed port request answer bytes millis again outcome why) =
+log_text (Closed port request answer bytes millis again outcome why hint) =
     codes "closed "
     ++ (decimal port
     ++ (codes " "
@@ -66,7 +68,7 @@ log_text (Closed port request answer bytes millis again outcome why) =
     ++ (answer.now
     ++ (codes ", "
     ++ (amounts_text bytes millis again
-    ++ (codes ", " ++ (outcome_text outcome ++ why_text why)))))))))
+    ++ (codes ", " ++ (outcome_text outcome ++ (why_text why ++ hinted_text hint))))))))))
 
 -- a transfer failed, and its peer did not end it
 abbrev pub is_failure : Outcome → Bool
@@ -87,7 +89,7 @@ is_warning (Refused request answer reason) = is_some reason
 is_warning (Ignored request) = false
 is_warning (Lost request lost) = true
 is_warning (Unsent port request reason) = true
-is_warning (Closed port request answer bytes millis again outcome why) = is_failure outcome
+is_warning (Closed port request answer bytes millis again outcome why hint) = is_failure outcome
 
 -- a line as it is written, without its end: a warning begins with its priority, if lines have one
 abbrev pub logged_text : Logged → List ℕ

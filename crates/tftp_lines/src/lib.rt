@@ -6,15 +6,21 @@
 #![tactic(auto)]
 
 mod client_outcome;
+mod hint;
 mod log_line;
 mod printed;
 mod progress_line;
 mod reason;
+mod stamped_line;
+mod utc_time;
 mod whole_line;
 
 pub use client_outcome::ClientOutcome;
+pub use hint::Hint;
 pub use log_line::{LogLine, Logged, Lost, RequestLine, Why};
 pub use printed::Printed;
 pub use progress_line::{LineClock, ProgressLine};
 pub use reason::{Reason, reason_of};
+pub use stamped_line::StampedLine;
+pub use utc_time::UtcTime;
 pub use whole_line::{LONGEST_LINE, WholeLine};

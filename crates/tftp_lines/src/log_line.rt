@@ -3,6 +3,7 @@
 ghost use Rattle.std.specs.Prelude.{◌≡◌};
 ghost use Rattle.tftp_lines.specs.LogLine.{is_failure, is_warning};
 
+use crate::hint::Hint;
 use crate::reason::Reason;
 use std::fmt;
 use tftp_ends::{Endpoint, Outcome};
@@ -14,6 +15,8 @@ pub enum Lost {
     Port(Option<Reason>),
     /// Memory.
     Memory,
+    /// A slot for its client, whose address has so many transfers open, the most of one.
+    Client(u8),
 }
 
 impl fmt::Display for Lost {
@@ -29,6 +32,7 @@ impl fmt::Display for Lost {
                 write!(f, "no port{because}")
             }
             Lost::Memory => f.write_str("out of memory"),
+            Lost::Client(most) => write!(f, "{most} transfers of this client"),
         }
     }
 }
@@ -87,8 +91,8 @@ pub enum LogLine<'a> {
         reason: Reason,
     },
     /// A transfer closed, after `bytes` bytes of DATA and `millis` milliseconds, and after `again`
-    /// datagrams that were sent again; and why, if more is known than its outcome. `answer` is its
-    /// first datagram, which has the agreed options.
+    /// datagrams that were sent again; why, if more is known than its outcome; and what an operator
+    /// may have to set. `answer` is its first datagram, which has the agreed options.
     Closed {
         port: u16,
         request: RequestLine<'a>,
@@ -98,6 +102,7 @@ pub enum LogLine<'a> {
         again: u64,
         outcome: Outcome,
         why: Option<Why<'a>>,
+        hint: Option<Hint>,
     },
 }
 
@@ -230,6 +235,24 @@ impl fmt::Display for Ending<'_> {
     }
 }
 
+/// The hint behind it, if there is one.
+#[derive(Clone, Copy)]
+struct Hinted(Option<Hint>);
+
+impl fmt::Display for Hinted {
+    ghost use Rattle.std.specs.Prelude.{Some};
+    ghost use Rattle.tftp_lines.specs.Hint.{hinted_text};
+
+    ghost output = { λ hinted. Some (hinted_text hinted.0) };
+
+    fn fmt<W: fmt::Write>(&self, f: &mut fmt::Formatter<W>) -> fmt::Result {
+        match self.0 {
+            Some(hint) => write!(f, ", {hint}"),
+            None => Ok(()),
+        }
+    }
+}
+
 impl fmt::Display for LogLine<'_> {
     ghost use Rattle.std.specs.Prelude.{Some};
     ghost use Rattle.tftp_lines.specs.LogLine.{log_text};
@@ -267,16 +290,17 @@ impl fmt::Display for LogLine<'_> {
                 again,
                 outcome,
                 why,
+                hint,
             } => {
                 let amounts = Amounts {
                     bytes,
                     millis,
                     again,
                 };
-                let ending = Ending(why);
+                let (ending, hinted) = (Ending(why), Hinted(hint));
                 write!(
                     f,
-                    "closed {port} {request}: {answer}, {amounts}, {outcome}{ending}"
+                    "closed {port} {request}: {answer}, {amounts}, {outcome}{ending}{hinted}"
                 )
             }
         }

@@ -21,6 +21,7 @@ mod sockets;
 mod system_udp;
 mod trace;
 mod udp;
+mod wall_clock;
 mod watch;
 
 pub use address::{DATAGRAM_BUFFER, address_of, endpoint_in, endpoint_of};

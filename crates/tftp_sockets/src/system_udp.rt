@@ -27,6 +27,7 @@ use crate::signal::DrainSignal;
 use crate::sockets::{ClientSocket, ServerSocket};
 use crate::trace::Trace;
 use crate::udp::{ClientUdp, ServerUdp, Udp};
+use crate::wall_clock::utc_millis;
 use crate::watch::Watch;
 use rand::make_rng;
 use rand::rngs::StdRng;
@@ -195,6 +196,10 @@ impl<R: Net + Clock + Print + RandomSource> ServerUdp for SystemUdp<'_, R> {
 
     fn micros(&self) -> Option<u64> {
         micros(self.rt)
+    }
+
+    fn utc_millis(&self) -> Option<u64> {
+        utc_millis(self.rt)
     }
 
     fn out_of_memory(&mut self) {

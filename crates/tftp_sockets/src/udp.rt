@@ -184,6 +184,10 @@ pub trait ServerUdp: Udp {
     /// The time of the monotonic clock in microseconds, if it can be read. It is no time of a watch.
     fn micros(&self) -> Option<u64>;
 
+    /// The time of the wall clock in milliseconds since 1970 began in UTC, if it can be read. It is no
+    /// time of a watch, and only lines of a log have it.
+    fn utc_millis(&self) -> Option<u64>;
+
     /// Notes that memory was refused.
     fn out_of_memory(&mut self)
         ensures { Self.log self.new ≡ Quiet Out_of_memory ∷ Self.log self.old };
