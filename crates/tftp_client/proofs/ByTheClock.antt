@@ -33,23 +33,23 @@ reads_on s watch by steady early =
     omega (arith, time, steady, early)
 
 -- and never by more than a second
-reads_soon : (s : State) (watch : Watch) → IsReadBy s watch → watch.now ≤ s.now + 1000
+pub reads_soon : (s : State) (watch : Watch) → IsReadBy s watch → watch.now ≤ s.now + 1000
 reads_soon s watch by =
     let time : watch.now ≡ min (s.now + min (watch.reading - s.reading) 1000) last_moment = by.time in
     omega (arith, time)
 
 -- a timeout reads no clock
-record SameWatch (s next : State) : Type 0 where
-  now : next.now ≡ s.now
-  reading : next.reading ≡ s.reading
+pub record SameWatch (s next : State) : Type 0 where
+  pub now : next.now ≡ s.now
+  pub reading : next.reading ≡ s.reading
 
-same_elapses : {port : ℕ} {s next : State} → MayElapse port s next → SameWatch s next
+pub same_elapses : {port : ℕ} {s next : State} → MayElapse port s next → SameWatch s next
 same_elapses (Stays why) = record { now = refl; reading = refl }
 same_elapses (Elapses due is_open) = record { now = refl; reading = refl }
 
 module _ {S K : Type 0} {sources : SourceMeaning S} {sinks : SinkMeaning K} where
   -- nor does a datagram
-  same_handles : {port : ℕ} {from : _} {bytes : List ℕ} {s : State} {files : Files S K} {next : State}
+  pub same_handles : {port : ℕ} {from : _} {bytes : List ℕ} {s : State} {files : Files S K} {next : State}
       {files' : Files S K} → HandlesReceived sources sinks port from bytes s files next files' → SameWatch s next
   same_handles (Answers is_open step) = record { now = refl; reading = refl }
   same_handles (Loses lost keeps) = record { now = refl; reading = refl }

@@ -7,6 +7,7 @@ pub mod Conversing
 pub mod Counting
 pub mod GivenBytes
 pub mod HeldBytes
+pub mod Idling
 pub mod LeftBytes
 pub mod SentFile
 pub mod NamedFile

@@ -63,7 +63,7 @@ positive n more = lt_of_not-le (λ le. let zero : n ≡ 0 = omega (arith, le) in
     true≢false (sym (ap (λ (k : ℕ). k == 0) zero) ∙ more))
 
 -- a timeout of a waiting end
-timed_out : (last : Bool) (response : Response) (to : Endpoint) (e : EndState) → (e.position.retries_left == 0) ≡ last
+pub timed_out : (last : Bool) (response : Response) (to : Endpoint) (e : EndState) → (e.position.retries_left == 0) ≡ last
     → response ≡ (if last then Close TimedOut else Retransmit)
     → (outcome_of (after response to e).phase ≡ Some TimedOut)
     ⊎ ((0 < e.position.retries_left)

@@ -2,6 +2,7 @@
 
 ghost use Rattle.tftp_client.specs.Given.{CountsWhatItSent, SendsWhatItsFileGave};
 ghost use Rattle.tftp_client.specs.Sent.{SendsTheTextWhole, SendsWhatReadsReturned};
+ghost use Rattle.tftp_client.specs.Seconds.{ClosesByTheClock, ClosesWithoutProgress};
 ghost use Rattle.tftp_client.specs.Seconds.{PassesWithTheClock, TimesOutByTheClock};
 ghost use Rattle.tftp_client.specs.Silence.{TimesOut, WaitsForEachSending};
 
@@ -24,10 +25,14 @@ pub fn a_client_alone_times_out<S: Source, K: Sink>()
 /// as the readings of the clock, if none of these is more than a second later than the one before.
 /// So a client to whom nothing comes times out by the clock: once the readings have advanced by a
 /// second for its request and for each retry, and by a second more for each, by which the reading
-/// that finds a timeout due may be late (RFC 1350, section 2).
+/// that finds a timeout due may be late. Whatever comes, an end that makes no progress closes, from
+/// its request on or from any later state: after each datagram the clock is read twice, so that each
+/// of its timeouts may be late by two seconds (RFC 1350, section 2).
 pub fn a_client_times_out_by_the_clock<S: Source, K: Sink>()
     ensures passes { PassesWithTheClock S.meaning K.meaning }
     ensures outcome { TimesOutByTheClock S.meaning K.meaning }
+    ensures closes { ClosesByTheClock S.meaning K.meaning }
+    ensures idle { ClosesWithoutProgress S.meaning K.meaning }
 {}
 
 /// What moved in the run of a complete put is what its source gave, in order and each byte once,
