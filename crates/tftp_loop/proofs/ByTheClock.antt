@@ -6,14 +6,17 @@ use Rattle.tftp_store.specs.Store.{StoreMeaning}
 use Rattle.tftp_sockets.specs.Watch.{last_moment}
 use Rattle.tftp_sockets.specs.declared.watch.Watch.{Watch}
 use Rattle.tftp_sockets.specs.declared.watch.TheConstants.{LONGEST_WAIT}
+use Rattle.tftp_loop.specs.Run.{Run}
+use Rattle.tftp_loop.specs.Run.Run.{Start, Then}
 use Rattle.tftp_loop.specs.Steps.{LoopState, LoopStep, IsReadBy, round_end}
 use Rattle.tftp_loop.specs.Steps.LoopStep.{Waited, At_port, Request_received, No_request_found, Request_not_received}
 use Rattle.tftp_loop.specs.Steps.LoopStep.{Request_noted, Request_answered, Request_lost, Clock_read, Store_set}
 use Rattle.tftp_loop.specs.Steps.LoopStep.{Transfer_closed, Drain_begun}
 use Rattle.tftp_loop.specs.Expiry.{Idles, in_millis}
 use Rattle.tftp_loop.specs.Expiry.Idles.{At_first, After}
-use Rattle.tftp_loop.specs.Seconds.{ClosesByTheClock, TimesOutByTheClock, cut_by, cut_in, cut_of}
-use Rattle.tftp_loop.proofs.Expiring.{closes_without_progress, times_out_in_silence}
+use Rattle.tftp_loop.specs.Seconds.{ClosesByTheClock, ClosesOverAgeByTheClock, PassesWithTheClock, TimesOutByTheClock}
+use Rattle.tftp_loop.specs.Seconds.{cut_along, cut_by, cut_in, cut_of}
+use Rattle.tftp_loop.proofs.Expiring.{closes_over_age, closes_without_progress, times_out_in_silence}
 
 -- the time advances as much as the clock, but for what a round does not count
 abbrev Passes : {S F D : Type 0} → LoopState S F D → LoopState S F D → ℕ → Type 0
@@ -73,6 +76,14 @@ module _ {S F D : Type 0} (meaning : StoreMeaning S D) (sources : SourceMeaning 
       let step = step_passes middle last does in
       omega (arith, was, step)
 
+  passes_along : {first last : LoopState S F D} (run : Run (LoopStep meaning sources) first last)
+      → Passes first last (cut_along meaning sources run)
+  passes_along Start = omega arith
+  passes_along {last = last} (Then {middle} run does) =
+      let was = passes_along run in
+      let step = step_passes middle last does in
+      omega (arith, was, step)
+
 -- what is later by the clock is later by the watch
 later_by_now : (provisional : Bool) (interval more reading now reading' now' cut : ℕ)
     → ((if provisional then reading + 1000 else reading) + interval + more) + cut < reading'
@@ -94,3 +105,13 @@ module _ {S F D : Type 0} (meaning : StoreMeaning S D) (sources : SourceMeaning 
       (later_by_now timer.provisional (in_millis timer.interval)
       ((in_millis timer.interval + LONGEST_WAIT) * max 1 first.server.config.retries) first.reading first.now last.reading
       last.now (cut_in meaning sources idles) late (passes meaning sources idles)) soon
+
+  pub closes_over_age_by_the_clock : ClosesOverAgeByTheClock meaning sources
+  closes_over_age_by_the_clock start first last new timer transfer empty run has found aged goes waits late soon =
+      closes_over_age meaning sources start first last new timer transfer empty run has found aged goes waits
+      (later_by_now timer.provisional (in_millis timer.interval)
+      ((in_millis timer.interval + LONGEST_WAIT) * max 1 first.server.config.retries) first.reading first.now last.reading
+      last.now (cut_along meaning sources goes) late (passes_along meaning sources goes)) soon
+
+  pub passes_with_the_clock : PassesWithTheClock meaning sources
+  passes_with_the_clock first last run = passes_along meaning sources run

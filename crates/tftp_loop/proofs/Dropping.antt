@@ -14,7 +14,7 @@ use Rattle.tftp_loop.specs.OnlyRequests.{begins_as_request}
 use Rattle.tftp_loop.specs.Run.{Run}
 use Rattle.tftp_loop.specs.Run.Run.{Start, Then}
 use Rattle.tftp_loop.specs.Steps.{LoopState, LoopStep, AnswersRequest, LosesRequest, RequestLoss, at_start}
-use Rattle.tftp_loop.specs.Steps.{No_answer, No_request, No_memory_to_open, No_port, Same_port}
+use Rattle.tftp_loop.specs.Steps.{No_answer, No_request, No_memory_to_open, No_port, Same_port, Too_many}
 use Rattle.tftp_loop.specs.Steps.LoopStep.{Waited, At_port, Request_received, No_request_found, Request_not_received}
 use Rattle.tftp_loop.specs.Steps.LoopStep.{Request_noted, Request_answered, Request_lost, Clock_read, Store_set}
 use Rattle.tftp_loop.specs.Steps.LoopStep.{Transfer_closed, Drain_begun}
@@ -36,6 +36,7 @@ module _ {S F D : Type 0} (meaning : StoreMeaning S D) (sources : SourceMeaning 
   why_dropped old from bytes (No_memory_to_open lacks last) dropped = absurd dropped
   why_dropped old from bytes (No_port opens port last missed) dropped = absurd dropped
   why_dropped old from bytes (Same_port opens port last taken) dropped = absurd dropped
+  why_dropped old from bytes (Too_many opens most) dropped = absurd dropped
 
   pub drops_no_request : (old new : LoopState S F D) (loses : LosesRequest meaning sources old new)
       (request : Request) → Spells (Read request) loses.bytes ⊎ Spells (Write request) loses.bytes

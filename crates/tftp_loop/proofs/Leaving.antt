@@ -120,7 +120,8 @@ module _ {S F D : Type 0} (meaning : StoreMeaning S D) (sources : SourceMeaning 
     path : List ℕ
     named : path_of_name request.name ≡ Ok path
     first : F
-    opened : sources.opens root path request.mode first
+    stated : ℕ
+    opened : sources.opens root path request.mode stated first
     text : List ℕ
     given : GivesInTurn sources first text source
 
@@ -140,6 +141,7 @@ module _ {S F D : Type 0} (meaning : StoreMeaning S D) (sources : SourceMeaning 
     path = reads.path;
     named = reads.named;
     first = reads.first;
+    stated = reads.stated;
     opened = reads.opened;
     gave = record { text = reads.text; before = source; after = source'; earlier = reads.given; gave = gives };
     long = long;
@@ -156,6 +158,7 @@ module _ {S F D : Type 0} (meaning : StoreMeaning S D) (sources : SourceMeaning 
     path = reads.path;
     named = reads.named;
     first = reads.first;
+    stated = reads.stated;
     opened = reads.opened;
     text = reads.text ++ piece;
     given = Gave_more reads.given gives;
@@ -171,6 +174,7 @@ module _ {S F D : Type 0} (meaning : StoreMeaning S D) (sources : SourceMeaning 
     path = asked.path;
     named = asked.named;
     first = asked.first;
+    stated = asked.stated;
     opened = asked.opened;
     gave = asked.gave;
     long = asked.long;
@@ -186,6 +190,7 @@ module _ {S F D : Type 0} (meaning : StoreMeaning S D) (sources : SourceMeaning 
     path = reads.path;
     named = reads.named;
     first = reads.first;
+    stated = reads.stated;
     opened = reads.opened;
     text = reads.text;
     given = reads.given;
@@ -552,9 +557,9 @@ module _ {S F D : Type 0} (meaning : StoreMeaning S D) (sources : SourceMeaning 
           is in
           let spells : Spells (Read asked.request) bytes =
           subst (Decodes bytes) asked.packet says in
-          let opens : sources.opens root path asked.request.mode file.source =
-          subst (λ (m : Mode). sources.opens root path m file.source) (sym asked.same_mode)
-          (subst (λ (r : List ℕ). sources.opens r path mode file.source) root_is opened) in
+          let opens : sources.opens root path asked.request.mode file.length file.source =
+          subst (λ (m : Mode). sources.opens root path m file.length file.source) (sym asked.same_mode)
+          (subst (λ (r : List ℕ). sources.opens r path mode file.length file.source) root_is opened) in
           let given = served_given agreed mode file.length old.config.retries file.source rest transfer.end serves in
           let reads : ReadsFor from es rest = record {
             request = asked.request;
@@ -564,6 +569,7 @@ module _ {S F D : Type 0} (meaning : StoreMeaning S D) (sources : SourceMeaning 
             path = path;
             named = asked.same_path;
             first = file.source;
+            stated = file.length;
             opened = opens;
             text = given.0;
             given = given.1;
@@ -577,6 +583,7 @@ module _ {S F D : Type 0} (meaning : StoreMeaning S D) (sources : SourceMeaning 
             path = path;
             named = asked.same_path;
             first = file.source;
+            stated = file.length;
             opened = opens;
             gave = record {
               text = [];

@@ -79,7 +79,7 @@ module _ (Fits : ℕ → Type 0) (IsGiven : List ℕ → Type 0) (retries : ℕ)
 pub data OpensFor {S F D : Type 0} (meaning : StoreMeaning S D) (sources : SourceMeaning F) (old : ServerState S F D)
     (from : Endpoint) (bytes : List ℕ) (ask : Ask) (transfer : TransferState F D) : Type 0 where
   To_read : (path : List ℕ) (mode : Mode) (options : List RawOption) (agreed : List Known) (file : Opening F) (rest : F)
-      → ask ≡ Reads path mode options → sources.opens (meaning.root old.store) path mode file.source
+      → ask ≡ Reads path mode options → sources.opens (meaning.root old.store) path mode file.length file.source
       → answer options kinds.Read mode file.length old.config.limits ≡ Ok agreed
       → ServesRead sources agreed from mode file.length old.config.retries file.source rest transfer.end
       → transfer.files ≡ Source rest → OpensFor meaning sources old from bytes ask transfer
@@ -103,7 +103,7 @@ module _ {S F D : Type 0} (meaning : StoreMeaning S D) (sources : SourceMeaning 
     refused : (reply : ErrorReply) (store : S) → came ≡ Error_reply reply store → OpensIn ask came
     refused reply store h = came_as ask came (Error_reply reply store) h tt
 
-    module _ (file : Opening F) (opened : sources.opens (meaning.root old.store) path mode file.source) where
+    module _ (file : Opening F) (opened : sources.opens (meaning.root old.store) path mode file.length file.source) where
       module _ (agreed : List Known) (same : answer options kinds.Read mode file.length old.config.limits ≡ Ok agreed)
         where
           starts : Starts meaning sources old from bytes path mode file.length agreed file.source came → OpensIn ask came

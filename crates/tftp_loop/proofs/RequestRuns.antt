@@ -25,7 +25,7 @@ use Rattle.tftp_loop.specs.Run.Run.{Start, Then}
 use Rattle.tftp_loop.specs.MayOpen.{LacksMemoryToOpen, MayOpen}
 use Rattle.tftp_loop.specs.Steps.{LoopState, AnswersRequest, IsSet, LosesRequest, RequestLoss, No_request}
 use Rattle.tftp_loop.specs.Steps.{RequestNote, Found_no_port, Found_port, Found_no_memory, No_memory_to_open, No_port}
-use Rattle.tftp_loop.specs.Steps.{Same_port, SetsStore, after_request, is_taken, note_event, with_timer}
+use Rattle.tftp_loop.specs.Steps.{Same_port, SetsStore, Too_many, has_most, after_request, is_taken, note_event, with_timer}
 use Rattle.tftp_loop.specs.Steps.{answering_port, is_draining}
 use Rattle.tftp_loop.specs.Steps.LoopStep.{Request_noted, Request_received, Request_answered, Request_lost, Store_set}
 use Rattle.tftp_loop.specs.LoopStates.{IsAdmission, Work_by}
@@ -48,6 +48,11 @@ and_not : (one other : Bool) → (one && not other) ≡ true → (one ≡ true) 
 and_not true true h = absurd (true≢false (sym h))
 and_not true false h = (refl, refl)
 and_not false other h = absurd (true≢false (sym h))
+
+-- what holds holds of what an option has
+if_some : {A P : Type 0} (o : Option A) → P → IfSome o (λ _. P)
+if_some None holds = tt
+if_some (Some x) holds = holds
 
 module _ {S F D : Type 0} (meaning : StoreMeaning S D) (sources : SourceMeaning F) where
   -- a datagram was received
@@ -176,6 +181,12 @@ module _ {S F D : Type 0} (meaning : StoreMeaning S D) (sources : SourceMeaning 
       let both = and_not s.requests_only (begins_as_request bytes) drops in
       loses_as s t from bytes pending (No_request both.0 both.1) is
 
+  -- its sender's address has as many transfers open as one may have, and the datagram was lost
+  pub loses_too_many : (s t : LoopState S F D) (from : Endpoint) (bytes : List ℕ) → s.pending ≡ Some (from, bytes) →
+      MayOpen s.server from bytes → has_most s.per_client from s.timers ≡ true → t ≡ record s { pending = None }
+      → Concludes meaning sources s t
+  loses_too_many s t from bytes pending opens most is = loses_as s t from bytes pending (Too_many opens most) is
+
   -- memory was refused, and the datagram was lost
   pub loses_for_memory : (s t : LoopState S F D) (from : Endpoint) (bytes : List ℕ) → s.pending ≡ Some (from, bytes) →
       LacksMemoryToOpen meaning sources s.server from bytes
@@ -229,7 +240,8 @@ module _ {S F D : Type 0} (meaning : StoreMeaning S D) (sources : SourceMeaning 
       → (sent : List ℕ) × (out ≡ cleared ++ sent) × CarriesOut meaning sources set admission.from admission.bytes
       admission.ask tid (record { new = new; opened = opened; sent = sent })
       → at tid set.held ≡ None → IfSome opened.tid (IsOneOf s.range)
-      → IfSome opened.tid (λ port. port ≢ s.requests) → cleared ≡ []
+      → IfSome opened.tid (λ port. port ≢ s.requests) → meaning.is_set_to set.store tid
+      → has_most s.per_client from s.timers ≡ false → cleared ≡ []
       → t ≡ record s {
         server = new;
         pending = None;
@@ -238,7 +250,7 @@ module _ {S F D : Type 0} (meaning : StoreMeaning S D) (sources : SourceMeaning 
       }
       → Concludes meaning sources s t
   sets_and_answers s t from bytes tid set new admission cleared out opened pending admitted handled rest same behind carried
-      free port own empty is =
+      free port own set_to few empty is =
       let sent = carried.0 in
       let left : Left S F D = record { new = new; opened = opened; sent = sent } in
       let At : Endpoint → Type 0 = λ e. CarriesOut meaning sources set e admission.bytes admission.ask tid left in
@@ -261,6 +273,8 @@ module _ {S F D : Type 0} (meaning : StoreMeaning S D) (sources : SourceMeaning 
           left = left;
           port = port;
           own = own;
+          set = if_some opened.tid set_to;
+          few = if_some opened.tid few;
           steps = steps;
           is = is ∙ ap (λ (bs : List ℕ). record s {
             server = new;
@@ -294,8 +308,10 @@ module _ {S F D : Type 0} (meaning : StoreMeaning S D) (sources : SourceMeaning 
       → Goes meaning sources s.server from bytes ask came
       → at tid s.server.held ≡ None → IfSome (left_by came s.server from tid).opened.tid (IsOneOf s.range)
       → IfSome (left_by came s.server from tid).opened.tid (λ port. port ≢ s.requests)
+      → IfSome (left_by came s.server from tid).opened.tid (λ _. meaning.is_set_to s.server.store tid)
+      → IfSome (left_by came s.server from tid).opened.tid (λ port. has_most s.per_client from s.timers ≡ false)
       → t ≡ after_request s from (left_by came s.server from tid) → Concludes meaning sources s t
-  refused_step s t from bytes ask tid came pending handled admits goes free port own is =
+  refused_step s t from bytes ask tid came pending handled admits goes free port own set few is =
       record {
         middle = s;
         prepares = Start;
@@ -309,6 +325,8 @@ module _ {S F D : Type 0} (meaning : StoreMeaning S D) (sources : SourceMeaning 
           left = left_by came s.server from tid;
           port = port;
           own = own;
+          set = set;
+          few = few;
           steps = request_step s.server from bytes ask tid (left_by came s.server from tid) admits
               (record { came = came; goes = goes; left = refl });
           is = is;
@@ -325,11 +343,11 @@ module _ {S F D : Type 0} (meaning : StoreMeaning S D) (sources : SourceMeaning 
       → Concludes meaning sources s t
   refuses_as s t from bytes Ignores pending handled admits none is =
       let unused = free_identifier s.server.held in
-      refused_step s t from bytes Ignores unused.0 Nothing pending handled admits refl unused.1 tt tt is
+      refused_step s t from bytes Ignores unused.0 Nothing pending handled admits refl unused.1 tt tt tt tt is
   refuses_as s t from bytes (Refuses reply) pending handled admits none is =
       let unused = free_identifier s.server.held in
       refused_step s t from bytes (Refuses reply) unused.0 (Error_reply reply s.server.store) pending handled admits refl
-      unused.1 tt tt is
+      unused.1 tt tt tt tt is
   refuses_as s t from bytes (Reads path mode options) pending handled admits none is = absurd (true≢false none)
   refuses_as s t from bytes (Writes path mode agreed) pending handled admits none is = absurd (true≢false none)
 

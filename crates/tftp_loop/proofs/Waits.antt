@@ -296,6 +296,7 @@ module _ {S F D : Type 0} (meaning : StoreMeaning S D) (sources : SourceMeaning 
             (woken.requests ∙ requests) (woken.range ∙ (slept.range ∙ reads.range))
             (woken.longest ∙ (slept.longest ∙ reads.longest))
             (woken.requests_only ∙ (slept.requests_only ∙ reads.requests_only))
+            (woken.per_client ∙ (slept.per_client ∙ reads.per_client))
             (woken.server ∙ (slept.server ∙ reads.server))
             (ap (λ (p : Option (Endpoint × ℕ)). pending_in p buffer) (woken.pending ∙ (slept.pending ∙ reads.pending)))
             (woken.timers

@@ -44,7 +44,8 @@ HasWritten peer events =
 
 module _ {F : Type 0} (sources : SourceMeaning F) (root : List ℕ) (requests largest : ℕ) where
   -- the endpoint asked at the request port for a file, and a source of this root that was opened at
-  -- its path and in its mode gave the block, which is no longer than the largest block
+  -- its path and in its mode, of a length that was stated, gave the block, which is no longer than
+  -- the largest block
   pub record AskedFor (peer : Endpoint) (events : List SocketEvent) (piece : List ℕ) : Type 0 where
     pub request : Request
     pub bytes : List ℕ
@@ -53,7 +54,8 @@ module _ {F : Type 0} (sources : SourceMeaning F) (root : List ℕ) (requests la
     pub path : List ℕ
     pub named : path_of_name request.name ≡ Ok path
     pub first : F
-    pub opened : sources.opens root path request.mode first
+    pub stated : ℕ
+    pub opened : sources.opens root path request.mode stated first
     pub gave : GaveBlock sources first piece
     pub long : length piece ≤ largest
 

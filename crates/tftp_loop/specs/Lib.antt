@@ -17,5 +17,6 @@ pub mod Handled
 pub mod PortsInTurn
 pub mod Draining
 pub mod Dropped
+pub mod Hinted
 pub mod Reflected
 pub mod Leaving

@@ -119,6 +119,7 @@ module _ {S F D : Type 0} where
         range = d.sockets.pool.range;
         longest = d.longest;
         requests_only = d.requests_only;
+        per_client = d.per_client;
         server = d.server;
         pending = pending;
         timers = map timer_of d.ports.items;
@@ -201,6 +202,7 @@ module _ {S F D : Type 0} where
     pub range : new.sockets.pool.range ≡ old.sockets.pool.range
     pub longest : new.longest ≡ old.longest
     pub requests_only : new.requests_only ≡ old.requests_only
+    pub per_client : new.per_client ≡ old.per_client
     pub port : IfSome opened.tid (IsOneOf old.sockets.pool.range)
     pub own : IfSome opened.tid (λ port. port ≢ old.sockets.requests.port)
     pub server : new.server ≡ old.server

@@ -246,6 +246,7 @@ module _ {S F D : Type 0} where
     pub range : new.sockets.pool.range ≡ old.sockets.pool.range
     pub longest : new.longest ≡ old.longest
     pub requests_only : new.requests_only ≡ old.requests_only
+    pub per_client : new.per_client ≡ old.per_client
     pub server : new.server ≡ old.server
     pub pending : new.pending ≡ old.pending
     pub ports : new.ports.items ≡ old.ports.items
@@ -271,6 +272,7 @@ module _ {S F D : Type 0} where
     pub range : new.sockets.pool.range ≡ old.sockets.pool.range
     pub longest : new.longest ≡ old.longest
     pub requests_only : new.requests_only ≡ old.requests_only
+    pub per_client : new.per_client ≡ old.per_client
     pub server : new.server ≡ old.server
     pub pending : new.pending ≡ old.pending
     pub timers : timers_of new ≡ timers_of old
@@ -292,6 +294,7 @@ module _ {S F D : Type 0} where
     pub range : new.sockets.pool.range ≡ old.sockets.pool.range
     pub longest : new.longest ≡ old.longest
     pub requests_only : new.requests_only ≡ old.requests_only
+    pub per_client : new.per_client ≡ old.per_client
     pub server : new.server ≡ old.server
     pub pending : new.pending ≡ old.pending
     pub timers : timers_of new

@@ -9,6 +9,7 @@ use Rattle.tftp_server.specs.State.{TransferState, at}
 use Rattle.tftp_sockets.specs.Watch.{last_moment}
 use Rattle.tftp_sockets.specs.declared.watch.Watch.{Watch}
 use Rattle.tftp_loop.specs.Run.{Run}
+use Rattle.tftp_loop.specs.Run.Run.{Start, Then}
 use Rattle.tftp_loop.specs.Steps.{Timer, LoopState, LoopStep, Waits, round_end}
 use Rattle.tftp_loop.specs.Steps.LoopStep.{Waited, Clock_read}
 use Rattle.tftp_loop.specs.Expiry.{ClosesInSilence, Idles, NoneReceived, PrintsClose, closing_time}
@@ -32,6 +33,19 @@ module _ {S F D : Type 0} (meaning : StoreMeaning S D) (sources : SourceMeaning 
       → Idles meaning sources port first last → ℕ
   cut_in At_first = 0
   cut_in (After run does idle) = cut_in run + cut_by does
+
+  -- and of any run
+  abbrev pub cut_along : {first last : LoopState S F D}
+      → Run (LoopStep meaning sources) first last → ℕ
+  cut_along Start = 0
+  cut_along (Then run does) = cut_along run + cut_by does
+
+  -- between two states of a run the time advances at least as much as the readings of the clock,
+  -- without what the rounds did not count
+  abbrev pub PassesWithTheClock : Type 0
+  PassesWithTheClock =
+      (first last : LoopState S F D) (run : Run (LoopStep meaning sources) first last)
+      → last.reading + first.now ≤ first.reading + last.now + cut_along run
 
   -- in a run from a time without transfers: at each wait before which the readings of the clock have
   -- advanced by more than the time until a transfer closes, and what the rounds did not count, it is
@@ -58,6 +72,21 @@ module _ {S F D : Type 0} (meaning : StoreMeaning S D) (sources : SourceMeaning 
       → Waits meaning sources last new
       → closing_time (counted_from first.reading timer) timer.interval first.server.config.retries
       + cut_in idles < last.reading
+      → last.now ≤ last_moment
+      → (outcome : Outcome)
+      × PrintsClose timer.port timer.peer.port outcome first.events last.events
+      × ClosesInSilence transfer.end.position.phase outcome
+
+  -- a transfer that is over age closes so, whatever is received at its port
+  abbrev pub ClosesOverAgeByTheClock : Type 0
+  ClosesOverAgeByTheClock =
+      (start first last new : LoopState S F D) (timer : Timer) (transfer : TransferState F D)
+      → start.timers ≡ [] → Run (LoopStep meaning sources) start first
+      → Contains first.timers timer → at timer.port first.server.held ≡ Some transfer
+      → timer.age_limit < first.now
+      → (run : Run (LoopStep meaning sources) first last) → Waits meaning sources last new
+      → closing_time (counted_from first.reading timer) timer.interval first.server.config.retries
+      + cut_along run < last.reading
       → last.now ≤ last_moment
       → (outcome : Outcome)
       × PrintsClose timer.port timer.peer.port outcome first.events last.events

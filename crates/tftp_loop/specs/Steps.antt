@@ -1,7 +1,7 @@
 -- A run of a server over UDP: each step is followed at once by its answer, nothing else is sent or
 -- printed, and the server waits only when its work is done (RFC 1350, sections 2 and 4).
 use Rattle.std.specs.Prelude.{ℕ, ◌≡◌, ◌≢◌, ◌≤◌, ◌<◌, ◌-◌, ◌+◌, ◌==◌, ◌||◌, ◌&&◌, not, ◌⊎◌, min}
-use Rattle.std.specs.Prelude.{max, Bool, true, false}
+use Rattle.std.specs.Prelude.{max, Bool, true, false, nat_le}
 use Rattle.std.specs.Prelude.{if◌then◌else◌, List, [], ◌∷◌, ◌++◌, length, map, All, IfSome}
 use Rattle.std.specs.Prelude.{slice_set, slice_index_or, Option, Some, None, is_some}
 use Rattle.std.specs.List.{swap_remove, list_any}
@@ -12,6 +12,7 @@ use Rattle.tftp_ends.specs.declared.outgoing.Outgoing.{Outgoing}
 use Rattle.tftp_ends.specs.declared.record.Record.{Record}
 use Rattle.tftp_ends.specs.declared.record.Step.{Step}
 use Rattle.tftp_ends.specs.declared.record.TheConstants.{DEFAULT_INTERVAL}
+use Rattle.tftp_ends.specs.Action.{same_address}
 use Rattle.tftp_ends.specs.End.{interval_of, terms_of}
 use Rattle.tftp_ends.specs.Shortage.{AppendsNothing}
 use Rattle.tftp_ends.specs.Step.{timeout_turn}
@@ -81,6 +82,8 @@ pub record LoopState (S F D : Type 0) : Type 0 where
   pub longest : Option ℕ
   -- whether only requests are handled at the request port
   pub requests_only : Bool
+  -- how many transfers one address has open at most, if there is a limit
+  pub per_client : Option ℕ
   pub server : ServerState S F D
   -- the datagram received there and not handled yet
   pub pending : Option (Endpoint × List ℕ)
@@ -105,6 +108,17 @@ pub record LoopState (S F D : Type 0) : Type 0 where
   pub rounds : ℕ
   -- the last event first
   pub events : List SocketEvent
+
+-- how many of these transfers are of peers with the address of this endpoint
+abbrev pub open_of : Endpoint → List Timer → ℕ
+open_of from [] = 0
+open_of from (timer ∷ timers) =
+    (if same_address timer.peer from then 1 else 0) + open_of from timers
+
+-- the address of an endpoint has as many open as one address may have, if there is a limit
+abbrev pub has_most : Option ℕ → Endpoint → List Timer → Bool
+has_most None from timers = false
+has_most (Some most) from timers = nat_le most (open_of from timers)
 
 -- the watch of a server
 abbrev pub watch_of : {S F D : Type 0} → LoopState S F D → Watch
@@ -410,6 +424,10 @@ module _ {S F D : Type 0} (meaning : StoreMeaning S D) (sources : SourceMeaning 
     -- of another, or to the request port
     Same_port : MayOpen old.server from bytes → (port : ℕ) → IsLast (New_socket port) old.events
         → is_taken old port ≡ true → RequestLoss
+    -- it may open a transfer, and the address of its sender has as many open as one may have: it is
+    -- dropped, as if the network had lost it
+    Too_many : MayOpen old.server from bytes
+        → has_most old.per_client from old.timers ≡ true → RequestLoss
 
 -- the event of a note
 abbrev pub note_event : {S F D : Type 0} {meaning : StoreMeaning S D} {sources : SourceMeaning F}
@@ -576,7 +594,9 @@ module _ {S F D : Type 0} (meaning : StoreMeaning S D) (sources : SourceMeaning 
   -- the server, as it is now, handles the pending datagram, and the answer is sent at once: an
   -- ERROR from the request port, or the first datagram of a transfer from a port that no transfer
   -- has, that is not the request port, and that is one of the range, if there is one (RFC 1350,
-  -- section 4; RFC 2347, "Negotiation Protocol"). If only requests are handled, it begins as one
+  -- section 4; RFC 2347, "Negotiation Protocol"). A draft that it stores in has the name of that
+  -- port. If only requests are handled, it begins as one; if it opens a transfer, its sender's
+  -- address has fewer open than one may have
   pub record AnswersRequest : Type 0 where
     pub from : Endpoint
     pub bytes : List ℕ
@@ -587,6 +607,9 @@ module _ {S F D : Type 0} (meaning : StoreMeaning S D) (sources : SourceMeaning 
     pub left : Left S F D
     pub port : IfSome left.opened.tid (IsOneOf old.range)
     pub own : IfSome left.opened.tid (λ port. port ≢ old.requests)
+    pub set : IfSome left.opened.tid (λ _. meaning.is_set_to old.server.store tid)
+    pub few : IfSome left.opened.tid
+        (λ port. has_most old.per_client from old.timers ≡ false)
     pub steps : RequestStep meaning sources old.server from bytes tid left
     pub is : new ≡ after_request old from left
 
@@ -672,6 +695,7 @@ at_start config requests server reading events =
       range = config.ports;
       longest = config.longest;
       requests_only = config.requests_only;
+      per_client = config.per_client;
       server = server;
       pending = None;
       timers = [];

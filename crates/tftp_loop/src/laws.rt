@@ -10,7 +10,8 @@ ghost use Rattle.tftp_loop.specs.Leaving.{SendsOnlyGiven};
 ghost use Rattle.tftp_loop.specs.PortsInTurn.{UsesNoPortTwice};
 ghost use Rattle.tftp_loop.specs.Reflected.{ReflectsFew};
 ghost use Rattle.tftp_loop.specs.Reported.{ReadsWhatIsReported};
-ghost use Rattle.tftp_loop.specs.Seconds.{ClosesByTheClock, TimesOutByTheClock};
+ghost use Rattle.tftp_loop.specs.Seconds.{ClosesByTheClock, ClosesOverAgeByTheClock};
+ghost use Rattle.tftp_loop.specs.Seconds.{PassesWithTheClock, TimesOutByTheClock};
 ghost use Rattle.tftp_loop.specs.Sleeps.{RestsBeforeItSleeps};
 
 use tftp_negotiate::laws::answers_within_request;
@@ -48,8 +49,8 @@ pub fn a_server_that_drains_only_finishes<T: Store>()
     ensures signal { DrainsByASignal T.meaning T.Source.meaning }
 {}
 
-/// A request is never dropped, whatever the server is told: what is dropped spells neither an RRQ
-/// nor a WRQ (RFC 1350, section 5). A server that is to handle only requests answers nothing at its
+/// No request is dropped for what it says, whatever the server is told: what is dropped so spells
+/// neither an RRQ nor a WRQ (RFC 1350, section 5). A server that is to handle only requests answers nothing at its
 /// request port that begins as neither, and one that is not drops nothing there.
 pub fn a_server_drops_no_request<T: Store>()
     ensures requests { DropsNoRequest T.meaning T.Source.meaning }
@@ -71,10 +72,14 @@ pub fn a_server_closes_what_makes_no_progress<T: Store>()
 /// The same by the clock that the server read. At each wait before which the readings of the clock
 /// have advanced by more than that time, and by what the rounds did not count of them, the line of
 /// the transfer was printed. A reading counts up to a second after the round before the newest wait
-/// began: so a clock that jumps closes no transfer (RFC 1350, section 2).
+/// began: so a clock that jumps closes no transfer. A transfer that is over age is closed so whatever
+/// it receives. Between any two states the server's time advances at least as much as the readings,
+/// without what the rounds did not count (RFC 1350, section 2).
 pub fn a_server_closes_by_the_clock<T: Store>()
     ensures closes { ClosesByTheClock T.meaning T.Source.meaning }
     ensures silent { TimesOutByTheClock T.meaning T.Source.meaning }
+    ensures over_age { ClosesOverAgeByTheClock T.meaning T.Source.meaning }
+    ensures passes { PassesWithTheClock T.meaning T.Source.meaning }
 {}
 
 /// A server with a range of ports takes no port of it twice before it has taken each.

@@ -1,11 +1,15 @@
 //! The log entry of a transfer.
 
+ghost use Rattle.std.specs.Prelude.{◌≡◌, ◌||◌, false};
+ghost use Rattle.tftp_lines.specs.Hint.{hint_of};
+ghost use Rattle.tftp_loop.specs.Hinted.{hint_in};
+
 use crate::datagram::Datagram;
 use crate::log::Log;
 use std::alloc::Global;
 use std::cell::Cell;
 use tftp_ends::{Endpoint, Outcome, Step};
-use tftp_lines::{LogLine, Reason, RequestLine, Why};
+use tftp_lines::{Hint, LogLine, Reason, RequestLine, Why};
 use tftp_wire::{PacketRef, decode_ref, show_datagram};
 
 /// The content of a transfer's log lines.
@@ -17,6 +21,8 @@ pub(crate) struct LogEntry {
     answer: String,
     /// The reading of the clock at the opening, in milliseconds.
     opened_at: u64,
+    /// Whether a datagram made progress: the first one of the transfer has been answered so.
+    has_progressed: bool,
     /// The number of DATA bytes sent or received, without repetitions.
     bytes: u64,
     /// The number of datagrams that were sent again.
@@ -36,13 +42,17 @@ impl LogEntry {
         request: Datagram<'_>,
         answer: &[u8],
         opened_at: u64,
-    ) -> LogEntry {
+    ) -> LogEntry
+        ensures log { result.log ≡ log }
+        ensures first { result.has_progressed ≡ false }
+    {
         LogEntry {
             log,
             peer: request.from,
             request: shown(alloc, request.bytes),
             answer: shown(alloc, answer),
             opened_at,
+            has_progressed: false,
             bytes: data_length(answer),
             again: Cell::new(0),
             error: String::new(alloc),
@@ -51,8 +61,13 @@ impl LogEntry {
     }
 
     /// Adds a datagram that was received, its step and its answer.
-    pub(crate) fn add(&mut self, received: &[u8], step: &Step, answer: &[u8]) {
+    pub(crate) fn add(&mut self, received: &[u8], step: &Step, answer: &[u8])
+        ensures log { self.new.log ≡ self.old.log }
+        ensures progress { self.new.has_progressed
+            ≡ (self.old.has_progressed || step.now.progress) }
+    {
         if step.progress {
+            self.has_progressed = true;
             self.count(answer);
             self.count(received);
         } else if step.to == Some(self.peer) {
@@ -73,7 +88,9 @@ impl LogEntry {
     }
 
     /// Adds the DATA bytes of a datagram.
-    fn count(&mut self, datagram: &[u8]) {
+    fn count(&mut self, datagram: &[u8])
+        ensures { self.new ≡ record self.old { bytes = self.new.bytes } }
+    {
         self.bytes = self.bytes.saturating_add(data_length(datagram));
     }
 
@@ -119,7 +136,10 @@ impl LogEntry {
         reading: u64,
         outcome: Outcome,
         reason: Option<Reason>,
-    ) -> LogLine<'_> {
+    ) -> LogLine<'_>
+        ensures { hint_in result
+            ≡ hint_of self.now.log.is_anywhere self.now.has_progressed outcome }
+    {
         LogLine::Closed {
             port,
             request: self.request_line(),
@@ -129,6 +149,7 @@ impl LogEntry {
             again: self.again.get(),
             outcome,
             why: self.why(outcome, reason),
+            hint: Hint::of(self.log.is_anywhere, self.has_progressed, outcome),
         }
     }
 

@@ -12,11 +12,12 @@ ghost use Rattle.tftp_sockets.specs.Trace.SocketEvent.{Quiet};
 ghost use Rattle.tftp_sockets.specs.Trace.QuietEvent.{Out_of_memory};
 ghost use Rattle.tftp_loop.specs.PortOrder.{IsOneOf};
 ghost use Rattle.tftp_loop.specs.PortPool.{IsOfPool, most_of};
-ghost use Rattle.tftp_loop.specs.Steps.{IsSet, answering_port, interval_at, started, with_timer};
+ghost use Rattle.tftp_loop.specs.Steps.{IsSet, answering_port, has_most, interval_at, started};
+ghost use Rattle.tftp_loop.specs.Steps.{with_timer};
 ghost use Rattle.tftp_loop.specs.OnlyRequests.{IsHandledBy, begins_as_request};
 ghost use Rattle.tftp_loop.specs.LoopStates.{HasAnswered, HasRoom, IsAdmission, WorksRound, timer_of};
 ghost use Rattle.tftp_loop.specs.MayWait.{AnswersPending, HandlesReceived, HasTriedRequests};
-ghost use Rattle.tftp_loop.specs.MayWait.{HasFew, IsSettled, reads_of};
+ghost use Rattle.tftp_loop.specs.MayWait.{HasFew, IsSettled, reads_of, timers_of};
 ghost use Rattle.tftp_loop.specs.declared.port_visit.TheConstants.{MOST_AT_ONCE};
 
 use crate::datagram::Datagram;
@@ -24,7 +25,7 @@ use crate::log_entry::{LogEntry, reason_unasked};
 use crate::report::{Refusal, log_lost, log_refused, log_unopened, log_unsent_answer};
 use crate::server_loop::ServerLoop;
 use crate::sockets::Sockets;
-use crate::transfer_port::{TransferPort, TransferSocket, age_limit, next_look, reply};
+use crate::transfer_port::{TransferPort, TransferSocket, age_limit, next_look, open_of, reply};
 use tftp_ends::{DEFAULT_INTERVAL, Endpoint};
 use tftp_lines::{Lost, Reason};
 use tftp_server::{Admission, Opened, Server, Store};
@@ -101,7 +102,7 @@ impl<S: ServedStore<Reason> + Drop> ServerLoop<S> {
             return;
         };
         if admission.may_open() {
-            self.open_request(net, datagram, admission);
+            self.open_or_lose(net, datagram, admission);
             return;
         }
         self.refuse_request(net, datagram, admission);
@@ -149,9 +150,9 @@ impl<S: ServedStore<Reason> + Drop> ServerLoop<S> {
 
     /// Handles a datagram that was received at the request port. One from port 0 is ignored, since no
     /// answer can come there, and so is what does not begin as a request, if only requests are
-    /// handled. One that would open no transfer stays pending: the datagrams of transfers are handled
-    /// first, and then it is admitted again, since an acknowledgement that its client sent just
-    /// before may free a slot.
+    /// handled. One that would open no transfer, or one too many of its client, stays pending: the
+    /// datagrams of transfers are handled first, and then it is admitted again, since an
+    /// acknowledgement that its client sent just before may free a slot.
     fn take_received<N: ServerUdp + Eprint>(
         &mut self,
         net: &mut N,
@@ -181,7 +182,7 @@ impl<S: ServedStore<Reason> + Drop> ServerLoop<S> {
             self.lose_for_memory(net, Datagram { from, bytes });
             return;
         };
-        if admission.may_open() {
+        if self.opens(from, &admission) {
             self.open_request(net, Datagram { from, bytes }, admission);
             self.pending = None;
             return;
@@ -206,6 +207,52 @@ impl<S: ServedStore<Reason> + Drop> ServerLoop<S> {
         }
     }
 
+    /// The most transfers of one address, if that of this endpoint has so many open.
+    fn most_reached(&self, from: Endpoint) -> Option<u8>
+        ensures { is_some result ≡ has_most self.now.per_client from (timers_of self.now) }
+    {
+        let most = self.per_client?;
+        if usize::from(most) <= open_of(from, self.ports.as_slice()) {
+            Some(most)
+        } else {
+            None
+        }
+    }
+
+    /// Whether an admission may open a transfer, and its client's address has fewer open than one may
+    /// have.
+    fn opens(&self, from: Endpoint, admission: &Admission<'_>) -> bool
+        ensures asks { result ≡ true → asks_store admission.now.ask ≡ true }
+        ensures few { result ≡ true
+            → has_most self.now.per_client from (timers_of self.now) ≡ false }
+    {
+        admission.may_open() && self.most_reached(from).is_none()
+    }
+
+    /// Carries out the admission of a datagram that may open a transfer, unless its client's address
+    /// has as many open as one may have: then it is lost.
+    fn open_or_lose<N: ServerUdp + Eprint>(
+        &mut self,
+        net: &mut N,
+        datagram: Datagram<'_>,
+        admission: Admission<'_>,
+    )
+        requires admitted { IsAdmission self.old.server datagram.from datagram.bytes.now admission }
+        requires may_open { asks_store admission.ask ≡ true }
+        requires handled { IsHandledBy self.old.requests_only datagram.bytes.now }
+        requires room { HasRoom self.old }
+        requires reserved { vec_len self.old.ports < vec_capacity self.old.ports }
+        ensures answers { AnswersPending S.meaning S.Source.meaning datagram.entry.from
+            datagram.entry.bytes.now self.old (N.log net.old) self.new (N.log net.new) }
+        ensures rounds { self.new.rounds ≡ self.old.rounds }
+        ensures room { HasRoom self.new }
+    {
+        match self.most_reached(datagram.from) {
+            Some(most) => self.lose(&*net, datagram, Lost::Client(most)),
+            None => self.open_request(net, datagram, admission),
+        }
+    }
+
     /// Carries out the admission of a datagram that may open a transfer, at a port of its own. The
     /// datagram is lost if none can be bound, if the system binds one that is taken, or when out of
     /// memory.
@@ -218,6 +265,7 @@ impl<S: ServedStore<Reason> + Drop> ServerLoop<S> {
         requires admitted { IsAdmission self.old.server datagram.from datagram.bytes.now admission }
         requires may_open { asks_store admission.ask ≡ true }
         requires handled { IsHandledBy self.old.requests_only datagram.bytes.now }
+        requires few { has_most self.old.per_client datagram.from (timers_of self.old) ≡ false }
         requires room { HasRoom self.old }
         requires reserved { vec_len self.old.ports < vec_capacity self.old.ports }
         ensures answers { AnswersPending S.meaning S.Source.meaning datagram.entry.from
@@ -249,6 +297,7 @@ impl<S: ServedStore<Reason> + Drop> ServerLoop<S> {
         requires admitted { IsAdmission self.old.server datagram.from datagram.bytes.now admission }
         requires may_open { asks_store admission.ask ≡ true }
         requires handled { IsHandledBy self.old.requests_only datagram.bytes.now }
+        requires few { has_most self.old.per_client datagram.from (timers_of self.old) ≡ false }
         requires port { IsOfPool self.old.sockets.pool bound }
         requires own { bound.port ≢ self.old.sockets.requests.port }
         requires free { at bound.port self.old.server.held ≡ None }
@@ -482,6 +531,7 @@ fn set_store<S: ServedStore<Reason> + Drop>(
     ensures rest { server.new ≡ record server.old { store = server.new.store } }
     ensures same { S.meaning.stored server.new.store ≡ S.meaning.stored server.old.store }
     ensures behind { IsSet S.meaning server.old.store server.new.store }
+    ensures set { S.meaning.is_set_to server.new.store tid }
 {
     let longest = server.block_size(admission).map_or(0, longest_text);
     let store = server.store_mut();

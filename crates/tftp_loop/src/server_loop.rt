@@ -55,6 +55,8 @@ pub(crate) struct ServerLoop<S: Store + Drop> {
     pub(crate) longest: Option<u32>,
     /// Whether what does not begin as a request is dropped at the request port.
     pub(crate) requests_only: bool,
+    /// How many transfers one address has open at most.
+    pub(crate) per_client: Option<u8>,
     /// Whether it takes no new request.
     pub(crate) drain: Drain,
     /// The time of the watch at which the signal to drain is looked at again, in milliseconds.
@@ -114,10 +116,12 @@ impl<S: ServedStore<Reason> + Drop> ServerLoop<S> {
         ensures rounds { result.rounds ≡ config.now.ending.rounds }
         ensures longest { result.longest ≡ config.now.longest }
         ensures requests_only { result.requests_only ≡ config.now.requests_only }
+        ensures per_client { result.per_client ≡ config.now.per_client }
         ensures drain { result.drain ≡ drain_of config.now.drains }
         ensures room { HasRoom result }
     {
         let Reserved { ports, answer } = reserved;
+        let log = Log::new(config, sockets.listening());
         ServerLoop {
             server,
             sockets,
@@ -129,12 +133,10 @@ impl<S: ServedStore<Reason> + Drop> ServerLoop<S> {
             rounds: config.ending.rounds,
             longest: config.longest,
             requests_only: config.requests_only,
+            per_client: config.per_client,
             drain: Drain::of(config.drains),
             signal_look: 0,
-            log: Log {
-                is_written: config.logs,
-                has_priority: config.has_priority,
-            },
+            log,
             alloc,
         }
     }

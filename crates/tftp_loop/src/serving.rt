@@ -30,6 +30,9 @@ pub struct LoopConfig {
     /// Whether what arrives at the request port and begins neither as RRQ nor as WRQ is dropped, as if
     /// the network had lost it.
     pub requests_only: bool,
+    /// How many transfers one address has open at most: a further request of it is dropped, as if the
+    /// network had lost it; `None` for no limit.
+    pub per_client: Option<u8>,
     /// Whether a signal to drain is awaited.
     pub drains: bool,
     /// Whether the start, each request and each close is logged as a line on standard error.

@@ -1,11 +1,13 @@
 //! The port of a transfer: its socket, its timer and its mark.
 
 ghost use Rattle.std.specs.Prelude.{◌≡◌, ◌<◌, ◌∷◌, List, true, false, map, min, ◌+◌};
+ghost use Rattle.std.specs.Prelude.{◌≤◌, if◌then◌else◌};
+ghost use Rattle.tftp_ends.specs.Action.{same_address};
 ghost use Rattle.tftp_sockets.specs.Trace.{replied};
 ghost use Rattle.tftp_sockets.specs.Watch.{last_moment};
 ghost use Rattle.tftp_loop.specs.Fair.{ReceivesAtMost};
 ghost use Rattle.tftp_loop.specs.Steps.{WorksAtPort, age_limit_of, look_after, marked_as};
-ghost use Rattle.tftp_loop.specs.Steps.{most_in_round, restarted, timer_after};
+ghost use Rattle.tftp_loop.specs.Steps.{most_in_round, open_of, restarted, timer_after};
 ghost use Rattle.tftp_loop.specs.LoopStates.{timer_of};
 ghost use Rattle.tftp_loop.specs.MayWait.{IsSurveyOf, earlier, marked_if, set_if, wait_until};
 ghost use Rattle.tftp_loop.specs.MayWait.{woken_if};
@@ -62,6 +64,27 @@ pub(crate) struct Survey {
     /// The number of transfers that were opened or made progress lately. One that only waits for a
     /// repeated datagram, or whose client vanished, does not count.
     pub(crate) active: usize,
+}
+
+/// How many of these ports are of transfers with the address of this endpoint.
+pub(crate) fn open_of(from: Endpoint, ports: &[TransferPort]) -> usize
+    ensures { result ≡ open_of from (map timer_of ports.now) }
+{
+    let mut count = 0;
+    let mut index = ports.len();
+    while index > 0 {
+        index -= 1;
+        count += counted(from, &ports[index]);
+    }
+    count
+}
+
+/// One if the transfer at a port is of a peer with the address of this endpoint.
+fn counted(from: Endpoint, port: &TransferPort) -> usize
+    ensures one { result ≡ (if same_address port.now.socket.peer from then 1 else 0) }
+    ensures most { result ≤ 1 }
+{
+    if port.socket.peer.ip == from.ip { 1 } else { 0 }
 }
 
 impl Survey {

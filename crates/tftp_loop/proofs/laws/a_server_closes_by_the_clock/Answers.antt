@@ -1,5 +1,6 @@
 -- The lemmas that are the law.
-use Rattle.tftp_loop.proofs.ByTheClock.{closes_by_the_clock, times_out_by_the_clock}
+use Rattle.tftp_loop.proofs.ByTheClock.{closes_by_the_clock, closes_over_age_by_the_clock, passes_with_the_clock}
+use Rattle.tftp_loop.proofs.ByTheClock.{times_out_by_the_clock}
 use Rattle.tftp_loop.proofs.laws.a_server_closes_by_the_clock.Goals as goal
 
 pub returns-clause-closes : goal.returns-clause-closes
@@ -13,3 +14,12 @@ returns-clause-silent g c =
     λ start first last new timer transfer empty run has found idles silent waits late soon.
     times_out_by_the_clock g.T.Store.meaning g.T.Source.Source.meaning start first last new
     timer transfer empty run has found idles silent waits late soon
+
+pub returns-clause-over_age : goal.returns-clause-over_age
+returns-clause-over_age g c =
+    λ start first last new timer transfer empty run has found aged goes waits late soon.
+    closes_over_age_by_the_clock g.T.Store.meaning g.T.Source.Source.meaning start first last new
+    timer transfer empty run has found aged goes waits late soon
+
+pub returns-clause-passes : goal.returns-clause-passes
+returns-clause-passes g c = passes_with_the_clock g.T.Store.meaning g.T.Source.Source.meaning

@@ -19,8 +19,8 @@ returns-then-drops-clause-answers g c =
     drops_as g.S.Store.meaning g.S.Source.Source.meaning
     (loop_state (Some (d.from, d.bytes.now)) c.args.self.now (g.N.Udp.log c.args.net.now)) _ d.from d.bytes.now refl (sym c.drops.ensures.value ∙ c.if-drops.true) refl
 
-pub open_request-requires-clause-reserved : goal.open_request-requires-clause-reserved
-open_request-requires-clause-reserved g c =
+pub open_or_lose-requires-clause-reserved : goal.open_or_lose-requires-clause-reserved
+open_or_lose-requires-clause-reserved g c =
     let d = c.args.datagram in
     let ports = c.args.self.now.ports in
     let long = length-map ports.items timer_of in

@@ -16,6 +16,7 @@ returns g c =
       range = refl;
       longest = refl;
       requests_only = refl;
+      per_client = refl;
       server = refl;
       pending = refl;
       ports = refl;

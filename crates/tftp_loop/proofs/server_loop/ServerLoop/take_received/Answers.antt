@@ -41,6 +41,6 @@ open_request-requires-clause-reserved g c =
     let long = length-map ports.items timer_of in
     let fewer =
     has_reserved c.args.self.now.server c.args.from bytes c.in-Ok.admission.ask (map timer_of ports.items)
-    (vec_capacity ports) c.in-Ok.ensures.admits (sym c.may_open.ensures ∙ c.if-may_open.true) c.requires.settled.kept
+    (vec_capacity ports) c.in-Ok.ensures.admits (c.opens.ensures.asks c.if-opens.true) c.requires.settled.kept
     c.requires.room.each in
     omega (arith, ports.ok.0, long, fewer)
