@@ -65,6 +65,7 @@ fn config_of(words: &[String]) -> Option<LoopConfig> {
         },
         longest: None,
         requests_only: false,
+        per_client: None,
         drains: false,
         logs: false,
         has_priority: false,

@@ -1,5 +1,5 @@
 -- What a status says, and what was done for words.
-use Rattle.std.proofs.Common.{◌≡◌, ◌≤◌, ◌∙◌, ℕ, List, arith, inl, inr, sym, subst}
+use Rattle.std.proofs.Common.{◌≡◌, ◌≤◌, ◌∙◌, ℕ, List, [], arith, inl, inr, sym, subst}
 use Rattle.tftp_ends.specs.declared.endpoint.Endpoint.{Endpoint}
 use Rattle.tftp_file.specs.Source.{SourceMeaning}
 use Rattle.tftp_server.specs.State.{ServerState}
@@ -27,12 +27,13 @@ module _ {B G H W F D : Type 0} {log : B → List DiskEvent} {start : List DiskE
   -- a server ran with the configuration of the loop that has its request port there
   pub serves_at : {config : DaemonConfig} {at : Endpoint} {service : LoopConfig}
       {server : ServerState (FolderStore B G H W) F D} {status : ℕ} → service ≡ service_at config at
-      → config.instance.servers ≤ 1 → ListensAt config.listen at → IsServerOf log start config server
+      → config.instance.servers ≤ 1 → config.others.items ≡ [] → ListensAt config.listen at → IsServerOf log start config server
       → RunsService meaning sources service server status before after
       → MayServe log start meaning sources config status before after
-  serves_at {config} {at} {service} {server} {status} same alone listens is runs =
+  serves_at {config} {at} {service} {server} {status} same alone one listens is runs =
       inr (record {
         alone = alone;
+        at_one_address = one;
         at = at;
         listens = listens;
         server = server;

@@ -1,7 +1,10 @@
+mod Addresses
 mod ConfiguredLemmas
 mod Commands
+mod HeldAtPorts
 mod Keeping
 mod NoneStores
+mod OwnDrafts
 mod Supervising
 mod WithinLimits
 pub mod SentFiles

@@ -46,12 +46,12 @@ module _ {V F G H K L D : Type 0} (log : V → List DiskEvent) (meaning : StoreM
     (sources : SourceMeaning (FolderSource V F)) (root : List ℕ)
     (requests largest : ℕ) where
   -- what was given of a source is of its file
-  of_file : ((path : List ℕ) (mode : Mode) (source : FolderSource V F) → sources.opens root path mode source
-      → OpensSource log root path mode source)
+  of_file : ((path : List ℕ) (mode : Mode) (stated : ℕ) (source : FolderSource V F)
+      → sources.opens root path mode stated source → OpensSource log root path mode stated source)
       → GivesFile log sources → (peer : Endpoint) (events : List SocketEvent) (piece : List ℕ)
       → AskedFor sources root requests largest peer events piece → IsOfFile F log root requests largest peer events piece
   of_file opens gives peer events piece asked =
-      let opened = opens asked.path asked.request.mode asked.first asked.opened in
+      let opened = opens asked.path asked.request.mode asked.stated asked.first asked.opened in
       record {
         request = asked.request;
         bytes = asked.bytes;
@@ -60,10 +60,12 @@ module _ {V F G H K L D : Type 0} (log : V → List DiskEvent) (meaning : StoreM
         path = asked.path;
         named = asked.named;
         first = asked.first;
+        stated = asked.stated;
         opened = opened;
         last = asked.gave.after;
         text = asked.gave.text;
-        given = gives root asked.path asked.request.mode asked.first asked.gave.after (asked.gave.text ++ piece) opened
+        given = gives root asked.path asked.request.mode asked.stated asked.first asked.gave.after
+            (asked.gave.text ++ piece) opened
             (Gave_more asked.gave.earlier asked.gave.gave);
         long = asked.long;
       }
@@ -72,8 +74,8 @@ module _ {V F G H K L D : Type 0} (log : V → List DiskEvent) (meaning : StoreM
     (sources : SourceMeaning (FolderSource V F)) where
   -- the law
   pub only_asked_files_leave : ((store : FolderStore G H K L) → meaning.root store ≡ string_bytes store.folder.root)
-      → ((root path : List ℕ) (mode : Mode) (source : FolderSource V F) → sources.opens root path mode source
-      → OpensSource log root path mode source)
+      → ((root path : List ℕ) (mode : Mode) (stated : ℕ) (source : FolderSource V F)
+      → sources.opens root path mode stated source → OpensSource log root path mode stated source)
       → GivesFile log sources → RunLeaves SameSettings meaning sources → SendsOnlyGiven meaning sources
       → OnlyAskedFilesLeave log meaning sources
   only_asked_files_leave rooted opens gives keeps sends start now none idle run =

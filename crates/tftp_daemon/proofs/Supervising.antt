@@ -3,6 +3,7 @@ use Rattle.std.proofs.Common.{◌≡◌, ◌≤◌, ◌<◌, ◌+◌, ◌∙◌,
 use Rattle.std.specs.Prelude.{slice_index_or}
 use Rattle.std.proofs.lemmas.Bool.{cases_lt}
 use Rattle.std.proofs.lemmas.List.{get_or_append_left, get_or_push, length-map, length_push, map_push}
+use Rattle.tftp_daemon.specs.Configured.{servers_of}
 use Rattle.tftp_daemon.specs.Servers.{NamesServerOf}
 use Rattle.tftp_daemon.specs.Supervised.{AreServerLines, SupervisesConfig}
 use Rattle.tftp_daemon.specs.declared.daemon.DaemonConfig.{DaemonConfig}
@@ -46,7 +47,7 @@ lines_pushed f config items pushed line count is counted are named =
 
 -- a supervisor of just these lines
 pub supervised_so : {Line : Type 0} (f : Line → List (List ℕ)) (config : DaemonConfig) (lines given : List Line)
-    (events : List ProcessEvent) → given ≡ lines → length lines ≡ config.instance.servers →
+    (events : List ProcessEvent) → given ≡ lines → length lines ≡ servers_of config →
     AreServerLines config (map f lines) → started_in events ≡ map f given → AllSucceeded (length given) events →
     PassedOn events → SupervisesConfig config events
 supervised_so f config lines given events same counted named started succeeded passed =

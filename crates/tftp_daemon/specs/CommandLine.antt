@@ -1,8 +1,14 @@
 -- The server that the words of a command line configure, as they were read (own).
-use Rattle.std.specs.Prelude.{ℕ, ◌≡◌, ◌≤◌, true, false, List, ◌∷◌, ◌++◌, codes}
-use Rattle.std.specs.Prelude.{Option, Some, None, option_map}
+use Rattle.std.specs.Prelude.{ℕ, ◌≡◌, ◌≤◌, true, false, List, [], ◌∷◌, ◌++◌, codes, drop}
+use Rattle.std.specs.Prelude.{Option, Some, None, find, option_map}
+use Rattle.std.specs.Option.{option_map_or}
+use Rattle.std.specs.Str.{bytes_eq}
+use Rattle.clap.specs.Matches.{matched_of, raw_values}
+use Rattle.clap.specs.Walk.{Row}
+use Rattle.clap.specs.declared.parser.matches.Found.{Found}
+use Rattle.tftp_ends.specs.declared.endpoint.Endpoint.{Endpoint}
 use Rattle.tftp_server.specs.declared.config.Config.{Config}
-use Rattle.tftp_arguments.specs.Read.{IsFlag, IsNumber, Reads}
+use Rattle.tftp_arguments.specs.Read.{IsFlag, IsNumber, Reads, read_in}
 use Rattle.tftp_sockets.specs.Address.{Names}
 use Rattle.tftp_loop.specs.declared.port_order.PortRange.{PortRange}
 use Rattle.tftp_loop.specs.declared.serving.Ending.{Ending}
@@ -52,27 +58,52 @@ abbrev pub NamesListen : List ℕ → Listen → Type 0
 NamesListen word (At endpoint) = Names word (Some endpoint)
 NamesListen word Handed = word ≡ codes "stdin"
 
+-- all words of an option that may be given again
+abbrev pub words_of : Found → List ℕ → List (List ℕ)
+words_of found id = option_map_or raw_values (matched_of found id) []
+
+-- the same, in the rows of a parse
+abbrev pub words_in : List Row → List ℕ → List (List ℕ)
+words_in rows id = option_map_or (λ row. row.values) (find (λ row. bytes_eq row.id id) rows) []
+
+-- the addresses and ports that words name, in their order
+abbrev pub NameEndpoints : List (List ℕ) → List Endpoint → Type 0
+NameEndpoints [] [] = Unit {0}
+NameEndpoints [] (endpoint ∷ endpoints) = ⊥
+NameEndpoints (word ∷ words) [] = ⊥
+NameEndpoints (word ∷ words) (endpoint ∷ endpoints) =
+    Names word (Some endpoint) × NameEndpoints words endpoints
+
 -- how many servers there are, and which this is, as they were read
 pub record NamesInstance (read : Reads) (instance : Instance) : Type 0 where
   pub servers : IsNumber 8 (read.text (codes "servers")) (Some instance.servers)
   pub server : IsNumber 8 (read.text (codes "server")) instance.server
 
 -- the configuration has the folder, the address, the ports, the limits, the age, the end, the flags
--- and the number of servers that were read, and which of several it is
-pub record NamesServer (read : Reads) (config : DaemonConfig) : Type 0 where
-  pub root : read.word (codes "ROOT") ≡ Some config.root.now
-  pub listen : (word : List ℕ) × (read.word (codes "listen") ≡ Some word)
-      × NamesListen word config.listen
-  pub ports : PortsAs (read.word (codes "ports")) config.ports
-  pub requests_only : IsFlag (read.text (codes "requests-only")) config.requests_only
-  pub limits : ConfiguresAs read config.config
-  pub read_only : IsFlag (read.text (codes "read-only")) config.read_only
-  pub uploads : read.word (codes "uploads") ≡ option_map (λ folder. folder.now) config.uploads
-  pub longest : IsNumber 32 (read.text (codes "longest")) config.longest
-  pub ending : EndsAs read config.ending
-  pub drain : read.word (codes "drain") ≡ option_map (λ path. path.now) config.drain
-  pub logs : IsFlag (read.text (codes "log")) config.logs
-  pub instance : NamesInstance read config.instance
+-- and the number of servers that were read, and which of several it is; and where `--listen` was
+-- given again, with these words, the addresses of the words behind the first
+pub record NamesServer (read : Reads) (listens : List (List ℕ)) (config : DaemonConfig) : Type 0
+  where
+    pub root : read.word (codes "ROOT") ≡ Some config.root.now
+    pub listen : (word : List ℕ) × (read.word (codes "listen") ≡ Some word)
+        × NamesListen word config.listen
+    pub others : NameEndpoints (drop 1 listens) config.others.items
+    pub ports : PortsAs (read.word (codes "ports")) config.ports
+    pub requests_only : IsFlag (read.text (codes "requests-only")) config.requests_only
+    pub per_client : IsNumber 8 (read.text (codes "per-client")) config.per_client
+    pub limits : ConfiguresAs read config.config
+    pub read_only : IsFlag (read.text (codes "read-only")) config.read_only
+    pub uploads : read.word (codes "uploads") ≡ option_map (λ folder. folder.now) config.uploads
+    pub longest : IsNumber 32 (read.text (codes "longest")) config.longest
+    pub ending : EndsAs read config.ending
+    pub drain : read.word (codes "drain") ≡ option_map (λ path. path.now) config.drain
+    pub logs : IsFlag (read.text (codes "log")) config.logs
+    pub log_times : IsFlag (read.text (codes "log-time")) config.log_times
+    pub instance : NamesInstance read config.instance
+
+-- so it is by the rows of a parse
+abbrev pub NamesInRows : List Row → DaemonConfig → Type 0
+NamesInRows rows config = NamesServer (read_in rows) (words_in rows (codes "listen")) config
 
 -- what holds of the configuration that a command line has the program serve by
 abbrev pub IfRun : CommandLine → (DaemonConfig → Type 0) → Type 0

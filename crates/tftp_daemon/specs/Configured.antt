@@ -1,5 +1,5 @@
 -- What the program did for the words of a command line (own).
-use Rattle.std.specs.Prelude.{ℕ, ◌≡◌, ◌≢◌, ◌≤◌, ◌⊎◌, List, [], Option, Some, None, Result, Ok, Err}
+use Rattle.std.specs.Prelude.{ℕ, ◌≡◌, ◌≢◌, ◌≤◌, ◌+◌, ◌*◌, ◌⊎◌, List, [], length, Option, Some, None, Result, Ok, Err}
 use Rattle.std.specs.Prelude.{option_map, is_some}
 use Rattle.std.specs.String.{string_bytes}
 use Rattle.tftp_ends.specs.declared.endpoint.Endpoint.{Endpoint}
@@ -43,14 +43,20 @@ service_at config at = record {
   ending = config.ending;
   longest = config.longest;
   requests_only = config.requests_only;
+  per_client = config.per_client;
   drains = is_some config.drain;
   logs = config.logs;
   has_priority = config.has_priority;
 }
 
--- the configuration is that of several servers, each a process of its own
+-- how many servers there are: so many at each address
+abbrev pub servers_of : DaemonConfig → ℕ
+servers_of config = config.instance.servers * (length config.others.items + 1)
+
+-- the configuration is that of several servers, each a process of its own: at one address, or at
+-- several
 abbrev pub IsOfSeveral : DaemonConfig → Type 0
-IsOfSeveral config = 2 ≤ config.instance.servers
+IsOfSeveral config = (2 ≤ config.instance.servers) ⊎ (config.others.items ≢ [])
 
 -- the words ask for several servers
 abbrev pub AskForSeveral : List (List ℕ) → Type 0
@@ -101,6 +107,7 @@ module _ {B G H W F D : Type 0} (log : B → List DiskEvent) (start : List DiskE
     pub record ServesConfig (config : DaemonConfig) (status : ℕ) (before after : List SocketEvent)
         : Type 0 where
       pub alone : config.instance.servers ≤ 1
+      pub at_one_address : config.others.items ≡ []
       pub at : Endpoint
       pub listens : ListensAt config.listen at
       pub server : ServerState (FolderStore B G H W) F D

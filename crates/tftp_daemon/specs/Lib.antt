@@ -1,4 +1,5 @@
 pub mod Leaves
+pub mod DraftPorts
 pub mod CommandLine
 pub mod Words
 pub mod Configured

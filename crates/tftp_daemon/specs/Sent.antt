@@ -33,7 +33,8 @@ module _ {V : Type 0} (F : Type 0) (log : V → List DiskEvent) (root : List ℕ
     pub path : List ℕ
     pub named : path_of_name request.name ≡ Ok path
     pub first : FolderSource V F
-    pub opened : OpensSource log root path request.mode first
+    pub stated : ℕ
+    pub opened : OpensSource log root path request.mode stated first
     pub last : FolderSource V F
     pub text : List ℕ
     pub given : GivenInOrder (text_of first) (text_of last) (text ++ piece)

@@ -1,6 +1,7 @@
 -- The servers that a command line with several of them starts (own).
-use Rattle.std.specs.Prelude.{ℕ, ◌≡◌, ◌+◌, ◌-◌, ◌*◌, ◌/◌, List, Option, Some, None, option_map}
+use Rattle.std.specs.Prelude.{ℕ, ◌≡◌, ◌+◌, ◌-◌, ◌*◌, ◌/◌, List, [], Option, Some, None, option_map}
 use Rattle.tftp_loop.specs.declared.port_order.PortRange.{PortRange}
+use Rattle.tftp_daemon.specs.Configured.{servers_of}
 use Rattle.tftp_daemon.specs.Words.{WordsConfigure}
 use Rattle.tftp_daemon.specs.declared.daemon.DaemonConfig.{DaemonConfig}
 use Rattle.tftp_daemon.specs.declared.listen.Listen.TheVariants.{Handed}
@@ -23,24 +24,27 @@ PartOf (Some range) servers server None = ⊥
 PartOf (Some range) servers server (Some own) = IsPart range servers server own
 
 -- the configuration of one of the servers of a configuration: it is alone in its process, its
--- requests arrive at standard input, it has its part of the ports, and all else is the same
+-- requests arrive at standard input alone, it has its part of the ports, and all else is the same
 pub record IsServer (config : DaemonConfig) (server : ℕ) (own : DaemonConfig) : Type 0 where
   pub root : own.root.now ≡ config.root.now
   pub listen : own.listen ≡ Handed
+  pub others : own.others.items ≡ []
   pub servers : own.instance.servers ≡ 1
   pub number : own.instance.server ≡ Some server
   pub limits : own.config ≡ config.config
   pub requests_only : own.requests_only ≡ config.requests_only
+  pub per_client : own.per_client ≡ config.per_client
   pub read_only : own.read_only ≡ config.read_only
   pub uploads : option_map (λ folder. folder.now) own.uploads
       ≡ option_map (λ folder. folder.now) config.uploads
-  pub ports : PartOf config.ports config.instance.servers server own.ports
+  pub ports : PartOf config.ports (servers_of config) server own.ports
   pub transfers : own.ending.transfers ≡ config.ending.transfers
   pub rounds : own.ending.rounds ≡ config.ending.rounds
   pub longest : own.longest ≡ config.longest
   pub drain : option_map (λ path. path.now) own.drain
       ≡ option_map (λ path. path.now) config.drain
   pub logs : own.logs ≡ config.logs
+  pub log_times : own.log_times ≡ config.log_times
 
 -- the words name the configuration of a server of this one
 pub record NamesServerOf (config : DaemonConfig) (server : ℕ) (words : List (List ℕ)) : Type 0 where

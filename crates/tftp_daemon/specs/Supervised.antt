@@ -3,7 +3,7 @@ use Rattle.std.specs.Prelude.{ℕ, ◌≡◌, ◌<◌, ◌+◌, ◌⊎◌, List,
 use Rattle.tftp_arguments.specs.Fault.{AskForText}
 use Rattle.tftp_supervisor.specs.PassedOn.{PassedOn}
 use Rattle.tftp_supervisor.specs.ProcessEvent.{AllSucceeded, ProcessEvent, started_in}
-use Rattle.tftp_daemon.specs.Configured.{IsOfSeveral}
+use Rattle.tftp_daemon.specs.Configured.{IsOfSeveral, servers_of}
 use Rattle.tftp_daemon.specs.Servers.{NamesServerOf}
 use Rattle.tftp_daemon.specs.Words.{WordsConfigure, tftpd_app}
 use Rattle.tftp_daemon.specs.declared.daemon.DaemonConfig.{DaemonConfig}
@@ -17,9 +17,9 @@ AreServerLines config lines =
 -- by a command line that names it; each of them ended with the status 0; and what they printed was
 -- printed, line by line
 pub record SupervisesConfig (config : DaemonConfig) (events : List ProcessEvent) : Type 0 where
-  pub count : length (started_in events) ≡ config.instance.servers
+  pub count : length (started_in events) ≡ servers_of config
   pub named : AreServerLines config (started_in events)
-  pub succeeded : AllSucceeded config.instance.servers events
+  pub succeeded : AllSucceeded (servers_of config) events
   pub passed : PassedOn events
 
 module _ {H : Type 0} (supervised : H → List ProcessEvent) where

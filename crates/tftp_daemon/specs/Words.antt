@@ -3,11 +3,11 @@ use Rattle.std.specs.Prelude.{ℕ, true, List, codes, Some}
 use Rattle.std.specs.Fmt.{decimal}
 use Rattle.clap.specs.Simple.{App, matches_of, new_app, new_rule, on_top, with_rule}
 use Rattle.clap.specs.Walk.{Rule}
+use Rattle.clap.specs.declared.builder.action.ArgAction.TheVariants.{Append}
 use Rattle.clap.specs.declared.builder.value_parser.ValueParser.TheVariants as parsers
 use Rattle.tftp_server.specs.Config.{default_config}
-use Rattle.tftp_arguments.specs.Read.{read_in}
 use Rattle.tftp_arguments.specs.Rules.{by_default, flag_rule, number_rule, within, word_rule}
-use Rattle.tftp_daemon.specs.CommandLine.{NamesServer}
+use Rattle.tftp_daemon.specs.CommandLine.{NamesInRows}
 use Rattle.tftp_daemon.specs.declared.daemon.DaemonConfig.{DaemonConfig}
 
 -- ---- the command line
@@ -19,6 +19,10 @@ option_rule id = record (new_rule id) { long = Some id; value_names = 1 }
 abbrev pub any_number : List ℕ → Rule
 any_number id = number_rule id (parsers.Unsigned 0 18446744073709551615)
 
+-- an option with a word, which may be given again
+abbrev pub repeated : Rule → Rule
+repeated rule = record rule { action = Some Append }
+
 -- with the folder, the address of the request port, what is handled there, and the ports of
 -- transfers
 abbrev pub with_folder_and_ports : App → App
@@ -26,7 +30,7 @@ with_folder_and_ports app =
     with_rule
     (with_rule
     (with_rule (with_rule app (word_rule (codes "ROOT")))
-    (by_default (codes "127.0.0.1:6969") (option_rule (codes "listen"))))
+    (repeated (by_default (codes "127.0.0.1:6969") (option_rule (codes "listen")))))
     (flag_rule (codes "requests-only")))
     (option_rule (codes "ports"))
 
@@ -38,12 +42,14 @@ with_limits app =
     (with_rule
     (with_rule
     (with_rule
+    (with_rule
     (with_rule app
     (by_default (decimal default_config.limits.max_block)
     (within (codes "max-block") 8 65464)))
     (by_default (decimal default_config.limits.max_file) (any_number (codes "max-file"))))
     (by_default (decimal default_config.retries) (within (codes "retries") 0 10)))
     (by_default (decimal default_config.cap) (within (codes "cap") 1 64)))
+    (within (codes "per-client") 1 64))
     (within (codes "longest") 1 4294967295)
 
 -- with the options of writes
@@ -70,6 +76,10 @@ with_servers app =
     with_rule (with_rule app (by_default (codes "1") (within (codes "servers") 1 64)))
     (within (codes "server") 1 64)
 
+-- with what is logged
+abbrev pub with_log : App → App
+with_log app = with_rule (with_rule app (flag_rule (codes "log"))) (flag_rule (codes "log-time"))
+
 -- `tftpd` without arguments
 abbrev pub bare_app : App
 bare_app = on_top (λ top. record top { has_version = true }) (new_app (codes "tftpd"))
@@ -77,11 +87,10 @@ bare_app = on_top (λ top. record top { has_version = true }) (new_app (codes "t
 -- `tftpd`
 abbrev pub tftpd_app : App
 tftpd_app =
-    with_rule
+    with_log
     (with_servers (with_ending (with_writes (with_limits (with_folder_and_ports bare_app)))))
-    (flag_rule (codes "log"))
 
 -- ---- the configuration
 -- the words name this configuration
 abbrev pub WordsConfigure : List (List ℕ) → DaemonConfig → Type 0
-WordsConfigure words config = NamesServer (read_in (matches_of tftpd_app words)) config
+WordsConfigure words config = NamesInRows (matches_of tftpd_app words) config

@@ -1,6 +1,6 @@
 //! The command line of `tftpd`, and the configuration that its words name.
 
-ghost use Rattle.std.specs.Prelude.{◌≡◌, ◌≤◌, ◌∷◌, ◌++◌, Some, false, codes, map};
+ghost use Rattle.std.specs.Prelude.{◌≡◌, ◌≤◌, ◌∷◌, ◌++◌, Some, false, codes, drop, map};
 ghost use Rattle.std.specs.Prelude.{IfOk, IfSome};
 ghost use Rattle.std.specs.Fmt.{decimal};
 ghost use Rattle.std.specs.String.{string_bytes};
@@ -9,13 +9,14 @@ ghost use Rattle.clap.specs.Simple.{App};
 ghost use Rattle.clap.specs.Walk.{rows_of};
 ghost use Rattle.tftp_server.specs.Config.{IsConfig, default_config};
 ghost use Rattle.tftp_arguments.specs.Fault.{AskForText};
-ghost use Rattle.tftp_arguments.specs.Read.{IsNumber, read_in, read_of};
+ghost use Rattle.tftp_arguments.specs.Read.{IsNumber, read_of};
 ghost use Rattle.tftp_arguments.specs.Rules.{HasRule, IsApp, by_default, flag_rule, within};
-ghost use Rattle.tftp_daemon.specs.CommandLine.{ConfiguresAs, EndsAs, IfExit, IfRun, NamesInstance};
-ghost use Rattle.tftp_daemon.specs.CommandLine.{NamesPorts, NamesServer, PortsAs};
+ghost use Rattle.tftp_daemon.specs.CommandLine.{ConfiguresAs, EndsAs, IfExit, IfRun, NameEndpoints};
+ghost use Rattle.tftp_daemon.specs.CommandLine.{NamesInRows, NamesInstance, NamesPorts, NamesServer};
+ghost use Rattle.tftp_daemon.specs.CommandLine.{PortsAs, words_of};
 ghost use Rattle.tftp_daemon.specs.Words.{WordsConfigure, any_number, bare_app};
-ghost use Rattle.tftp_daemon.specs.Words.{option_rule, tftpd_app, with_ending, with_limits};
-ghost use Rattle.tftp_daemon.specs.Words.{with_folder_and_ports, with_servers, with_writes};
+ghost use Rattle.tftp_daemon.specs.Words.{option_rule, repeated, tftpd_app, with_ending, with_limits};
+ghost use Rattle.tftp_daemon.specs.Words.{with_folder_and_ports, with_log, with_servers, with_writes};
 
 use crate::daemon::{DaemonConfig, Instance};
 use crate::error_output::ErrorOutput;
@@ -24,18 +25,20 @@ use crate::shown::Shown;
 use anyhow::Result;
 use clap::error::ErrorKind;
 use clap::parser::ValueSource;
-use clap::{Arg, ArgMatches, Command, value_parser};
+use clap::{Arg, ArgAction, ArgMatches, Command, value_parser};
 use std::alloc::{AllocError, Global};
 use std::convert::AsStr;
 use tftp_arguments::{VERSION, flag, is_set, number, print_usage, word};
+use tftp_ends::Endpoint;
 use tftp_loop::{Ending, PortRange};
 use tftp_negotiate::{Limits, MAX_BLOCK, MIN_BLOCK};
 use tftp_server::Config;
+use tftp_sockets::endpoint_in;
 
 const EXAMPLES: &str = "\
 Examples:
   tftpd /srv/tftp --listen 192.0.2.1:6969 --forever --read-only
-  tftpd /srv/tftp --listen 192.0.2.1:6969 --forever --uploads incoming
+  tftpd /srv/tftp --listen 192.0.2.1:6969 --listen 198.51.100.1:6969 --forever --uploads incoming
   tftpd . --listen 127.0.0.1:0 --max-block 8192 --cap 64";
 
 const PORTS: &str = "ports";
@@ -53,10 +56,22 @@ const SERVERS_SERVER: &str =
 /// An option that another one needs.
 const SERVERS_FOREVER: &str = "more than one of '--servers <1..64>' needs '--forever'";
 
+const LISTEN_FOREVER: &str = "more than one '--listen <ADDR:PORT|stdin>' needs '--forever'";
+
+const LISTEN_STDIN: &str =
+    "the argument '--listen stdin' cannot be used with another '--listen <ADDR:PORT|stdin>'";
+
+const LISTEN_TWICE: &str = "two of '--listen <ADDR:PORT|stdin>' are the same address";
+
+const MANY_SERVERS: &str =
+    "'--listen <ADDR:PORT|stdin>' and '--servers <1..64>' ask for more than 64 servers";
+
 const SERVER_STDIN: &str = "the argument '--server <1..64>' needs '--listen stdin'";
 
 const READ_ONLY_UPLOADS: &str =
     "the argument '--read-only' cannot be used with '--uploads <FOLDER>'";
+
+const LOG_TIME_LOG: &str = "the argument '--log-time' needs '--log'";
 
 /// Why an option's word is no value of it.
 const NO_ADDRESS: &str =
@@ -76,6 +91,8 @@ const UPLOADS: &str = "uploads";
 
 const LONGEST: &str = "longest";
 
+const PER_CLIENT: &str = "per-client";
+
 const TRANSFERS: &str = "transfers";
 
 const ROUNDS: &str = "rounds";
@@ -88,8 +105,15 @@ const SERVERS: &str = "servers";
 
 const SERVER: &str = "server";
 
+const LOG: &str = "log";
+
+const LOG_TIME: &str = "log-time";
+
+/// The most servers of one command line.
+const MOST_SERVERS: usize = 64;
+
 /// What a command line has the program do.
-#[derive(Clone, Copy)]
+#[derive(Drop)]
 pub(crate) enum CommandLine<'a> {
     /// Serve by this configuration.
     Run(DaemonConfig<'a>),
@@ -148,7 +172,7 @@ fn read_matches<'a, P: Print + Eprint>(
 ) -> Result<CommandLine<'a>>
     ensures valid { IfOk result (λ line. IfRun line (λ config. IsConfig config.config)) }
     ensures names { IfOk result (λ line. IfRun line
-        (NamesServer (read_in (rows_of (found_of matches.now))))) }
+        (NamesInRows (rows_of (found_of matches.now)))) }
     ensures status { IfOk result (λ line. IfExit line (λ status. status ≡ 2)) }
 {
     if let Some(message) = excluded(matches) {
@@ -163,10 +187,10 @@ fn read_matches<'a, P: Print + Eprint>(
             return Ok(CommandLine::Exit(status));
         }
     };
-    match service(matches, ports, errors) {
+    match read_service(alloc, matches, ports, errors)? {
         Some(service) => Ok(CommandLine::Run(service)),
         None => {
-            let word = matches.get_str(LISTEN);
+            let word = faulty_address(matches);
             let status = report_invalid(rt, alloc, command, word, NO_ADDRESS)?;
             Ok(CommandLine::Exit(status))
         }
@@ -187,12 +211,18 @@ fn excluded(matches: &ArgMatches<'_>) -> Option<&'static str> {
     if is_set(matches, READ_ONLY) && matches.get_str(UPLOADS).is_some() {
         return Some(READ_ONLY_UPLOADS);
     }
+    if is_set(matches, LOG_TIME) && !is_set(matches, LOG) {
+        return Some(LOG_TIME_LOG);
+    }
     excluded_of_servers(matches)
 }
 
 /// As [`excluded`], of the options for several servers.
 fn excluded_of_servers(matches: &ArgMatches<'_>) -> Option<&'static str> {
-    if server_count(matches) > 1 {
+    if let Some(message) = excluded_of_addresses(matches) {
+        return Some(message);
+    }
+    if servers_each(matches) > 1 {
         if is_given(matches, SERVER) {
             return Some(SERVERS_SERVER);
         }
@@ -206,9 +236,77 @@ fn excluded_of_servers(matches: &ArgMatches<'_>) -> Option<&'static str> {
     None
 }
 
-/// The number of servers that are to start.
-fn server_count(matches: &ArgMatches<'_>) -> u8 {
+/// As [`excluded`], of several addresses.
+fn excluded_of_addresses(matches: &ArgMatches<'_>) -> Option<&'static str> {
+    let words = listen_words(matches);
+    if words.len() < 2 {
+        return None;
+    }
+    if words.iter().any(|word| *word == "stdin") {
+        return Some(LISTEN_STDIN);
+    }
+    if has_same_addresses(words) {
+        return Some(LISTEN_TWICE);
+    }
+    if server_count(matches) > MOST_SERVERS {
+        return Some(MANY_SERVERS);
+    }
+    if is_set(matches, FOREVER) {
+        None
+    } else {
+        Some(LISTEN_FOREVER)
+    }
+}
+
+/// Whether two of these words name the same address and port.
+fn has_same_addresses(words: &[&str]) -> bool {
+    let mut rest = words;
+    for _ in 0..words.len() {
+        let [word, others @ ..] = rest else {
+            return false;
+        };
+        if is_among(endpoint_in(word), others) {
+            return true;
+        }
+        rest = others;
+    }
+    false
+}
+
+/// Whether one of these words names this address, if it is one.
+fn is_among(address: Option<Endpoint>, words: &[&str]) -> bool {
+    match address {
+        Some(_) => words.iter().any(|word| endpoint_in(word) == address),
+        None => false,
+    }
+}
+
+/// The words of `--listen`.
+fn listen_words<'m, 'a>(matches: &'m ArgMatches<'a>) -> &'m [&'a str]
+    ensures { map (λ word. word.now) result.now
+        ≡ words_of (found_of matches.now) (codes "listen") }
+{
+    matches.get_strs(LISTEN).unwrap_or_default()
+}
+
+/// The first word of `--listen` that is no address and not `stdin`.
+fn faulty_address<'a>(matches: &ArgMatches<'a>) -> Option<&'a str> {
+    for word in listen_words(matches) {
+        if Listen::named(word).is_none() {
+            return Some(*word);
+        }
+    }
+    None
+}
+
+/// The number of servers that are to start at each address.
+fn servers_each(matches: &ArgMatches<'_>) -> u8 {
     matches.get_one::<u8>(SERVERS).unwrap_or(1)
+}
+
+/// The number of servers that are to start.
+fn server_count(matches: &ArgMatches<'_>) -> usize {
+    usize::from(servers_each(matches)).saturating_mul(listen_words(matches).len())
 }
 
 /// Whether an option is among the words, and has not its default.
@@ -267,8 +365,8 @@ fn port_range(matches: &ArgMatches<'_>) -> std::result::Result<Option<PortRange>
 }
 
 /// Whether a range has fewer ports than there are servers.
-fn has_fewer(range: PortRange, servers: u8) -> bool {
-    range.last.saturating_sub(range.first) < u16::from(servers.saturating_sub(1))
+fn has_fewer(range: PortRange, servers: usize) -> bool {
+    usize::from(range.last.saturating_sub(range.first)) < servers.saturating_sub(1)
 }
 
 /// The range in a word `A:B`, from 1 to 65535 and A at most B; else `None`.
@@ -302,15 +400,65 @@ fn port_in(word: &str) -> Option<u16>
     }
 }
 
-/// The configuration of the matched words, or `None` if the address is invalid.
-fn service<'a>(
+/// The configuration of the matched words, or `None` if an address is invalid.
+fn read_service<'a>(
+    alloc: Global,
     matches: &ArgMatches<'a>,
     ports: Option<PortRange>,
     errors: ErrorOutput,
-) -> Option<DaemonConfig<'a>>
+) -> Result<Option<DaemonConfig<'a>>, AllocError>
     requires { PortsAs (first_value (found_of matches.now) (codes "ports")) ports }
+    ensures valid { IfOk result (λ read. IfSome read (λ config. IsConfig config.config)) }
+    ensures names { IfOk result (λ read. IfSome read (NamesServer (read_of matches.now)
+        (words_of (found_of matches.now) (codes "listen")))) }
+{
+    let read = other_addresses(alloc, listen_words(matches))?;
+    let Some(others) = read else {
+        return Ok(None);
+    };
+    Ok(service(matches, ports, others, errors))
+}
+
+/// The addresses of all words but the first, or `None` if one is invalid.
+fn other_addresses(alloc: Global, words: &[&str]) -> Result<Option<Vec<Endpoint>>, AllocError>
+    ensures { IfOk result (λ read. IfSome read (λ endpoints.
+        NameEndpoints (drop 1 (map (λ word. word.now) words.now)) endpoints.items)) }
+{
+    match words {
+        [_, others @ ..] => endpoints_in(alloc, others),
+        [] => Ok(Some(Vec::new(alloc))),
+    }
+}
+
+/// The addresses of these words, or `None` if one is invalid.
+fn endpoints_in(alloc: Global, words: &[&str]) -> Result<Option<Vec<Endpoint>>, AllocError>
+    ensures { IfOk result (λ read. IfSome read (λ endpoints.
+        NameEndpoints (map (λ word. word.now) words.now) endpoints.items)) }
+{
+    let mut endpoints = Vec::new(alloc);
+    for word in words {
+        match endpoint_in(word) {
+            Some(endpoint) => endpoints.push(endpoint)?,
+            None => return Ok(None),
+        }
+    }
+    Ok(Some(endpoints))
+}
+
+/// The configuration of the matched words with these other addresses, or `None` if the first one is
+/// invalid.
+fn service<'a>(
+    matches: &ArgMatches<'a>,
+    ports: Option<PortRange>,
+    others: Vec<Endpoint>,
+    errors: ErrorOutput,
+) -> Option<DaemonConfig<'a>>
+    requires ports { PortsAs (first_value (found_of matches.now) (codes "ports")) ports }
+    requires others { NameEndpoints
+        (drop 1 (words_of (found_of matches.now) (codes "listen"))) others.items }
     ensures valid { IfSome result (λ config. IsConfig config.config) }
-    ensures names { IfSome result (NamesServer (read_of matches.now)) }
+    ensures names { IfSome result (NamesServer (read_of matches.now)
+        (words_of (found_of matches.now) (codes "listen"))) }
 {
     let root = matches.get_str("ROOT")?;
     let listen = Listen::named(matches.get_str(LISTEN)?)?;
@@ -323,12 +471,15 @@ fn service<'a>(
         read_only: is_set(matches, READ_ONLY),
         uploads: matches.get_str(UPLOADS),
         listen,
+        others,
         ports,
         requests_only: is_set(matches, REQUESTS_ONLY),
+        per_client: matches.get_one::<u8>(PER_CLIENT),
         ending,
         longest: matches.get_one::<u32>(LONGEST),
         drain: matches.get_str(DRAIN),
-        logs: is_set(matches, "log"),
+        logs: is_set(matches, LOG),
+        log_times: is_set(matches, LOG_TIME),
         instance,
         has_priority: errors.has_priority(),
     })
@@ -416,12 +567,7 @@ fn command<'a>(alloc: Global, texts: &'a Texts) -> Result<Command<'a>>
     let command = with_writes(alloc, command)?;
     let command = with_ending(alloc, command)?;
     let command = with_servers(alloc, command)?;
-    let log = flag(
-        alloc,
-        "log",
-        "Writes a line on standard error for each request and each close",
-    );
-    Ok(command.arg(log)?)
+    with_log(alloc, command)
 }
 
 /// The command line of `tftpd` without arguments.
@@ -471,18 +617,20 @@ fn with_folder_and_ports<'a>(alloc: Global, command: Command<'a>) -> Result<Comm
     Ok(command.arg(ports)?)
 }
 
-/// The argument for the address of the request port.
+/// The argument for the address of the request port, which may be given again.
 fn listen<'a>(alloc: Global) -> Arg<'a>
-    ensures { HasRule (by_default (codes "127.0.0.1:6969") (option_rule (codes "listen")))
-        result }
+    ensures { HasRule
+        (repeated (by_default (codes "127.0.0.1:6969") (option_rule (codes "listen")))) result }
 {
     let listen = option(
         alloc,
         LISTEN,
         "ADDR:PORT|stdin",
-        "IPv4 address and UDP port of the requests, 0 for any; or the socket that is standard input",
+        "IPv4 address and UDP port of the requests, 0 for any, once or more; or the socket that is standard input",
     );
-    listen.default_value("127.0.0.1:6969")
+    listen
+        .default_value("127.0.0.1:6969")
+        .action(ArgAction::Append)
 }
 
 /// Adds the limits of transfers.
@@ -493,6 +641,7 @@ fn with_limits<'a>(alloc: Global, command: Command<'a>, texts: &'a Texts) -> Res
     let command = command.arg(max_file(alloc, texts))?;
     let command = command.arg(retries(alloc, texts))?;
     let command = command.arg(cap(alloc, texts))?;
+    let command = command.arg(per_client(alloc))?;
     Ok(command.arg(longest(alloc))?)
 }
 
@@ -554,6 +703,19 @@ fn cap<'a>(alloc: Global, texts: &'a Texts) -> Arg<'a>
         "Transfers that are open at once",
     );
     cap.default_value(texts.cap.as_str())
+}
+
+/// The argument for the limit of open transfers of one address.
+fn per_client<'a>(alloc: Global) -> Arg<'a>
+    ensures { HasRule (within (codes "per-client") 1 64) result }
+{
+    number(
+        alloc,
+        PER_CLIENT,
+        "1..64",
+        value_parser!(u8).range(1..=64),
+        "Transfers of one address that are open at once; a further request is dropped",
+    )
 }
 
 /// The argument for the age at which a transfer is closed.
@@ -674,4 +836,22 @@ fn server<'a>(alloc: Global) -> Arg<'a>
         value_parser!(u8).range(1..=64),
         "Internal: number of this server of several, passed by --servers; with --listen stdin",
     )
+}
+
+/// Adds what is logged.
+fn with_log<'a>(alloc: Global, command: Command<'a>) -> Result<Command<'a>>
+    ensures { (app : App) → IsApp app command.entry → IfOk result (IsApp (with_log app)) }
+{
+    let log = flag(
+        alloc,
+        LOG,
+        "Writes a line on standard error for each request and each close",
+    );
+    let command = command.arg(log)?;
+    let log_time = flag(
+        alloc,
+        LOG_TIME,
+        "Begins each line of --log with its time in UTC, to the millisecond",
+    );
+    Ok(command.arg(log_time)?)
 }

@@ -1,15 +1,16 @@
 //! `tftpd`: a server over UDP that serves the files of a folder.
 
-ghost use Rattle.std.specs.Prelude.{◌≡◌, ◌≤◌, IfOk, None, OnOk, false, option_map};
+ghost use Rattle.std.specs.Prelude.{◌≡◌, ◌≤◌, [], IfOk, IfSome, IsFalse, IsTrue, None, OnOk, false};
+ghost use Rattle.std.specs.Prelude.{is_some, option_map};
 ghost use Rattle.std.specs.String.{string_bytes};
 ghost use Rattle.tftp_server.specs.Config.{IsConfig};
 ghost use Rattle.tftp_folder.specs.Effects.{changes_of};
 ghost use Rattle.tftp_disk.specs.Changes.{changes};
 ghost use Rattle.tftp_folder.specs.Inside.{StaysInside};
 ghost use Rattle.tftp_folder.specs.Opened.{IsRootOf};
-ghost use Rattle.tftp_daemon.specs.Configured.{IsServerOf, IsUploads, ListensAt};
-ghost use Rattle.tftp_daemon.specs.Configured.{MayServe, RunsService, drafts_in, service_at};
-ghost use Rattle.tftp_daemon.specs.Configured.{status_of};
+ghost use Rattle.tftp_daemon.specs.Configured.{IsOfSeveral, IsServerOf, IsUploads, ListensAt};
+ghost use Rattle.tftp_daemon.specs.Configured.{MayServe, RunsService, drafts_in, servers_of};
+ghost use Rattle.tftp_daemon.specs.Configured.{service_at, status_of};
 ghost use Rattle.tftp_daemon.specs.Supervised.{MaySupervise, Supervised};
 
 use crate::drain_file::DrainFile;
@@ -31,7 +32,7 @@ use tftp_sockets::{DrainSignal, ErrorLines, ServerUdp};
 use tftp_supervisor::Supervise;
 
 /// The configuration of `tftpd`.
-#[derive(Clone, Copy)]
+#[derive(Drop)]
 pub(crate) struct DaemonConfig<'a> {
     /// The path of the served folder.
     pub(crate) root: &'a str,
@@ -43,10 +44,14 @@ pub(crate) struct DaemonConfig<'a> {
     pub(crate) uploads: Option<&'a str>,
     /// Where requests arrive.
     pub(crate) listen: Listen,
+    /// The other addresses at which requests arrive, each at servers of its own.
+    pub(crate) others: Vec<Endpoint>,
     /// The ports that transfers use; `None` if the system chooses.
     pub(crate) ports: Option<PortRange>,
     /// Whether what does not begin as a request is dropped at the request port.
     pub(crate) requests_only: bool,
+    /// How many transfers one address has open at most; `None` for no limit.
+    pub(crate) per_client: Option<u8>,
     /// When the server ends.
     pub(crate) ending: Ending,
     /// The age of a transfer, in seconds, behind which its datagrams are dropped; `None` for no
@@ -56,6 +61,8 @@ pub(crate) struct DaemonConfig<'a> {
     pub(crate) drain: Option<&'a str>,
     /// Whether there is a log.
     pub(crate) logs: bool,
+    /// Whether each line of the log begins with its time.
+    pub(crate) log_times: bool,
     /// How many servers there are, and which this is.
     pub(crate) instance: Instance,
     /// Whether a warning of the log begins with its priority.
@@ -65,13 +72,34 @@ pub(crate) struct DaemonConfig<'a> {
 /// How many servers a command line starts, and which of several it is.
 #[derive(Clone, Copy)]
 pub(crate) struct Instance {
-    /// The number of servers that are to start.
+    /// The number of servers that are to start at each address.
     pub(crate) servers: u8,
     /// Which of several servers this is, counted from 1, if it is one of several.
     pub(crate) server: Option<u8>,
 }
 
 impl DaemonConfig<'_> {
+    /// Whether there are several servers, each a process of its own.
+    fn is_of_several(&self) -> bool
+        ensures several { IsTrue result → IsOfSeveral self.now }
+        ensures alone { IsFalse result → self.now.instance.servers ≤ 1 }
+        ensures at_one_address { IsFalse result → self.now.others.items ≡ [] }
+    {
+        if self.instance.servers > 1 {
+            return true;
+        }
+        !self.others.is_empty()
+    }
+
+    /// How many servers there are, at all addresses, if they can be counted.
+    pub(crate) fn servers(&self) -> Option<u8>
+        ensures { IfSome result (λ count. count ≡ servers_of self.now) }
+    {
+        let addresses = self.others.len().checked_add(1)?;
+        let count = usize::from(self.instance.servers).checked_mul(addresses)?;
+        u8::try_from(count).ok()
+    }
+
     /// The configuration of the loop, with the request port at this endpoint.
     fn service_at(&self, listen: Endpoint) -> LoopConfig
         ensures { result ≡ service_at self.now listen }
@@ -82,6 +110,7 @@ impl DaemonConfig<'_> {
             ending: self.ending,
             longest: self.longest,
             requests_only: self.requests_only,
+            per_client: self.per_client,
             drains: self.drain.is_some(),
             logs: self.logs,
             has_priority: self.has_priority,
@@ -102,6 +131,8 @@ pub(crate) enum DaemonFault {
     Memory,
     /// Serving failed.
     Loop(LoopFault),
+    /// The request port of several servers was not bound at this address, for this reason.
+    Bind(Endpoint, Reason),
     /// The program's own file, which the system names below `/proc`, was not found, for this reason.
     Program(Reason),
     /// A server of several could not be started, for this reason.
@@ -135,7 +166,7 @@ pub(crate) fn serve<P: Print + ErrorLines + Clock + Supervise, D: Disk, N: Serve
         config.now (status_of result) (N.log net.old.net) (N.log net.new.net) }
     ensures several { MaySupervise P.supervised config.now (status_of result) }
 {
-    if config.instance.servers > 1 {
+    if config.is_of_several() {
         return supervise_checked(rt, alloc, disk, config, input);
     }
     serve_alone(alloc, disk, net, config, input)
@@ -168,17 +199,29 @@ fn serve_alone<D: Disk, N: ServerUdp + Eprint>(
 ) -> Result<(), DaemonFault>
     requires valid { IsConfig config.now.config }
     requires alone { config.now.instance.servers ≤ 1 }
+    requires at_one_address { config.now.others.items ≡ [] }
     ensures status { status_of result ≤ 2 }
     ensures runs { MayServe D.log (D.log disk) ⟦<FolderStore<D> as Store>⟧.meaning
         ⟦<FolderSource<D::View> as Source>⟧.meaning
         config.now (status_of result) (N.log net.old.net) (N.log net.new.net) }
 {
+    set_log(net, alloc, config);
     match config.listen {
         Listen::At(at) => {
             drop(input);
             serve_at(alloc, disk, net, config, at)
         }
         Listen::Handed => serve_handed(alloc, disk, net, config, input),
+    }
+}
+
+/// Has each line of the log begin with its time, if the configuration says so.
+fn set_log<N: ServerUdp>(net: &mut HandedUdp<N>, alloc: Global, config: &DaemonConfig<'_>)
+    ensures net { net.new.net ≡ net.old.net }
+    ensures times { net.old.times ≡ None → is_some net.new.times ≡ config.now.log_times }
+{
+    if config.log_times {
+        net.log_times(alloc);
     }
 }
 
@@ -192,6 +235,7 @@ fn serve_handed<D: Disk, N: ServerUdp + Eprint>(
 ) -> Result<(), DaemonFault>
     requires valid { IsConfig config.now.config }
     requires alone { config.now.instance.servers ≤ 1 }
+    requires at_one_address { config.now.others.items ≡ [] }
     requires handed { config.now.listen ≡ Listen.Handed }
     ensures status { status_of result ≤ 2 }
     ensures runs { MayServe D.log (D.log disk) ⟦<FolderStore<D> as Store>⟧.meaning
@@ -236,6 +280,7 @@ fn serve_at<D: Disk, N: ServerUdp + Eprint>(
 ) -> Result<(), DaemonFault>
     requires valid { IsConfig config.now.config }
     requires alone { config.now.instance.servers ≤ 1 }
+    requires at_one_address { config.now.others.items ≡ [] }
     requires listens { ListensAt config.now.listen at }
     ensures status { status_of result ≤ 2 }
     ensures runs { MayServe D.log (D.log disk) ⟦<FolderStore<D> as Store>⟧.meaning

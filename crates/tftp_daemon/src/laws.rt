@@ -2,6 +2,7 @@
 
 ghost use Rattle.tftp_daemon.specs.Changes.{ReadOnlyRunChangesNothing, RunStaysWithin};
 ghost use Rattle.tftp_daemon.specs.Changes.{UploadsRunChangesBelow};
+ghost use Rattle.tftp_daemon.specs.DraftPorts.{EachDraftHasItsPort, NoTwoShareADraft};
 ghost use Rattle.tftp_daemon.specs.Leaves.{ReadOnlyRunStoresNothing, RunKeepsSettings};
 ghost use Rattle.tftp_daemon.specs.Leaves.{UploadsStayInTheirFolder};
 ghost use Rattle.tftp_daemon.specs.Sent.{OnlyAskedFilesLeave};
@@ -37,6 +38,16 @@ pub fn uploads_stay_in_their_folder<D: Disk>()
 {
     a_run_keeps_the_settings::<D>();
 }
+
+/// Each transfer that stores does so in a temporary file of its own: the name of that has the port,
+/// as a transfer identifier, from which the transfer is answered (RFC 1350, section 4). So no two
+/// open transfers of a server share one, whatever datagrams come.
+pub fn each_draft_has_its_port<D: Disk>()
+    ensures port { EachDraftHasItsPort ⟦<FolderStore<D> as Store>⟧.meaning
+        ⟦<FolderSource<D::View> as Source>⟧.meaning }
+    ensures apart { NoTwoShareADraft ⟦<FolderStore<D> as Store>⟧.meaning
+        ⟦<FolderSource<D::View> as Source>⟧.meaning }
+{}
 
 /// A run changes the disk within the limits of its store alone, which are those of the
 /// configuration: drafts at the server's own names are made and removed, and get the names of paths

@@ -233,6 +233,7 @@ fn print_fault<R: Eprint>(
         DaemonFault::Loop(LoopFault::Socket(reason)) => {
             eprintln!(rt; "{mark}tftpd: {}: {reason}", config.listen)
         }
+        DaemonFault::Bind(at, reason) => eprintln!(rt; "{mark}tftpd: {at}: {reason}"),
         DaemonFault::Handed(fault) => eprintln!(rt; "{mark}tftpd: {}: {fault}", config.listen),
         DaemonFault::Loop(LoopFault::Output) => {
             eprintln!(rt; "{mark}tftpd: standard output: cannot be written")
@@ -258,7 +259,8 @@ fn print_fault<R: Eprint>(
 fn name_of(fault: DaemonFault) -> &'static str {
     match fault {
         DaemonFault::Root(_) | DaemonFault::Uploads(_) => "file fault",
-        DaemonFault::Handed(_) | DaemonFault::Loop(LoopFault::Socket(_)) => "socket fault",
+        DaemonFault::Handed(_) | DaemonFault::Bind(..) | DaemonFault::Loop(LoopFault::Socket(_)) =>
+            { "socket fault" }
         DaemonFault::Loop(LoopFault::Output | LoopFault::NoReader) => "output fault",
         DaemonFault::Program(_)
         | DaemonFault::Start(_)

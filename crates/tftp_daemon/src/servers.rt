@@ -1,8 +1,9 @@
-//! Several servers at one request port: their command lines, and their supervisor.
+//! Several servers, at one address or at several: their command lines, and their supervisor.
 
 ghost use Rattle.std.specs.Prelude.{◌≡◌, ◌++◌, ◌∷◌, [], length, map, option_map, Some, IfOk, IfSome};
 ghost use Rattle.std.specs.Prelude.{IsTrue, OnOk};
 ghost use Rattle.std.specs.String.{string_bytes};
+ghost use Rattle.tftp_daemon.specs.Configured.{servers_of};
 ghost use Rattle.tftp_daemon.specs.Servers.{IsPart, IsServer, NamesServerOf, PartOf, start_of};
 ghost use Rattle.tftp_daemon.specs.Supervised.{AreServerLines, Supervised};
 
@@ -29,8 +30,8 @@ const BINDS: u32 = 26;
 /// The time between two tries, in milliseconds.
 const BIND_PAUSE: u64 = 20;
 
-/// Starts the servers of a configuration at one request port, and supervises them until they have
-/// ended.
+/// Starts the servers of a configuration, so many at each address, and supervises them until they
+/// have ended.
 pub(crate) fn supervise<R: Supervise + Clock + Print + Eprint>(
     rt: &R,
     alloc: Global,
@@ -39,9 +40,9 @@ pub(crate) fn supervise<R: Supervise + Clock + Print + Eprint>(
 ) -> Result<(), DaemonFault>
     ensures { OnOk result (Supervised R.supervised config.now) }
 {
-    let socket = shared_socket(rt, config, input)?;
+    let sockets = sockets_of(rt, alloc, config, input)?;
     let servers = command_lines(rt, alloc, config)?;
-    let (ended, _history) = rt.supervise(&socket, servers.as_slice());
+    let (ended, _history) = rt.supervise(sockets.as_slice(), servers.as_slice());
     match ended {
         Ok(()) => Ok(()),
         Err(fault) => Err(fault_of(fault)),
@@ -59,17 +60,49 @@ fn fault_of(fault: SupervisorFault) -> DaemonFault {
     }
 }
 
-/// The socket of the request port: bound here, or handed over.
-fn shared_socket<R: Supervise + Clock>(
+/// The sockets of the servers, in their order: those at one address have the same request port.
+fn sockets_of<R: Supervise + Clock>(
     rt: &R,
+    alloc: Global,
     config: &DaemonConfig<'_>,
     input: Input,
+) -> Result<Vec<OwnedFd>, DaemonFault> {
+    let mut sockets = Vec::new(alloc);
+    let first = first_socket(rt, config.listen, input)?;
+    add_sockets(&mut sockets, &first, config.instance.servers)?;
+    for at in config.others.iter() {
+        let socket = bound_socket(rt, *at)?;
+        add_sockets(&mut sockets, &socket, config.instance.servers)?;
+    }
+    Ok(sockets)
+}
+
+/// Adds a socket, once for each of so many servers.
+fn add_sockets(
+    sockets: &mut Vec<OwnedFd>,
+    socket: &OwnedFd,
+    servers: u8,
+) -> Result<(), DaemonFault> {
+    for _ in 0..servers {
+        let same = match socket.try_clone() {
+            Ok(same) => same,
+            Err(error) => return Err(DaemonFault::Start(reason_of(&error))),
+        };
+        if sockets.push(same).is_err() {
+            return Err(DaemonFault::Memory);
+        }
+    }
+    Ok(())
+}
+
+/// The socket of the first address: bound here, or handed over.
+fn first_socket<R: Supervise + Clock>(
+    rt: &R,
+    listen: Listen,
+    input: Input,
 ) -> Result<OwnedFd, DaemonFault> {
-    match config.listen {
-        Listen::At(at) => match bound_socket(rt, at) {
-            Ok(socket) => Ok(socket),
-            Err(error) => Err(DaemonFault::Loop(LoopFault::Socket(reason_of(&error)))),
-        },
+    match listen {
+        Listen::At(at) => bound_socket(rt, at),
         Listen::Handed => match HandedSocket::new(input) {
             Ok(socket) => Ok(socket.into_descriptor()),
             Err(fault) => Err(DaemonFault::Handed(fault)),
@@ -77,8 +110,16 @@ fn shared_socket<R: Supervise + Clock>(
     }
 }
 
-/// A socket that is bound to this endpoint, for which it waits half a second.
-fn bound_socket<R: Supervise + Clock>(rt: &R, at: Endpoint) -> io::Result<OwnedFd> {
+/// A socket that is bound to this endpoint.
+fn bound_socket<R: Supervise + Clock>(rt: &R, at: Endpoint) -> Result<OwnedFd, DaemonFault> {
+    match bind(rt, at) {
+        Ok(socket) => Ok(socket),
+        Err(error) => Err(DaemonFault::Bind(at, reason_of(&error))),
+    }
+}
+
+/// Binds a socket to this endpoint, for which it waits half a second.
+fn bind<R: Supervise + Clock>(rt: &R, at: Endpoint) -> io::Result<OwnedFd> {
     for _ in 1..BINDS {
         let bound = rt.bind_shared(address_of(at));
         if !is_in_use(&bound) {
@@ -103,13 +144,16 @@ fn command_lines<P: Print + Eprint>(
     alloc: Global,
     config: &DaemonConfig<'_>,
 ) -> Result<Vec<Vec<String>>, DaemonFault>
-    ensures count { IfOk result (λ lines. length lines.items ≡ config.now.instance.servers) }
+    ensures count { IfOk result (λ lines. length lines.items ≡ servers_of config.now) }
     ensures named { IfOk result (λ lines. AreServerLines config.now
         (map (λ line. map string_bytes line.items) lines.items)) }
 {
     let texts = Texts::new(alloc)?;
     let mut lines = Vec::new(alloc);
-    for before in 0..config.instance.servers {
+    let Some(count) = config.servers() else {
+        return Err(DaemonFault::Words);
+    };
+    for before in 0..count {
         let line = command_line_of(rt, alloc, &texts, config, before + 1)?;
         add_line(&mut lines, line)?;
     }
@@ -190,6 +234,9 @@ fn words_of(
     if config.logs {
         add(&mut words, format!(in alloc; "--log")?)?;
     }
+    if config.log_times {
+        add(&mut words, format!(in alloc; "--log-time")?)?;
+    }
     add(&mut words, format!(in alloc; "--")?)?;
     add(&mut words, String::from_str(alloc, config.root)?)?;
     Ok(words)
@@ -213,7 +260,7 @@ fn add_ports(
     let Some(range) = config.ports else {
         return Ok(());
     };
-    match part_of(range, config.instance.servers, server) {
+    match part_of(range, config.servers().unwrap_or(0), server) {
         Some(part) => {
             let (first, last) = (part.first, part.last);
             add(words, format!(in alloc; "--ports={first}:{last}")?)
@@ -235,7 +282,11 @@ fn add_limits(
     add(words, format!(in alloc; "--max-block={max_block}")?)?;
     add(words, format!(in alloc; "--max-file={max_file}")?)?;
     add(words, format!(in alloc; "--retries={retries}")?)?;
-    add(words, format!(in alloc; "--cap={cap}")?)
+    add(words, format!(in alloc; "--cap={cap}")?)?;
+    match config.per_client {
+        Some(most) => add(words, format!(in alloc; "--per-client={most}")?),
+        None => Ok(()),
+    }
 }
 
 /// Adds what is said of writes.
@@ -266,15 +317,29 @@ fn is_server(own: &DaemonConfig<'_>, config: &DaemonConfig<'_>, server: u8) -> b
     if !has_same_settings(own, config) || !has_same_end(own, config) {
         return false;
     }
-    has_part(own.ports, config.ports, config.instance.servers, server)
+    has_own_part(own, config, server)
+}
+
+/// Whether the first of these configurations has the server's part of the ports of the other.
+fn has_own_part(own: &DaemonConfig<'_>, config: &DaemonConfig<'_>, server: u8) -> bool
+    ensures { IsTrue result → PartOf config.now.ports (servers_of config.now) server own.now.ports }
+{
+    match config.servers() {
+        Some(servers) => has_part(own.ports, config.ports, servers, server),
+        None => false,
+    }
 }
 
 /// Whether this is the configuration of this server of several.
 fn is_instance(own: &DaemonConfig<'_>, server: u8) -> bool
     ensures listen { IsTrue result → own.now.listen ≡ Listen.Handed }
+    ensures others { IsTrue result → own.now.others.items ≡ [] }
     ensures servers { IsTrue result → own.now.instance.servers ≡ 1 }
     ensures server { IsTrue result → own.now.instance.server ≡ Some server }
 {
+    if !own.others.is_empty() {
+        return false;
+    }
     match own.instance.server {
         Some(number) => is_handed(own.listen) && own.instance.servers == 1 && number == server,
         None => false,
@@ -309,14 +374,18 @@ fn is_same_path(own: Option<&str>, other: Option<&str>) -> bool
 /// Whether the limits and the flags of two configurations are the same.
 fn has_same_settings(own: &DaemonConfig<'_>, config: &DaemonConfig<'_>) -> bool
     ensures limits { IsTrue result → own.now.config ≡ config.now.config }
+    ensures per_client { IsTrue result → own.now.per_client ≡ config.now.per_client }
     ensures requests_only { IsTrue result → own.now.requests_only ≡ config.now.requests_only }
     ensures read_only { IsTrue result → own.now.read_only ≡ config.now.read_only }
     ensures logs { IsTrue result → own.now.logs ≡ config.now.logs }
+    ensures log_times { IsTrue result → own.now.log_times ≡ config.now.log_times }
 {
     own.config == config.config
+        && is_same_count(own.per_client, config.per_client)
         && own.requests_only == config.requests_only
         && own.read_only == config.read_only
         && own.logs == config.logs
+        && own.log_times == config.log_times
 }
 
 /// Whether two servers end alike, and their transfers.
@@ -332,6 +401,17 @@ fn has_same_end(own: &DaemonConfig<'_>, config: &DaemonConfig<'_>) -> bool
 
 /// Whether two ages that may be given are the same.
 fn is_same_age(own: Option<u32>, other: Option<u32>) -> bool
+    ensures { IsTrue result → own ≡ other }
+{
+    match (own, other) {
+        (Some(own), Some(other)) => own == other,
+        (None, None) => true,
+        _ => false,
+    }
+}
+
+/// Whether two counts that may be given are the same.
+fn is_same_count(own: Option<u8>, other: Option<u8>) -> bool
     ensures { IsTrue result → own ≡ other }
 {
     match (own, other) {

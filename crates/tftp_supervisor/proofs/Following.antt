@@ -8,17 +8,19 @@ use Rattle.std.proofs.lemmas.Bool.{eqb-true, eq-eqb}
 use Rattle.std.proofs.lemmas.Bool.Decides.{nat_tests}
 use Rattle.std.proofs.lemmas.List.{append-nil, length-set, get_or-set_same, get_or-set_other}
 use Rattle.std.proofs.lemmas.List.Elements.{All-append, All-nil}
-use Rattle.tftp_supervisor.specs.Lines.{HasNoEnd, all_marked, ended, has_any, line_passed, marked, passed, text_of}
+use Rattle.tftp_supervisor.specs.Lines.{HasNoEnd, all_marked, ended, first_passed, has_any, line_passed, marked, passed}
+use Rattle.tftp_supervisor.specs.Lines.{text_of, with_first}
 use Rattle.tftp_supervisor.specs.ProcessEvent.{AllSucceeded, HasSucceeded, ProcessEvent}
 use Rattle.tftp_supervisor.specs.ProcessEvent.{after_print, given_by, printed_in, started_in}
 use Rattle.tftp_supervisor.specs.ProcessEvent.ProcessEvent.{Started, Gave, Closed, Ended, Printed}
-use Rattle.tftp_supervisor.specs.PassedOn.{AlwaysPassedOn, PassedOn, ServerLine, has_line, lines_of, print_of}
+use Rattle.tftp_supervisor.specs.Output.{lines_in}
+use Rattle.tftp_supervisor.specs.PassedOn.{AlwaysPassedOn, PassedOn, ServerLine, first_lines, lines_of, print_of}
 use Rattle.tftp_supervisor.specs.Watching.{EachServer, GoesOn, IsCounted, IsKnown, IsStarting, IsWatching, OnlyStarts, Reads}
 use Rattle.tftp_supervisor.specs.Watching.Reads.{Given, Finished}
 use Rattle.tftp_supervisor.specs.declared.output.Output.{Output}
 use Rattle.tftp_supervisor.specs.declared.supervisor.WatchedServer.{WatchedServer}
 use Rattle.tftp_supervisor.specs.declared.supervisor.Supervisor.{Supervisor}
-use Rattle.tftp_supervisor.proofs.Passing.{any_more, same_printed}
+use Rattle.tftp_supervisor.proofs.Passing.{any_more}
 
 -- ---- lines of one server behind those of all
 text_of-append : (xs ys : List (List ℕ)) → text_of (xs ++ ys) ≡ text_of xs ++ text_of ys
@@ -58,45 +60,57 @@ has_own server line before =
     ap (λ (ls : List (List ℕ)). has_any ls) (own_line server server line before (eq-eqb server server refl))
     ∙ any_more false (lines_of server before) line
 
-or_true : (b : Bool) → (b || true) ≡ true
-or_true true = refl
-or_true false = refl
+-- the first lines after one more of this server
+first_step : (server : ℕ) (line : List ℕ) (before : List ServerLine) (own : Bool)
+    → has_any (lines_of server before) ≡ own
+    → first_lines (new_line server line ∷ before) ≡ with_first (first_lines before) own (line ∷ [])
+first_step server line before own is =
+    ap (λ (b : Bool). with_first (first_lines before) b (line ∷ [])) is
 
-any_with : (server : ℕ) (lines : List (List ℕ)) (before : List ServerLine)
-    → has_line (with_lines server lines before) ≡ (has_line before || has_any lines)
-any_with server [] before = same_printed (has_line before)
-any_with server (line ∷ lines) before =
-    any_with server lines (new_line server line ∷ before) ∙ sym (or_true (has_line before))
+first_kept : (server : ℕ) (lines : List (List ℕ)) (before : List ServerLine)
+    → has_any (lines_of server before) ≡ true → first_lines (with_lines server lines before) ≡ first_lines before
+first_kept server [] before own = refl
+first_kept server (line ∷ lines) before own =
+    first_kept server lines (new_line server line ∷ before) (has_own server line before)
+    ∙ first_step server line before true own
 
-line_there : (server : ℕ) (before : List ServerLine) → has_any (lines_of server before) ≡ true → has_line before ≡ true
-line_there server [] has = absurd (let bad : false ≡ true = has in cc)
-line_there server (newest ∷ before) has = refl
+first_with : (server : ℕ) (lines : List (List ℕ)) (before : List ServerLine)
+    → first_lines (with_lines server lines before)
+    ≡ with_first (first_lines before) (has_any (lines_of server before)) lines
+first_with server lines before = by (has_any (lines_of server before)) refl lines
+  where
+    by : (own : Bool) → has_any (lines_of server before) ≡ own → (ls : List (List ℕ))
+        → first_lines (with_lines server ls before) ≡ with_first (first_lines before) own ls
+    by true is ls = first_kept server ls before is
+    by false is [] = refl
+    by false is (line ∷ ls) =
+        first_kept server ls (new_line server line ∷ before) (has_own server line before)
+        ∙ first_step server line before false is
 
 -- ---- what is printed of them
-marked_with : (server : ℕ) (lines : List (List ℕ)) (before : List ServerLine) → has_line before ≡ true
+marked_with : (server : ℕ) (lines : List (List ℕ)) (before : List ServerLine)
     → has_any (lines_of server before) ≡ true
     → print_of (with_lines server lines before) ≡ print_of before ++ all_marked server lines
-marked_with server [] before any own = sym (append-nil (print_of before))
-marked_with server (line ∷ lines) before any own =
-    marked_with server lines (new_line server line ∷ before) refl (has_own server line before)
-    ∙ ap (λ (b : Bool). (print_of before ++ line_passed b (has_any (lines_of server before)) server line)
-    ++ all_marked server lines) any
-    ∙ ap (λ (b : Bool). (print_of before ++ line_passed true b server line) ++ all_marked server lines) own
+marked_with server [] before own = sym (append-nil (print_of before))
+marked_with server (line ∷ lines) before own =
+    marked_with server lines (new_line server line ∷ before) (has_own server line before)
+    ∙ ap (λ (b : Bool). (print_of before ++ line_passed (first_lines before) b server line)
+    ++ all_marked server lines) own
     ∙ append_assoc (print_of before) (marked server line) (all_marked server lines)
 
 printed_with : (server : ℕ) (lines : List (List ℕ)) (before : List ServerLine)
     → print_of (with_lines server lines before)
-    ≡ print_of before ++ passed (has_line before) (has_any (lines_of server before)) server lines
+    ≡ print_of before ++ passed (first_lines before) (has_any (lines_of server before)) server lines
 printed_with server lines before = by (has_any (lines_of server before)) refl lines
   where
     by : (own : Bool) → has_any (lines_of server before) ≡ own → (ls : List (List ℕ))
-        → print_of (with_lines server ls before) ≡ print_of before ++ passed (has_line before) own server ls
-    by true is ls = marked_with server ls before (line_there server before is) is
+        → print_of (with_lines server ls before) ≡ print_of before ++ passed (first_lines before) own server ls
+    by true is ls = marked_with server ls before is
     by false is [] = sym (append-nil (print_of before))
     by false is (line ∷ ls) =
-        marked_with server ls (new_line server line ∷ before) refl (has_own server line before)
-        ∙ ap (λ (b : Bool). (print_of before ++ line_passed (has_line before) b server line) ++ all_marked server ls) is
-        ∙ append_assoc (print_of before) (if has_line before then [] else ended line) (all_marked server ls)
+        marked_with server ls (new_line server line ∷ before) (has_own server line before)
+        ∙ ap (λ (b : Bool). (print_of before ++ line_passed (first_lines before) b server line) ++ all_marked server ls) is
+        ∙ append_assoc (print_of before) (first_passed (first_lines before) line) (all_marked server ls)
 
 -- ---- the history
 given_print : (server : ℕ) (out : List ℕ) (events : List ProcessEvent)
@@ -233,7 +247,7 @@ passed_nothing events only = record {
 abbrev passed_gave : (events after : List ProcessEvent) (w : PassedOn events) (server : ℕ) (bytes : List ℕ)
     (more : List (List ℕ)) (start out : List ℕ) → after ≡ after_print out (Gave server bytes ∷ events)
     → w.begun server ++ bytes ≡ text_of more ++ start → All HasNoEnd more → HasNoEnd start
-    → out ≡ passed (has_line w.lines) (has_any (lines_of server w.lines)) server more → PassedOn after
+    → out ≡ passed (first_lines w.lines) (has_any (lines_of server w.lines)) server more → PassedOn after
 passed_gave events after w server bytes more start out noted taken whole unended is = record {
   lines = with_lines server more w.lines;
   begun = with_start server start w.begun;
@@ -285,12 +299,6 @@ apart_numbers k index server apart is = grind (arith, nat_tests)
 any-append : (xs ys : List (List ℕ)) → has_any (xs ++ ys) ≡ (has_any xs || has_any ys)
 any-append [] ys = refl
 any-append (x ∷ xs) ys = refl
-
--- a server that has a line is one of those that have one
-own_any : (server : ℕ) (before : List ServerLine) (b : Bool)
-    → (has_line before || (has_any (lines_of server before) || b)) ≡ (has_line before || b)
-own_any server [] b = refl
-own_any server (newest ∷ before) b = refl
 
 -- the server of a number is known after bytes of its output were passed on
 module _ (events after : List ProcessEvent) (lines : List ServerLine) (starts : ℕ → List ℕ) (old : Output)
@@ -386,9 +394,9 @@ pub watched_on : (before after : List ProcessEvent) (old new : Supervisor) (inde
     (middle : List ProcessEvent) (out : List ℕ) → IsWatching before old → index < length old.servers.items
     → process ≡ slice_index_or old.servers.items index process
     → new.servers.items ≡ slice_set old.servers.items index next → new.count ≡ old.count
-    → Reads old.announced new.announced process next before middle out
+    → Reads (lines_in old.announced.items) (lines_in new.announced.items) process next before middle out
     → after ≡ after_print out middle → IsWatching after new
-watched_on before after old new index process next middle out w within is set count (Given bytes noted passes same announces) ends =
+watched_on before after old new index process next middle out w within is set count (Given bytes noted passes same) ends =
     let known : IsKnown before w.passed.lines w.passed.begun (index + 1) process =
     subst (IsKnown before w.passed.lines w.passed.begun (index + 1)) (sym is) (w.each index process within) in
     let events : after ≡ after_print out (Gave process.output.server bytes ∷ before) =
@@ -397,11 +405,12 @@ watched_on before after old new index process next middle out w within is set co
     known.has_printed ∙ ap (λ (n : ℕ). has_any (lines_of n w.passed.lines)) (sym known.server) in
     let taken : w.passed.begun process.output.server ++ bytes ≡ text_of passes.lines ++ next.output.begun.items =
     ap (λ (t : List ℕ). t ++ bytes) (sym (known.begun ∙ ap w.passed.begun (sym known.server))) ∙ passes.taken in
-    let printed : out ≡ passed (has_line w.passed.lines) (has_any (lines_of process.output.server w.passed.lines))
+    let printed : out ≡ passed (first_lines w.passed.lines) (has_any (lines_of process.output.server w.passed.lines))
     process.output.server passes.lines =
     passes.out_is
-    ∙ ap (λ (b : Bool). passed b process.output.has_printed process.output.server passes.lines) w.announced
-    ∙ ap (λ (b : Bool). passed (has_line w.passed.lines) b process.output.server passes.lines) has in
+    ∙ ap (λ (first : List (List ℕ)). passed first process.output.has_printed process.output.server passes.lines)
+    w.announced
+    ∙ ap (λ (b : Bool). passed (first_lines w.passed.lines) b process.output.server passes.lines) has in
     let later : PassedOn (after_print out (Gave process.output.server bytes ∷ before)) =
     passed_gave before _ w.passed process.output.server bytes passes.lines next.output.begun.items out
     refl taken passes.whole passes.begun printed in
@@ -422,11 +431,10 @@ watched_on before after old new index process next middle out w within is set co
       counted = counted_on before after old new index next w.counted set count
           (ap started_in events ∙ started_print out (Gave process.output.server bytes ∷ before));
       announced =
-          announces ∙ ap (λ (b : Bool). b || next.output.has_printed) w.announced
-          ∙ ap (λ (b : Bool). has_line w.passed.lines || b) passes.has_printed
-          ∙ ap (λ (b : Bool). has_line w.passed.lines || (b || has_any passes.lines)) has
-          ∙ own_any process.output.server w.passed.lines (has_any passes.lines)
-          ∙ sym (any_with process.output.server passes.lines w.passed.lines);
+          passes.announces_is
+          ∙ ap (λ (first : List (List ℕ)). with_first first process.output.has_printed passes.lines) w.announced
+          ∙ ap (λ (b : Bool). with_first (first_lines w.passed.lines) b passes.lines) has
+          ∙ sym (first_with process.output.server passes.lines w.passed.lines);
       each = subst (EachServer (Known before after w.passed.lines w.passed.begun process.output bytes passes.lines next.output.begun.items out events)) (sym set)
           each;
     }
@@ -458,7 +466,7 @@ starts_watching events supervisor s = record {
   passed = passed_nothing events s.only;
   always = always_starting events s.only;
   counted = s.counted;
-  announced = s.announced;
+  announced = ap lines_in s.announced;
   each = λ k d below. let new = s.each k d below in
       record {
         server = new.server;

@@ -96,7 +96,7 @@ ended_well f xs events all started k below =
     let one = all k (omega (arith, same, below)) in record { answer = Ok one.status; ended = one.ended }
 
 -- a server closed its output, and its end was looked at
-pub finished_so : {A E : Type 0} (result : Result A E) (announced : Bool) (old new : WatchedServer)
+pub finished_so : {A E : Type 0} (result : Result A E) (announced : List (List ℕ)) (old new : WatchedServer)
     (before closed after : List ProcessEvent) (out : List ℕ)
     → OnOk result ((status : ExitStatus) × (exit_code status ≡ Some (pos 0))
     × (after ≡ Ended old.output.server (Ok status) ∷ closed))

@@ -2,6 +2,8 @@
 use Rattle.std.specs.Prelude.{ℕ, ◌≢◌, Bool, true, false, List, [], ◌∷◌, ◌++◌, All}
 use Rattle.std.specs.Prelude.{if◌then◌else◌, codes}
 use Rattle.std.specs.Fmt.{decimal}
+use Rattle.std.specs.List.{list_any}
+use Rattle.std.specs.Str.{bytes_eq}
 
 -- a line with its end (LF, 10)
 abbrev pub ended : List ℕ → List ℕ
@@ -24,19 +26,30 @@ abbrev pub all_marked : ℕ → List (List ℕ) → List ℕ
 all_marked server [] = []
 all_marked server (line ∷ lines) = marked server line ++ all_marked server lines
 
--- what is printed of the lines of a server that has printed some before, or none: its first line,
--- which says where it listens, only where no server had a first line before, as it is; each other
--- with its mark
-abbrev pub passed : (announced has_printed : Bool) → ℕ → List (List ℕ) → List ℕ
+-- what is printed of the first line of a server, which says where it listens: the line as it is,
+-- unless it is among those that servers had as their first lines before
+abbrev pub first_passed : List (List ℕ) → List ℕ → List ℕ
+first_passed announced line =
+    if list_any (λ said. bytes_eq said line) announced then [] else ended line
+
+-- what is printed of the lines of a server that has printed some before, or none: its first line
+-- where no server had the same one, and each other with its mark
+abbrev pub passed : List (List ℕ) → (has_printed : Bool) → ℕ → List (List ℕ) → List ℕ
 passed announced true server lines = all_marked server lines
 passed announced false server [] = []
 passed announced false server (line ∷ lines) =
-    (if announced then [] else ended line) ++ all_marked server lines
+    first_passed announced line ++ all_marked server lines
 
 -- what is printed of one line of a server
-abbrev pub line_passed : (announced has_printed : Bool) → ℕ → List ℕ → List ℕ
+abbrev pub line_passed : List (List ℕ) → (has_printed : Bool) → ℕ → List ℕ → List ℕ
 line_passed announced true server line = marked server line
-line_passed announced false server line = if announced then [] else ended line
+line_passed announced false server line = first_passed announced line
+
+-- the first lines of servers, once one that has printed some lines before, or none, has these
+abbrev pub with_first : List (List ℕ) → (has_printed : Bool) → List (List ℕ) → List (List ℕ)
+with_first announced true lines = announced
+with_first announced false [] = announced
+with_first announced false (line ∷ lines) = announced ++ line ∷ []
 
 -- whether there is a line
 abbrev pub has_any : List (List ℕ) → Bool

@@ -1,7 +1,7 @@
 -- What is printed of the lines of several servers (ours).
 use Rattle.std.specs.Prelude.{ℕ, ◌≡◌, ◌==◌, Bool, true, false, List, [], ◌∷◌, ◌++◌, All}
 use Rattle.std.specs.Prelude.{if◌then◌else◌}
-use Rattle.tftp_supervisor.specs.Lines.{HasNoEnd, has_any, line_passed, text_of}
+use Rattle.tftp_supervisor.specs.Lines.{HasNoEnd, has_any, line_passed, text_of, with_first}
 use Rattle.tftp_supervisor.specs.ProcessEvent.{ProcessEvent, given_by, printed_in}
 use Rattle.tftp_supervisor.specs.ProcessEvent.ProcessEvent.{Started, Gave, Closed, Ended, Printed}
 
@@ -17,18 +17,19 @@ lines_of server (newest ∷ before) =
     if newest.server == server then lines_of server before ++ newest.line ∷ []
     else lines_of server before
 
--- whether any server has a line
-abbrev pub has_line : List ServerLine → Bool
-has_line [] = false
-has_line (newest ∷ before) = true
+-- the first lines of the servers
+abbrev pub first_lines : List ServerLine → List (List ℕ)
+first_lines [] = []
+first_lines (newest ∷ before) =
+    with_first (first_lines before) (has_any (lines_of newest.server before)) (newest.line ∷ [])
 
--- what is printed of these lines: the first of all, as it is, but not the first of another server;
--- and each other one with its server
+-- what is printed of these lines: the first of a server, as it is, except one that was the first of
+-- another before; and each other one with its server
 abbrev pub print_of : List ServerLine → List ℕ
 print_of [] = []
 print_of (newest ∷ before) =
     print_of before
-    ++ line_passed (has_line before) (has_any (lines_of newest.server before)) newest.server
+    ++ line_passed (first_lines before) (has_any (lines_of newest.server before)) newest.server
     newest.line
 
 -- what was printed is what is printed of some lines; and what each server gave is its lines, whole

@@ -1,13 +1,14 @@
 -- What a supervisor knows of its servers, by what their outputs gave (ours).
-use Rattle.std.specs.Prelude.{ℕ, ◌≡◌, ◌||◌, ◌<◌, ◌+◌, Bool, true, false, List, [], ◌∷◌, length}
+use Rattle.std.specs.Prelude.{ℕ, ◌≡◌, ◌<◌, ◌+◌, Bool, true, false, List, [], ◌∷◌, length}
 use Rattle.std.specs.Prelude.{Ok, Some, pos, slice_index_or}
 use Rattle.std.specs.Process.{exit_code}
 use Rattle.std.specs.declared.process.status.ExitStatus.{ExitStatus}
 use Rattle.tftp_supervisor.specs.Lines.{has_any}
-use Rattle.tftp_supervisor.specs.Output.{PassesOn}
+use Rattle.tftp_supervisor.specs.Output.{PassesOn, lines_in}
 use Rattle.tftp_supervisor.specs.ProcessEvent.{HasSucceeded, ProcessEvent, started_in}
 use Rattle.tftp_supervisor.specs.ProcessEvent.ProcessEvent.{Started, Gave, Closed, Ended, Printed}
-use Rattle.tftp_supervisor.specs.PassedOn.{AlwaysPassedOn, PassedOn, ServerLine, has_line, lines_of}
+use Rattle.tftp_supervisor.specs.PassedOn.{AlwaysPassedOn, PassedOn, ServerLine}
+use Rattle.tftp_supervisor.specs.PassedOn.{first_lines, lines_of}
 use Rattle.tftp_supervisor.specs.declared.supervisor.WatchedServer.{WatchedServer}
 use Rattle.tftp_supervisor.specs.declared.supervisor.Supervisor.{Supervisor}
 
@@ -49,7 +50,7 @@ pub record IsCounted (events : List ProcessEvent) (supervisor : Supervisor) : Ty
 pub record IsStarting (events : List ProcessEvent) (supervisor : Supervisor) : Type 0 where
   pub only : OnlyStarts events
   pub counted : IsCounted events supervisor
-  pub announced : supervisor.announced ≡ false
+  pub announced : supervisor.announced.items ≡ []
   pub each : EachServer IsNew supervisor.servers.items
 
 -- what was read is printed
@@ -57,7 +58,7 @@ pub record IsWatching (events : List ProcessEvent) (supervisor : Supervisor) : T
   pub passed : PassedOn events
   pub always : AlwaysPassedOn events
   pub counted : IsCounted events supervisor
-  pub announced : supervisor.announced ≡ has_line passed.lines
+  pub announced : lines_in supervisor.announced.items ≡ first_lines passed.lines
   pub each : EachServer (IsKnown events passed.lines passed.begun) supervisor.servers.items
 
 -- so it goes on, whatever the outcome: what was read before was printed, and no server was started
@@ -66,13 +67,13 @@ pub record GoesOn (before after : List ProcessEvent) : Type 0 where
   pub started : started_in after ≡ started_in before
 
 -- the output of a server was read once: it gave bytes, and `out` is what is printed of them, or it
--- is closed, and the server ended with the status 0; and whether a server has announced where they
--- listen, before and after
-pub data Reads (announced announces : Bool) (old new : WatchedServer)
+-- is closed, and the server ended with the status 0; and what the first lines of servers were,
+-- before and after
+pub data Reads (announced announces : List (List ℕ)) (old new : WatchedServer)
     (before after : List ProcessEvent) (out : List ℕ) : Type 0 where
   Given : (bytes : List ℕ) → after ≡ Gave old.output.server bytes ∷ before
-      → PassesOn announced bytes old.output new.output out → new.has_ended ≡ old.has_ended
-      → announces ≡ (announced || new.output.has_printed)
+      → PassesOn announced announces bytes old.output new.output out
+      → new.has_ended ≡ old.has_ended
       → Reads announced announces old new before after out
   Finished : (status : ExitStatus) → exit_code status ≡ Some (pos 0)
       → after ≡ Ended old.output.server (Ok status) ∷ Closed old.output.server ∷ before

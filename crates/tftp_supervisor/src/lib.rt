@@ -1,5 +1,5 @@
-//! Several servers at one socket, each a process of its own, and the supervisor that starts them and
-//! prints their lines.
+//! Several servers at one socket or at several, each a process of its own, and the supervisor that
+//! starts them and prints their lines.
 //!
 //! It receives and sends no datagram, and reads none.
 //!

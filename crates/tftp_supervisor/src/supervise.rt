@@ -23,14 +23,15 @@ pub trait Supervise {
     fn bind_shared(&self, at: SocketAddr) -> io::Result<OwnedFd>;
 
     /// Starts a server for each of these command lines, whose first word is the program's name,
-    /// with this socket as its standard input, and prints what they print, each line with its server.
+    /// with the socket of its place as its standard input, and prints what they print, each line with
+    /// its server.
     ///
     /// It returns `Ok` once each of them has ended with the status 0, and an error once one of them
     /// ended otherwise or could not be started, or a line could not be printed: then it has ended
-    /// all of them. A 256th server is refused, as the system refuses one.
+    /// all of them. A 256th server is refused, as the system refuses one, and one without a socket.
     fn supervise(
         &self,
-        socket: &OwnedFd,
+        sockets: &[OwnedFd],
         servers: &[Vec<String>],
     ) -> (Result<(), SupervisorFault>, Self::History)
         // A server is started for each command line, in their order, as far as it comes.

@@ -1,11 +1,12 @@
 //! Starts servers, and prints their lines until they have ended.
 
-ghost use Rattle.std.specs.Prelude.{◌≡◌, ◌+◌, ◌<◌, ◌||◌, ◌∷◌, [], false, true, length, map, All};
+ghost use Rattle.std.specs.Prelude.{◌≡◌, ◌+◌, ◌<◌, ◌∷◌, [], false, true, length, map, All};
 ghost use Rattle.std.specs.Prelude.{IsTrue, IfOk, Ok, OnErr, OnOk, Some, pos, suc};
 ghost use Rattle.std.specs.Process.{exit_code};
 ghost use Rattle.std.specs.String.{string_bytes};
 ghost use Rattle.std.specs.declared.process.status.ExitStatus.{ExitStatus};
 ghost use Rattle.tftp_supervisor.specs.Lines.{HasNoEnd};
+ghost use Rattle.tftp_supervisor.specs.Output.{lines_in};
 ghost use Rattle.tftp_supervisor.specs.PassedOn.{AlwaysPassedOn, PassedOn};
 ghost use Rattle.tftp_supervisor.specs.ProcessEvent.{AllSucceeded, EachEnded, IsStarted};
 ghost use Rattle.tftp_supervisor.specs.ProcessEvent.{StartsFirst, after_print, started_in};
@@ -62,8 +63,8 @@ struct Supervisor {
     servers: Vec<WatchedServer>,
     /// How many servers were started.
     count: u8,
-    /// Whether it was printed where they listen.
-    announced: bool,
+    /// The first lines of servers, which say where they listen.
+    announced: Vec<Vec<u8>>,
     /// What is printed next.
     out: Vec<u8>,
 }
@@ -77,7 +78,7 @@ impl Supervisor {
             alloc,
             servers: Vec::new(alloc),
             count: 0,
-            announced: false,
+            announced: Vec::new(alloc),
             out: Vec::new(alloc),
         }
     }
@@ -230,7 +231,7 @@ impl Supervisor {
 fn read_of<P: ServerProcesses>(
     processes: &mut P,
     server: &mut WatchedServer,
-    announced: &mut bool,
+    announced: &mut Vec<Vec<u8>>,
     out: &mut Vec<u8>,
 ) -> Result<(), SupervisorFault>
     requires out { out.old.items ≡ [] }
@@ -238,8 +239,9 @@ fn read_of<P: ServerProcesses>(
     requires is_started { IsStarted server.old.output.server (P.log processes.old) }
     requires passed { PassedOn (P.log processes.old) }
     requires always { AlwaysPassedOn (P.log processes.old) }
-    ensures ok { OnOk result (Reads announced.old announced.new server.old server.new
-        (P.log processes.old) (P.log processes.new) out.new.items) }
+    ensures ok { OnOk result (Reads (lines_in announced.old.items)
+        (lines_in announced.new.items) server.old server.new (P.log processes.old)
+        (P.log processes.new) out.new.items) }
     ensures goes_on { GoesOn (P.log processes.old) (P.log processes.new) }
 {
     let mut buffer = [0u8; MOST_READ];
@@ -250,16 +252,8 @@ fn read_of<P: ServerProcesses>(
     let Some(bytes) = read else {
         return finish(processes, server);
     };
-    server.output.pass_on(*announced, bytes, out)?;
-    *announced = is_announced(*announced, &server.output);
+    server.output.pass_on(announced, bytes, out)?;
     Ok(())
-}
-
-/// Whether it was printed where the servers listen, once lines of this one were passed on.
-fn is_announced(announced: bool, output: &Output) -> bool
-    ensures { result ≡ (announced || output.now.has_printed) }
-{
-    announced || output.has_printed
 }
 
 /// Ends a server that has closed its output, and checks that its status is 0.

@@ -25,27 +25,27 @@ use std::path::PathBuf;
 use std::process::{Child, Command, ExitStatus, Stdio};
 use trace::Trace;
 
-/// Servers of this program, which have a socket as their standard input.
+/// Servers of this program, each with the socket of its place as its standard input.
 #[derive(Drop)]
-struct SystemProcesses {
+struct SystemProcesses<'a> {
     rt: HostRuntime,
     program: PathBuf,
-    socket: OwnedFd,
+    sockets: &'a [OwnedFd],
     children: Vec<Child>,
     reports: Reports,
     trace: Trace,
 }
 
-impl SystemProcesses {
+impl<'a> SystemProcesses<'a> {
     /// No server.
-    fn new(rt: HostRuntime, socket: &OwnedFd) -> Result<SystemProcesses, SupervisorFault>
+    fn new(rt: HostRuntime, sockets: &'a [OwnedFd]) -> Result<SystemProcesses<'a>, SupervisorFault>
         ensures { IfOk result (λ processes. processes.trace.events ≡ []) }
     {
         let program = match env::current_exe(&rt) {
             Ok(program) => program,
             Err(error) => return Err(SupervisorFault::of_program(error)),
         };
-        match SystemProcesses::of_program(rt, program, socket) {
+        match SystemProcesses::of_program(rt, program, sockets) {
             Ok(processes) => Ok(processes),
             Err(error) => Err(SupervisorFault::of(error)),
         }
@@ -55,33 +55,36 @@ impl SystemProcesses {
     fn of_program(
         rt: HostRuntime,
         program: PathBuf,
-        socket: &OwnedFd,
-    ) -> io::Result<SystemProcesses>
+        sockets: &'a [OwnedFd],
+    ) -> io::Result<SystemProcesses<'a>>
         ensures { IfOk result (λ processes. processes.trace.events ≡ []) }
     {
         Ok(SystemProcesses {
             rt,
             program,
-            socket: socket.try_clone()?,
+            sockets,
             children: Vec::new(rt.alloc()),
             reports: Reports::new(&rt)?,
             trace: Trace::new(),
         })
     }
 
-    /// Starts a process.
+    /// Starts a process, with the socket of its place.
     fn spawn(&self, line: &[String]) -> io::Result<Child> {
+        let Some(socket) = self.sockets.get(self.children.len()) else {
+            return Err(io::Error::from(ErrorKind::NotFound));
+        };
         let mut command = Command::new(self.rt.alloc(), self.program.as_path())?;
         for word in line.iter().skip(1) {
             command.arg(word.as_str())?;
         }
-        command.stdin(Stdio::from(self.socket.try_clone()?));
+        command.stdin(Stdio::from(socket.try_clone()?));
         command.stdout(Stdio::piped());
         command.spawn(&self.rt)
     }
 }
 
-impl ServerProcesses for SystemProcesses {
+impl ServerProcesses for SystemProcesses<'_> {
     ghost log = { λ processes. processes.trace.events };
 
     fn start(&mut self, line: &[String]) -> io::Result<()> {
@@ -156,10 +159,10 @@ impl Supervise for HostRuntime {
 
     fn supervise(
         &self,
-        socket: &OwnedFd,
+        sockets: &[OwnedFd],
         servers: &[Vec<String>],
     ) -> (Result<(), SupervisorFault>, History) {
-        match SystemProcesses::new(*self, socket) {
+        match SystemProcesses::new(*self, sockets) {
             Ok(mut processes) => {
                 let ended = supervisor::supervise(&mut processes, self.alloc(), servers);
                 let SystemProcesses { trace, .. } = processes;

@@ -4,8 +4,7 @@ use Rattle.clap.specs.Faults.{fault_of, is_simple_and_free}
 use Rattle.clap.specs.Kinds.{HasKind}
 use Rattle.clap.specs.Simple.{App, HasMatchesOf}
 use Rattle.clap.specs.Walk.{Row}
-use Rattle.tftp_arguments.specs.Read.{read_in}
-use Rattle.tftp_daemon.specs.CommandLine.{IfRun, NamesServer}
+use Rattle.tftp_daemon.specs.CommandLine.{IfRun, NamesInRows}
 use Rattle.tftp_daemon.specs.Words.{tftpd_app}
 use Rattle.tftp_daemon.proofs.Commands.{free, simple}
 use Rattle.tftp_daemon.proofs.command_line.match_words.Goals as goal
@@ -15,7 +14,7 @@ returns-in-Ok-clause-names g c =
     let At : App → Type 0 = λ a. HasMatchesOf a (map g.S.AsStr.text c.args.words.now) c.in-Ok.matches in
     let known = subst At c.requires.app_is c.in-Ok.ensures.ok.2 in
     let Names : List Row → Type 0 = λ rows. IfOk c.read_matches.result
-    (λ line. IfRun line (NamesServer (read_in rows))) in
+    (λ line. IfRun line (NamesInRows rows)) in
     subst Names (known simple).0 c.read_matches.ensures.names
 
 pub returns-in-Err-clause-text : goal.returns-in-Err-clause-text

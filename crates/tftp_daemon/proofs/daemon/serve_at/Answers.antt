@@ -4,5 +4,5 @@ use Rattle.tftp_daemon.proofs.daemon.serve_at.Goals as goal
 
 pub returns-in-Ok-clause-runs : goal.returns-in-Ok-clause-runs
 returns-in-Ok-clause-runs g c =
-    serves_at c.service_at.ensures c.requires.alone c.requires.listens c.in-Ok.ensures
+    serves_at c.service_at.ensures c.requires.alone c.requires.at_one_address c.requires.listens c.in-Ok.ensures
     c.serve_loop.ensures

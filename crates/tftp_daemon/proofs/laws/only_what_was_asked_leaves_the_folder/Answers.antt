@@ -5,5 +5,5 @@ use Rattle.tftp_daemon.proofs.laws.only_what_was_asked_leaves_the_folder.Goals a
 
 pub returns : goal.returns
 returns g c =
-    only_asked_files_leave _ _ _ (λ store. refl) (λ root path mode source opens. opens)
+    only_asked_files_leave _ _ _ (λ store. refl) (λ root path mode stated source opens. opens)
     c.gives_its_file.ensures c.a_run_keeps_the_settings.ensures c.a_server_sends_only_what_was_asked.ensures

@@ -18,7 +18,7 @@ returns-in-Ok g c =
     let events = g.R.Supervise.supervised c.supervise-ended.result.1 in (
       c.supervise-ended.result.1,
       supervised_so (λ line. map string_bytes line.items) c.args.config.now c.in_ok-servers.servers.items
-          c.as_slice.result.now events c.as_slice.ensures.value c.in_ok-servers.ensures.count
+          c.as_slice-2.result.now events c.as_slice-2.ensures.value c.in_ok-servers.ensures.count
           c.in_ok-servers.ensures.named
           (if_ok _ _ _ c.in-Ok.is c.supervise-ended.ensures.all)
           (if_ok _ _ _ c.in-Ok.is c.supervise-ended.ensures.succeeded)

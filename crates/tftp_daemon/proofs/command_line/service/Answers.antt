@@ -1,0 +1,22 @@
+use Rattle.std.proofs.Common.{rules}
+use Rattle.tftp_daemon.proofs.command_line.service.Goals as goal
+
+pub returns-clause-names : goal.returns-clause-names
+returns-clause-names c =
+    record {
+      root = search rules;
+      listen = search rules;
+      others = c.requires.others;
+      ports = c.requires.ports;
+      requests_only = search rules;
+      per_client = search rules;
+      limits = search rules;
+      read_only = search rules;
+      uploads = search rules;
+      longest = search rules;
+      ending = search rules;
+      drain = search rules;
+      logs = search rules;
+      log_times = search rules;
+      instance = search rules;
+    }
