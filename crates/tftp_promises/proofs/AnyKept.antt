@@ -40,7 +40,7 @@ use Rattle.tftp_promises.specs.Snapshots.{Has_asked, all_of}
 use Rattle.tftp_promises.proofs.ClientRoles.{run_role}
 use Rattle.tftp_promises.proofs.ClientsServed.{one_there, served_by}
 use Rattle.tftp_promises.proofs.Invariant.{ClientKept, GaveSo, HasFile, HasStored, IsGiven, IsKept, IsOpened}
-use Rattle.tftp_promises.proofs.Invariant.{IsTaken, IsViewed, TookSo}
+use Rattle.tftp_promises.proofs.Invariant.{IsTaken, IsViewed, SendsText, TookSo}
 use Rattle.tftp_promises.proofs.Invariant.{length_of}
 use Rattle.tftp_promises.proofs.KeptShown.{receiver_text, text_if, views_end}
 use Rattle.tftp_promises.proofs.KeptViews.{view_there}
@@ -79,7 +79,7 @@ module _ {S F D G K : Type 0} {stores : StoreMeaning S D} {sources : SourceMeani
     end : OpenEnd
     address : end.address ≡ x.address
     state : end.state ≡ x.state
-    viewed : IsViewed (joined programs) (views pad) (kept pad).messages end
+    viewed : IsViewed (joined programs) (SendsText programs pad) (views pad) (kept pad).messages end
     text : is_sender end.state.role.side ≡ true → end.text ≡ pad_to pad end.state.role.length x.moved.bytes
     gave : is_sender end.state.role.side ≡ true → GaveSo end x.moved
     took : is_sender end.state.role.side ≡ false → TookSo end x.moved

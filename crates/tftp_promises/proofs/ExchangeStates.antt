@@ -44,6 +44,7 @@ service = record {
   ending = record { transfers = 2; rounds = 2 };
   longest = None;
   requests_only = false;
+  per_client = None;
   drains = false;
   logs = false;
   has_priority = false;

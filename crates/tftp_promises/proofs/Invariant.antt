@@ -6,8 +6,10 @@ use Rattle.std.specs.Prelude.{Bool, Ok}
 use Rattle.std.proofs.Common.{sym, subst}
 use Rattle.std.specs.List.{Contains}
 use Rattle.tftp_wire.specs.Spelling.{Spells}
+use Rattle.tftp_wire.specs.declared.mode.Mode.{Mode}
 use Rattle.tftp_wire.specs.declared.packet.Request.{Request as WireRequest}
 use Rattle.tftp_file.specs.Block.{IsPrefixOf}
+use Rattle.tftp_file.specs.Netascii.{wire_text}
 use Rattle.tftp_file.specs.Path.{path_of_name}
 use Rattle.tftp_file.specs.Sink.{SinkMeaning}
 use Rattle.tftp_file.specs.Source.{SourceMeaning}
@@ -23,6 +25,7 @@ use Rattle.tftp_rules.specs.Machine.{Endpoint, Message, Network}
 use Rattle.tftp_rules.specs.OpenEnds.{OpenEnd, open_view, peer_of}
 use Rattle.tftp_rules.specs.Shows.{EndView, IsShown, requested}
 use Rattle.tftp_rules.specs.ViewSafety.{IsAmong}
+use Rattle.tftp_rules.proofs.UnblamedEnds.{IsUnblamed}
 use Rattle.tftp_server.specs.State.{TransferState, at}
 use Rattle.tftp_sockets.specs.Trace.{SocketEvent}
 use Rattle.tftp_client.specs.Converses.{State}
@@ -45,12 +48,15 @@ abbrev pub AreKeyedOnce : {T : Type 0} → List (ℕ × T) → Type 0
 AreKeyedOnce [] = Unit {0}
 AreKeyedOnce (e ∷ held) = (at e.0 held ≡ None) × AreKeyedOnce held
 
--- what holds of an end that was opened: its view is among these, and its last datagram among the messages
-pub record IsViewed (network : Network) (views : List EndView) (messages : List Message) (x : OpenEnd) : Type 0 where
+-- what holds of an end that was opened: its view is among these, and its last datagram among the messages; and it has
+-- blamed no peer that is no stranger, if `IsText` says which peers send the text of a file
+pub record IsViewed (network : Network) (IsText : Endpoint → Mode → Type 0) (views : List EndView)
+    (messages : List Message) (x : OpenEnd) : Type 0 where
   pub kept : EndKept network x
   pub index : ℕ
   pub viewed : slice_get views index ≡ Some (open_view x)
   pub last_sent : IsThere messages x.address x.state.position.last_sent_to x.state.position.last_sent
+  pub unblamed : IsUnblamed network IsText messages x.state
 
 -- what a sender gave begins its text, and as long as the end is open what is left comes after it
 pub record GaveSo (x : OpenEnd) (moved : Moved) : Type 0 where
@@ -100,6 +106,18 @@ module _ {S F D G K : Type 0} {stores : StoreMeaning S D} {sources : SourceMeani
   place_text pad a =
       pad_to pad (length_of (opened_at programs a programs.server.run)) (moved_at programs a programs.server.run).bytes
 
+  -- what a client or a transfer there sends is the text of a file in this mode
+  pub record SendsText (pad : ℕ) (a : Endpoint) (mode : Mode) : Type 0 where
+    pub file : List ℕ
+    pub client : (k : ℕ) (client : ClientProgram inputs outputs (requests_at programs)) →
+        slice_get programs.clients k ≡ Some client →
+        a ≡ client_at inputs outputs (requests_at programs) client → wire_text mode file ≡ client_text pad client
+    pub transfer : ((k : ℕ) (client : ClientProgram inputs outputs (requests_at programs)) →
+        slice_get programs.clients k ≡ Some client →
+        a ≢ client_at inputs outputs (requests_at programs) client) →
+        (opening : TransferState F D) → opened_at programs a programs.server.run ≡ Some opening →
+        wire_text mode file ≡ place_text pad a
+
   -- a client's source has given since what was sent
   pub record ClientGiven (client : ClientProgram inputs outputs (requests_at programs)) (x : OpenEnd) (source : G)
       (moved : Moved) : Type 0 where
@@ -134,7 +152,7 @@ module _ {S F D G K : Type 0} {stores : StoreMeaning S D} {sources : SourceMeani
     pub address : end.address ≡ client_at inputs outputs (requests_at programs) client
     pub state : end.state ≡ s.end
     pub side : is_client end.state.role.side ≡ true
-    pub viewed : IsViewed (joined programs) views messages end
+    pub viewed : IsViewed (joined programs) (SendsText pad) views messages end
     -- its request is among the messages
     pub asks : IsThere messages (client_at inputs outputs (requests_at programs) client)
         (requests_at programs) client.first.position.last_sent
@@ -212,14 +230,14 @@ module _ {S F D G K : Type 0} {stores : StoreMeaning S D} {sources : SourceMeani
     pub request : end.request ≡ transfer.request
     pub named : IsNamed transfer.path transfer.request
     pub side : is_client end.state.role.side ≡ false
-    pub viewed : IsViewed (joined programs) views messages end
+    pub viewed : IsViewed (joined programs) (SendsText pad) views messages end
     pub has : HasStored pad snapshot end transfer.files
 
   -- a transfer whose end is as it was, and is still viewed with what its file did
   pub same_transfer : {pad : ℕ} {views views' : List EndView} {messages messages' : List Message}
       {snapshot snapshot' : Snapshot programs} {port : ℕ} {transfer : TransferState F D} {a : Endpoint}
       (h : TransferKept pad views messages snapshot port transfer a) →
-      IsViewed (joined programs) views' messages' h.end → HasStored pad snapshot' h.end transfer.files →
+      IsViewed (joined programs) (SendsText pad) views' messages' h.end → HasStored pad snapshot' h.end transfer.files →
       TransferKept pad views' messages' snapshot' port transfer a
   same_transfer h viewed has = record {
     end = h.end;

@@ -1,5 +1,5 @@
 -- A client that sends its request keeps the invariant.
-use Rattle.std.proofs.Common.{◌≡◌, ℕ, Bool, true, false, List, [], ◌∷◌, ◌++◌, Some, refl, sym, ap, ◌∙◌, subst, inl, inr}
+use Rattle.std.proofs.Common.{◌≡◌, ℕ, Bool, true, false, List, [], ◌∷◌, ◌++◌, Some, None, refl, sym, ap, ◌∙◌, subst, inl, inr}
 use Rattle.std.proofs.Common.{length}
 use Rattle.std.specs.Prelude.{slice_get}
 use Rattle.std.specs.List.{Contains}
@@ -13,7 +13,7 @@ use Rattle.tftp_file.specs.Sink.{SinkMeaning}
 use Rattle.tftp_file.specs.Source.{SourceMeaning, Gave_nothing}
 use Rattle.tftp_file.specs.declared.files.Files.{Files}
 use Rattle.tftp_file.specs.declared.files.Files.TheVariants.{Source, Sink}
-use Rattle.tftp_ends.specs.End.{EndState, is_client}
+use Rattle.tftp_ends.specs.End.{EndState, is_client, outcome_of, terms_of}
 use Rattle.tftp_ends.specs.Opening.{getting, putting, request_of}
 use Rattle.tftp_store.specs.Store.{StoreMeaning}
 use Rattle.tftp_sockets.specs.Trace.{SocketEvent}
@@ -30,6 +30,7 @@ use Rattle.tftp_rules.proofs.Actions.{asks}
 use Rattle.tftp_rules.proofs.EndOpenings.{nothing_held, no_text}
 use Rattle.tftp_rules.proofs.Indices.{slice_get-push_new}
 use Rattle.tftp_rules.proofs.SaidLemmas.{spells_own}
+use Rattle.tftp_rules.proofs.UnblamedEnds.{opens_unblamed}
 use Rattle.tftp_promises.specs.ClientRuns.{moved_in}
 use Rattle.tftp_promises.specs.Moved.{Moved, nothing_moved}
 use Rattle.tftp_promises.specs.Order.{Programs, requests_at}
@@ -91,6 +92,8 @@ module _ {S F D G K : Type 0} {stores : StoreMeaning S D} {sources : SourceMeani
     pub none : write ≡ false → asked ≡ []
     pub kept : EndKept (joined programs) (opening here first bytes text)
     pub side : is_client first.role.side ≡ true
+    pub still : outcome_of first.position.phase ≡ None
+    pub alone : terms_of first.position.phase ≡ None
     pub has : Own first files bytes text
 
   to_read : (first : EndState) (files : Files G K) (h : OpensToRead inputs outputs to first files) →
@@ -116,6 +119,8 @@ module _ {S F D G K : Type 0} {stores : StoreMeaning S D} {sources : SourceMeani
               committed = λ _. refl;
             };
         side = refl;
+        still = refl;
+        alone = refl;
         has = own;
       }))
 
@@ -144,6 +149,8 @@ module _ {S F D G K : Type 0} {stores : StoreMeaning S D} {sources : SourceMeani
               committed = λ c. absurd (true≢false c);
             };
         side = refl;
+        still = refl;
+        alone = refl;
         has = own;
       }))
 
@@ -277,6 +284,8 @@ module _ {S F D G K : Type 0} {stores : StoreMeaning S D} {sources : SourceMeani
               index = length kept.views;
               viewed = slice_get-push_new kept.views (open_view x);
               last_sent = its_message;
+              unblamed =
+                  opens_unblamed (joined programs) (kept.messages ++ m ∷ []) client.first h.still (λ c. h.alone);
             };
         asks = (requested h.write h.request, spelled, Contains-push kept.messages m);
         has = h.has;

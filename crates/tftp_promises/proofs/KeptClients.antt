@@ -26,7 +26,7 @@ use Rattle.tftp_promises.specs.Network.{joined}
 use Rattle.tftp_promises.specs.Snapshots.{Snapshot, ClientStage, Unasked, Has_asked, noted_by, client_did}
 use Rattle.tftp_promises.proofs.Invariant.{IsOpened, IsThere, IsViewed, HasStored, HasTransferBy}
 use Rattle.tftp_promises.proofs.Invariant.{ClientKept, StageKept, TransferKept, ServerKept, IsOfClient, IsOfTransfer, IsKept}
-use Rattle.tftp_promises.proofs.Invariant.{IsFreshBy, same_transfer}
+use Rattle.tftp_promises.proofs.Invariant.{IsFreshBy, SendsText, same_transfer}
 use Rattle.tftp_promises.proofs.KeptViews.{arrived_still, sent_still, there_still}
 use Rattle.tftp_promises.proofs.NewPlaces.{client_apart}
 
@@ -88,8 +88,9 @@ module _ {S F D G K : Type 0} {stores : StoreMeaning S D} {sources : SourceMeani
     pub views : List EndView
     pub said_now : List Message
     pub shown : IsShown (joined programs) views (kept.messages ++ said_now)
-    pub others : (z : OpenEnd) → there client ≢ z.address → IsViewed (joined programs) kept.views kept.messages z →
-        IsViewed (joined programs) views (kept.messages ++ said_now) z
+    pub others : (z : OpenEnd) → there client ≢ z.address →
+        IsViewed (joined programs) (SendsText programs pad) kept.views kept.messages z →
+        IsViewed (joined programs) (SendsText programs pad) views (kept.messages ++ said_now) z
     pub own : ClientKept programs pad views (kept.messages ++ said_now) client s files moved
     pub notes : (port : ℕ) (to : Endpoint) (bytes : List ℕ) → Contains noted (Sent port to bytes) →
         WasSentBefore programs old (endpoint client.ip port) to bytes ⊎ IsThere (kept.messages ++ said_now)

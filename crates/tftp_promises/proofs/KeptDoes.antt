@@ -1,8 +1,10 @@
 -- Each step of a client keeps the invariant.
 use Rattle.std.proofs.Common.{◌≡◌, ℕ, Bool, List, [], ◌∷◌, ◌++◌, Option, Some, None, refl, sym, ap, ◌∙◌, subst}
-use Rattle.std.specs.Prelude.{slice_get, is_some, IsSome}
+use Rattle.std.specs.Prelude.{◌≢◌, slice_get, is_some, IsSome}
 use Rattle.std.specs.List.{Contains}
 use Rattle.std.proofs.lemmas.List.Elements.{Contains-append_left, Contains-push}
+use Rattle.tftp_wire.specs.Spelling.{Spells}
+use Rattle.tftp_wire.specs.declared.packet.Packet.{Packet as WirePacket}
 use Rattle.tftp_file.specs.Block.{IsPrefixOf}
 use Rattle.tftp_file.specs.Sink.{SinkMeaning}
 use Rattle.tftp_file.specs.Source.{SourceMeaning}
@@ -22,15 +24,17 @@ use Rattle.tftp_client.specs.Converses.HandlesReceived.{Answers, Loses}
 use Rattle.tftp_client.specs.Converses.MayElapse.{Stays, Elapses}
 use Rattle.tftp_rules.specs.EndShown.{Stands}
 use Rattle.tftp_rules.specs.EndKept.{IsFromServer}
-use Rattle.tftp_rules.specs.Machine.{Endpoint}
+use Rattle.tftp_rules.specs.Machine.{Endpoint, Elsewhere}
 use Rattle.tftp_rules.specs.OpenEnds.{OpenEnd, files_of, open_view, peer_of}
 use Rattle.tftp_rules.proofs.Indices.{slice_get-set_same}
 use Rattle.tftp_rules.proofs.PhaseMoves.{same_ips}
 use Rattle.tftp_rules.proofs.EndTurns.{datagram_goes, timeout_goes}
+use Rattle.tftp_rules.proofs.UnblamedEnds.{timeout_unblamed}
 use Rattle.tftp_promises.specs.ClientRuns.{ClientDoes, Receives_one, Reads_clock, Waits_until, Times_out, File_works, Prints_line}
 use Rattle.tftp_promises.specs.ClientRuns.{client_moves, line_printed, moved_in}
 use Rattle.tftp_promises.specs.Joint.{CanTake}
 use Rattle.tftp_promises.specs.Moved.{Moved, handling_moves, step_moves}
+use Rattle.tftp_promises.specs.Openings.{our_ports}
 use Rattle.tftp_promises.specs.Order.{Programs, requests_at}
 use Rattle.tftp_promises.specs.Others.{DoesOwn, HandlesOwn, IsOtherAnswer}
 use Rattle.tftp_promises.specs.Programs.{ClientProgram, client_at}
@@ -45,6 +49,7 @@ use Rattle.tftp_promises.proofs.KeptFiles.{StepsOver, step_over, file_same, file
 use Rattle.tftp_promises.proofs.KeptTurns.{own, turn_keeps, stays_keeps}
 use Rattle.tftp_promises.proofs.KeptStrays.{arrives}
 use Rattle.tftp_promises.proofs.Places.{clients_there, near_server, stranger_no_client}
+use Rattle.tftp_promises.proofs.UnblamedTurns.{turn_unblamed}
 
 -- an open end has no outcome
 no_outcome : (o : Option Outcome) → (IsSome o → ⊥) → o ≡ None
@@ -118,7 +123,9 @@ module _ {S F D G K : Type 0} {stores : StoreMeaning S D} {sources : SourceMeani
         p answer (there p spells)
 
     -- the end answers it
-    pub answers : HasArrived kept.messages from here bytes → (turn : Turn) (files' : Files G K) (added : List SocketEvent) →
+    pub answers : HasArrived kept.messages from here bytes →
+        ((joined programs).host_of from ≢ Elsewhere → (p : WirePacket) × Spells p bytes) → (turn : Turn)
+        (files' : Files G K) (added : List SocketEvent) →
         IsOpen s.end → (step : DatagramStep inputs outputs from bytes s.end files turn files') →
         (peer_of s.end.position.phase ≡ None → IsOtherAnswer programs.ip programs.others from bytes → ⊥) →
         IsPrefixOf (step_moves inputs outputs from bytes s.end files turn files' step moved).bytes
@@ -126,11 +133,14 @@ module _ {S F D G K : Type 0} {stores : StoreMeaning S D} {sources : SourceMeani
         answered client.port turn.reply (receipt ++ s.events) ≡ added ++ s.events →
         Then_keeps (turned client.port turn (received client.port from bytes watch s)) files' added
         (step_moves inputs outputs from bytes s.end files turn files' step moved)
-    answers arrived turn files' added still step takes_own told events =
+    answers arrived spelled turn files' added still step takes_own told events =
         let o = own programs old kept fresh k client found s files noted moved is_stage in
         let added_is = added_by client.port turn.reply receipt s.events added events in
         let there : HasArrived kept.messages from x.address bytes =
         subst (λ (a : Endpoint). HasArrived kept.messages from a bytes) (sym o.address) arrived in
+        let from_server : IsFromServer (joined programs) x from bytes =
+        serves there (subst (λ (e : EndState). peer_of e.position.phase ≡ None →
+        IsOtherAnswer programs.ip programs.others from bytes → ⊥) (sym o.state) takes_own) in
         let Over : EndState → Type 0 = λ (e : EndState).
         (step : DatagramStep inputs outputs from bytes e files turn files') →
         IsPrefixOf (step_moves inputs outputs from bytes e files turn files' step moved).bytes
@@ -150,11 +160,16 @@ module _ {S F D G K : Type 0} {stores : StoreMeaning S D} {sources : SourceMeani
           still = ap is_some (still_open still);
           last_sent = o.viewed.last_sent;
         })
-        there (serves there (subst (λ (e : EndState). peer_of e.position.phase ≡ None →
-        IsOtherAnswer programs.ip programs.others from bytes → ⊥) (sym o.state) takes_own)) over.steps in
+        there from_server over.steps in
+        let unblamed =
+        turn_unblamed programs old kept fresh x o.viewed (still_open still)
+        (λ same. fresh.apart k programs.port client found
+        (Contains-append_left (programs.port ∷ []) (our_ports programs old.run) programs.port
+        (Contains-push [] programs.port)) (sym o.address ∙ same))
+        from bytes there spelled from_server turn over.content over.steps in
         turn_keeps programs old kept fresh k client found s files noted moved is_stage turn over.content goes
         (turned client.port turn (received client.port from bytes watch s)) refl files'
-        (step_moves inputs outputs from bytes s.end files turn files' step moved) over.has
+        (step_moves inputs outputs from bytes s.end files turn files' step moved) unblamed over.has
         added (λ port to b c. answered_sends client.port turn.reply receipt receipt_silent port to b
         (subst (λ (es : List SocketEvent). Contains es (Sent port to b)) (sym added_is) c))
 
@@ -189,6 +204,7 @@ module _ {S F D G K : Type 0} {stores : StoreMeaning S D} {sources : SourceMeani
       let same : timeout_turn s.end ≡ turn = ap timeout_turn (sym o.state) in
       turn_keeps programs old kept fresh k client found s files noted moved is_stage turn (files_of x) goes
       (elapsed client.port s) (ap (after_turn s.end) same) files moved
+      (timeout_unblamed (joined programs) kept.messages x.state o.viewed.unblamed)
       (file_same programs client x pad turn files moved (λ c. still_open still) o.has)
       added (λ port to b c. subst (λ (t : Turn). (client.port ≡ port)
       × (t.reply ≡ Some (record { to = to; bytes = b }))) same
@@ -273,8 +289,8 @@ module _ {S F D G K : Type 0} {stores : StoreMeaning S D} {sources : SourceMeani
       bytes
       (stranger_no_client programs (client_at inputs outputs (requests_at programs) client) k
       client found refl) came in
-      answers programs old a.now fresh k client found s files noted moved is_stage from bytes watch a.come turn files'
-      added still step takes_own told events
+      answers programs old a.now fresh k client found s files noted moved is_stage from bytes watch a.come a.spelled turn
+      files' added still step takes_own told events
   handles from bytes watch next files' added (Loses lost keeps) takes_own told events take =
       loses programs old kept fresh k client found s files noted moved is_stage from bytes watch files' added keeps
       events

@@ -3,13 +3,13 @@ use Rattle.std.proofs.Common.{◌≡◌, ◌≢◌, ℕ, ◌+◌, Bool, true, fa
 use Rattle.std.proofs.Common.{Option, Some, None, refl, sym, ap, ◌∙◌, subst, inl, inr}
 use Rattle.std.specs.Prelude.{◌⊎◌, ◌==◌, if◌then◌else◌, map, option_map, option_to_list}
 use Rattle.std.specs.List.{Contains}
-use Rattle.std.proofs.lemmas.Bool.{eq-eqb, ne_eqb}
+use Rattle.std.proofs.lemmas.Bool.{true≢false, eq-eqb, ne_eqb}
 use Rattle.std.proofs.lemmas.List.{append_cancel_right}
 use Rattle.std.proofs.lemmas.List.Elements.{Contains-append_left, Contains-append_right, Contains-push}
 use Rattle.tftp_wire.specs.Spelling.{Spells}
 use Rattle.tftp_file.specs.Sink.{SinkMeaning}
 use Rattle.tftp_file.specs.Source.{SourceMeaning}
-use Rattle.tftp_ends.specs.End.{EndState}
+use Rattle.tftp_ends.specs.End.{EndState, outcome_of}
 use Rattle.tftp_store.specs.Store.{StoreMeaning}
 use Rattle.tftp_server.specs.Request.{A_transfer, Left, left_by}
 use Rattle.tftp_server.specs.State.{TransferState, ServerState, at, with_new}
@@ -17,6 +17,7 @@ use Rattle.tftp_sockets.specs.Trace.{SocketEvent}
 use Rattle.tftp_sockets.specs.Trace.SocketEvent.{Sent}
 use Rattle.tftp_loop.specs.Steps.{AnswersRequest, LoopStep, LoopState, Request_answered, after_request}
 use Rattle.tftp_rules.specs.EndOpens.{EndOpens}
+use Rattle.tftp_rules.proofs.UnblamedEnds.{opens_unblamed}
 use Rattle.tftp_rules.specs.Machine.{At_server, Endpoint, Message, is_same}
 use Rattle.tftp_rules.specs.OpenEnds.{OpenEnd, open_view, peer_of}
 use Rattle.tftp_rules.specs.Rules.{message}
@@ -140,7 +141,7 @@ module _ {S F D G K : Type 0} {stores : StoreMeaning S D} {sources : SourceMeani
     module _ (x : OpenEnd) (address : x.address ≡ a)
         (peer : peer_of x.state.position.phase ≡ Some answers.from) (state : x.state ≡ transfer.end)
         (path : x.path ≡ transfer.path) (request : x.request ≡ transfer.request)
-        (named : IsNamed transfer.path transfer.request)
+        (named : IsNamed transfer.path transfer.request) (still : outcome_of x.state.position.phase ≡ None)
         (opens : EndOpens (joined programs) kept.shown.0 kept.views kept.messages answers.from x)
         (has : HasStored programs pad now x transfer.files) where
       abbrev said_now : List Message
@@ -216,6 +217,9 @@ module _ {S F D G K : Type 0} {stores : StoreMeaning S D} {sources : SourceMeani
               index = length kept.views;
               viewed = slice_get-push_new kept.views (open_view x);
               last_sent = last_sent;
+              unblamed =
+                  opens_unblamed (joined programs) messages x.state still
+                  (λ client. absurd (true≢false (sym client ∙ opens.side)));
             };
         has = has;
       }

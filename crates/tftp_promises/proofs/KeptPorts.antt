@@ -18,6 +18,7 @@ use Rattle.tftp_rules.specs.Shows.{EndView, IsShown}
 use Rattle.tftp_rules.specs.ViewSafety.{IsAmong}
 use Rattle.tftp_rules.proofs.Entries.{lookup-set_other, lookup-set_same, numbers}
 use Rattle.tftp_rules.proofs.Indices.{slice_get-set_same}
+use Rattle.tftp_rules.proofs.UnblamedEnds.{IsUnblamed}
 use Rattle.tftp_promises.specs.Openings.{HasClosed, place_at}
 use Rattle.tftp_promises.specs.Order.{Programs, IsStranger, requests_at}
 use Rattle.tftp_promises.specs.Programs.{endpoint}
@@ -27,7 +28,7 @@ use Rattle.tftp_promises.proofs.RunPlaces.{places}
 use Rattle.tftp_promises.proofs.Identifiers.{at-with_next_cases, once-with_next}
 use Rattle.tftp_promises.proofs.Invariant.{AreKeyedOnce, IsThere, IsViewed, HasStored, HasTransferBy, TransferKept}
 use Rattle.tftp_promises.proofs.Invariant.{ServerKept, IsOfTransfer, IsKept, IsFreshBy, IsStrangers, named_still}
-use Rattle.tftp_promises.proofs.Invariant.{same_transfer}
+use Rattle.tftp_promises.proofs.Invariant.{SendsText, same_transfer}
 use Rattle.tftp_promises.proofs.KeptServer.{ServerTurns, server_keeps}
 use Rattle.tftp_promises.proofs.KeptViews.{arrived_still, viewed_beside, among_set}
 use Rattle.tftp_promises.proofs.MovedSteps.{MovesNone}
@@ -63,6 +64,7 @@ module _ {S F D G K : Type 0} {stores : StoreMeaning S D} {sources : SourceMeani
     pub is_kept : EndKept (joined programs) end
     pub last_sent : IsThere (kept.messages ++ said_now) end.address end.state.position.last_sent_to
         end.state.position.last_sent
+    pub unblamed : IsUnblamed (joined programs) (SendsText programs pad) (kept.messages ++ said_now) end.state
     pub has : HasStored programs pad (server_did programs old does added) end next.files
 
   module _ (old : Snapshot programs) (kept : IsKept programs pad old) (fresh : IsFreshBy programs old)
@@ -108,8 +110,9 @@ module _ {S F D G K : Type 0} {stores : StoreMeaning S D} {sources : SourceMeani
     gone_place q t a closed same = kept.server.gone q port t transfer a closed found (sym same)
 
     -- another end
-    beside : (z : OpenEnd) → place ≢ z.address → IsViewed (joined programs) kept.views kept.messages z →
-        IsViewed (joined programs) views messages z
+    beside : (z : OpenEnd) → place ≢ z.address →
+        IsViewed (joined programs) (SendsText programs pad) kept.views kept.messages z →
+        IsViewed (joined programs) (SendsText programs pad) views messages z
     beside z apart h =
         viewed_beside (joined programs) kept.views kept.messages turns.said_now index (open_view was)
         (open_view turns.end) z viewed (λ same. apart (sym was_there ∙ same)) h
@@ -132,6 +135,7 @@ module _ {S F D G K : Type 0} {stores : StoreMeaning S D} {sources : SourceMeani
             index = index;
             viewed = slice_get-set_same kept.views index (open_view turns.end) (open_view was) viewed;
             last_sent = turns.last_sent;
+            unblamed = turns.unblamed;
           };
       has = turns.has;
     }

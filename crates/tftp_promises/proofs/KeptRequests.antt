@@ -46,8 +46,8 @@ use Rattle.tftp_promises.proofs.KeptRefusals.{refusal_keeps, silent_keeps}
 use Rattle.tftp_promises.proofs.PortAnswers.{Begins_to_send, Begins_to_store, IsBegunBy, IsOpenedBy, OpensToSend}
 use Rattle.tftp_promises.proofs.PortAnswers.{OpensToStore, PortAnswers, Says_error, Silent, port_answers}
 use Rattle.tftp_promises.proofs.Requested.{IsAsked}
-use Rattle.tftp_promises.proofs.RequestedEnds.{first_of_text, read_length, read_mode, read_peer, read_sends}
-use Rattle.tftp_promises.proofs.RequestedEnds.{write_mode, write_moves_none, write_peer, write_stores}
+use Rattle.tftp_promises.proofs.RequestedEnds.{first_of_text, read_length, read_mode, read_peer, read_sends, read_still}
+use Rattle.tftp_promises.proofs.RequestedEnds.{write_mode, write_moves_none, write_peer, write_still, write_stores}
 use Rattle.tftp_promises.proofs.Texts.{begins_padded, pad_length}
 use Rattle.tftp_promises.proofs.Unanswered.{none_answers}
 
@@ -129,7 +129,7 @@ module _ {S F D G K : Type 0} {stores : StoreMeaning S D} {sources : SourceMeani
         opening_keeps programs old kept answers added noted fresh sent server.store o.is
         x refl
         (read_peer o.agreed answers.from r.mode text server.config.retries) (sym end) refl refl
-        (named false path mode options asked)
+        (named false path mode options asked) (read_still o.agreed answers.from r.mode text server.config.retries)
         (opens_to_send (joined programs) kept.shown.0 kept.views kept.messages a answers.from answers.bytes r path file
         text o.agreed server.config.retries kept.shown.1
         (at_server programs old kept answers added noted fresh sent server.store o.is)
@@ -213,6 +213,7 @@ module _ {S F D G K : Type 0} {stores : StoreMeaning S D} {sources : SourceMeani
         opening_keeps programs old kept answers added noted fresh stored_by o.store o.is
         receiver refl (write_peer o.agreed answers.from asked.request.mode server.config.retries) refl refl refl
         (named true path mode options asked)
+        (write_still o.agreed answers.from asked.request.mode server.config.retries)
         (opens_to_store (joined programs) kept.shown.0 kept.views kept.messages a answers.from answers.bytes
         asked.request path o.agreed server.config.retries kept.shown.1
         (at_server programs old kept answers added noted fresh stored_by o.store o.is)

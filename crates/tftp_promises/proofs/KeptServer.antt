@@ -20,7 +20,7 @@ use Rattle.tftp_promises.specs.Programs.{endpoint, ClientProgram, client_at}
 use Rattle.tftp_promises.specs.Network.{joined}
 use Rattle.tftp_promises.specs.Snapshots.{Snapshot, ClientStage, Unasked, Has_asked, server_did}
 use Rattle.tftp_promises.proofs.Invariant.{IsThere, IsViewed, HasTransferBy, StageKept, TransferKept, ServerKept}
-use Rattle.tftp_promises.proofs.Invariant.{IsOfClient, IsOfTransfer, IsKept}
+use Rattle.tftp_promises.proofs.Invariant.{IsOfClient, IsOfTransfer, IsKept, SendsText}
 use Rattle.tftp_promises.proofs.KeptViews.{sent_still, there_still}
 
 module _ {S F D G K : Type 0} {stores : StoreMeaning S D} {sources : SourceMeaning F} {inputs : SourceMeaning G}
@@ -40,8 +40,8 @@ module _ {S F D G K : Type 0} {stores : StoreMeaning S D} {sources : SourceMeani
     pub clients : (k : ℕ) (client : ClientProgram inputs outputs (requests_at programs)) →
         slice_get programs.clients k ≡ Some client →
         (z : OpenEnd) → z.address ≡ client_at inputs outputs (requests_at programs) client →
-        IsViewed (joined programs) kept.views kept.messages z →
-        IsViewed (joined programs) views (kept.messages ++ said_now) z
+        IsViewed (joined programs) (SendsText programs pad) kept.views kept.messages z →
+        IsViewed (joined programs) (SendsText programs pad) views (kept.messages ++ said_now) z
     pub transfers : (port : ℕ) (transfer : TransferState F D) (a : Endpoint) →
         HasTransferBy programs now port transfer a →
         TransferKept programs pad views (kept.messages ++ said_now) now port transfer a

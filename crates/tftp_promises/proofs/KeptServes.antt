@@ -248,13 +248,13 @@ module _ {S F D G K : Type 0} {stores : StoreMeaning S D} {sources : SourceMeani
           arrives programs old kept h.from (endpoint programs.ip port) h.bytes
           (stranger_no_port programs (endpoint programs.ip port) there) came in
           datagram_keeps programs old a.now old_fresh serves added events h is fresh_now
-          (subst (λ (e : Endpoint). HasArrived a.now.messages h.from e h.bytes) (sym here) a.come) (inl here)
+          (subst (λ (e : Endpoint). HasArrived a.now.messages h.from e h.bytes) (sym here) a.come) a.spelled (inl here)
 
       strange_keeps : (h : Handles) → serves.does ≡ A_datagram h →
           IsStranger stores sources inputs outputs programs h.from → Keeps
       strange_keeps h is strange =
           let a = strays_in programs old kept h.from place h.bytes strange in
-          datagram_keeps programs old a.now old_fresh serves added events h is fresh_now a.come (inr strange)
+          datagram_keeps programs old a.now old_fresh serves added events h is fresh_now a.come a.spelled (inr strange)
 
       ours_keeps : (h : Handles) → serves.does ≡ A_datagram h →
           WasSentBefore programs old h.from (endpoint programs.ip port) h.bytes

@@ -1,10 +1,11 @@
 -- What a step receives is among the messages: it was sent before, or it is a stranger's or an ERROR, whose message may
 -- be added at any time.
 use Rattle.std.proofs.Common.{ℕ, List, [], ◌∷◌, ◌++◌, sym, ◌∙◌, subst, inl, inr}
-use Rattle.std.specs.Prelude.{◌⊎◌}
+use Rattle.std.specs.Prelude.{◌≢◌, ◌⊎◌}
 use Rattle.std.specs.List.{Contains}
 use Rattle.std.proofs.lemmas.List.Elements.{Contains-push}
 use Rattle.tftp_wire.specs.Parts.{packet_in}
+use Rattle.tftp_wire.specs.Spelling.{Spells}
 use Rattle.tftp_wire.specs.declared.packet.Packet.{Packet as WirePacket}
 use Rattle.tftp_wire.specs.declared.packet.Packet.TheVariants.{Error}
 use Rattle.tftp_wire.proofs.SpellingLemmas.{spelled_is_found}
@@ -15,7 +16,7 @@ use Rattle.tftp_ends.specs.Step.{error_bytes}
 use Rattle.tftp_ends.specs.declared.error_reply.ErrorReply.{ErrorReply}
 use Rattle.tftp_store.specs.Store.{StoreMeaning}
 use Rattle.tftp_server.specs.State.{TransferState}
-use Rattle.tftp_rules.specs.Machine.{Endpoint, Error as Says_an_error, Message}
+use Rattle.tftp_rules.specs.Machine.{Endpoint, Elsewhere, Error as Says_an_error, Message}
 use Rattle.tftp_rules.specs.Rules.{message}
 use Rattle.tftp_rules.specs.Said.{said}
 use Rattle.tftp_rules.specs.Shows.{IsShown}
@@ -111,12 +112,18 @@ module _ {S F D G K : Type 0} {stores : StoreMeaning S D} {sources : SourceMeani
   pub record Arrived (from to : Endpoint) (bytes : List ℕ) : Type 0 where
     pub now : IsKept programs pad snapshot
     pub come : HasArrived now.messages from to bytes
+    -- and it spells a packet, if it is no stranger's
+    pub spelled : (joined programs).host_of from ≢ Elsewhere → (p : WirePacket) × Spells p bytes
 
   pub strays_in : (from to : Endpoint) (bytes : List ℕ) → IsStranger stores sources inputs outputs programs from →
       Arrived from to bytes
   unfolding stray_kept said_kept
   strays_in from to bytes stranger =
-      record { now = stray_kept from to bytes stranger; come = stray_arrived from to bytes }
+      record {
+        now = stray_kept from to bytes stranger;
+        come = stray_arrived from to bytes;
+        spelled = λ own. absurd (own ((strangers_elsewhere programs from).1 stranger));
+      }
 
   -- an ERROR may be said from any endpoint
   error_arrived : (from to : Endpoint) (bytes : List ℕ) → IsError bytes →
@@ -135,14 +142,22 @@ module _ {S F D G K : Type 0} {stores : StoreMeaning S D} {sources : SourceMeani
   errors_in : (from to : Endpoint) (bytes : List ℕ) → IsError bytes → Arrived from to bytes
   unfolding error_kept said_kept
   errors_in from to bytes error =
-      record { now = error_kept from to; come = error_arrived from to bytes error }
+      record {
+        now = error_kept from to;
+        come = error_arrived from to bytes error;
+        spelled = λ own. (Error error.0 error.1, error.2);
+      }
 
   -- what a program receives
   pub arrives : (from to : Endpoint) (bytes : List ℕ) → (IsStranger stores sources inputs outputs programs to → ⊥) →
       WasSentBefore programs snapshot from to bytes ⊎ MayCome stores sources inputs outputs programs from bytes →
       Arrived from to bytes
   arrives from to bytes ours (inl sent) = elim (kept.sent from to bytes sent) [
-    | inl there ↦ record { now = kept; come = there_says kept.messages from to bytes there }
+    | inl there ↦ record {
+      now = kept;
+      come = there_says kept.messages from to bytes there;
+      spelled = λ own. (there.0, there.1);
+    }
     | inr strange ↦ absurd (ours strange)
   ]
   arrives from to bytes ours (inr (inl stranger)) = strays_in from to bytes stranger

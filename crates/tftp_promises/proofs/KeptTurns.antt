@@ -21,13 +21,14 @@ use Rattle.tftp_rules.specs.Rules.{message}
 use Rattle.tftp_rules.specs.Said.{said}
 use Rattle.tftp_rules.specs.Shows.{EndView, IsShown}
 use Rattle.tftp_rules.proofs.Indices.{slice_get-set_same}
+use Rattle.tftp_rules.proofs.UnblamedEnds.{IsUnblamed, unblamed_still}
 use Rattle.tftp_promises.specs.Joint.{WasSentBefore}
 use Rattle.tftp_promises.specs.Moved.{Moved}
 use Rattle.tftp_promises.specs.Order.{Programs, requests_at}
 use Rattle.tftp_promises.specs.Programs.{endpoint, ClientProgram, client_at}
 use Rattle.tftp_promises.specs.Network.{joined}
 use Rattle.tftp_promises.specs.Snapshots.{Snapshot, Has_asked, client_did}
-use Rattle.tftp_promises.proofs.Invariant.{IsThere, HasFile, IsViewed, ClientKept, IsKept, IsFreshBy}
+use Rattle.tftp_promises.proofs.Invariant.{IsThere, HasFile, IsViewed, ClientKept, IsKept, IsFreshBy, SendsText}
 use Rattle.tftp_promises.proofs.KeptClients.{ClientTurns, client_keeps}
 use Rattle.tftp_promises.proofs.KeptEvents.{SendsOnly, IsSilent}
 use Rattle.tftp_promises.proofs.KeptViews.{there_still, viewed_beside, viewed_still, among_set}
@@ -98,6 +99,7 @@ module _ {S F D G K : Type 0} {stores : StoreMeaning S D} {sources : SourceMeani
       (goes : Goes (joined programs) kept.shown.0 kept.views kept.messages own.viewed.index own.end turn
       (end_after own.end turn held))
       (s' : State) (state : s'.end ≡ after_turn s.end turn) (files' : Files G K) (moved' : Moved)
+      (unblamed : IsUnblamed (joined programs) (SendsText programs pad) kept.messages (after_turn own.end.state turn))
       (has : HasFile programs pad client (end_after own.end turn held) files' moved')
       (added : List SocketEvent) (sends : SendsOnly client.port turn.reply added) where
     abbrev y : OpenEnd
@@ -109,7 +111,8 @@ module _ {S F D G K : Type 0} {stores : StoreMeaning S D} {sources : SourceMeani
     address : y.address ≡ here
     address = (after_files (in_state (after_turn own.end.state turn) own.end) held).0 ∙ own.address
 
-    its_view : IsViewed (joined programs) (set kept.views own.viewed.index (open_view y)) messages y
+    its_view : IsViewed (joined programs) (SendsText programs pad) (set kept.views own.viewed.index (open_view y))
+        messages y
     its_view = record {
       kept = goes.kept;
       index = own.viewed.index;
@@ -118,6 +121,10 @@ module _ {S F D G K : Type 0} {stores : StoreMeaning S D} {sources : SourceMeani
           subst (λ (a : Endpoint). IsThere messages a y.state.position.last_sent_to y.state.position.last_sent)
           (own.address ∙ sym address)
           (newest_there kept.messages goes.said_now own.end y turn goes.replies goes.last_sent own.viewed.last_sent);
+      unblamed =
+          unblamed_still (joined programs) kept.messages goes.said_now y.state
+          (subst (λ (e : EndState). IsUnblamed (joined programs) (SendsText programs pad) kept.messages e)
+          (sym (after_files (in_state (after_turn own.end.state turn) own.end) held).1) unblamed);
     }
 
     its_end : ClientKept programs pad (set kept.views own.viewed.index (open_view y)) messages client s' files' moved'

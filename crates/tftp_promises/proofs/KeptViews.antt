@@ -5,6 +5,7 @@ use Rattle.std.specs.List.{Contains}
 use Rattle.std.proofs.lemmas.List.Elements.{Contains-append_left}
 use Rattle.std.proofs.lemmas.Option.{same_Some}
 use Rattle.tftp_wire.specs.Spelling.{Spells}
+use Rattle.tftp_wire.specs.declared.mode.Mode.{Mode}
 use Rattle.tftp_wire.specs.declared.packet.Packet.{Packet as WirePacket}
 use Rattle.tftp_wire.proofs.SpellingLemmas.{one_meaning}
 use Rattle.tftp_file.specs.Sink.{SinkMeaning}
@@ -18,6 +19,7 @@ use Rattle.tftp_rules.specs.Shows.{EndView, AreApart, IsShown}
 use Rattle.tftp_rules.specs.ViewSafety.{IsAmong}
 use Rattle.tftp_rules.proofs.Indices.{slice_get-set_cases, slice_get-set_other, slice_get-push_cases}
 use Rattle.tftp_rules.proofs.Indices.{slice_get-push_old}
+use Rattle.tftp_rules.proofs.UnblamedEnds.{unblamed_still}
 use Rattle.tftp_promises.specs.Order.{Programs, IsStranger}
 use Rattle.tftp_promises.proofs.Invariant.{IsThere, HasArrived, IsViewed}
 
@@ -53,18 +55,19 @@ module _ (network : Network) where
   pub views_apart : (views : List EndView) (messages : List Message) → IsShown network views messages → AreApart views
   views_apart views messages s = s.1.1.apart
 
+module _ (network : Network) {IsText : Endpoint → Mode → Type 0} where
   -- the view at the endpoint of an end is its own
   pub view_there : (views : List EndView) (messages : List Message) (x : OpenEnd) (view : EndView) →
-      IsShown network views messages → IsViewed network views messages x →
+      IsShown network views messages → IsViewed network IsText views messages x →
       IsAmong views view → view.address ≡ x.address → view ≡ open_view x
   view_there views messages x view shown h among same =
-      let k = views_apart views messages shown among.0 h.index view (open_view x) among.1 h.viewed same in
+      let k = views_apart network views messages shown among.0 h.index view (open_view x) among.1 h.viewed same in
       same_Some view (open_view x) (sym among.1 ∙ (ap (slice_get views) k ∙ h.viewed))
 
   module _ (views : List EndView) (messages said_now : List Message) where
     -- another end has turned
     pub viewed_beside : (k : ℕ) (e f : EndView) (z : OpenEnd) → slice_get views k ≡ Some e → e.address ≢ z.address →
-        IsViewed network views messages z → IsViewed network (set views k f) (messages ++ said_now) z
+        IsViewed network IsText views messages z → IsViewed network IsText (set views k f) (messages ++ said_now) z
     viewed_beside k e f z at apart h = record {
       kept = h.kept;
       index = h.index;
@@ -75,28 +78,31 @@ module _ (network : Network) where
           ∙ h.viewed;
       last_sent =
           there_still messages said_now z.address z.state.position.last_sent_to z.state.position.last_sent h.last_sent;
+      unblamed = unblamed_still network messages said_now z.state h.unblamed;
     }
 
     -- one more has opened
-    pub viewed_before : (f : EndView) (z : OpenEnd) → IsViewed network views messages z →
-        IsViewed network (views ++ f ∷ []) (messages ++ said_now) z
+    pub viewed_before : (f : EndView) (z : OpenEnd) → IsViewed network IsText views messages z →
+        IsViewed network IsText (views ++ f ∷ []) (messages ++ said_now) z
     viewed_before f z h = record {
       kept = h.kept;
       index = h.index;
       viewed = slice_get-push_old views h.index f (open_view z) h.viewed;
       last_sent =
           there_still messages said_now z.address z.state.position.last_sent_to z.state.position.last_sent h.last_sent;
+      unblamed = unblamed_still network messages said_now z.state h.unblamed;
     }
 
     -- more was said
-    pub viewed_still : (z : OpenEnd) → IsViewed network views messages z →
-        IsViewed network views (messages ++ said_now) z
+    pub viewed_still : (z : OpenEnd) → IsViewed network IsText views messages z →
+        IsViewed network IsText views (messages ++ said_now) z
     viewed_still z h = record {
       kept = h.kept;
       index = h.index;
       viewed = h.viewed;
       last_sent =
           there_still messages said_now z.address z.state.position.last_sent_to z.state.position.last_sent h.last_sent;
+      unblamed = unblamed_still network messages said_now z.state h.unblamed;
     }
 
 -- a view after one end has turned is that of the end, or as before

@@ -22,6 +22,7 @@ pub mod RunPlaces
 pub mod Invariant
 pub mod KeptViews
 pub mod NewPlaces
+pub mod UnblamedTurns
 pub mod WrongPeers
 pub mod FreshPorts
 pub mod KeptFresh
@@ -49,6 +50,7 @@ pub mod KeptDoes
 pub mod KeptShown
 pub mod KeptRuns
 pub mod ProgramsShown
+pub mod UnblamedPrograms
 pub mod EachAlone
 pub mod PassedOver
 pub mod TakesOne

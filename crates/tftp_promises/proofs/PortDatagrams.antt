@@ -4,6 +4,7 @@ use Rattle.std.proofs.Common.{inl, inr}
 use Rattle.std.specs.Prelude.{◌≢◌, ◌⊎◌, Option, is_some, ⊤}
 use Rattle.std.proofs.lemmas.Bool.{true≢false, cases_Bool}
 use Rattle.tftp_wire.specs.Reading.{has_error_opcode}
+use Rattle.tftp_wire.specs.Spelling.{Spells}
 use Rattle.tftp_wire.specs.declared.packet.Packet.{Packet as WirePacket}
 use Rattle.tftp_file.specs.Block.{IsPrefixOf}
 use Rattle.tftp_file.specs.Sink.{Holding, SinkMeaning}
@@ -31,9 +32,10 @@ use Rattle.tftp_loop.specs.Steps.{LoopState, ServesPort, At_port, PortStep, A_da
 use Rattle.tftp_loop.specs.Steps.{ReceivesAndHandles, port_state}
 use Rattle.tftp_rules.specs.EndShown.{Stands, IsOpenAt, Goes}
 use Rattle.tftp_rules.specs.KnownFiles.{known_source, known_sink}
-use Rattle.tftp_rules.specs.Machine.{Endpoint}
+use Rattle.tftp_rules.specs.Machine.{Endpoint, Elsewhere}
 use Rattle.tftp_rules.specs.OpenEnds.{OpenEnd, files_of, in_state, end_after, open_view, peer_of}
 use Rattle.tftp_rules.proofs.EndTurns.{datagram_goes}
+use Rattle.tftp_rules.proofs.UnblamedEnds.{IsUnblamed}
 use Rattle.tftp_promises.specs.Drafts.{HadStore, StoreBegan}
 use Rattle.tftp_promises.specs.Given.{GaveSince, StoreOpened}
 use Rattle.tftp_promises.specs.Moved.{Moved, acts_move, port_moves, step_moves}
@@ -45,7 +47,7 @@ use Rattle.tftp_promises.specs.Snapshots.{Snapshot, server_did}
 use Rattle.tftp_promises.proofs.ClosedEnds.{ClosedAnswers, closed_datagram_goes, wrong_datagram_goes}
 use Rattle.tftp_promises.proofs.Invariant.{GaveSo, TookBy, TookSo, IsGiven, IsOpened, IsTaken, IsToldAt, length_of}
 use Rattle.tftp_promises.proofs.Invariant.{place_text, HasArrived, HasStored, IsThere, TransferKept, IsKept, IsFreshBy}
-use Rattle.tftp_promises.proofs.Invariant.{IsStrangers}
+use Rattle.tftp_promises.proofs.Invariant.{IsStrangers, SendsText}
 use Rattle.tftp_promises.proofs.DraftsTake.{took_longer}
 use Rattle.tftp_promises.proofs.MovedFiles.{GivenSo, GotSo, MovesOver, TakenSo, files_move}
 use Rattle.tftp_promises.proofs.MovedSteps.{moves_here, none_at_port, none_beside}
@@ -56,6 +58,7 @@ use Rattle.tftp_promises.proofs.ServerStays.{stored_after}
 use Rattle.tftp_promises.proofs.WrongPeers.{datagram_stays, stays_strangers, wrong_peer, wrong_replies}
 use Rattle.tftp_promises.proofs.TurnsAtPort.{Becomes, IsSeated, turn_keeps}
 use Rattle.tftp_promises.proofs.Texts.{pad_to}
+use Rattle.tftp_promises.proofs.UnblamedTurns.{apart_from_requests, turn_unblamed}
 
 module _ {S F D G K : Type 0} {stores : StoreMeaning S D} {sources : SourceMeaning F} {inputs : SourceMeaning G}
     {outputs : SinkMeaning K}
@@ -204,6 +207,7 @@ module _ {S F D G K : Type 0} {stores : StoreMeaning S D} {sources : SourceMeani
           request = was.request ∙ sym taken.takes.request;
           path_stays = taken.takes.path;
           request_stays = taken.takes.request;
+          unblamed = was.viewed.unblamed;
           has =
               subst (λ (f : Files F D). HasStored programs pad now x f) (sym same.1)
               (stored_after programs pad old (At_port serves) added x
@@ -235,7 +239,9 @@ module _ {S F D G K : Type 0} {stores : StoreMeaning S D} {sources : SourceMeani
       }))
 
   -- ---- the datagram has arrived at its place, and it is for a transfer at its port, or a stranger's
-  module _ (arrived : HasArrived kept.messages from place bytes) (near : (place ≡ endpoint programs.ip port)
+  module _ (arrived : HasArrived kept.messages from place bytes)
+      (spelled : (joined programs).host_of from ≢ Elsewhere → (p : WirePacket) × Spells p bytes)
+      (near : (place ≡ endpoint programs.ip port)
       ⊎ IsStranger stores sources inputs outputs programs from) where
     come : HasArrived kept.messages from x.address bytes
     come = subst (λ (a : Endpoint). HasArrived kept.messages from a bytes) (sym was.address) arrived
@@ -291,9 +297,10 @@ module _ {S F D G K : Type 0} {stores : StoreMeaning S D} {sources : SourceMeani
 
     becomes : (content : Files (List ℕ) Holding) →
         Goes (joined programs) kept.shown.0 kept.views kept.messages was.viewed.index x turn (end_after x turn content) →
+        IsUnblamed (joined programs) (SendsText programs pad) kept.messages (after_turn x.state turn) →
         HasStored programs pad now (end_after x turn content) taken.next.files →
         Becomes programs old kept (At_port serves) added port taken.transfer taken.found x turn taken.next
-    becomes content goes has =
+    becomes content goes unblamed has =
         let rest = after_rest (in_state (after_turn x.state turn) x) content in
         record {
           end = end_after x turn content;
@@ -304,6 +311,9 @@ module _ {S F D G K : Type 0} {stores : StoreMeaning S D} {sources : SourceMeani
           request = rest.3 ∙ (was.request ∙ sym taken.takes.request);
           path_stays = taken.takes.path;
           request_stays = taken.takes.request;
+          unblamed =
+              subst (λ (e : EndState). IsUnblamed (joined programs) (SendsText programs pad) kept.messages e)
+              (sym rest.1) unblamed;
           has = has;
         }
 
@@ -538,8 +548,14 @@ module _ {S F D G K : Type 0} {stores : StoreMeaning S D} {sources : SourceMeani
         subst (λ (m : Moved). IsPrefixOf m.bytes all) moved_now told.bytes in
         let over = subst Over was.state at_x taken.takes.steps begins in
         let goes = goes_over x over.content refl (open_now o) (peered o) over.steps in
+        let unblamed =
+        turn_unblamed programs old kept fresh x was.viewed (no_outcome (outcome_of x.state.position.phase) o)
+        (λ same. apart_from_requests programs old kept fresh place
+        (kept.server.opened port taken.transfer place (inl (taken.found, refl))) (sym was.address ∙ same))
+        from bytes come spelled (λ no_peer near_port p spells answer. absurd (peered o no_peer)) turn over.content
+        over.steps in
         then_keeps
-        (becomes over.content goes
+        (becomes over.content goes unblamed
         (got_has taken.transfer.files taken.next.files taken.takes.kind has over.content over.got))
         (seated_after over.content)
 

@@ -26,6 +26,7 @@ use Rattle.tftp_rules.specs.Machine.{Endpoint}
 use Rattle.tftp_rules.specs.OpenEnds.{OpenEnd, files_of, holding_of, in_state, end_after, open_view}
 use Rattle.tftp_rules.proofs.EndTurns.{timeout_goes}
 use Rattle.tftp_rules.proofs.PhaseMoves.{if_acts}
+use Rattle.tftp_rules.proofs.UnblamedEnds.{IsUnblamed, timeout_unblamed}
 use Rattle.tftp_promises.specs.Openings.{moved_at, place_at}
 use Rattle.tftp_promises.specs.Order.{Programs, IsStranger}
 use Rattle.tftp_promises.specs.Programs.{endpoint}
@@ -35,7 +36,7 @@ use Rattle.tftp_promises.proofs.ClosedEnds.{closed_timeout_goes}
 use Rattle.tftp_promises.proofs.DraftsTake.{took_still}
 use Rattle.tftp_promises.proofs.GivenSteps.{gave_still}
 use Rattle.tftp_promises.proofs.Invariant.{HasStored, IsOpened, TransferKept, IsKept, IsFreshBy}
-use Rattle.tftp_promises.proofs.Invariant.{IsStrangers}
+use Rattle.tftp_promises.proofs.Invariant.{IsStrangers, SendsText}
 use Rattle.tftp_promises.proofs.KeptEvents.{SendsOnly, elapsed_silent}
 use Rattle.tftp_promises.proofs.KeptFiles.{left_is, now_is, sink_is, sink_no_source, source_is}
 use Rattle.tftp_promises.proofs.MovedSteps.{MovesNone}
@@ -180,6 +181,9 @@ module _ {S F D G K : Type 0} {stores : StoreMeaning S D} {sources : SourceMeani
           request = rest.3 ∙ was.request;
           path_stays = refl;
           request_stays = refl;
+          unblamed =
+              subst (λ (e : EndState). IsUnblamed (joined programs) (SendsText programs pad) kept.messages e)
+              (sym rest.1) (timeout_unblamed (joined programs) kept.messages x.state was.viewed.unblamed);
           has = has;
         }
 

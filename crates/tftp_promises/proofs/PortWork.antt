@@ -20,6 +20,7 @@ use Rattle.tftp_loop.specs.Steps.{LoopState, LoopStep, ServesPort, At_port, Lose
 use Rattle.tftp_rules.specs.Machine.{Endpoint, Message}
 use Rattle.tftp_rules.specs.OpenEnds.{OpenEnd, open_view}
 use Rattle.tftp_rules.specs.Shows.{EndView, IsShown}
+use Rattle.tftp_rules.proofs.UnblamedEnds.{unblamed_still}
 use Rattle.tftp_promises.specs.Openings.{place_at}
 use Rattle.tftp_promises.specs.Order.{Programs}
 use Rattle.tftp_promises.specs.Network.{joined}
@@ -83,6 +84,7 @@ module _ {S F D G K : Type 0} {stores : StoreMeaning S D} {sources : SourceMeani
       last_sent =
           there_still kept.messages [] was.end.address was.end.state.position.last_sent_to
           was.end.state.position.last_sent was.viewed.last_sent;
+      unblamed = unblamed_still (joined programs) kept.messages [] was.end.state was.viewed.unblamed;
       has = has;
     }
 

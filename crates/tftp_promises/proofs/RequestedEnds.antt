@@ -1,12 +1,12 @@
 -- The end of the server that a request opens: its side, its peer, and the text that it sends first.
 use Rattle.std.proofs.Common.{◌≡◌, ℕ, ◌≤◌, true, false, List, [], ◌∷◌, ◌++◌, length, take}
-use Rattle.std.proofs.Common.{drop, min, Some, refl, sym, ap, ◌∙◌, arith}
+use Rattle.std.proofs.Common.{drop, min, Some, None, refl, sym, ap, ◌∙◌, arith}
 use Rattle.std.proofs.lemmas.List.{take_min, drop_min}
 use Rattle.tftp_wire.specs.declared.mode.Mode.{Mode}
 use Rattle.tftp_negotiate.specs.declared.known.Known.{Known}
 use Rattle.tftp_negotiate.specs.declared.limits.TheConstants.{DEFAULT_BLOCK}
 use Rattle.tftp_file.specs.Block.{IsPrefixOf, block}
-use Rattle.tftp_ends.specs.End.{is_sender}
+use Rattle.tftp_ends.specs.End.{is_sender, outcome_of}
 use Rattle.tftp_ends.specs.Opening.{serving_read, serving_write}
 use Rattle.tftp_ends.specs.Step.{block_length}
 use Rattle.tftp_rules.specs.EndOpens.{left_at_first, sending}
@@ -53,6 +53,17 @@ pub write_peer : (agreed : List Known) (peer : Endpoint) (mode : Mode) (retries 
     peer_of (serving_write agreed peer mode retries).position.phase ≡ Some peer
 write_peer [] peer mode retries = refl
 write_peer (known ∷ agreed) peer mode retries = refl
+
+-- both are open
+pub read_still : (agreed : List Known) (peer : Endpoint) (mode : Mode) (text : List ℕ) (retries : ℕ) →
+    outcome_of (sending agreed peer mode text retries).position.phase ≡ None
+read_still [] peer mode text retries = refl
+read_still (known ∷ agreed) peer mode text retries = refl
+
+pub write_still : (agreed : List Known) (peer : Endpoint) (mode : Mode) (retries : ℕ) →
+    outcome_of (serving_write agreed peer mode retries).position.phase ≡ None
+write_still [] peer mode retries = refl
+write_still (known ∷ agreed) peer mode retries = refl
 
 pub write_moves_none : (agreed : List Known) (peer : Endpoint) (mode : Mode) (retries : ℕ) →
     (first_moved (serving_write agreed peer mode retries)).bytes ≡ []

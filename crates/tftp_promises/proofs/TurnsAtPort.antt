@@ -14,12 +14,14 @@ use Rattle.tftp_loop.specs.Steps.{LoopState, LoopStep}
 use Rattle.tftp_rules.specs.EndShown.{Goes}
 use Rattle.tftp_rules.specs.Machine.{Endpoint}
 use Rattle.tftp_rules.specs.OpenEnds.{OpenEnd}
+use Rattle.tftp_rules.proofs.UnblamedEnds.{IsUnblamed, unblamed_still}
 use Rattle.tftp_promises.specs.Openings.{place_at}
 use Rattle.tftp_promises.specs.Order.{Programs, IsStranger}
 use Rattle.tftp_promises.specs.Programs.{endpoint}
 use Rattle.tftp_promises.specs.Network.{joined}
 use Rattle.tftp_promises.specs.Snapshots.{Snapshot, server_did}
 use Rattle.tftp_promises.proofs.Invariant.{IsThere, HasStored, TransferKept, IsKept, IsFreshBy, IsStrangers}
+use Rattle.tftp_promises.proofs.Invariant.{SendsText}
 use Rattle.tftp_promises.proofs.KeptEvents.{SendsOnly}
 use Rattle.tftp_promises.proofs.KeptPorts.{PortTurns, port_keeps}
 use Rattle.tftp_promises.proofs.KeptTurns.{reply_there, newest_there}
@@ -50,6 +52,7 @@ module _ {S F D G K : Type 0} {stores : StoreMeaning S D} {sources : SourceMeani
     pub request : end.request ≡ next.request
     pub path_stays : next.path ≡ transfer.path
     pub request_stays : next.request ≡ transfer.request
+    pub unblamed : IsUnblamed (joined programs) (SendsText programs pad) kept.messages end.state
     pub has : HasStored programs pad (server_did programs old does added) end next.files
 
   -- the turn of a stranger's transfer: it is one still, and what it answers is for a stranger, or is there from its
@@ -119,6 +122,8 @@ module _ {S F D G K : Type 0} {stores : StoreMeaning S D} {sources : SourceMeani
           becomes.end.state.position.last_sent_to becomes.end.state.position.last_sent) (sym becomes.address)
           (newest_there kept.messages becomes.goes.said_now x becomes.end turn becomes.goes.replies
           becomes.goes.last_sent last_sent);
+      unblamed =
+          unblamed_still (joined programs) kept.messages becomes.goes.said_now becomes.end.state becomes.unblamed;
       has = becomes.has;
     }
 

@@ -16,6 +16,7 @@ pub mod Traces
 pub mod Joined
 pub mod Several
 pub mod Alone
+pub mod Blamed
 pub mod Snapshots
 pub mod Joint
 pub mod Witness

@@ -4,6 +4,7 @@
 ghost use Rattle.tftp_rules.specs.Machine.{Endpoint};
 ghost use Rattle.tftp_promises.specs.Alone.{EachIsJoined, EachKeepsAnyFiles};
 ghost use Rattle.tftp_promises.specs.Alone.{EachTakesOne, OthersHaveNothing};
+ghost use Rattle.tftp_promises.specs.Blamed.{EachIsUnblamed, ProgramsAreUnblamed};
 ghost use Rattle.tftp_promises.specs.ClientPrograms.{ClientsArePrograms};
 ghost use Rattle.tftp_promises.specs.ClientRuns.{ClientsAreRuns};
 ghost use Rattle.tftp_promises.specs.Hosts.{ClientsAreThere, ServerIsThere, StrangersAreElsewhere};
@@ -44,6 +45,17 @@ pub fn each_client_keeps_promises<T: Store, G: Source, K: Sink>()
     ensures any_files { EachKeepsAnyFiles T.meaning T.Source.meaning G.meaning K.meaning }
     ensures passed_over { OthersHaveNothing T.meaning T.Source.meaning G.meaning K.meaning }
     ensures takes_one { EachTakesOne T.meaning T.Source.meaning G.meaning K.meaning }
+{}
+
+/// No end of the programs whose peer is no stranger closes because of what that peer sent: neither
+/// as `Illegal`, nor as `TooLarge` or `Refused`; as `NotNetascii` only if what the source of its peer
+/// gave begins no netascii of the length that was measured; and as `SourceFault` only if it sends,
+/// since its own source failed. So a transfer fails for no other cause than that no retry was left,
+/// that a file or a store failed, or that an ERROR was received (RFC 1350, sections 2, 4 and 7). The
+/// same holds for each of several servers at one address and a client that takes its answer.
+pub fn no_program_is_blamed<T: Store, G: Source, K: Sink>()
+    ensures programs { ProgramsAreUnblamed T.meaning T.Source.meaning G.meaning K.meaning }
+    ensures several { EachIsUnblamed T.meaning T.Source.meaning G.meaning K.meaning }
 {}
 
 /// If no two ends of the run ever have one endpoint, the ports are fresh as the promises need them:

@@ -1,6 +1,6 @@
 -- Each file that a complete get named has just what reads of the file of its name returned.
-use Rattle.std.proofs.Common.{◌≡◌, ℕ, List, [], ◌∷◌, ◌∙◌, inl, inr}
-use Rattle.std.specs.Prelude.{map}
+use Rattle.std.proofs.Common.{◌≡◌, ℕ, List, [], ◌∷◌, ◌∙◌, inl, inr, subst, sym}
+use Rattle.std.specs.Prelude.{length, map}
 use Rattle.std.specs.List.{AllByRecursion}
 use Rattle.std.specs.declared.io.traits.Read as read
 use Rattle.std.specs.declared.io.traits.Write as write
@@ -38,8 +38,8 @@ pub record AreOfFolder {R G H W V E B : Type 0} (looked : V → List DiskEvent) 
   pub keeps : RunKeepsSettings stores sources
   pub gives : GivesFile looked sources
   pub root : (store : FolderStore R G H W) → stores.root store ≡ string_bytes store.folder.root
-  pub opens : (root path : List ℕ) (mode : Mode) (source : FolderSource V E) → sources.opens root path mode source →
-      OpensSource looked root path mode source
+  pub opens : (root path : List ℕ) (mode : Mode) (stated : ℕ) (source : FolderSource V E) →
+      sources.opens root path mode stated source → OpensSource looked root path mode stated source
 
 module _ {S D F U I : Type 0} {logs : looks.Ghosts D} {writes : write.Ghosts F}
     {views : looks.Ghosts U} {reads : read.Ghosts I} {seeks : seek.Ghosts I}
@@ -47,12 +47,14 @@ module _ {S D F U I : Type 0} {logs : looks.Ghosts D} {writes : write.Ghosts F}
   module _ {R G H W V E B : Type 0} {looked : V → List DiskEvent} {stores : StoreMeaning (FolderStore R G H W) B}
       {sources : SourceMeaning (FolderSource V E)} (of : AreOfFolder looked stores sources) (programs : Programs stores sources inputs outputs) where
     its_opening : (job : Job) (count : ℕ) (bytes : List ℕ) (got : GotFile programs job count bytes) →
-        OpensSource looked (root_of programs) got.path job.mode got.opening.source
+        OpensSource looked (root_of programs) got.path job.mode (length (wire_text job.mode bytes)) got.opening.source
     its_opening job count bytes got =
-        of.opens (root_of programs) got.path job.mode got.opening.source
+        subst (λ (n : ℕ). OpensSource looked (root_of programs) got.path job.mode n got.opening.source)
+        (sym got.measured)
+        (of.opens (root_of programs) got.path job.mode got.opening.length got.opening.source
         (opened_there (root_of programs) got.path got.got.serves.transfer.request job.mode got.opening
         programs.server.run
-        (λ state run. of.root state.server.store ∙ (of.keeps programs.server.start state run).root) got.opened)
+        (λ state run. of.root state.server.store ∙ (of.keeps programs.server.start state run).root) got.opened))
 
     its_file : (calls : List DiskEvent) (job : Job) (files : Files S (LocalFile D F U I logs writes views reads seeks)) (count : ℕ) (bytes : List ℕ) →
         IsOnDisk job files bytes calls → FileDone programs job files count bytes →
@@ -65,8 +67,8 @@ module _ {S D F U I : Type 0} {logs : looks.Ghosts D} {writes : write.Ghosts F}
           got = done;
           opens = opens;
           read =
-              of.gives (root_of programs) done.path job.mode done.opening.source done.source
-              (wire_text job.mode bytes) opens done.gave;
+              of.gives (root_of programs) done.path job.mode (length (wire_text job.mode bytes)) done.opening.source
+              done.source (wire_text job.mode bytes) opens done.gave;
         }
 
   -- from what was done with the files to what reached the disk, of each job

@@ -1,5 +1,6 @@
 pub mod ClientMade
 pub mod WordsMade
+pub mod UnblamedMade
 pub mod LastPrograms
 pub mod EndToEndMade
 pub mod AlsoThere

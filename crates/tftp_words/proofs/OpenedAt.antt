@@ -16,11 +16,11 @@ use Rattle.tftp_promises.specs.Given.{StoreOpened, StoreOpens}
 module _ {S F D : Type 0} {stores : StoreMeaning S D} {sources : SourceMeaning F} (root path request : List ℕ) (mode : Mode)
     (opening : Opening F) where
   opens_there : {old new : LoopState S F D} (does : LoopStep stores sources old new) → stores.root old.server.store ≡ root →
-      StoreOpens does path request mode opening → sources.opens root path mode opening.source
+      StoreOpens does path request mode opening → sources.opens root path mode opening.length opening.source
   opens_there {old} (Request_answered answers) same h =
-      subst (λ (r : List ℕ). sources.opens r path mode opening.source) same
+      subst (λ (r : List ℕ). sources.opens r path mode opening.length opening.source) same
       (subst (λ (r : Result (Opening F) StoreFault). IfOk r (λ o. sources.opens (stores.root old.server.store) path mode
-      o.source)) h.3 h.2.opened)
+      o.length o.source)) h.3 h.2.opened)
   opens_there (Waited h) same none = absurd none
   opens_there (At_port h) same none = absurd none
   opens_there (Request_received h) same none = absurd none
@@ -35,7 +35,7 @@ module _ {S F D : Type 0} {stores : StoreMeaning S D} {sources : SourceMeaning F
 
   pub opened_there : {first last : LoopState S F D} (run : Run (LoopStep stores sources) first last) →
       ((state : LoopState S F D) → Run (LoopStep stores sources) first state → stores.root state.server.store ≡ root) →
-      StoreOpened run path request mode opening → sources.opens root path mode opening.source
+      StoreOpened run path request mode opening → sources.opens root path mode opening.length opening.source
   opened_there Start stays none = absurd none
   opened_there (Then {middle} run does) stays (inl here) = opens_there does (stays middle run) here
   opened_there (Then run does) stays (inr before) = opened_there run stays before

@@ -1,8 +1,9 @@
 -- Of two files that got one name, the one that got it later has it.
 use Rattle.std.proofs.Common.{◌≡◌, ◌∙◌, ℕ, Bool, true, false, List, [], ◌∷◌, ◌++◌, append_assoc, length, Result, Some, Ok, Err, refl}
-use Rattle.std.proofs.Common.{sym, ap, subst, suc, inl, inr, arith}
+use Rattle.std.proofs.Common.{sym, ap, subst, zero, suc, inl, inr, arith, ◌+◌, ◌<◌}
+use Rattle.std.proofs.lemmas.List.{length-append}
 use Rattle.std.specs.Prelude.{◌≢◌, ◌⊎◌, ◌==◌, if◌then◌else◌}
-use Rattle.std.proofs.lemmas.Bool.{cond-true, cond-false, eqb-true, eqb-false}
+use Rattle.std.proofs.lemmas.Bool.{cond-true, cond-false, eq-eqb, eqb-true, eqb-false}
 use Rattle.std.specs.declared.io.Error.{Error}
 use Rattle.tftp_disk.specs.Changes.{changes, renames}
 use Rattle.tftp_disk.specs.DiskTrace.{DiskEvent, Done, FileState}
@@ -10,13 +11,14 @@ use Rattle.tftp_disk.specs.DiskTrace.DiskEvent.{Looked, Followed, Resolved, Open
 use Rattle.tftp_disk.specs.DiskTrace.DiskEvent.{Folder_opened, Folder_synced, Examined, Given, Not_given, Sought}
 use Rattle.tftp_disk.specs.DiskTrace.DiskEvent.{Written, Not_written, Synced, Mode_set}
 use Rattle.tftp_disk.specs.declared.found.Found.{Found}
-use Rattle.tftp_disk.specs.Still.{LeavesPath}
-use Rattle.tftp_folder.specs.Changing.{Limits}
+use Rattle.tftp_disk.specs.Still.{AllLeave, LeavesPath}
+use Rattle.tftp_folder.specs.Changing.{HoldsLock, Limits}
 use Rattle.tftp_folder.specs.Commit.{IsFreeLocked, LooksThenRenames, Names, lock_of}
+use Rattle.tftp_folder.specs.Locks.{KeepLock, KeepsLock}
 use Rattle.tftp_folder.specs.Stored.{IsStoredAt}
 use Rattle.tftp_folder.specs.Uploads.{path_below}
-use Rattle.tftp_words.specs.SharedFolder.{Agrees, AllLeaveIt, AnswersAgree, FolderCall, GivesTo, HasName, IsLater, IsLinkTo, IsNamed}
-use Rattle.tftp_words.specs.SharedFolder.{OneHasTheName, Overlaps, PutsAreNamed, calls_by}
+use Rattle.tftp_words.specs.SharedFolder.{Agrees, AllLeaveIt, AllKeepLock, AnswersAgree, FolderCall, GivesTo, HasName, IsLater, IsLinkTo, IsNamed}
+use Rattle.tftp_words.specs.SharedFolder.{OneHasTheName, Overlaps, PutsAreNamed, PutsNameTheirFiles, calls_by}
 use Rattle.tftp_words.specs.SharedFolder.GivesTo.{Makes, Links, Renames}
 
 -- ---- two places in one list
@@ -160,7 +162,183 @@ agree_after : (n : List FolderCall) (c : FolderCall) (b : List FolderCall) → A
 agree_after [] c b agree = agree
 agree_after (x ∷ n) c b agree = agree_after n c b agree.1
 
-module _ {order : List FolderCall} {target : List ℕ} {i j : ℕ} {may_replace replaces : Bool} (agree : AnswersAgree order)
+-- ---- the lock of a name
+after_by : (p : ℕ) (x : FolderCall) (n b : List FolderCall) (own : Bool) → (x.0 == p) ≡ own
+    → calls_by p (n ++ b) ≡ calls_by p n ++ calls_by p b
+    → calls_by p (x ∷ (n ++ b)) ≡ calls_by p (x ∷ n) ++ calls_by p b
+after_by p x n b true own rest =
+    cond-true (x.0 == p) (x.1 ∷ calls_by p (n ++ b)) (calls_by p (n ++ b)) own
+    ∙ (ap (λ (l : List DiskEvent). x.1 ∷ l) rest
+    ∙ ap (λ (l : List DiskEvent). l ++ calls_by p b)
+    (sym (cond-true (x.0 == p) (x.1 ∷ calls_by p n) (calls_by p n) own)))
+after_by p x n b false own rest =
+    cond-false (x.0 == p) (x.1 ∷ calls_by p (n ++ b)) (calls_by p (n ++ b)) own
+    ∙ (rest
+    ∙ ap (λ (l : List DiskEvent). l ++ calls_by p b)
+    (sym (cond-false (x.0 == p) (x.1 ∷ calls_by p n) (calls_by p n) own)))
+
+calls_after : (p : ℕ) (n b : List FolderCall) → calls_by p (n ++ b) ≡ calls_by p n ++ calls_by p b
+calls_after p [] b = refl
+calls_after p (x ∷ n) b = after_by p x n b (x.0 == p) refl (calls_after p n b)
+
+-- the call of this program, among its own
+own_call : (p : ℕ) (call : DiskEvent) (rest : List FolderCall) → calls_by p ((p, call) ∷ rest) ≡ call ∷ calls_by p rest
+own_call p call rest = cond-true (p == p) (call ∷ calls_by p rest) (calls_by p rest) (eq-eqb p p refl)
+
+differ : (p q : ℕ) (own : Bool) → (p == q) ≡ own → p ≢ q → (p == q) ≡ false
+differ p q true own other = absurd (other (eqb-true p q own))
+differ p q false own other = own
+
+keep_after : (lock : List ℕ) (n b : List DiskEvent) → KeepLock lock (n ++ b) → KeepLock lock b
+keep_after lock [] b keep = keep
+keep_after lock (x ∷ n) b keep = keep_after lock n b keep.1
+
+all_keep_after : (lock : List ℕ) (n b : List FolderCall) → AllKeepLock lock (n ++ b) → AllKeepLock lock b
+all_keep_after lock n b keep program =
+    keep_after lock (calls_by program n) (calls_by program b)
+    (subst (λ (l : List DiskEvent). KeepLock lock l) (calls_after program n b) (keep program))
+
+leave_after : (lock : List ℕ) (n b : List DiskEvent) → AllLeave lock (n ++ b) → AllLeave lock b
+leave_after lock [] b left = left
+leave_after lock (x ∷ n) b left = leave_after lock n b left.1
+
+-- what neither its holder nor its maker can have done
+leaves_by : (lock : List ℕ) (event : DiskEvent) (own : List DiskEvent) (before : List FolderCall)
+    → KeepsLock lock event own → (HoldsLock lock own → ⊥) → Agrees event before → HasName lock before
+    → LeavesPath lock event
+leaves_by lock (Made at (Ok done)) own before keeps none agrees has =
+    λ same. agrees (subst (λ (l : List ℕ). HasName l before) same has)
+leaves_by lock (Linked file from to (Ok done)) own before keeps none agrees has =
+    λ same. agrees (subst (λ (l : List ℕ). HasName l before) same has)
+leaves_by lock (Renamed file from to (Ok done)) own before keeps none agrees has =
+    (λ same. none (keeps (inl same)), λ same. none (keeps (inr same)))
+leaves_by lock (Removed at (Ok done)) own before keeps none agrees has = λ same. none (keeps same)
+leaves_by lock (Made at (Err error)) own before keeps none agrees has = tt
+leaves_by lock (Linked file from to (Err error)) own before keeps none agrees has = tt
+leaves_by lock (Renamed file from to (Err error)) own before keeps none agrees has = tt
+leaves_by lock (Removed at (Err error)) own before keeps none agrees has = tt
+leaves_by lock (Looked path answer) own before keeps none agrees has = tt
+leaves_by lock (Followed path answer) own before keeps none agrees has = tt
+leaves_by lock (Resolved path answer) own before keeps none agrees has = tt
+leaves_by lock (Opened path answer) own before keeps none agrees has = tt
+leaves_by lock (Tried path answer) own before keeps none agrees has = tt
+leaves_by lock (Created path calls) own before keeps none agrees has = tt
+leaves_by lock (Folder_opened path answer) own before keeps none agrees has = tt
+leaves_by lock (Folder_synced path answer) own before keeps none agrees has = tt
+leaves_by lock (Examined answer) own before keeps none agrees has = tt
+leaves_by lock (Given bytes) own before keeps none agrees has = tt
+leaves_by lock (Not_given error) own before keeps none agrees has = tt
+leaves_by lock (Sought to answer) own before keeps none agrees has = tt
+leaves_by lock (Written bytes) own before keeps none agrees has = tt
+leaves_by lock (Not_written error) own before keeps none agrees has = tt
+leaves_by lock (Synced answer) own before keeps none agrees has = tt
+leaves_by lock (Mode_set mode answer) own before keeps none agrees has = tt
+
+module _ (lock : List ℕ) where
+  abbrev made : DiskEvent
+  made = Made lock (Ok tt)
+
+  there : (p : ℕ) (c rest : List FolderCall) → AllLeaveIt lock c → HasName lock (c ++ (p, made) ∷ rest)
+  there p c rest left = record {
+    since = c;
+    program = p;
+    call = made;
+    before = rest;
+    is = refl;
+    gives = Makes refl;
+    left = left;
+  }
+
+  -- a lock that a program made is there as long as its own calls leave it
+  abbrev Stays : ℕ → Type 0
+  Stays fuel =
+      (p : ℕ) (c rest : List FolderCall) → length c + length rest < fuel
+      → AnswersAgree (c ++ (p, made) ∷ rest) → AllKeepLock lock (c ++ (p, made) ∷ rest)
+      → AllLeave lock (calls_by p c) → AllLeaveIt lock c
+
+  -- no other program can hold it then
+  none_else : (fuel : ℕ) → Stays fuel → (p q : ℕ) (c rest : List FolderCall) → length c + length rest < fuel
+      → AnswersAgree (c ++ (p, made) ∷ rest) → AllKeepLock lock (c ++ (p, made) ∷ rest)
+      → AllLeaveIt lock c → p ≢ q → HoldsLock lock (calls_by q (c ++ (p, made) ∷ rest)) → ⊥
+  none_else fuel stays p q c rest long agree keep left other holds =
+      let f = found q (c ++ (p, made) ∷ rest) holds.since made holds.before holds.made in
+      elim (places (p, made) (q, made) c rest f.newer f.older f.is) [
+        | One same more ↦ other (ap (λ (x : FolderCall). x.0) same)
+        | Before b is more ↦
+            -- it was made anew while it was there
+            (left_after lock f.newer (q, made) b
+            (subst (λ (l : List FolderCall). AllLeaveIt lock l) is left)).0 refl
+        | After b is more ↦
+            -- it was there when this program made it
+            let own = agree_after c (p, made) rest agree in
+            let kept : AllKeepLock lock (b ++ (q, made) ∷ f.older) =
+            subst (λ (l : List FolderCall). AllKeepLock lock l) more
+            (all_keep_after lock ((p, made) ∷ []) rest (all_keep_after lock c ((p, made) ∷ rest) keep)) in
+            let its : calls_by q c ++ calls_by q ((p, made) ∷ b) ≡ holds.since =
+            sym (calls_after q c ((p, made) ∷ b)) ∙ (ap (λ (l : List FolderCall). calls_by q l) (sym is) ∙ f.before) in
+            let skip : calls_by q ((p, made) ∷ b) ≡ calls_by q b =
+            cond-false (p == q) (made ∷ calls_by q b) (calls_by q b) (differ p q (p == q) refl other) in
+            let its_left : AllLeave lock (calls_by q b) =
+            subst (λ (l : List DiskEvent). AllLeave lock l) skip
+            (leave_after lock (calls_by q c) (calls_by q ((p, made) ∷ b))
+            (subst (λ (l : List DiskEvent). AllLeave lock l) (sym its) holds.left)) in
+            let size : length rest ≡ length b + suc (length f.older) =
+            ap (λ (l : List FolderCall). length l) more ∙ length-append b ((q, made) ∷ f.older) in
+            own.0
+            (subst (λ (l : List FolderCall). HasName lock l) (sym more)
+            (there q b f.older
+            (stays q b f.older (omega (arith, long, size))
+            (subst (λ (l : List FolderCall). AnswersAgree l) more own.1) kept its_left)))
+      ]
+
+  -- one more call leaves it, if those before it did
+  leaves_next : (fuel : ℕ) → Stays fuel → (p : ℕ) (x : FolderCall) (c rest : List FolderCall)
+      → length c + length rest < fuel → Agrees x.1 (c ++ (p, made) ∷ rest)
+      → AnswersAgree (c ++ (p, made) ∷ rest) → AllKeepLock lock (x ∷ (c ++ (p, made) ∷ rest))
+      → AllLeave lock (calls_by p (x ∷ c)) → AllLeaveIt lock c → (own : Bool) → (x.0 == p) ≡ own
+      → LeavesPath lock x.1
+  leaves_next fuel stays p x c rest long agrees agree keep left later true own =
+      (subst (λ (l : List DiskEvent). AllLeave lock l)
+      (cond-true (x.0 == p) (x.1 ∷ calls_by p c) (calls_by p c) own) left).0
+  leaves_next fuel stays p x c rest long agrees agree keep left later false own =
+      let order = c ++ (p, made) ∷ rest in
+      leaves_by lock x.1 (calls_by x.0 order) order
+      (subst (λ (l : List DiskEvent). KeepLock lock l) (own_call x.0 x.1 order) (keep x.0)).0
+      (none_else fuel stays p x.0 c rest long agree (all_keep_after lock (x ∷ []) order keep) later
+      (λ same. eqb-false x.0 p own (sym same)))
+      agrees (there p c rest later)
+
+  stays : (fuel : ℕ) → Stays fuel
+  stays zero p c rest long agree keep left = absurd (omega (arith, long))
+  stays (suc fuel) p [] rest long agree keep left = tt
+  stays (suc fuel) p (x ∷ c) rest long agree keep left =
+      let order = c ++ (p, made) ∷ rest in
+      let later = stays fuel p c rest (omega (arith, long)) agree.1 (all_keep_after lock (x ∷ []) order keep)
+      (leave_after lock (calls_by p (x ∷ [])) (calls_by p c)
+      (subst (λ (l : List DiskEvent). AllLeave lock l) (calls_after p (x ∷ []) c) left)) in
+      (leaves_next fuel (stays fuel) p x c rest (omega (arith, long)) agree.0 agree.1 keep left later (x.0 == p) refl,
+      later)
+
+  -- two programs that made it, of which each left it up to here: they are one
+  made_once : (order : List FolderCall) (p q : ℕ) (p_since p_before q_since q_before : List DiskEvent)
+      → AnswersAgree order → AllKeepLock lock order → calls_by p order ≡ p_since ++ made ∷ p_before
+      → AllLeave lock p_since → calls_by q order ≡ q_since ++ made ∷ q_before → AllLeave lock q_since → p ≢ q → ⊥
+  made_once order p q p_since p_before q_since q_before agree keep p_is p_left q_is q_left other =
+      let f = found p order p_since made p_before p_is in
+      let fuel = suc (length f.newer + length f.older) in
+      let agree' = subst (λ (l : List FolderCall). AnswersAgree l) f.is agree in
+      let keep' = subst (λ (l : List FolderCall). AllKeepLock lock l) f.is keep in
+      let left = stays fuel p f.newer f.older (omega arith) agree' keep'
+      (subst (λ (l : List DiskEvent). AllLeave lock l) (sym f.before) p_left) in
+      none_else fuel (stays fuel) p q f.newer f.older (omega arith) agree' keep' left other
+      (record {
+        since = q_since;
+        before = q_before;
+        made = ap (λ (l : List FolderCall). calls_by q l) (sym f.is) ∙ q_is;
+        left = q_left;
+      })
+
+module _ {order : List FolderCall} {target : List ℕ} {i j : ℕ} {may_replace replaces : Bool} (agree : AnswersAgree order) (keep : AllKeepLock (lock_of target) order)
     (first : IsNamed order target i may_replace) (second : IsNamed order target j replaces) (between : List FolderCall)
     (newer : first.newer ≡ second.newer ++ (j, second.call) ∷ between)
     (older : second.older ≡ between ++ (i, first.call) ∷ first.older) where
@@ -174,6 +352,12 @@ module _ {order : List FolderCall} {target : List ℕ} {i j : ℕ} {may_replace 
   here =
       (agree_after second.newer (j, second.call) second.older
       (subst (λ (l : List FolderCall). AnswersAgree l) second.at agree)).0
+
+  older_keep : AllKeepLock (lock_of target) second.older
+  older_keep =
+      all_keep_after (lock_of target) ((j, second.call) ∷ []) second.older
+      (all_keep_after (lock_of target) second.newer ((j, second.call) ∷ second.older)
+      (subst (λ (l : List FolderCall). AllKeepLock (lock_of target) l) second.at keep))
 
   older_agree : AnswersAgree second.older
   older_agree =
@@ -195,6 +379,42 @@ module _ {order : List FolderCall} {target : List ℕ} {i j : ℕ} {may_replace 
     no_link : IsLinkTo target second.call → ⊥
     no_link (file, from, is) = (subst (λ (c : DiskEvent). Agrees c second.older) is here) has
 
+    -- between its look and its rename the second asked nothing
+    calls_of_second : (calls : List DiskEvent) → calls_by j second.older ≡ calls → calls_by j between ≡ []
+        → i ≢ j → calls_by j first.older ≡ calls
+    calls_of_second calls is nothing other =
+        let skip : calls_by j ((i, first.call) ∷ first.older) ≡ calls_by j first.older =
+        cond-false (i == j) (first.call ∷ calls_by j first.older) (calls_by j first.older)
+        (differ i j (i == j) refl other) in
+        sym skip
+        ∙ (ap (λ (l : List DiskEvent). l ++ calls_by j ((i, first.call) ∷ first.older)) (sym nothing)
+        ∙ (sym (calls_after j between ((i, first.call) ∷ first.older))
+        ∙ (ap (λ (l : List FolderCall). calls_by j l) (sym older) ∙ is)))
+
+    first_agree : AnswersAgree first.older
+    first_agree =
+        (agree_after between (i, first.call) first.older
+        (subst (λ (l : List FolderCall). AnswersAgree l) older older_agree)).1
+
+    first_keep : AllKeepLock (lock_of target) first.older
+    first_keep =
+        all_keep_after (lock_of target) ((i, first.call) ∷ []) first.older
+        (all_keep_after (lock_of target) between ((i, first.call) ∷ first.older)
+        (subst (λ (l : List FolderCall). AllKeepLock (lock_of target) l) older older_keep))
+
+    -- while the second held the lock, the first got the name without it
+    by_whom : (look : DiskEvent) (before : List DiskEvent)
+        → calls_by j first.older ≡ look ∷ (Made (lock_of target) (Ok tt) ∷ before)
+        → LeavesPath (lock_of target) look → i ≢ j
+        → (may : Bool) → may_replace ≡ may → IsLinkTo target first.call ⊎ (may_replace ≡ true)
+    by_whom look before own leaves other true may = inr may
+    by_whom look before own leaves other false may = elim (first.free may) [
+      | inl link ↦ inl link
+      | inr (before', error, none, looked) ↦
+          absurd (made_once (lock_of target) first.older i j (Looked target (Err error) ∷ []) before'
+          (look ∷ []) before first_agree first_keep looked (tt, tt) own (leaves, tt) other)
+    ]
+
     overlaps : IsFreeLocked target (calls_by j second.older) → Overlaps first second between
     overlaps (before, error, none, looked) =
         let look = Looked target (Err error) in
@@ -207,7 +427,14 @@ module _ {order : List FolderCall} {target : List ℕ} {i j : ℕ} {may_replace 
           | Before b is more ↦
               let nothing = nothing_asked j between (i, first.call) b
               (ap (λ (l : List FolderCall). calls_by j l) (sym is) ∙ f.before) in
-              record { other = nothing.1; renamed = no_link; nothing = nothing.0 }
+              let own : calls_by j first.older ≡ look ∷ (Made (lock_of target) (Ok tt) ∷ before) =
+              calls_of_second (look ∷ (Made (lock_of target) (Ok tt) ∷ before)) looked nothing.0 nothing.1 in
+              record {
+                other = nothing.1;
+                renamed = no_link;
+                nothing = nothing.0;
+                unlocked = by_whom look before own tt nothing.1 may_replace refl;
+              }
           | After b is more ↦
               let free = (agree_after f.newer (j, look) f.older
               (subst (λ (l : List FolderCall). AnswersAgree l) f.is older_agree)).0 in
@@ -237,12 +464,12 @@ module _ {order : List FolderCall} {target : List ℕ} {i j : ℕ} {may_replace 
   }
 
 pub one_has_it : OneHasTheName
-one_has_it order target i j may_replace replaces agree first second =
+one_has_it order target i j may_replace replaces agree keep first second =
     elim (places (i, first.call) (j, second.call) first.newer first.older second.newer second.older
     (sym first.at ∙ second.at)) [
       | One same rest ↦ inl (ap (λ (c : FolderCall). c.0) same, rest)
-      | Before b is more ↦ inr (inl (later agree first second b is more))
-      | After b is more ↦ inr (inr (later agree second first b is more))
+      | Before b is more ↦ inr (inl (later agree keep first second b is more))
+      | After b is more ↦ inr (inr (later agree keep second first b is more))
     ]
 
 -- ---- what the calls up to a change, and up to a rename, have to do with all calls
@@ -365,6 +592,9 @@ module _ (target : List ℕ) (before after : List DiskEvent) where
     is : after ≡ front ++ call ∷ back
     gives : GivesTo target call
     free : replaces ≡ false → IsLinkTo target call ⊎ IsFreeLocked target back
+    file : FileState
+    from : List ℕ
+    names : (call ≡ Linked file from target (Ok tt)) ⊎ (call ≡ Renamed file from target (Ok tt))
 
   -- a rename that may replace no file came just after the look
   looked : (file : FileState) (draft : List ℕ) (opened : List DiskEvent) (refusal : Error)
@@ -402,36 +632,42 @@ module _ (target : List ℕ) (before after : List DiskEvent) where
     from_names : (replaces : Bool) (named : List DiskEvent) (syncs : List DiskEvent) → changes after ≡ syncs ++ named
         → ((rest : List DiskEvent) → renames (syncs ++ rest) ≡ renames rest)
         → Names file draft target opening replaces named → LooksThenRenames replaces target before after
-        → Names_it replaces
+        → (n : Names_it replaces) × (n.file ≡ file)
     from_names true named syncs is none names over =
         let s = split after syncs (Renamed file draft target (Ok tt)) opening
         (is ∙ ap (λ (l : List DiskEvent). syncs ++ l) names) in
-        record {
+        (record {
           front = s.front;
           call = Renamed file draft target (Ok tt);
           back = s.back;
           is = s.is;
           gives = Renames file draft refl;
           free = λ no. absurd (let f : true ≡ false = no in cc);
-        }
+          file = file;
+          from = draft;
+          names = inr refl;
+        }, refl)
     from_names false named syncs is none (inl (removal, names)) over =
         let removed = Removed draft removal in
         let s = split after (syncs ++ removed ∷ []) (Linked file draft target (Ok tt)) opening
         (is ∙ (ap (λ (l : List DiskEvent). syncs ++ l) names ∙ sym (append_assoc syncs (removed ∷ []) _))) in
-        record {
+        (record {
           front = s.front;
           call = Linked file draft target (Ok tt);
           back = s.back;
           is = s.is;
           gives = Links file draft refl;
           free = λ no. inl (file, draft, refl);
-        }
+          file = file;
+          from = draft;
+          names = inl refl;
+        }, refl)
     from_names false named syncs is none (inr (refusal, (removal, names))) over =
         let removed = Removed (lock_of target) removal in
         let rest = Made (lock_of target) (Ok tt) ∷ Linked file draft target (Err refusal) ∷ opening in
         let s = split after (syncs ++ removed ∷ []) (Renamed file draft target (Ok tt)) rest
         (is ∙ (ap (λ (l : List DiskEvent). syncs ++ l) names ∙ sym (append_assoc syncs (removed ∷ []) _))) in
-        record {
+        (record {
           front = s.front;
           call = Renamed file draft target (Ok tt);
           back = s.back;
@@ -440,11 +676,14 @@ module _ (target : List ℕ) (before after : List DiskEvent) where
           free =
               λ no. inr (looked file draft opening refusal refl over s.front s.back s.is
               (ap (λ (l : List DiskEvent). renames l) s.front_is ∙ none (removed ∷ [])) s.back_is);
-        }
+          file = file;
+          from = draft;
+          names = inr refl;
+        }, refl)
 
 names_it : (limits : Limits) (path bytes : List ℕ) (replaces : Bool) (before after : List DiskEvent)
-    → IsStoredAt limits path bytes replaces before after
-    → Names_it (path_below limits.root path) before after replaces
+    → (stored : IsStoredAt limits path bytes replaces before after)
+    → (n : Names_it (path_below limits.root path) before after replaces) × (n.file ≡ stored.file)
 names_it limits path bytes replaces before after stored =
     let n = stored.named in
     elim (n.synced) [
@@ -456,18 +695,32 @@ names_it limits path bytes replaces before after stored =
           n.named [] is (λ rest. refl) n.gives stored.over
     ]
 
-pub puts_are_named : PutsAreNamed
-puts_are_named order target program replaces put =
-    let n = names_it put.limits put.path put.bytes replaces put.before put.after put.stored in
+pub puts_name_their_files : PutsNameTheirFiles
+puts_name_their_files order target program replaces put =
+    let its = names_it put.limits put.path put.bytes replaces put.before put.after put.stored in
+    let n = its.0 in
     let f = found program order (put.later ++ n.front) n.call n.back
-    (put.asked ∙ (ap (λ (l : List DiskEvent). put.later ++ l) n.is ∙ sym (append_assoc put.later n.front (n.call ∷ n.back)))) in
-    record {
-      newer = f.newer;
-      call = n.call;
-      older = f.older;
-      at = f.is;
-      gives = subst (λ (t : List ℕ). GivesTo t n.call) put.place n.gives;
-      free =
-          λ no. subst (λ (l : List DiskEvent). IsLinkTo target n.call ⊎ IsFreeLocked target l) (sym f.after)
-          (subst (λ (t : List ℕ). IsLinkTo t n.call ⊎ IsFreeLocked t n.back) put.place (n.free no));
-    }
+    (put.asked ∙ (ap (λ (l : List DiskEvent). put.later ++ l) n.is ∙ sym (append_assoc put.later n.front (n.call ∷ n.back)))) in (
+      record {
+        newer = f.newer;
+        call = n.call;
+        older = f.older;
+        at = f.is;
+        gives = subst (λ (t : List ℕ). GivesTo t n.call) put.place n.gives;
+        free =
+            λ no. subst (λ (l : List DiskEvent). IsLinkTo target n.call ⊎ IsFreeLocked target l) (sym f.after)
+            (subst (λ (t : List ℕ). IsLinkTo t n.call ⊎ IsFreeLocked t n.back) put.place (n.free no));
+      },
+      record {
+        file = n.file;
+        from = n.from;
+        is =
+            subst (λ (t : List ℕ). (n.call ≡ Linked n.file n.from t (Ok tt)) ⊎ (n.call ≡ Renamed n.file n.from t (Ok tt)))
+            put.place n.names;
+        content = ap (λ (x : FileState). x.written) its.1 ∙ put.stored.content;
+        synced = ap (λ (x : FileState). x.is_synced) its.1 ∙ put.stored.synced;
+      },
+    )
+
+pub puts_are_named : PutsAreNamed
+puts_are_named order target program replaces put = (puts_name_their_files order target program replaces put).0

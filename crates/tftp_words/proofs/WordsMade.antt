@@ -33,7 +33,8 @@ use Rattle.tftp_words.proofs.ClientMade.{client_made}
 -- ---- the clients
 module _ {G K : Type 0} {inputs : SourceMeaning G} {outputs : SinkMeaning K}
     (are_programs : ClientsArePrograms inputs outputs) where
-  all_made : (to : Endpoint) (clients : List (ClientRan inputs outputs)) → AllAsk to clients →
+  -- the programs of all that they ran
+  pub all_made : (to : Endpoint) (clients : List (ClientRan inputs outputs)) → AllAsk to clients →
       (programs : List (ClientProgram inputs outputs to)) × AreAllRuns clients programs
   all_made to [] asks = ([], refl)
   all_made to (ran ∷ clients) asks =

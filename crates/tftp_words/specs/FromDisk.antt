@@ -1,6 +1,6 @@
 -- From disk to disk: a complete get has named a file of just the bytes that reads of ROOT/NAME
 -- returned at its server.
-use Rattle.std.specs.Prelude.{ℕ, ◌≡◌, List, [], map, Some}
+use Rattle.std.specs.Prelude.{ℕ, ◌≡◌, List, [], length, map, Some}
 use Rattle.std.specs.List.{AllByRecursion}
 use Rattle.std.specs.declared.io.traits.Read as read
 use Rattle.std.specs.declared.io.traits.Write as write
@@ -57,14 +57,16 @@ module _ {S D F U I : Type 0} {logs : looks.Ghosts D} {writes : write.Ghosts F}
       {stores : StoreMeaning (FolderStore R G H W) B} {sources : SourceMeaning (FolderSource V E)}
       (programs : Programs stores sources inputs outputs) where
     -- a complete get: a file of just these bytes was made, written, synced and then named. The
-    -- server's store found a file at the path of the name in its folder, and opened it there; these
-    -- bytes are, as wire text, a beginning of what reads of that file returned, in order from its
-    -- first byte, and all of it but what the source still has, unless a read failed
+    -- server's store found a file at the path of the name in its folder, opened it there, and stated
+    -- the length of their wire text by what the system said of it. That text is a beginning of what
+    -- reads of the file returned, in order from its first byte, and all but what the source still
+    -- has, unless a read failed
     pub record IsGot (calls : List DiskEvent) (job : Job) (count : ℕ) (bytes : List ℕ)
         : Type 0 where
       pub stored : IsStored job bytes calls
       pub got : GotFile programs job count bytes
-      pub opens : OpensSource looked (root_of programs) got.path job.mode got.opening.source
+      pub opens : OpensSource looked (root_of programs) got.path job.mode
+          (length (wire_text job.mode bytes)) got.opening.source
       pub read : GivenInOrder (text_of got.opening.source) (text_of got.source)
           (wire_text job.mode bytes)
 

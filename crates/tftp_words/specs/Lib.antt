@@ -1,5 +1,6 @@
 pub mod Ran
 pub mod WordsKept
+pub mod Unblamed
 pub mod EndToEnd
 pub mod FromDisk
 pub mod PutFromDisk

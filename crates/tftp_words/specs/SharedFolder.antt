@@ -1,6 +1,6 @@
 -- A folder that several programs share, by the calls that they asked of the system on its files: of
 -- two files that got one name, which has it (ours).
-use Rattle.std.specs.Prelude.{ℕ, ◌≡◌, ◌≢◌, ◌⊎◌, ◌==◌, ⊤, Bool, false, if◌then◌else◌, List, []}
+use Rattle.std.specs.Prelude.{ℕ, ◌≡◌, ◌≢◌, ◌⊎◌, ◌==◌, ⊤, Bool, true, false, if◌then◌else◌, List, []}
 use Rattle.std.specs.Prelude.{◌∷◌, ◌++◌, map, Ok, Err}
 use Rattle.std.specs.IoError.{error_kind}
 use Rattle.std.specs.declared.io.ErrorKind.TheVariants as kinds
@@ -8,7 +8,8 @@ use Rattle.tftp_disk.specs.DiskTrace.{DiskEvent, FileState}
 use Rattle.tftp_disk.specs.DiskTrace.DiskEvent.{Looked, Made, Linked, Renamed}
 use Rattle.tftp_disk.specs.Still.{AllLeave}
 use Rattle.tftp_folder.specs.Changing.{Limits}
-use Rattle.tftp_folder.specs.Commit.{IsFreeLocked}
+use Rattle.tftp_folder.specs.Commit.{IsFreeLocked, lock_of}
+use Rattle.tftp_folder.specs.Locks.{KeepLock}
 use Rattle.tftp_folder.specs.Stored.{IsStoredAt}
 use Rattle.tftp_folder.specs.Uploads.{path_below}
 
@@ -59,6 +60,11 @@ abbrev pub AnswersAgree : List FolderCall → Type 0
 AnswersAgree [] = ⊤
 AnswersAgree (call ∷ before) = Agrees call.1 before × AnswersAgree before
 
+-- each program of the order removes the lock at this path, or renames a file to it or away from it,
+-- only while it holds it, by its own calls: a store of ours does, if it keeps within its limits
+abbrev pub AllKeepLock : List ℕ → List FolderCall → Type 0
+AllKeepLock lock order = (program : ℕ) → KeepLock lock (calls_by program order)
+
 -- a file was put at this place, which the order of all calls shows: it has those of the store that
 -- put it, and may have later ones of the same program
 pub record IsPutIn (order : List FolderCall) (target : List ℕ) (program : ℕ) (replaces : Bool)
@@ -91,6 +97,21 @@ pub record IsNamed (order : List FolderCall) (target : List ℕ) (program : ℕ)
   pub free : replaces ≡ false →
       IsLinkTo target call ⊎ IsFreeLocked target (calls_by program older)
 
+-- the call gives the name to a file with just these bytes, all of which are synced
+pub record GivesFile (target bytes : List ℕ) (call : DiskEvent) : Type 0 where
+  pub file : FileState
+  pub from : List ℕ
+  pub is : (call ≡ Linked file from target (Ok tt)) ⊎ (call ≡ Renamed file from target (Ok tt))
+  pub content : file.written ≡ bytes
+  pub synced : file.is_synced ≡ true
+
+-- a file that was put got the name by such a call, and is the one with the bytes that were put
+abbrev pub PutsNameTheirFiles : Type 0
+PutsNameTheirFiles =
+    (order : List FolderCall) (target : List ℕ) (program : ℕ) (replaces : Bool)
+    (put : IsPutIn order target program replaces)
+    → (named : IsNamed order target program replaces) × GivesFile target put.bytes named.call
+
 -- a file that was put got the name by such a call
 abbrev pub PutsAreNamed : Type 0
 PutsAreNamed =
@@ -100,11 +121,13 @@ PutsAreNamed =
 module _ {order : List FolderCall} {target : List ℕ} {i j : ℕ} {may_replace replaces : Bool}
     (first : IsNamed order target i may_replace) (second : IsNamed order target j replaces) where
   -- the second file was renamed to the name after the first got it, and was looked at before that:
-  -- its program asked nothing between
+  -- its program asked nothing between. The first got it without the lock: by a link, or since its
+  -- program may replace files
   pub record Overlaps (between : List FolderCall) : Type 0 where
     pub other : i ≢ j
     pub renamed : IsLinkTo target second.call → ⊥
     pub nothing : calls_by j between ≡ []
+    pub unlocked : IsLinkTo target first.call ⊎ (may_replace ≡ true)
 
   -- the second file got the name later
   pub record IsLater : Type 0 where
@@ -112,15 +135,16 @@ module _ {order : List FolderCall} {target : List ℕ} {i j : ℕ} {may_replace 
     pub after : second.older ≡ between ++ (i, first.call) ∷ first.older
     -- so the first does not have it at the end
     pub lost : AllLeaveIt target first.newer → ⊥
-    -- if the second may replace no file, a call between took the name from the first; unless two
-    -- programs named files at one time, on a file system without hard links
+    -- if the second may replace no file, a call between took the name from the first; unless the
+    -- system refused it a hard link, and the first got the name without the lock meanwhile
     pub taken : replaces ≡ false → AllLeaveIt target between → Overlaps between
 
--- of two files that got one name, in an order with whose calls the answers agree: they are one, or
--- one got it later, and that one alone can have it at the end
+-- of two files that got one name, in an order with whose calls the answers agree, and whose programs
+-- keep its lock: they are one, or one got it later, and that one alone can have it at the end
 abbrev pub OneHasTheName : Type 0
 OneHasTheName =
     (order : List FolderCall) (target : List ℕ) (i j : ℕ) (may_replace replaces : Bool)
-    → AnswersAgree order → (first : IsNamed order target i may_replace)
+    → AnswersAgree order → AllKeepLock (lock_of target) order
+    → (first : IsNamed order target i may_replace)
     → (second : IsNamed order target j replaces)
     → ((i ≡ j) × (first.older ≡ second.older)) ⊎ IsLater first second ⊎ IsLater second first

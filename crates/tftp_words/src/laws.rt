@@ -6,7 +6,8 @@ ghost use Rattle.tftp_words.specs.OverSeveral.{SeveralMoveFiles};
 ghost use Rattle.tftp_words.specs.PutFromDisk.{PutsFromDiskToDisk};
 ghost use Rattle.tftp_words.specs.SeveralFromDisk.{SeveralFromDiskToDisk};
 ghost use Rattle.tftp_words.specs.SeveralFromDisk.{SeveralPutsFromDiskToDisk};
-ghost use Rattle.tftp_words.specs.SharedFolder.{OneHasTheName, PutsAreNamed};
+ghost use Rattle.tftp_words.specs.SharedFolder.{OneHasTheName, PutsAreNamed, PutsNameTheirFiles};
+ghost use Rattle.tftp_words.specs.Unblamed.{NoCommandIsBlamed, NoneOfSeveralIsBlamed};
 ghost use Rattle.tftp_words.specs.WordsKept.{SeveralKeepAnyFiles, WordsKeepAnyFiles};
 
 use std::io::Read;
@@ -17,7 +18,8 @@ use tftp_file::{Sink, Source};
 use tftp_folder::laws::{gives_its_file, stores_what_it_took};
 use tftp_folder::{FolderSource, FolderStore};
 use tftp_promises::laws::{
-    a_client_is_one_run, a_server_is_one_run, each_client_keeps_promises, programs_keep_promises,
+    a_client_is_one_run, a_server_is_one_run, each_client_keeps_promises, no_program_is_blamed,
+    programs_keep_promises,
 };
 use tftp_server::Store;
 
@@ -44,6 +46,25 @@ pub fn words_keep_promises<D: Disk, G: Source, K: Sink>()
     a_server_is_one_run::<FolderStore<D>>();
     programs_keep_promises::<FolderStore<D>, G, K>();
     each_client_keeps_promises::<FolderStore<D>, G, K>();
+}
+
+/// Of a run of `tftpd`, and runs of `tftp` whose arguments name that server, over an honest network
+/// with fresh ports, no end whose peer is no stranger closes because of what that peer sent: as
+/// `NotNetascii` only if the peer's file gave no netascii of its measured length, as `SourceFault`
+/// only if its own file failed, and as `Illegal`, `TooLarge` or `Refused` never. So a transfer fails
+/// only if no retry was left, a file or a store failed, or an ERROR was received (RFC 1350, sections
+/// 2, 4 and 7). Of several `tftpd` at one address and request port the same holds of each, and each
+/// client that it serves.
+pub fn no_command_is_blamed<D: Disk, G: Source, K: Sink>()
+    ensures one { NoCommandIsBlamed D.log ⟦<FolderStore<D> as Store>⟧.meaning
+        ⟦<FolderSource<D::View> as Source>⟧.meaning G.meaning K.meaning }
+    ensures several { NoneOfSeveralIsBlamed D.log ⟦<FolderStore<D> as Store>⟧.meaning
+        ⟦<FolderSource<D::View> as Source>⟧.meaning G.meaning K.meaning }
+{
+    a_client_is_one_run::<G, K>();
+    a_server_is_one_run::<FolderStore<D>>();
+    programs_keep_promises::<FolderStore<D>, G, K>();
+    no_program_is_blamed::<FolderStore<D>, G, K>();
 }
 
 /// From disk to disk: if an honest network joined a run of `tftpd` and runs of `tftp` whose
@@ -107,12 +128,15 @@ pub fn puts_of_several_go_from_disk_to_disk<D: Disk, F: Read, K: Sink>()
 }
 
 /// Of a folder that several servers share, by the calls of all on its files in one order, with which
-/// the system's answers agree: a put that is stored got its name by one of these calls. Of two that
-/// got one name, one got it later, and that one alone can have it. If that one may replace no file,
-/// as without `--overwrite`, a call between had taken the name from the first. The one exception is
-/// a file system without hard links, on which two servers name files at one time: each looks, and
-/// then renames.
+/// the system's answers agree: a put that is stored got its name by one of these calls, and the file
+/// that got it has just the bytes that were put. Of two that got one name, one got it later, and that
+/// one alone can have it, if each program removes the lock of the name only where it made it, as a
+/// store does (`locks_are_removed_by_their_makers` of `tftp_folder`). If the later may replace no
+/// file, as without `--overwrite`, a call between had taken the name from the first. The one
+/// exception is that the system refused it a hard link, and the other got the name without the lock:
+/// by a hard link, or by a rename of a server with `--overwrite`.
 pub fn one_put_has_the_name()
     ensures named { PutsAreNamed }
+    ensures files { PutsNameTheirFiles }
     ensures one { OneHasTheName }
 {}

@@ -10,6 +10,6 @@ returns g c =
       keeps = c.a_run_keeps_the_settings.ensures;
       gives = c.gives_its_file.ensures;
       root = λ store. refl;
-      opens = λ root path mode source opened. opened;
+      opens = λ root path mode stated source opened. opened;
     })
     c.words_keep_promises.ensures.several_files

@@ -1,0 +1,191 @@
+-- No end of the programs has blamed a peer that is no stranger where the traces arrive.
+-- For the law no_program_is_blamed.
+use Rattle.std.proofs.Common.{◌≡◌, ℕ, suc, zero, ◌≤◌, List, [], ◌∷◌, ◌++◌, length, take, replicate}
+use Rattle.std.proofs.Common.{Some, refl, sym, ap, ◌∙◌, subst, arith, inl, inr}
+use Rattle.std.specs.Prelude.{option_map, slice_get}
+use Rattle.std.proofs.lemmas.Bool.{cases_Bool}
+use Rattle.std.proofs.lemmas.List.{length-append}
+use Rattle.std.proofs.lemmas.Option.{same_Some, slice_get-map}
+use Rattle.tftp_wire.specs.declared.mode.Mode.{Mode}
+use Rattle.tftp_file.specs.Netascii.{wire_text}
+use Rattle.tftp_file.specs.Sink.{SinkMeaning}
+use Rattle.tftp_file.specs.Source.{SourceMeaning}
+use Rattle.tftp_file.specs.declared.files.Files.{Files}
+use Rattle.tftp_file.specs.declared.files.Files.TheVariants.{Source, Sink}
+use Rattle.tftp_ends.specs.declared.outcome.Outcome.{Outcome}
+use Rattle.tftp_ends.specs.declared.outcome.Outcome.TheVariants as outcomes
+use Rattle.tftp_ends.specs.declared.role.Role.{Role}
+use Rattle.tftp_ends.specs.End.{EndState, is_sender}
+use Rattle.tftp_store.specs.Store.{StoreMeaning}
+use Rattle.tftp_server.specs.State.{TransferState}
+use Rattle.tftp_rules.specs.Machine.{Endpoint}
+use Rattle.tftp_rules.specs.OpenEnds.{OpenEnd}
+use Rattle.tftp_rules.proofs.HostBytes.{padded_text}
+use Rattle.tftp_rules.proofs.UnblamedEnds.{BlamesBy, IsUnblamed}
+use Rattle.tftp_promises.specs.Alone.{alone, heard_with}
+use Rattle.tftp_promises.specs.AnyFiles.{IsEnd, ProgramEnd}
+use Rattle.tftp_promises.specs.Blamed.{BeginsFile, EachIsUnblamed, MayCloseAs, NoneIsBlamed, ProgramsAreUnblamed}
+use Rattle.tftp_promises.specs.ClientRuns.{moved_in}
+use Rattle.tftp_promises.specs.Network.{HasOpened, joined}
+use Rattle.tftp_promises.specs.Openings.{ArePortsFresh, moved_at, opened_at}
+use Rattle.tftp_promises.specs.Order.{Programs, requests_at}
+use Rattle.tftp_promises.specs.Programs.{ClientProgram, client_at}
+use Rattle.tftp_promises.specs.Several.{number_of}
+use Rattle.tftp_promises.specs.Snapshots.{Has_asked, all_of}
+use Rattle.tftp_promises.proofs.ClientRoles.{run_role}
+use Rattle.tftp_promises.proofs.EachAlone.{each_joined}
+use Rattle.tftp_promises.proofs.Invariant.{ClientKept, IsKept, IsOpened, SendsText, client_text}
+use Rattle.tftp_promises.proofs.Invariant.{HasStored, length_of}
+use Rattle.tftp_promises.proofs.JointRuns.{traces_joint}
+use Rattle.tftp_promises.proofs.KeptFresh.{fresh_at_last}
+use Rattle.tftp_promises.proofs.KeptRuns.{kept_at_last}
+use Rattle.tftp_promises.proofs.KeptSteps.{server_steps_keep}
+use Rattle.tftp_promises.proofs.NewPlaces.{client_apart}
+use Rattle.tftp_promises.proofs.Places.{strangers_elsewhere}
+use Rattle.tftp_promises.proofs.Texts.{pad_to}
+
+-- ---- the text of a file, where what moved begins it
+abbrev zeros : ℕ → List ℕ
+zeros k = replicate k 0
+
+take_zeros : (k n : ℕ) → k ≤ n → take k (zeros n) ≡ zeros k
+take_zeros zero n l = refl
+take_zeros (suc k) zero l = absurd (omega (arith, l))
+take_zeros (suc k) (suc n) l = ap (λ (zs : List ℕ). 0 ∷ zs) (take_zeros k n (omega (arith, l)))
+
+take_padded : (xs rest : List ℕ) (n : ℕ) → length rest ≤ n →
+    take (length (xs ++ rest)) (xs ++ zeros n) ≡ xs ++ zeros (length rest)
+take_padded [] rest n l = take_zeros (length rest) n l
+take_padded (x ∷ xs) rest n l = ap (λ (ys : List ℕ). x ∷ ys) (take_padded xs rest n l)
+
+begun_text : (mode : Mode) (long : ℕ) (bytes : List ℕ) → BeginsFile mode long bytes →
+    (file : List ℕ) × (wire_text mode file ≡ pad_to 0 long bytes)
+begun_text mode long bytes h =
+    let rest = h.begins.0 in
+    let text : wire_text mode h.file ≡ bytes ++ rest = sym h.begins.1 in
+    let measured : length (bytes ++ rest) ≡ long = ap length h.begins.1 ∙ h.measured in
+    let fits : length rest ≤ long = let l = length-append bytes rest in omega (arith, l, measured) in
+    let padded = padded_text mode h.file bytes rest text in (
+      padded.0,
+      padded.1
+          ∙ (sym (take_padded bytes rest long fits)
+          ∙ ap (λ (n : ℕ). take n (bytes ++ zeros long)) measured),
+    )
+
+module _ {S F D G K : Type 0} {stores : StoreMeaning S D} {sources : SourceMeaning F} {inputs : SourceMeaning G}
+    {outputs : SinkMeaning K}
+    (programs : Programs stores sources inputs outputs) (fresh : ArePortsFresh programs)
+    (kept : IsKept programs 0 (all_of programs)) where
+  abbrev Client : Type 0
+  Client = ClientProgram inputs outputs (requests_at programs)
+
+  client_kept : (k : ℕ) (client : Client) → slice_get programs.clients k ≡ Some client →
+      ClientKept programs 0 kept.views kept.messages client client.last client.files (moved_in client.runs)
+  client_kept k client found =
+      kept.clients k client (Has_asked client.last client.files client.noted (moved_in client.runs)) found
+      (slice_get-map (λ (c : Client). Has_asked c.last c.files c.noted (moved_in c.runs)) programs.clients k
+      ∙ ap (option_map (λ (c : Client). Has_asked c.last c.files c.noted (moved_in c.runs))) found)
+
+  -- an end has blamed nobody
+  unblamed : (x : ProgramEnd) → IsEnd programs x →
+      IsUnblamed (joined programs) (SendsText programs 0) kept.messages x.state
+  unblamed x (inl of) =
+      let h = client_kept of.0 of.1 of.2 in
+      subst (λ (e : EndState). IsUnblamed (joined programs) (SendsText programs 0) kept.messages e)
+      (h.state ∙ ap (λ (z : ProgramEnd). z.state) (sym of.3)) h.viewed.unblamed
+  unblamed x (inr of) =
+      let h = kept.transfers of.0 of.1 of.2 of.3 in
+      subst (λ (e : EndState). IsUnblamed (joined programs) (SendsText programs 0) kept.messages e)
+      (h.state ∙ ap (λ (z : ProgramEnd). z.state) (sym of.4)) h.viewed.unblamed
+
+  opened_there : (x : OpenEnd) (files : Files F D) → HasStored programs 0 (all_of programs) x files →
+      IsOpened programs (all_of programs) x
+  opened_there x (Source source) has = has.opened
+  opened_there x (Sink draft) has = has.opened
+
+  -- ---- what an end gave is the text of a file, if it begins that of one
+  client_sends : (mode : Mode) (k : ℕ) (client : Client) → slice_get programs.clients k ≡ Some client →
+      BeginsFile mode client.last.end.role.length (moved_in client.runs).bytes →
+      SendsText programs 0 (client_at inputs outputs (requests_at programs) client) mode
+  client_sends mode k client found begins =
+      let bytes = (moved_in client.runs).bytes in
+      let text = begun_text mode client.last.end.role.length bytes begins in
+      let own : wire_text mode text.0 ≡ client_text programs 0 client =
+      text.1 ∙ ap (λ (r : Role). pad_to 0 r.length bytes) (run_role client.runs) in
+      record {
+        file = text.0;
+        client = λ j other at same.
+            let k_is : k ≡ j = fresh.clients k j client other found at same in
+            let is : client ≡ other =
+            same_Some client other (sym found ∙ (ap (slice_get programs.clients) k_is ∙ at)) in
+            own ∙ ap (client_text programs 0) is;
+        transfer = λ none opening opened. absurd (none k client found refl);
+      }
+
+  transfer_sends : (mode : Mode) (port : ℕ) (transfer : TransferState F D) (a : Endpoint) →
+      HasOpened programs port transfer a →
+      BeginsFile mode transfer.end.role.length (moved_at programs a programs.server.run).bytes →
+      SendsText programs 0 a mode
+  transfer_sends mode port transfer a there begins =
+      let bytes = (moved_at programs a programs.server.run).bytes in
+      let text = begun_text mode transfer.end.role.length bytes begins in
+      let h = kept.transfers port transfer a there in
+      let o = opened_there h.end transfer.files h.has in
+      let long : length_of (opened_at programs a programs.server.run) ≡ transfer.end.role.length =
+      ap (λ (b : Endpoint). length_of (opened_at programs b programs.server.run)) (sym h.address)
+      ∙ (ap length_of o.opened
+      ∙ (ap (λ (r : Role). r.length) o.role ∙ ap (λ (e : EndState). e.role.length) h.state)) in
+      let known = kept.server.opened port transfer a there in
+      record {
+        file = text.0;
+        client = λ j other at same.
+            absurd (client_apart programs (all_of programs) (fresh_at_last programs fresh) a known j other at (sym same));
+        transfer = λ none opening opened. text.1 ∙ ap (λ (n : ℕ). pad_to 0 n bytes) (sym long);
+      }
+
+  sends_text : (mode : Mode) (y : ProgramEnd) → IsEnd programs y →
+      BeginsFile mode y.state.role.length y.moved.bytes → SendsText programs 0 y.address mode
+  sends_text mode y (inl of) begins =
+      subst (λ (z : ProgramEnd). SendsText programs 0 z.address mode) (sym of.3)
+      (client_sends mode of.0 of.1 of.2
+      (subst (λ (z : ProgramEnd). BeginsFile mode z.state.role.length z.moved.bytes) of.3 begins))
+  sends_text mode y (inr of) begins =
+      subst (λ (z : ProgramEnd). SendsText programs 0 z.address mode) (sym of.4)
+      (transfer_sends mode of.0 of.1 of.2 of.3
+      (subst (λ (z : ProgramEnd). BeginsFile mode z.state.role.length z.moved.bytes) of.4 begins))
+
+  -- so each end closes as it may
+  closes_as : (x : ProgramEnd) (p : Endpoint) (outcome : Outcome) →
+      (BlamesBy (SendsText programs 0) x.state.role p outcome → ⊥) → MayCloseAs programs x p outcome
+  closes_as x p outcomes.Complete h = tt
+  closes_as x p outcomes.TimedOut h = tt
+  closes_as x p (outcomes.PeerError code) h = tt
+  closes_as x p outcomes.StoreFault h = tt
+  closes_as x p outcomes.SourceFault h = elim (cases_Bool (is_sender x.state.role.side)) [
+    | inl sends ↦ sends
+    | inr receives ↦ absurd (h receives)
+  ]
+  closes_as x p outcomes.NotNetascii h = λ y is_end at begins.
+      h (subst (λ (a : Endpoint). SendsText programs 0 a x.state.role.mode) at
+      (sends_text x.state.role.mode y is_end begins))
+  closes_as x p outcomes.Illegal h = h tt
+  closes_as x p outcomes.TooLarge h = h tt
+  closes_as x p (outcomes.Refused refusal) h = h tt
+
+  pub none_blamed : NoneIsBlamed programs
+  none_blamed x p outcome is_end peer ours is =
+      closes_as x p outcome
+      ((unblamed x is_end).blameless outcome is p peer (λ far. ours ((strangers_elsewhere programs p).0 far)))
+
+module _ {S F D G K : Type 0} (stores : StoreMeaning S D) (sources : SourceMeaning F) (inputs : SourceMeaning G)
+    (outputs : SinkMeaning K) where
+  pub programs_unblamed : ProgramsAreUnblamed stores sources inputs outputs
+  programs_unblamed programs order joined =
+      none_blamed programs joined.fresh
+      (kept_at_last stores sources inputs outputs (traces_joint stores sources inputs outputs)
+      (λ p pad. server_steps_keep p pad) programs order joined 0)
+
+  pub each_unblamed : EachIsUnblamed stores sources inputs outputs
+  each_unblamed several order i server k client at_i found served =
+      programs_unblamed (alone several i server client) (heard_with i (number_of several k) order)
+      (each_joined stores sources inputs outputs several order i server k client at_i found served)
