@@ -17,8 +17,9 @@
 # make soak SECONDS=3600 SEED=2: trials of bin/tftp and bin/tftpd against a model, a bad network and a bad host, and
 #   bin/tftp-show beside two other readers; then five minutes of inputs for the library for C, from a corpus
 # make coverage: which functions of the programs no test runs, by qemu-x86_64
-# make walk: the calls from a received ACK to the block that answers it; make weights: what each crate weighs in the gate; make
-#   plants CRATE=NAME: which wrong bodies of `rt plant` a crate's contracts let through
+# make walk: the calls from a received ACK to the block that answers it; with FROM=Flow::add_seen those from any function
+# make weights: what each crate weighs in the gate; make plants CRATE=NAME: which wrong bodies of `rt plant` a crate's
+#   contracts let through
 # make mutants SECONDS=3600 SEED=2: mutated lines, captures, scripts and command lines for the programs of bin/
 # make bench: the benchmarks of bench/, which are no tests
 # make bench-udp: tftpd and tftp beside the other servers and clients that are installed
@@ -132,8 +133,11 @@ behaviours: bin/tftp bin/tftpd
 coverage: $(PROGRAMS)
 	tools/coverage.py
 
-walk weights:
-	@tools/$@.py
+walk:
+	@tools/walk.py $(FROM)
+
+weights:
+	@tools/weights.py
 
 plants:
 	$(NEEDS_RT)

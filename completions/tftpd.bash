@@ -3,8 +3,9 @@
 _tftpd() {
     local options
     COMPREPLY=()
-    options='--listen --requests-only --ports --max-block --max-file --retries --cap --longest --overwrite
-         --read-only --uploads --transfers --rounds --forever --drain --servers --server --log --help -h --version -V'
+    options='--listen --requests-only --ports --max-block --max-file --retries --cap --per-client --longest
+         --overwrite --read-only --uploads --transfers --rounds --forever --drain --servers --server --log --log-time
+         --help -h --version -V'
     case $3 in
     --listen)
         mapfile -t COMPREPLY < <(compgen -W stdin -- "$2")
@@ -15,8 +16,8 @@ _tftpd() {
         mapfile -t COMPREPLY < <(compgen -f -- "$2")
         return
         ;;
-    --ports | --max-block | --max-file | --retries | --cap | --longest | --uploads | --transfers | --rounds | \
-        --servers | --server)
+    --ports | --max-block | --max-file | --retries | --cap | --per-client | --longest | --uploads | --transfers | \
+        --rounds | --servers | --server)
         return
         ;;
     esac

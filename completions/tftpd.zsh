@@ -2,13 +2,14 @@
 # zsh completion of tftpd
 
 _arguments \
-  '--listen=[address and port of the requests, or stdin]:ADDR\:PORT or stdin:(stdin)' \
+  '*--listen=[address and port of the requests, or stdin]:ADDR\:PORT or stdin:(stdin)' \
   '--requests-only[drop what begins neither as RRQ nor as WRQ at that port]' \
   '--ports=[ports of transfers, each once before any again]:A\:B:' \
   '--max-block=[largest block size that is agreed]:bytes, 8 to 65464:' \
   '--max-file=[longest file that is taken]:bytes:' \
   '--retries=[how often a datagram is sent again without progress]:times, 0 to 10:' \
   '--cap=[transfers that are open at once]:transfers, 1 to 64:' \
+  '--per-client=[transfers of one address that are open at once]:transfers, 1 to 64:' \
   '--longest=[age at which a transfer times out]:seconds:' \
   '(--read-only)--overwrite[a write replaces a file that is there]' \
   '(--overwrite --uploads)--read-only[refuse every write]' \
@@ -17,9 +18,10 @@ _arguments \
   '(--forever)--rounds=[end after so many waits]:waits:' \
   '(--transfers --rounds)--forever[end by no count of transfers or waits]' \
   '--drain=[file whose appearance ends it once no transfer is open]:file:_files' \
-  '(--server)--servers=[servers that are started at the one port]:servers, 1 to 64:' \
+  '(--server)--servers=[servers that are started at each port]:servers, 1 to 64:' \
   '(--servers)--server=[which of several servers this is]:server, 1 to 64:' \
   '--log[write a line for each request and each close]' \
+  '--log-time[begin each line of the log with its time]' \
   '(-h --help)'{-h,--help}'[print help]' \
   '(-V --version)'{-V,--version}'[print version]' \
   '1:folder whose files are served:_files -/'

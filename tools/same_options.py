@@ -93,7 +93,7 @@ def zsh_options(text, verb, has_verbs) -> set[str]:
     found = set()
     for line in given.splitlines():
         # behind the options that it excludes, a list in braces, or one option up to its value or its text
-        spec = re.match(r"\s*'(?:\([^)]*\)'?)?(\{[^}]*\}|--?[\w-]+(?=[=\[]))", line)
+        spec = re.match(r"\s*'(?:\([^)]*\)'?)?\*?(\{[^}]*\}|--?[\w-]+(?=[=\[]))", line)
         if spec:
             found.update(OPTION.findall(spec[1]))
     return found

@@ -19,18 +19,18 @@ MOST_NAMES = 1
 HEAD = """# The theorem, word by word
 
 Made by `make docs` from the definitions in `crates/*/specs`, which the prover checks as they stand there. It is read
-from the top. One premise is outside it: that the traces are true, for which docs/PROVED.md lists the trusted files.
+from the top. Outside it, in docs/PROVED.md: that traces are true, and that no peer is blamed.
 
 **Notation.** `A → B` is "if A then B", and before a value "for all"; `×` is "and", or "there is" before a name; `⊎` is
-"or"; `≡` is "equals", `≢` "differs from". `[]` is the empty list, `x ∷ xs` a list with a first element, `++` joins.
+"or"; `≡` "equals", `≢` "differs from". `[]` is the empty list, `x ∷ xs` a list with a first element, `++` joins.
 `slice_get xs k` is the element of a list at an index, if there is one; `Contains xs x` says that it has x; `All P xs`
-and `AllByRecursion P xs` say that P holds of each. A `record` has fields, a `data` has cases; `record r { a = b }` is r
-with that a. Lists of an order or a trace have the newest event first. A name that a definition does not bind is a
+and `AllByRecursion P xs` say that P holds of each. A `record` has fields, a `data` cases; `record r { a = b }` is r
+with that a. Orders and traces have the newest event first. A name that a definition does not bind is a
 parameter of its module, as `programs`, or `stores`, `sources`, `inputs` and `outputs`: the models of the server's store
 and files and of the clients' files.
 
 **Words of the definitions.** *Words* are the arguments of a command line. A *trace* is what a program asked
-of the system and what it answered; what it *noted* is there. A *stranger* is a third party. A *draft* is the temporary
+of the system and what it answered. A *stranger* is a third party. A *draft* is the temporary
 file of a put.
 """
 
@@ -55,9 +55,8 @@ THEOREMS = [
     Theorem(
         "A get, from disk to disk",
         "If the network is honest and the ports are fresh, the transfers keep their promises, and each complete get has "
-        "reached the disk. The law is `tftp_words::laws::complete_gets_go_from_disk_to_disk`, a public function that does "
-        "nothing. Its premises on the runs, `ServerRan` and `ClientStored`, are the clauses `runs` of "
-        "`tftp_daemon::tftpd_on` and `tftp_client::tftp_on`.",
+        "reached the disk. The law is `tftp_words::laws::complete_gets_go_from_disk_to_disk`. Its premises `ServerRan` and "
+        "`ClientStored` are the clauses `runs` of `tftpd_on` and `tftp_on`.",
         "tftp_words.FromDisk.FromDiskToDisk",
         [
             Word("ServerRan", "A run of `tftpd`, by its arguments (`words`), its status and its trace before and after it. "
@@ -67,7 +66,7 @@ THEOREMS = [
                  ["tftp_words.FromDisk.ClientStored", "tftp_client.OnDisk.StoresWords"]),
             Word("AllAsk", "The arguments of all clients name this server.", ["tftp_words.Ran.AllAsk"]),
             Word("Programs", "A server and its clients in a network: each is a run, step by step, of the loop that is proved. "
-                 "The steps of the loops (`LoopStep`, `ClientRun`) are in the files that the end of this page lists.",
+                 "Its steps (`LoopStep`, `ClientRun`) are in the files listed at the end.",
                  ["tftp_promises.Order.Programs", "tftp_promises.Programs.ServerProgram"]),
             Word("AreRan", "These programs are what the commands ran: their traces are the same, the server's folder is "
                  "the one that the system resolved ROOT to, and it is bound where its arguments say. There is no other server.",
@@ -85,21 +84,20 @@ THEOREMS = [
                  "opened for them, and of its requests all differ.",
                  ["tftp_promises.Openings.ArePortsFresh", "tftp_promises.Openings.AreEndsApart",
                   "tftp_promises.Openings.server_ports"]),
-            Word("KeepAnyFiles", "The promises of a transfer, over any files. `sent` is what a sender's file gave, `has` what a "
-                 "receiver's was handed, both as wire text.",
+            Word("KeepAnyFiles", "The promises of a transfer. `sent` is what a sender's file gave, `has` what a "
+                 "receiver's was handed, as wire text.",
                  ["tftp_promises.AnyFiles.KeepAnyFiles", "tftp_rules.Safety.AreSafe", "tftp_promises.AnyFiles.ServesClient"]),
             Word("ReachesDisk", "Of a client whose get is complete: a file of just these bytes was made, written, synced and then "
                  "named; and they are what reads of the file returned that the server's store found at the path of "
-                 "the name. `measured` is the length that the store stated; that the system had reported it is a clause "
-                 "of `FolderStore::open`, and not part of this law.",
+                 "the name. In octet they are as many as the system said of the open file (`StatesLength`).",
                  ["tftp_words.FromDisk.ReachesDisk", "tftp_words.EndToEnd.WordsComplete", "tftp_words.FromDisk.FileReaches",
                   "tftp_words.FromDisk.IsGot", "tftp_client.OnDisk.IsStored", "tftp_words.EndToEnd.GotFile",
                   "tftp_folder.Source.OpensSource", "tftp_disk.DiskSourceLaws.GivenInOrder"]),
         ]),
     Theorem(
         "A put, from disk to disk",
-        "The same of puts (`PutsFromDiskToDisk`): it has `ClientSent` in place of `ClientStored`, by the clause `sends` of "
-        "`tftp_client::tftp_on`, and `LeavesDisk` in place of `ReachesDisk`. The law is "
+        "The same of puts (`PutsFromDiskToDisk`): with `ClientSent`, by the clause `sends`, in place of `ClientStored`, and "
+        "`LeavesDisk` in place of `ReachesDisk`. The law is "
         "`tftp_words::laws::complete_puts_go_from_disk_to_disk`.",
         "tftp_words.PutFromDisk.PutsFromDiskToDisk",
         [

@@ -2,6 +2,7 @@
 from datagrams import PATIENCE, expect
 
 GET, PUT = (("tftp", way, "127.0.0.1:69", "a", "b") for way in ("get", "put"))
+TWO = ("--listen", "127.0.0.1:69", "--listen", "127.0.0.2:69")
 
 # Command lines that end with status 0, and a part of what they print
 HELP = [
@@ -20,14 +21,23 @@ FAULTS = [
     (("tftpd", ".", "--max-file", "18446744073709551616"), "'--max-file <0..2^64-1>'"),
     (("tftpd", ".", "--retries", "11"), "'--retries <0..10>'"),
     (("tftpd", ".", "--cap", "65"), "'--cap <1..64>'"),
+    (("tftpd", ".", "--per-client", "65"), "'--per-client <1..64>'"),
+    (("tftpd", ".", "--per-client", "0"), "'--per-client <1..64>'"),
     (("tftpd", ".", "--longest", "0"), "'--longest <1..4294967295>'"),
     (("tftpd", ".", "--transfers", "0"), "'--transfers <1..4294967295>'"),
     (("tftpd", ".", "--rounds", "0"), "'--rounds <1..4294967295>'"),
     (("tftpd", ".", "--forever", "--transfers", "2"),
      "'--forever' cannot be used with '--transfers <1..4294967295>'"),
     (("tftpd", ".", "--rounds", "2", "--forever"), "'--forever' cannot be used with '--rounds <1..4294967295>'"),
+    (("tftpd", ".", "--log-time"), "the argument '--log-time' needs '--log'"),
     (("tftpd", ".", "--read-only", "--uploads", "in"), "'--read-only' cannot be used with '--uploads <FOLDER>'"),
     (("tftpd", ".", "--listen", "localhost:69"), "invalid value 'localhost:69' for '--listen <ADDR:PORT|stdin>'"),
+    (("tftpd", ".", *TWO, "--listen", "127.0.0.1"), "invalid value '127.0.0.1' for '--listen <ADDR:PORT|stdin>'"),
+    (("tftpd", ".", *TWO), "more than one '--listen <ADDR:PORT|stdin>' needs '--forever'"),
+    (("tftpd", ".", *TWO, "--listen", "127.0.0.2:69", "--forever"), "two of '--listen <ADDR:PORT|stdin>' are the same"),
+    (("tftpd", ".", *TWO, "--listen", "stdin", "--forever"), "'--listen stdin' cannot be used with another '--listen"),
+    (("tftpd", ".", *TWO, "--servers", "33", "--forever"), "ask for more than 64 servers"),
+    (("tftpd", ".", *TWO, "--ports", "9:9", "--forever"), "'--ports <A:B>': fewer ports than servers"),
     (("tftpd", ".", "--ports", "9:8"), "invalid value '9:8' for '--ports <A:B>'"),
     (("tftp", "get", "a:69", "a", "b"), "invalid value 'a:69' for '<ADDR:PORT>'"),
     (("tftp", "get", "127.0.0.1:0", "a", "b"), "invalid value '127.0.0.1:0' for '<ADDR:PORT>'"),

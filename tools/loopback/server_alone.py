@@ -1,8 +1,11 @@
 """`tftpd` answers the datagrams of a test."""
 import os
+import re
+from datetime import datetime, timedelta, timezone
 
 from both_programs import bytes_of
 from datagrams import PATIENT, End, ack, data, error, expect, oack, rrq, send_from_port_0, wrq
+from server import LIFE, first_line
 
 FILE_NOT_FOUND = error(1, "file not found")
 ACCESS_VIOLATION = error(2, "access violation")
@@ -214,6 +217,77 @@ def test_two_addresses(scene) -> None:
         expect((answer, transfer[0]), (oack(**PATIENT), expected), f"the answer at {listen} to {asked}")
         port.send(error(0, "stop"), transfer)
         server.has_closed("PeerError(0)")
+
+
+def test_a_hint_of_another_address(scene) -> None:
+    """A client that answers the first datagram by ERROR 5 may have asked another address, if the server is at each: its
+    line says so. A later ERROR 5, another ERROR, and a server at one address have no hint."""
+    scene.make("a", b"ABC")
+    unknown, stop = error(5, "unknown transfer id"), error(0, "stop")
+    hint = ", answered from another address? --listen"
+    for listen, has_progressed, datagram, why in [
+        ("0.0.0.0", False, unknown, f"PeerError(5), ERROR 5 (unknown transfer id){hint}"),
+        ("0.0.0.0", True, unknown, "PeerError(5), ERROR 5 (unknown transfer id)"),
+        ("0.0.0.0", False, stop, "PeerError(0), ERROR 0 (stop)"),
+        (scene.address, False, unknown, "PeerError(5), ERROR 5 (unknown transfer id)"),
+    ]:
+        server = scene.serve("--log", listen=listen)
+        port = scene.port()
+        port.send(rrq("a", **PATIENT), ("127.0.0.1" if listen == "0.0.0.0" else listen, server.address[1]))
+        answer, transfer = port.receive()
+        end = End(port, transfer, answer)
+        if has_progressed:
+            end.is_answered(ack(0), data(1, b"ABC"))
+        end.send(datagram)
+        log = server.has_closed(why.split(",")[0])
+        expect(log[-1].split(" sent again, ")[1], why, f"the end of the last line at {listen}")
+
+
+def test_few_transfers_of_one_client(scene) -> None:
+    """With `--per-client 2` a third request of an address gets no answer, and the log says why, whatever its port; another
+    address is served. Once one of the two has closed the address is served again, also where its request arrives with the
+    last acknowledgement."""
+    scene.make("a", b"ABC")
+    server = scene.serve("--log", "--per-client", "2", "--transfers", "4", listen="0.0.0.0")
+    address = ("127.0.0.1", server.address[1])
+    first, second = scene.port(), scene.port()
+    for port in [first, second]:
+        port.send(rrq("a", **PATIENT), address)
+    ends = [only_block(port) for port in [first, second]]
+    third, other = scene.port(), scene.port(address="127.0.0.1")
+    third.send(rrq("a", **PATIENT), address)
+    other.send(rrq("a", **PATIENT), address)
+    ends.append(only_block(other))
+    expect(third.waiting(), [], "the answers to the third request")
+    server.stop()
+    ends[0].send(ack(1))
+    third.send(rrq("a", **PATIENT), address)
+    server.go_on()
+    ends.append(only_block(third))
+    for end in ends[1:]:
+        end.send(ack(1))
+    log = server.has_closed(*["Complete"] * 4)
+    lost = [line for line in log if line.startswith("lost ")]
+    expect(lost, [f"lost {third.word} RRQ a octet timeout=255: 2 transfers of this client"], "the lost requests")
+
+
+def test_lines_have_times(scene) -> None:
+    """Each line of the log begins with the time between the start of the server and its end, in UTC."""
+    scene.make("a", b"ABC")
+    before = datetime.now(timezone.utc) - timedelta(milliseconds=1)
+    process = scene.start("tftpd", [".", "--listen", f"{scene.address}:0", "--log", "--log-time", "--rounds", "2000"])
+    word = first_line(process).split()[1]
+    end = End(scene.port(), (scene.address, int(word.split(":")[1])))
+    end.send(rrq("a", **PATIENT))
+    answer, transfer = end.port.receive()
+    expect(answer, oack(**PATIENT), "the answer")
+    end.port.send(error(0, "stop"), transfer)
+    lines = process.communicate(timeout=LIFE)[1].decode().splitlines()
+    found = [re.fullmatch(r"(\d{4}-\d\d-\d\dT\d\d:\d\d:\d\d\.\d{3})Z (listening|opened|closed) .*", line) for line in lines]
+    expect([line[2] if line else None for line in found], ["listening", "opened", "closed"], f"the lines {lines}")
+    times = [datetime.fromisoformat(line[1] + "+00:00") for line in found]
+    is_rising = sorted([before, *times, datetime.now(timezone.utc)])[:-1] == [before, *times]
+    expect(is_rising, True, f"whether the times of {lines} are those of the lines")
 
 
 # Blocks of at least the length of one read of a file: six full ones and a short one

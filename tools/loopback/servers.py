@@ -139,10 +139,10 @@ def unmarked(line) -> str:
 NOT_OF_SEVERAL = {
     "it starts no tftpd, or by words that it is about": [
         "test_a_server_over_memory", "test_retries_of_the_client", "test_tsize", "test_no_fallback", "test_a_name_appears",
-        "test_a_server_that_does_not_start", "test_standard_input_is_no_request_port"],
+        "test_a_server_that_does_not_start", "test_standard_input_is_no_request_port", "test_lines_have_times"],
     "the slots of one server": [
         "test_a_server_is_busy", "test_a_slot_is_freed_first", "test_cap", "test_a_client_drips", "test_longest",
-        "test_what_is_left_behind_progress_is_read_soon"],
+        "test_what_is_left_behind_progress_is_read_soon", "test_few_transfers_of_one_client"],
     "the end or the time of one server's loop": [
         "test_no_line_beyond_the_count", "test_the_log_has_the_time_of_the_clock", "test_a_deadline_runs_from_a_slow_commit",
         "test_a_file_that_cannot_be_looked_for_is_absent"],

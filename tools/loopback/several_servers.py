@@ -1,4 +1,4 @@
-"""Several servers at one port by one command: their life, their words, their lines and their ports."""
+"""Several servers by one command, at one port or at two: their life, their words, their lines and their ports."""
 import fcntl
 import os
 import re
@@ -13,10 +13,12 @@ from statistics import median
 from typing import Any, Iterator
 
 from datagrams import PATIENCE, PATIENT, ack, data, error, expect, free_ports, oack, rrq
-from scene import Server, patiently, preloaded
+from scene import Server, first_line, patiently, preloaded
 from server_alone import first_block_of
 from servers import MARKED, children_of, is_gone, wait_for_servers, wait_until
 
+# an address beside the one of the test
+SECOND = "127.0.0.2"
 # how often shares are tried
 TRIES = 8
 # how many times longer servers wait that nothing wakes; and how long they may outlive their supervisor or one of them, in
@@ -219,12 +221,12 @@ def test_words_of_several_servers(scene) -> None:
     scene.make_folder("-odd root")
     scene.make_folder("-odd root/in")
     words = ["--listen", f"{scene.address}:0", "--servers", "2", "--forever", "--max-block", "8192", "--max-file", "99999",
-             "--retries", "7", "--cap", "9", "--overwrite", "--uploads", "in", "--longest", "77", "--log",
-             "--requests-only", "--ports", "40001:40003", "--", "-odd root"]
+             "--retries", "7", "--cap", "9", "--per-client", "8", "--overwrite", "--uploads", "in", "--longest", "77", "--log",
+             "--log-time", "--requests-only", "--ports", "40001:40003", "--", "-odd root"]
     # (a child has the words of its supervisor until it executes its own)
     server = served(scene.start("tftpd", words), 2)
-    shared = ["--max-block=8192", "--max-file=99999", "--retries=7", "--cap=9", "--overwrite", "--uploads=in",
-              "--longest=77", "--forever", "--log", "--", "-odd root"]
+    shared = ["--max-block=8192", "--max-file=99999", "--retries=7", "--cap=9", "--per-client=8", "--overwrite",
+              "--uploads=in", "--longest=77", "--forever", "--log", "--log-time", "--", "-odd root"]
     for number, pid, ports in zip((1, 2), children_of(server.process), ("40001:40001", "40002:40003")):
         expected = ["--listen=stdin", f"--server={number}", f"--ports={ports}", "--requests-only", *shared]
         expect(words_of(pid)[1:], expected, "the words of a server")
@@ -275,6 +277,25 @@ def test_a_supervisor_takes_the_port_of_the_one_before(scene) -> None:
         expect(server.process.wait(PATIENCE), -signal.SIGTERM, "how a supervisor ends")
     said = ended(server)
     expect(said[2], [], "what servers without a supervisor say")
+
+
+def test_servers_at_two_addresses(scene) -> None:
+    """One command has a server at each, which answers from there, and one file ends both."""
+    scene.make("a", b"ABC")
+    listen = [word for address in (scene.address, SECOND) for word in ["--listen", f"{address}:0"]]
+    process = scene.start("tftpd", [".", *listen, "--log", "--drain", "enough", "--forever"])
+    places = [re.fullmatch(r"listening ((\S+):\d+)\n", first_line(process)) for _ in range(2)]
+    expect({place[2] for place in places}, {scene.address, SECOND}, "the addresses of the first lines")
+    wait_for_servers(process, 2)
+    for place in places:
+        scene.tftp("get", place[1], "a", place[2], "--no-dally").completes(3)
+    (scene.folder / "enough").touch()
+    printed, log = (text.decode().splitlines() for text in process.communicate(timeout=PATIENCE))
+    expect(process.returncode, 0, "the status of a supervisor whose servers have drained")
+    closed = [re.fullmatch(MARKED + r"\d+ \d+ Complete", line) for line in printed]
+    expect(sorted(line[1] for line in closed), ["1", "2"], f"whose transfers closed in {printed}")
+    drained = sorted(line for line in log if "draining" in line)
+    expect(drained, [f"server {number}: draining: 0 transfers open" for number in (1, 2)], "the lines of the drain")
 
 
 def test_a_server_of_several_by_hand(scene) -> None:

@@ -12,7 +12,7 @@ no_source =
       may_fail = λ source want. ⊤;
       fails = λ source want. ⊤;
       gives = λ source piece rest. ⊤;
-      opens = λ root path mode source. ⊤;
+      opens = λ root path mode length source. ⊤;
     }
 
 -- a store that refuses every call
@@ -20,6 +20,7 @@ abbrev pub no_store : {S D : Type 0} → StoreMeaning S D
 no_store =
     record {
       root = λ s. [];
+      is_set_to = λ s port. ⊤;
       stored = λ s. None;
       drafted = λ draft. None;
       may_refuse_open = λ s path fault. fault ≡ Io;
