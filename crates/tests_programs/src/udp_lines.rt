@@ -7,8 +7,8 @@ use std::process::Abort;
 use std::test::Fail;
 use tftp_ends::{Endpoint, OpenFault, Outcome};
 use tftp_lines::{
-    ClientOutcome, Hint, LineClock, LogLine, Logged, Lost, Printed, ProgressLine, Reason, RequestLine,
-    StampedLine, UtcTime, Why, reason_of,
+    ClientOutcome, Hint, LineClock, LogLine, Logged, Lost, Printed, ProgressLine, Reason,
+    RequestLine, StampedLine, UtcTime, Why, reason_of,
 };
 
 /// A value prints this.

@@ -202,7 +202,7 @@ module _ {S F D : Type 0} (meaning : StoreMeaning S D) (sources : SourceMeaning 
       (ap (λ (d : ServerLoop S F D). d.sockets.requests.port) is)
       (ap (λ (d : ServerLoop S F D). d.sockets.pool.range) is) (ap (λ (d : ServerLoop S F D). d.longest) is)
       (ap (λ (d : ServerLoop S F D). d.requests_only) is)
-        (ap (λ (d : ServerLoop S F D). d.per_client) is)
+      (ap (λ (d : ServerLoop S F D). d.per_client) is)
       (ap (λ (d : ServerLoop S F D). d.server) is)
       (ap (λ (d : ServerLoop S F D). pending_in d.pending after) is
       ∙ (ap (λ (p : Option (Endpoint × ℕ)). pending_in p after) none

@@ -315,9 +315,10 @@ module _ (lock : List ℕ) where
       let order = c ++ (p, made) ∷ rest in
       let later = stays fuel p c rest (omega (arith, long)) agree.1 (all_keep_after lock (x ∷ []) order keep)
       (leave_after lock (calls_by p (x ∷ [])) (calls_by p c)
-      (subst (λ (l : List DiskEvent). AllLeave lock l) (calls_after p (x ∷ []) c) left)) in
-      (leaves_next fuel (stays fuel) p x c rest (omega (arith, long)) agree.0 agree.1 keep left later (x.0 == p) refl,
-      later)
+      (subst (λ (l : List DiskEvent). AllLeave lock l) (calls_after p (x ∷ []) c) left)) in (
+        leaves_next fuel (stays fuel) p x c rest (omega (arith, long)) agree.0 agree.1 keep left later (x.0 == p) refl,
+        later,
+      )
 
   -- two programs that made it, of which each left it up to here: they are one
   made_once : (order : List FolderCall) (p q : ℕ) (p_since p_before q_since q_before : List DiskEvent)
@@ -635,51 +636,57 @@ module _ (target : List ℕ) (before after : List DiskEvent) where
         → (n : Names_it replaces) × (n.file ≡ file)
     from_names true named syncs is none names over =
         let s = split after syncs (Renamed file draft target (Ok tt)) opening
-        (is ∙ ap (λ (l : List DiskEvent). syncs ++ l) names) in
-        (record {
-          front = s.front;
-          call = Renamed file draft target (Ok tt);
-          back = s.back;
-          is = s.is;
-          gives = Renames file draft refl;
-          free = λ no. absurd (let f : true ≡ false = no in cc);
-          file = file;
-          from = draft;
-          names = inr refl;
-        }, refl)
+        (is ∙ ap (λ (l : List DiskEvent). syncs ++ l) names) in (
+          record {
+            front = s.front;
+            call = Renamed file draft target (Ok tt);
+            back = s.back;
+            is = s.is;
+            gives = Renames file draft refl;
+            free = λ no. absurd (let f : true ≡ false = no in cc);
+            file = file;
+            from = draft;
+            names = inr refl;
+          },
+          refl,
+        )
     from_names false named syncs is none (inl (removal, names)) over =
         let removed = Removed draft removal in
         let s = split after (syncs ++ removed ∷ []) (Linked file draft target (Ok tt)) opening
-        (is ∙ (ap (λ (l : List DiskEvent). syncs ++ l) names ∙ sym (append_assoc syncs (removed ∷ []) _))) in
-        (record {
-          front = s.front;
-          call = Linked file draft target (Ok tt);
-          back = s.back;
-          is = s.is;
-          gives = Links file draft refl;
-          free = λ no. inl (file, draft, refl);
-          file = file;
-          from = draft;
-          names = inl refl;
-        }, refl)
+        (is ∙ (ap (λ (l : List DiskEvent). syncs ++ l) names ∙ sym (append_assoc syncs (removed ∷ []) _))) in (
+          record {
+            front = s.front;
+            call = Linked file draft target (Ok tt);
+            back = s.back;
+            is = s.is;
+            gives = Links file draft refl;
+            free = λ no. inl (file, draft, refl);
+            file = file;
+            from = draft;
+            names = inl refl;
+          },
+          refl,
+        )
     from_names false named syncs is none (inr (refusal, (removal, names))) over =
         let removed = Removed (lock_of target) removal in
         let rest = Made (lock_of target) (Ok tt) ∷ Linked file draft target (Err refusal) ∷ opening in
         let s = split after (syncs ++ removed ∷ []) (Renamed file draft target (Ok tt)) rest
-        (is ∙ (ap (λ (l : List DiskEvent). syncs ++ l) names ∙ sym (append_assoc syncs (removed ∷ []) _))) in
-        (record {
-          front = s.front;
-          call = Renamed file draft target (Ok tt);
-          back = s.back;
-          is = s.is;
-          gives = Renames file draft refl;
-          free =
-              λ no. inr (looked file draft opening refusal refl over s.front s.back s.is
-              (ap (λ (l : List DiskEvent). renames l) s.front_is ∙ none (removed ∷ [])) s.back_is);
-          file = file;
-          from = draft;
-          names = inr refl;
-        }, refl)
+        (is ∙ (ap (λ (l : List DiskEvent). syncs ++ l) names ∙ sym (append_assoc syncs (removed ∷ []) _))) in (
+          record {
+            front = s.front;
+            call = Renamed file draft target (Ok tt);
+            back = s.back;
+            is = s.is;
+            gives = Renames file draft refl;
+            free =
+                λ no. inr (looked file draft opening refusal refl over s.front s.back s.is
+                (ap (λ (l : List DiskEvent). renames l) s.front_is ∙ none (removed ∷ [])) s.back_is);
+            file = file;
+            from = draft;
+            names = inr refl;
+          },
+          refl,
+        )
 
 names_it : (limits : Limits) (path bytes : List ℕ) (replaces : Bool) (before after : List DiskEvent)
     → (stored : IsStoredAt limits path bytes replaces before after)
