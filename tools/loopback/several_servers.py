@@ -26,7 +26,7 @@ TRIES = 8
 # as long. A single life may take longer where the host is busy
 LONGER, SOON = 40, 20
 # how many times slower the clocks of servers go in a test of what they do within milliseconds of their own, which other
-# servers have then to act in, however busy the host is: the pauses of `tftp_handed/src/share.rt`
+# servers have then to act in, however busy the host is: the pauses of `tftp_service/src/share.rt`
 SLOWER = 200
 # how long a server that is full leaves a request to the others at least, by its clock in seconds: 10 ms, some of which may be
 # over when the request comes, since the clock is read before; and the longest that it may

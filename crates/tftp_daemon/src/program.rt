@@ -21,12 +21,11 @@ use tftp_arguments::{own_words, print_no_memory, print_words_fault};
 use tftp_disk::{Disk, SystemDisk};
 use tftp_file::Source;
 use tftp_folder::{FolderSource, FolderStore};
-use tftp_handed::{HandedUdp, Input};
 use tftp_lines::Reason;
 use tftp_loop::LoopFault;
 use tftp_server::Store;
+use tftp_service::{HandedUdp, Input, Supervise};
 use tftp_sockets::{ErrorLines, ServerUdp, SystemUdp, WholeLines};
-use tftp_supervisor::Supervise;
 
 /// Runs `tftpd` with the program's own command line, and this standard input, and returns its status.
 ///

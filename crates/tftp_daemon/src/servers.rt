@@ -17,11 +17,10 @@ use std::io::{self, ErrorKind};
 use std::os::fd::OwnedFd;
 use std::time::{Clock, Duration};
 use tftp_ends::Endpoint;
-use tftp_handed::{HandedSocket, Input};
 use tftp_lines::reason_of;
 use tftp_loop::{LoopFault, PortRange};
+use tftp_service::{HandedSocket, Input, Supervise, SupervisorFault};
 use tftp_sockets::address_of;
-use tftp_supervisor::{Supervise, SupervisorFault};
 
 /// How often a port that is in use is tried: the servers of a supervisor that has just ended have it
 /// until they have ended, too.

@@ -1,3 +1,0 @@
-pub mod Fault
-pub mod Looks
-pub mod Share

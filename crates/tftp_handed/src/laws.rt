@@ -1,9 +1,0 @@
-//! A law of the servers that share a request port, over the definitions alone.
-
-ghost use Rattle.tftp_handed.specs.Looks.{LeavesLittle};
-
-/// Of its time a server leaves requests to the others for an eighth at most, and for 40 ms more. So
-/// where requests keep coming it is not held up.
-pub fn a_server_leaves_requests_for_a_part_of_its_time()
-    ensures { LeavesLittle }
-{}

@@ -1,0 +1,4 @@
+pub mod Following
+pub mod Leaving
+pub mod Passing
+pub mod Starting

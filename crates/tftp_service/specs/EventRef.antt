@@ -1,0 +1,15 @@
+-- The events that are noted, as events of a history (ours).
+use Rattle.std.specs.Prelude.{map}
+use Rattle.std.specs.String.{string_bytes}
+use Rattle.tftp_service.specs.ProcessEvent.{ProcessEvent}
+use Rattle.tftp_service.specs.ProcessEvent.ProcessEvent.{Started, Gave, Closed, Ended, Printed}
+use Rattle.tftp_service.specs.declared.system.event_ref.EventRef.{EventRef}
+use Rattle.tftp_service.specs.declared.system.event_ref.EventRef.TheVariants as refs
+
+-- the event of these values
+abbrev pub event_of : EventRef → ProcessEvent
+event_of (refs.Started line) = Started (map string_bytes line.now)
+event_of (refs.Gave server bytes) = Gave server bytes.now
+event_of (refs.Closed server) = Closed server
+event_of (refs.Ended server answer) = Ended server answer
+event_of (refs.Printed text) = Printed text.now

@@ -1,0 +1,177 @@
+//! **Trusted by reading**: the servers of a supervisor as processes of the system, the pipes that
+//! they print to, and standard output, with a trace of what was done.
+//!
+//! Review alone shows that the trace is true: processes, pipes and the printer of std have no
+//! model. Each call is for the server of the number that it was passed, and has the event that its
+//! clauses in [`ServerProcesses`] say. Nothing else here starts a process, reads a pipe or prints.
+
+ghost use Rattle.std.specs.Prelude.{◌≡◌, [], IfOk};
+
+mod event_ref;
+mod reports;
+mod trace;
+
+use crate::processes::ServerProcesses;
+use crate::supervise::Supervise;
+use crate::supervisor;
+use crate::supervisor_fault::SupervisorFault;
+use event_ref::EventRef;
+use reports::Reports;
+use std::env;
+use std::io::{self, ErrorKind, Read};
+use std::net::{SocketAddr, UdpSocket};
+use std::os::fd::OwnedFd;
+use std::path::PathBuf;
+use std::process::{Child, Command, ExitStatus, Stdio};
+use trace::Trace;
+
+/// Servers of this program, each with the socket of its place as its standard input.
+#[derive(Drop)]
+struct SystemProcesses<'a> {
+    rt: HostRuntime,
+    program: PathBuf,
+    sockets: &'a [OwnedFd],
+    children: Vec<Child>,
+    reports: Reports,
+    trace: Trace,
+}
+
+impl<'a> SystemProcesses<'a> {
+    /// No server.
+    fn new(rt: HostRuntime, sockets: &'a [OwnedFd]) -> Result<SystemProcesses<'a>, SupervisorFault>
+        ensures { IfOk result (λ processes. processes.trace.events ≡ []) }
+    {
+        let program = match env::current_exe(&rt) {
+            Ok(program) => program,
+            Err(error) => return Err(SupervisorFault::of_program(error)),
+        };
+        match SystemProcesses::of_program(rt, program, sockets) {
+            Ok(processes) => Ok(processes),
+            Err(error) => Err(SupervisorFault::of(error)),
+        }
+    }
+
+    /// No server of this program.
+    fn of_program(
+        rt: HostRuntime,
+        program: PathBuf,
+        sockets: &'a [OwnedFd],
+    ) -> io::Result<SystemProcesses<'a>>
+        ensures { IfOk result (λ processes. processes.trace.events ≡ []) }
+    {
+        Ok(SystemProcesses {
+            rt,
+            program,
+            sockets,
+            children: Vec::new(rt.alloc()),
+            reports: Reports::new(&rt)?,
+            trace: Trace::new(),
+        })
+    }
+
+    /// Starts a process, with the socket of its place.
+    fn spawn(&self, line: &[String]) -> io::Result<Child> {
+        let Some(socket) = self.sockets.get(self.children.len()) else {
+            return Err(io::Error::from(ErrorKind::NotFound));
+        };
+        let mut command = Command::new(self.rt.alloc(), self.program.as_path())?;
+        for word in line.iter().skip(1) {
+            command.arg(word.as_str())?;
+        }
+        command.stdin(Stdio::from(socket.try_clone()?));
+        command.stdout(Stdio::piped());
+        command.spawn(&self.rt)
+    }
+}
+
+impl ServerProcesses for SystemProcesses<'_> {
+    ghost log = { λ processes. processes.trace.events };
+
+    fn start(&mut self, line: &[String]) -> io::Result<()> {
+        self.children.reserve(1)?;
+        let child = self.spawn(line)?;
+        self.children.push(child)?;
+        self.trace.note(&EventRef::Started(line));
+        Ok(())
+    }
+
+    fn wait(&mut self, reported: &mut Vec<u8>) -> io::Result<()> {
+        self.reports.wait(self.children.as_slice(), reported)
+    }
+
+    fn read<'b>(&mut self, server: u8, buffer: &'b mut [u8]) -> io::Result<Option<&'b [u8]>> {
+        let child = child_of(self.children.as_mut_slice(), server)?;
+        let Some(pipe) = &mut child.stdout else {
+            return Err(io::Error::from(ErrorKind::NotFound));
+        };
+        let count = pipe.read(buffer)?;
+        if count == 0 {
+            child.stdout = None;
+            self.trace.note(&EventRef::Closed(server));
+            return Ok(None);
+        }
+        let bytes = &buffer[..count];
+        self.trace.note(&EventRef::Gave(server, bytes));
+        Ok(Some(bytes))
+    }
+
+    fn end(&mut self, server: u8) -> io::Result<ExitStatus> {
+        let answer = ended(self.children.as_mut_slice(), server);
+        self.trace.note(&EventRef::Ended(server, answer));
+        answer
+    }
+
+    fn print(&mut self, text: &[u8]) -> io::Result<()> {
+        self.trace.note(&EventRef::Printed(text));
+        self.rt.write_all(text)
+    }
+}
+
+/// The process of a server.
+fn child_of(children: &mut [Child], server: u8) -> io::Result<&mut Child> {
+    let index = usize::from(server).wrapping_sub(1);
+    children
+        .get_mut(index)
+        .ok_or(io::Error::from(ErrorKind::NotFound))
+}
+
+/// Kills the process of a server, if it has not ended, and waits for it.
+fn ended(children: &mut [Child], server: u8) -> io::Result<ExitStatus> {
+    let child = child_of(children, server)?;
+    child.kill()?;
+    child.wait()
+}
+
+/// What a supervisor did. Only clauses read it.
+#[derive(Drop)]
+pub struct History {
+    trace: Trace,
+}
+
+impl Supervise for HostRuntime {
+    type History = History;
+
+    ghost supervised = { λ history. history.trace.events };
+
+    fn bind_shared(&self, at: SocketAddr) -> io::Result<OwnedFd> {
+        Ok(OwnedFd::from(UdpSocket::bind(self, at)?))
+    }
+
+    fn supervise(
+        &self,
+        sockets: &[OwnedFd],
+        servers: &[Vec<String>],
+    ) -> (Result<(), SupervisorFault>, History) {
+        match SystemProcesses::new(*self, sockets) {
+            Ok(mut processes) => {
+                let ended = supervisor::supervise(&mut processes, self.alloc(), servers);
+                let SystemProcesses { trace, .. } = processes;
+                (ended, History { trace })
+            }
+            Err(fault) => {
+                let trace = Trace::new();
+                (Err(fault), History { trace })
+            }
+        }
+    }
+}

@@ -1,3 +1,0 @@
-pub mod Passing
-pub mod Following
-pub mod Starting
