@@ -1,4 +1,4 @@
--- What a source moves from its file and its buffer.
+-- What a source moves from its file and its buffer. For five functions and GivenLemmas.
 use Rattle.std.proofs.Common.{◌≡◌, ◌≤◌, ◌<◌, ℕ, ◌+◌, Bool, true, false, ◌==◌, if◌then◌else◌, List, [], ◌∷◌, ◌++◌, length, take, drop}
 use Rattle.std.proofs.Common.{Option, Some, None, IsSome, is_some, sym, ap, ◌∙◌, refl, subst, arith, append-nil, append_assoc, length-append, length-drop, length-take-le, take-append-drop}
 use Rattle.std.proofs.lemmas.Grind.{flat_map-append}

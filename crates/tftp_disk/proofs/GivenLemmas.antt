@@ -1,4 +1,4 @@
--- What the calls of a source give, joined.
+-- What the calls of a source give, joined. For `gives_in_order`.
 use Rattle.std.proofs.Common.{rules, ◌≡◌, ℕ, List, [], ◌++◌, Option, Some, None, IsSome, refl, sym, ap, subst, ◌∙◌, append-nil, append_assoc}
 use Rattle.std.specs.declared.io.Error.{Error}
 use Rattle.tftp_wire.specs.declared.mode.Mode.{Mode}
@@ -63,6 +63,7 @@ module _ {F : Type 0} where
     whole = λ sound. ap (wire_text (source_mode first)) none ∙ no_text (source_mode first) [] ∙ sym unread.empty;
   }
 
+  -- the calls give the bytes of the file in order
   pub gives_in_order : (sources : SourceMeaning (DiskSource F))
       → ((before after : DiskSource F) (piece : List ℕ) → sources.gives before piece after → GivesPiece before piece after)
       → GivesInOrder sources

@@ -1,4 +1,4 @@
--- What one pass over a file counts.
+-- What one pass over a file counts. For `count_netascii` and `count_next`.
 use Rattle.std.proofs.Common.{◌≡◌, ◌≤◌, ◌<◌, ◌+◌, ◌*◌, ℕ, Bool, true, false, ◌==◌, if◌then◌else◌, List, [], ◌∷◌, ◌++◌, length, min, Some, None}
 use Rattle.std.proofs.Common.{refl, ap, ◌∙◌, arith, length-append}
 use Rattle.std.proofs.lemmas.Bool.Decides.{nat_tests}
@@ -35,13 +35,16 @@ pub record Counted (before after : List DiskEvent) (total : TextLength) : Type 0
   pub count : total.bytes ≡ length bytes
   pub wire : total.wire_bytes ≡ length (netascii_text bytes)
 
+-- the count of no bytes
 abbrev pub nothing_counted : TextLength
 nothing_counted = record { bytes = 0; wire_bytes = 0 }
 
+-- the counts of two parts together
 abbrev pub sum_of : TextLength → TextLength → TextLength
 sum_of total count =
     record { bytes = total.bytes + count.bytes; wire_bytes = total.wire_bytes + count.wire_bytes }
 
+-- a file has no more bytes than its text on the wire
 pub few_bytes : (before after : List DiskEvent) (counted : TextLength) → CountsChunk before after counted
     → counted.bytes ≤ counted.wire_bytes
 few_bytes before after counted chunk =
@@ -50,6 +53,7 @@ few_bytes before after counted chunk =
     let right = chunk.wire in
     omega (arith, long.0)
 
+-- no calls count nothing
 pub counted_nothing : (events : List DiskEvent) → Counted events events nothing_counted
 counted_nothing events = record {
   bytes = [];
@@ -58,6 +62,7 @@ counted_nothing events = record {
   wire = refl;
 }
 
+-- a chunk more adds its count
 pub counted_more : (before between after : List DiskEvent) (total count : TextLength) → Counted before between total
     → CountsChunk between after count → Counted before after (sum_of total count)
 counted_more before between after total count first next = record {

@@ -1,4 +1,5 @@
--- Reads of a file, and the bytes of a buffer that are left.
+-- Reads of a file, and the bytes of a buffer that are left. For five functions, DiskSourceLemmas and
+-- MeasuringLemmas.
 use Rattle.std.proofs.Common.{◌≡◌, ◌≤◌, ◌<◌, ℕ, ◌+◌, ◌-◌, List, [], ◌∷◌, ◌++◌, length, take, drop, sym, ap, ◌∙◌, refl, arith, append-nil, append_assoc}
 use Rattle.std.proofs.lemmas.Grind.{common_steps}
 use Rattle.std.proofs.lemmas.List.{drop-take, drop-drop, length-take, length-drop, take_all}

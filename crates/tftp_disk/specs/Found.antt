@@ -20,8 +20,8 @@ IsKind Folder type = IsDir type
 IsKind Link type = IsSymlink type
 IsKind Special type = (IsFile type → ⊥) × (IsDir type → ⊥) × (IsSymlink type → ⊥)
 
--- what the system says of a file, by what std returned of it: its kind, its length in bytes, and its
--- mode
+-- what the system says of a file, by what std returned of it: its kind, its length in bytes, and
+-- its mode
 pub record IsOf (metadata : Metadata) (found : Found) : Type 0 where
   pub kind : IsKind found.kind (file_type metadata)
   pub bytes : found.bytes ≡ metadata_len metadata

@@ -3,10 +3,11 @@
 ghost use Rattle.std.specs.Prelude.{◌≡◌};
 ghost use Rattle.tftp_disk.specs.DiskTrace.{done};
 
-use crate::disk_trace::DiskTrace;
+use crate::disk_trace::{DiskEvents, DiskTrace};
 use crate::found::Found;
 use std::io::{self, SeekFrom};
 use std::path::PathBuf;
+use tftp_trace::Kind;
 
 /// An event to be noted, with the paths and the bytes that it borrows. An open file is lent by its
 /// own trace.
@@ -48,6 +49,13 @@ pub(crate) enum DiskEventRef<'a> {
     Synced(io::Result<()>),
     /// The permissions of an open file were set.
     ModeSet(u32, io::Result<()>),
+}
+
+impl<'a> Kind<DiskEventRef<'a>> for DiskEvents {
+    ghost use Rattle.std.specs.Prelude.{◌∷◌};
+    ghost use Rattle.tftp_disk.specs.DiskEventRef.{event_of};
+
+    ghost after = { λ event events. event_of event ∷ events };
 }
 
 /// The answer of a call without its value.

@@ -10,7 +10,7 @@ ghost use Rattle.tftp_disk.specs.DiskTrace.{done};
 mod calls;
 
 use crate::disk_event_ref::DiskEventRef;
-use crate::disk_trace::DiskTrace;
+use crate::disk_trace::{DiskEvents, DiskTrace};
 use std::io;
 
 /// An open file, with the trace of its calls. The oldest is that which opened or made it.
@@ -28,7 +28,7 @@ impl<F> DiskFile<F> {
     {
         match opened {
             Ok(file) => {
-                let mut trace = DiskTrace::new();
+                let mut trace = DiskTrace::new(&DiskEvents::NONE);
                 trace.note(event);
                 Ok(DiskFile { file, trace })
             }
@@ -59,7 +59,7 @@ impl<F> DiskFolder<F> {
     {
         match opened {
             Ok(file) => {
-                let mut trace = DiskTrace::new();
+                let mut trace = DiskTrace::new(&DiskEvents::NONE);
                 trace.note(event);
                 Ok(DiskFolder { file, trace })
             }

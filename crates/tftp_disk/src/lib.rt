@@ -28,7 +28,7 @@ pub use disk::{Disk, Looks, View};
 pub use disk_fault::{name_fault, open_fault, write_fault};
 pub use disk_file::{DiskFile, DiskFolder};
 pub use disk_source::DiskSource;
-pub use disk_trace::DiskTrace;
+pub use disk_trace::{DiskEvents, DiskTrace};
 pub use disk_writer::{DiskWriter, write_buffer};
 pub use existing::Existing;
 pub use folder::{folder_of, folder_or_root};

@@ -9,7 +9,7 @@ ghost use Rattle.std.specs.Prelude.{◌≡◌, []};
 use crate::disk::{Disk, Looks, View};
 use crate::disk_event_ref::{DiskEventRef, done};
 use crate::disk_file::{DiskFile, DiskFolder};
-use crate::disk_trace::DiskTrace;
+use crate::disk_trace::{DiskEvents, DiskTrace};
 use crate::found::{Found, found_of};
 use std::alloc::Global;
 use std::fs::{self, OpenOptions};
@@ -31,7 +31,7 @@ impl<'a, R: Files> SystemDisk<'a, R> {
     {
         SystemDisk {
             files,
-            trace: DiskTrace::new(),
+            trace: DiskTrace::new(&DiskEvents::NONE),
         }
     }
 }

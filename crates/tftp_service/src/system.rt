@@ -23,7 +23,7 @@ use std::net::{SocketAddr, UdpSocket};
 use std::os::fd::OwnedFd;
 use std::path::PathBuf;
 use std::process::{Child, Command, ExitStatus, Stdio};
-use trace::Trace;
+use trace::{ProcessEvents, Trace};
 
 /// Servers of this program, each with the socket of its place as its standard input.
 #[derive(Drop)]
@@ -65,7 +65,7 @@ impl<'a> SystemProcesses<'a> {
             sockets,
             children: Vec::new(rt.alloc()),
             reports: Reports::new(&rt)?,
-            trace: Trace::new(),
+            trace: Trace::new(&ProcessEvents),
         })
     }
 
@@ -169,7 +169,7 @@ impl Supervise for HostRuntime {
                 (ended, History { trace })
             }
             Err(fault) => {
-                let trace = Trace::new();
+                let trace = Trace::new(&ProcessEvents);
                 (Err(fault), History { trace })
             }
         }

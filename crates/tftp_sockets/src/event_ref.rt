@@ -1,8 +1,10 @@
 //! The events of a trace, as values of the code.
 
+use crate::trace::SocketEvents;
 use crate::watch::Watch;
 use tftp_ends::Endpoint;
 use tftp_lines::{ClientOutcome, Printed};
+use tftp_trace::Kind;
 
 /// An event to be noted, with the bytes and the ports that it borrows.
 #[derive(Clone, Copy)]
@@ -40,4 +42,11 @@ pub(crate) enum EventRef<'a> {
     NoReader,
     /// The signal to drain was given.
     DrainSignalled,
+}
+
+impl<'a> Kind<EventRef<'a>> for SocketEvents {
+    ghost use Rattle.std.specs.Prelude.{◌∷◌};
+    ghost use Rattle.tftp_sockets.specs.EventRef.{event_of};
+
+    ghost after = { λ event events. event_of event ∷ events };
 }

@@ -88,7 +88,9 @@ impl Reports {
     }
 
     /// Polls for at most `millis` milliseconds. An interrupted poll reports no port.
-    pub(crate) fn poll(&mut self, poll: &mut PortPoll, millis: u64) {
+    pub(crate) fn poll(&mut self, poll: &mut PortPoll, millis: u64)
+        ensures { self.new.is_unnoted ≡ false }
+    {
         self.ports.clear();
         self.is_unnoted = false;
         let time = Some(Duration::from_millis(millis));
@@ -104,7 +106,10 @@ impl Reports {
     }
 
     /// Polls up to so many times without a sleep, until a port is reported. Returns whether one is.
-    pub(crate) fn poll_often(&mut self, poll: &mut PortPoll, polls: u32) -> bool {
+    pub(crate) fn poll_often(&mut self, poll: &mut PortPoll, polls: u32) -> bool
+        ensures some { result ≡ true → self.new.ports.items ≢ [] }
+        ensures once { result ≡ true → self.new.is_unnoted ≡ false }
+    {
         for _ in 0..polls {
             self.poll(poll, 0);
             if self.has_port() {

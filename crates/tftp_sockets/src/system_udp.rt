@@ -25,7 +25,7 @@ use crate::receipt::Receipt;
 use crate::received::{note_bound, note_receipt, sent};
 use crate::signal::DrainSignal;
 use crate::sockets::{ClientSocket, ServerSocket};
-use crate::trace::Trace;
+use crate::trace::{SocketEvents, Trace};
 use crate::udp::{ClientUdp, ServerUdp, Udp};
 use crate::wall_clock::utc_millis;
 use crate::watch::Watch;
@@ -57,7 +57,7 @@ impl<'a, R: Clock> SystemUdp<'a, R> {
         SystemUdp {
             rt,
             reader: None,
-            trace: Trace::new(),
+            trace: Trace::new(&SocketEvents),
         }
     }
 }

@@ -157,8 +157,9 @@ pub trait ServerUdp: Udp {
     /// Waits until a datagram has arrived at a port, for at most `millis` milliseconds. Before it
     /// sleeps it polls up to `polls` times: a client that sends to a sleeping program has to wake it.
     fn wait(&mut self, poll: &mut PortPoll, reports: &mut Reports, millis: u64, polls: u32)
-        ensures { Self.log self.new ≡ Quiet (Woke reports.new.ports.items)
-            ∷ Quiet (Slept millis) ∷ Self.log self.old };
+        ensures noted { Self.log self.new ≡ Quiet (Woke reports.new.ports.items)
+            ∷ Quiet (Slept millis) ∷ Self.log self.old }
+        ensures once { reports.new.is_unnoted ≡ false };
 
     /// Polls without waiting. Returns whether a datagram has arrived at a port: then `note_poll` is
     /// to note it.

@@ -1,7 +1,9 @@
 //! The events of a trace, as values of the code.
 
+use super::trace::ProcessEvents;
 use std::io;
 use std::process::ExitStatus;
+use tftp_trace::Kind;
 
 /// An event to be noted, with the bytes that it borrows.
 #[derive(Clone, Copy)]
@@ -16,4 +18,11 @@ pub(super) enum EventRef<'a> {
     Ended(u8, io::Result<ExitStatus>),
     /// These bytes are printed.
     Printed(&'a [u8]),
+}
+
+impl<'a> Kind<EventRef<'a>> for ProcessEvents {
+    ghost use Rattle.std.specs.Prelude.{◌∷◌};
+    ghost use Rattle.tftp_service.specs.EventRef.{event_of};
+
+    ghost after = { λ event events. event_of event ∷ events };
 }
