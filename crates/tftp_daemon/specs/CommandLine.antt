@@ -1,6 +1,7 @@
 -- The server that the words of a command line configure, as they were read (own).
-use Rattle.std.specs.Prelude.{ℕ, ◌≡◌, ◌≤◌, true, false, List, [], ◌∷◌, ◌++◌, codes, drop}
+use Rattle.std.specs.Prelude.{ℕ, ◌≡◌, ◌≢◌, ◌≤◌, true, false, List, [], ◌∷◌, ◌++◌, codes, drop}
 use Rattle.std.specs.Prelude.{Option, Some, None, find, option_map}
+use Rattle.std.specs.List.{AllByRecursion}
 use Rattle.std.specs.Option.{option_map_or}
 use Rattle.std.specs.Str.{bytes_eq}
 use Rattle.clap.specs.Matches.{matched_of, raw_values}
@@ -74,6 +75,20 @@ NameEndpoints (word ∷ words) [] = ⊥
 NameEndpoints (word ∷ words) (endpoint ∷ endpoints) =
     Names word (Some endpoint) × NameEndpoints words endpoints
 
+-- the endpoint is none of these
+abbrev pub IsApart : Endpoint → List Endpoint → Type 0
+IsApart at others = AllByRecursion (λ other. other ≢ at) others
+
+-- no two of these are the same
+abbrev pub AreApart : List Endpoint → Type 0
+AreApart [] = Unit {0}
+AreApart (at ∷ others) = IsApart at others × AreApart others
+
+-- no endpoint stands twice, of that where requests arrive and these others
+abbrev pub HasApart : Listen → List Endpoint → Type 0
+HasApart (At at) others = IsApart at others × AreApart others
+HasApart Handed others = AreApart others
+
 -- how many servers there are, and which this is, as they were read
 pub record NamesInstance (read : Reads) (instance : Instance) : Type 0 where
   pub servers : IsNumber 8 (read.text (codes "servers")) (Some instance.servers)
@@ -81,13 +96,14 @@ pub record NamesInstance (read : Reads) (instance : Instance) : Type 0 where
 
 -- the configuration has the folder, the address, the ports, the limits, the age, the end, the flags
 -- and the number of servers that were read, and which of several it is; and where `--listen` was
--- given again, with these words, the addresses of the words behind the first
+-- given again, with these words, the addresses of the words behind the first, none of them twice
 pub record NamesServer (read : Reads) (listens : List (List ℕ)) (config : DaemonConfig) : Type 0
   where
     pub root : read.word (codes "ROOT") ≡ Some config.root.now
     pub listen : (word : List ℕ) × (read.word (codes "listen") ≡ Some word)
         × NamesListen word config.listen
     pub others : NameEndpoints (drop 1 listens) config.others.items
+    pub apart : HasApart config.listen config.others.items
     pub ports : PortsAs (read.word (codes "ports")) config.ports
     pub requests_only : IsFlag (read.text (codes "requests-only")) config.requests_only
     pub per_client : IsNumber 8 (read.text (codes "per-client")) config.per_client

@@ -20,7 +20,7 @@ ghost use Rattle.tftp_daemon.specs.Words.{with_folder_and_ports, with_log, with_
 
 use crate::daemon::{DaemonConfig, Instance};
 use crate::error_output::ErrorOutput;
-use crate::listen::Listen;
+use crate::listen::{Listen, has_apart};
 use crate::shown::Shown;
 use anyhow::Result;
 use clap::error::ErrorKind;
@@ -190,8 +190,7 @@ fn read_matches<'a, P: Print + Eprint>(
     match read_service(alloc, matches, ports, errors)? {
         Some(service) => Ok(CommandLine::Run(service)),
         None => {
-            let word = faulty_address(matches);
-            let status = report_invalid(rt, alloc, command, word, NO_ADDRESS)?;
+            let status = report_addresses(rt, alloc, command, matches)?;
             Ok(CommandLine::Exit(status))
         }
     }
@@ -245,9 +244,6 @@ fn excluded_of_addresses(matches: &ArgMatches<'_>) -> Option<&'static str> {
     if words.iter().any(|word| *word == "stdin") {
         return Some(LISTEN_STDIN);
     }
-    if has_same_addresses(words) {
-        return Some(LISTEN_TWICE);
-    }
     if server_count(matches) > MOST_SERVERS {
         return Some(MANY_SERVERS);
     }
@@ -255,29 +251,6 @@ fn excluded_of_addresses(matches: &ArgMatches<'_>) -> Option<&'static str> {
         None
     } else {
         Some(LISTEN_FOREVER)
-    }
-}
-
-/// Whether two of these words name the same address and port.
-fn has_same_addresses(words: &[&str]) -> bool {
-    let mut rest = words;
-    for _ in 0..words.len() {
-        let [word, others @ ..] = rest else {
-            return false;
-        };
-        if is_among(endpoint_in(word), others) {
-            return true;
-        }
-        rest = others;
-    }
-    false
-}
-
-/// Whether one of these words names this address, if it is one.
-fn is_among(address: Option<Endpoint>, words: &[&str]) -> bool {
-    match address {
-        Some(_) => words.iter().any(|word| endpoint_in(word) == address),
-        None => false,
     }
 }
 
@@ -324,6 +297,21 @@ fn report_conflict<P: Print + Eprint>(
 {
     let error = command.error(ErrorKind::ArgumentConflict, message)?;
     Ok(print_usage(rt, &error))
+}
+
+/// Reports the first address that is none, or else that two are the same.
+fn report_addresses<P: Print + Eprint>(
+    rt: &P,
+    alloc: Global,
+    command: &mut Command<'_>,
+    matches: &ArgMatches<'_>,
+) -> Result<u8>
+    ensures { IfOk result (λ status. status ≡ 2) }
+{
+    match faulty_address(matches) {
+        Some(word) => report_invalid(rt, alloc, command, Some(word), NO_ADDRESS),
+        None => report_conflict(rt, command, LISTEN_TWICE),
+    }
 }
 
 /// Reports that this word is no value of an option, and why.
@@ -400,7 +388,7 @@ fn port_in(word: &str) -> Option<u16>
     }
 }
 
-/// The configuration of the matched words, or `None` if an address is invalid.
+/// The configuration of the matched words, or `None` if an address is invalid or stands twice.
 fn read_service<'a>(
     alloc: Global,
     matches: &ArgMatches<'a>,
@@ -446,7 +434,7 @@ fn endpoints_in(alloc: Global, words: &[&str]) -> Result<Option<Vec<Endpoint>>, 
 }
 
 /// The configuration of the matched words with these other addresses, or `None` if the first one is
-/// invalid.
+/// invalid, or one stands twice.
 fn service<'a>(
     matches: &ArgMatches<'a>,
     ports: Option<PortRange>,
@@ -462,6 +450,9 @@ fn service<'a>(
 {
     let root = matches.get_str("ROOT")?;
     let listen = Listen::named(matches.get_str(LISTEN)?)?;
+    if !has_apart(listen, others.as_slice()) {
+        return None;
+    }
     let config = config(matches)?;
     let ending = ending(matches)?;
     let instance = instance(matches)?;

@@ -1,7 +1,7 @@
 //! Where the requests of a server arrive.
 
-ghost use Rattle.std.specs.Prelude.{IfSome};
-ghost use Rattle.tftp_daemon.specs.CommandLine.{NamesListen};
+ghost use Rattle.std.specs.Prelude.{◌≡◌, ◌≢◌, IfSome, true};
+ghost use Rattle.tftp_daemon.specs.CommandLine.{AreApart, HasApart, IsApart, NamesListen};
 
 use std::fmt;
 use tftp_ends::Endpoint;
@@ -38,4 +38,41 @@ impl fmt::Display for Listen {
             Listen::Handed => f.write_str("standard input"),
         }
     }
+}
+
+/// Whether no endpoint stands twice, of that where requests arrive and these others.
+pub(crate) fn has_apart(listen: Listen, others: &[Endpoint]) -> bool
+    ensures { result ≡ true → HasApart listen others.now }
+{
+    match listen {
+        Listen::At(at) => is_apart(at, others) && are_apart(others),
+        Listen::Handed => are_apart(others),
+    }
+}
+
+/// Whether no two of these endpoints are the same.
+fn are_apart(endpoints: &[Endpoint]) -> bool
+    ensures { result ≡ true → AreApart endpoints.now }
+{
+    match endpoints {
+        [at, others @ ..] => is_apart(*at, others) && are_apart(others),
+        [] => true,
+    }
+}
+
+/// Whether this endpoint is none of these.
+fn is_apart(at: Endpoint, others: &[Endpoint]) -> bool
+    ensures { result ≡ true → IsApart at others.now }
+{
+    match others {
+        [other, rest @ ..] => differs(*other, at) && is_apart(at, rest),
+        [] => true,
+    }
+}
+
+/// Whether two endpoints differ.
+fn differs(one: Endpoint, other: Endpoint) -> bool
+    ensures { result ≡ true → one ≢ other }
+{
+    one != other
 }

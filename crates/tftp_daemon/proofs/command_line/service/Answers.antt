@@ -7,6 +7,7 @@ returns-clause-names c =
       root = search rules;
       listen = search rules;
       others = c.requires.others;
+      apart = search rules;
       ports = c.requires.ports;
       requests_only = search rules;
       per_client = search rules;
