@@ -1,4 +1,4 @@
--- Each step notes events after those before, and the clock never goes back.
+-- Each step notes events after those before, and the clock never goes back. For Expiring.
 use Rattle.std.proofs.Common.{arith, ◌≡◌, ◌≤◌, ℕ, List, [], ◌∷◌, ◌++◌, Option, Some, None, refl, sym, ap, subst, ◌∙◌}
 use Rattle.std.proofs.lemmas.List.{append_assoc}
 use Rattle.tftp_file.specs.Source.{SourceMeaning}
@@ -15,16 +15,20 @@ use Rattle.tftp_loop.specs.Steps.LoopStep.{Request_noted}
 use Rattle.tftp_loop.specs.Steps.LoopStep.{Request_answered, Request_lost, Clock_read, Store_set, Transfer_closed}
 use Rattle.tftp_loop.specs.Steps.LoopStep.{Drain_begun}
 
+-- the later events are some more before the earlier ones
 pub record Adds (before after : List SocketEvent) : Type 0 where
   pub more : List SocketEvent
   pub is : after ≡ more ++ before
 
+-- the same events have none more
 pub adds_none : (es fs : List SocketEvent) → fs ≡ es → Adds es fs
 adds_none es fs e = record { more = []; is = e }
 
+-- one event was noted
 pub adds_one : (event : SocketEvent) (es fs : List SocketEvent) → fs ≡ event ∷ es → Adds es fs
 adds_one event es fs e = record { more = event ∷ []; is = e }
 
+-- what is noted after what was noted is noted in all
 pub adds_more : (es fs gs : List SocketEvent) → Adds es fs → Adds fs gs → Adds es gs
 adds_more es fs gs a b = record {
   more = b.more ++ a.more;
@@ -65,6 +69,7 @@ module _ {S F D : Type 0} (meaning : StoreMeaning S D) (sources : SourceMeaning 
   port_adds now old new (A_missed_timeout d) = adds_one (Elapsed old.timer.port now) old.events new.events d.events
   port_adds now old new (Work d) = adds_none old.events new.events d.events
 
+  -- a step of the loop only adds events
   pub step_adds : (s t : LoopState S F D) → LoopStep meaning sources s t → Adds s.events t.events
   step_adds s t (Waited d) =
       adds_more s.events _ t.events (adds_one (Watched d.watch) s.events _ refl)
@@ -88,6 +93,7 @@ module _ {S F D : Type 0} (meaning : StoreMeaning S D) (sources : SourceMeaning 
   same_now : (now : ℕ) (t u : LoopState S F D) → t ≡ u → now ≤ u.now → now ≤ t.now
   same_now now t u e h = subst (λ (v : LoopState S F D). now ≤ v.now) (sym e) h
 
+  -- a step of the loop never turns the clock back
   pub step_forward : (s t : LoopState S F D) → LoopStep meaning sources s t → s.now ≤ t.now
   step_forward s t (Waited d) = same_now s.now t _ d.is d.by.forward
   step_forward s t (At_port d) = same_now s.now t _ d.is (omega arith)

@@ -1,4 +1,5 @@
--- In each state of a run a deadline is an interval away at most, and no end has more than its retries.
+-- In each state of a run a deadline is an interval away at most, and no end has more than its retries. For Expiring
+-- and PortCounts.
 use Rattle.std.proofs.Common.{arith, ◌≡◌, ◌<◌, ◌≤◌, ℕ, true, false, List, [], ◌∷◌, length, map}
 use Rattle.std.proofs.Common.{Option, Some, None, IsSome, refl, sym, ap, subst, ◌∙◌, inl, inr}
 use Rattle.std.specs.Prelude.{All, slice_index_or, slice_set, Result, Ok, Err, ⊤}
@@ -36,6 +37,7 @@ use Rattle.tftp_loop.proofs.Sleeping.{step_kept}
 use Rattle.tftp_loop.proofs.Tables.{inserted_apart, inserted_own, removed_apart}
 use Rattle.tftp_loop.proofs.Waits.{waited_at}
 
+-- an option that has a value is that value
 pub some_at : {T : Type 0} (o : Option T) → IsSome o → (x : T) × (o ≡ Some x)
 some_at None h = absurd (let e : false ≡ true = h in cc)
 some_at (Some x) h = (x, refl)
@@ -115,6 +117,7 @@ module _ {S F D : Type 0} (meaning : StoreMeaning S D) (sources : SourceMeaning 
       taken_limit old from bytes _ goes.draft goes.store came goes.goes_on
 
   -- ---- at each timer
+  -- the deadline of a timer, and the retries of its transfer, are within their limits
   pub record IsBounded (server : ServerState S F D) (now : ℕ) (timer : Timer) : Type 0 where
     pub near : IsNear now timer
     pub limit : (transfer : TransferState F D) → at timer.port server.held ≡ Some transfer
@@ -246,10 +249,12 @@ module _ {S F D : Type 0} (meaning : StoreMeaning S D) (sources : SourceMeaning 
   step_bounded s t (Drain_begun d) kept bounded = subst AreBounded (sym d.is) bounded
 
   -- ---- along a run
+  -- each open transfer has its timer, and each timer is bounded
   pub record IsSound (s : LoopState S F D) : Type 0 where
     pub kept : AreKept s.server.held s.timers
     pub bounded : All (IsBounded s.server s.now) s.timers
 
+  -- each state of a run is sound
   pub sound_along : (start s : LoopState S F D) → start.timers ≡ []
       → Run (LoopStep meaning sources) start s → IsSound s
   sound_along start s empty Start =

@@ -1,4 +1,4 @@
--- The time of a server, by the readings of its clock.
+-- The time of a server, by the readings of its clock. For `a_server_closes_by_the_clock`.
 use Rattle.std.proofs.Common.{arith, ◌≡◌, ◌≤◌, ◌<◌, ◌+◌, ◌-◌, min, max, ℕ, Bool, true, false, refl, ap}
 use Rattle.std.specs.Prelude.{◌*◌, if◌then◌else◌}
 use Rattle.tftp_file.specs.Source.{SourceMeaning}
@@ -92,6 +92,7 @@ later_by_now true interval more reading now reading' now' cut late passed = omeg
 later_by_now false interval more reading now reading' now' cut late passed = omega (arith, late, passed)
 
 module _ {S F D : Type 0} (meaning : StoreMeaning S D) (sources : SourceMeaning F) where
+  -- `closes_without_progress`, with times that the clock was read at
   pub closes_by_the_clock : ClosesByTheClock meaning sources
   closes_by_the_clock start first last new timer empty run has idles waits late soon =
       closes_without_progress meaning sources start first last new timer empty run has idles waits
@@ -99,6 +100,7 @@ module _ {S F D : Type 0} (meaning : StoreMeaning S D) (sources : SourceMeaning 
       ((in_millis timer.interval + LONGEST_WAIT) * max 1 first.server.config.retries) first.reading first.now last.reading
       last.now (cut_in meaning sources idles) late (passes meaning sources idles)) soon
 
+  -- `times_out_in_silence`, with times that the clock was read at
   pub times_out_by_the_clock : TimesOutByTheClock meaning sources
   times_out_by_the_clock start first last new timer transfer empty run has found idles silent waits late soon =
       times_out_in_silence meaning sources start first last new timer transfer empty run has found idles silent waits
@@ -106,6 +108,7 @@ module _ {S F D : Type 0} (meaning : StoreMeaning S D) (sources : SourceMeaning 
       ((in_millis timer.interval + LONGEST_WAIT) * max 1 first.server.config.retries) first.reading first.now last.reading
       last.now (cut_in meaning sources idles) late (passes meaning sources idles)) soon
 
+  -- `closes_over_age`, with times that the clock was read at
   pub closes_over_age_by_the_clock : ClosesOverAgeByTheClock meaning sources
   closes_over_age_by_the_clock start first last new timer transfer empty run has found aged goes waits late soon =
       closes_over_age meaning sources start first last new timer transfer empty run has found aged goes waits
@@ -113,5 +116,6 @@ module _ {S F D : Type 0} (meaning : StoreMeaning S D) (sources : SourceMeaning 
       ((in_millis timer.interval + LONGEST_WAIT) * max 1 first.server.config.retries) first.reading first.now last.reading
       last.now (cut_along meaning sources goes) late (passes_along meaning sources goes)) soon
 
+  -- the time of the program passes with the clock's, a second at most for each reading
   pub passes_with_the_clock : PassesWithTheClock meaning sources
   passes_with_the_clock first last run = passes_along meaning sources run

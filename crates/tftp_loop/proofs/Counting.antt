@@ -1,4 +1,4 @@
--- How many datagrams are received at a port.
+-- How many datagrams are received at a port. For `a_server_receives_few_between_waits`, PortCounts and Visits.
 use Rattle.std.proofs.Common.{arith, ◌≡◌, ◌≤◌, ◌<◌, ◌+◌, ℕ, Bool, false, List, [], ◌∷◌, map, Option, Some, None}
 use Rattle.std.proofs.Common.{refl, sym, ap, subst, ◌∙◌}
 use Rattle.std.specs.Prelude.{All}
@@ -68,6 +68,7 @@ module _ {S F D : Type 0} (meaning : StoreMeaning S D) (sources : SourceMeaning 
       let events = ap received_in d.events in
       omega (arith, timer, events)
 
+  -- along a run at a port each datagram received there is counted once
   pub counted_along : (now : ℕ) (s t : PortState S F D) → Run (PortStep meaning sources now) s t → Counts s t
   counted_along now s t Start = refl
   counted_along now s t (Then {middle} run does) =
@@ -76,9 +77,11 @@ module _ {S F D : Type 0} (meaning : StoreMeaning S D) (sources : SourceMeaning 
       omega (arith, a, b)
 
   -- ---- at all ports
+  -- a port received few datagrams in this round
   abbrev pub IsFew : Timer → Type 0
   IsFew timer = timer.received ≤ most_in_round
 
+  -- at each port few datagrams were received in this round
   abbrev pub AreFew : LoopState S F D → Type 0
   AreFew s = All IsFew s.timers
 
@@ -90,6 +93,7 @@ module _ {S F D : Type 0} (meaning : StoreMeaning S D) (sources : SourceMeaning 
   same_few : (timer timer' : Timer) → timer'.received ≡ timer.received → IsFew timer → IsFew timer'
   same_few timer timer' is few = omega (arith, is, few)
 
+  -- a step at a port receives no more than a round allows
   pub port_few : (now : ℕ) (s t : PortState S F D) → PortStep meaning sources now s t → IsFew s.timer → IsFew t.timer
   port_few now s t (A_datagram d) few = counted_few now d.step.progress s.timer t.timer d.few d.timer
   port_few now s t (A_lost_datagram d) few = counted_few now false s.timer t.timer d.few d.timer
@@ -139,6 +143,7 @@ module _ {S F D : Type 0} (meaning : StoreMeaning S D) (sources : SourceMeaning 
       (omega arith) h)
   step_few s t (Drain_begun d) few = subst AreFew (sym d.is) few
 
+  -- nor does a run of the loop, at any port
   pub few_along : (start now : LoopState S F D) → start.timers ≡ [] → Run (LoopStep meaning sources) start now → AreFew now
   few_along start now none Start =
       subst (All IsFew) (sym none) (λ k d h. absurd (omega (arith, h)))

@@ -1,4 +1,4 @@
--- What a port that was drained says after a step at another.
+-- What a port that was drained says after a step at another. For Looking and Sleeping.
 use Rattle.std.proofs.Common.{◌≡◌, ◌==◌, ◌||◌, ◌&&◌, not, ℕ, Bool, true, false, List, ◌∷◌, Option, Some, None, refl}
 use Rattle.std.proofs.Common.{sym, ap, subst, ◌∙◌}
 use Rattle.std.proofs.lemmas.Bool.{ne_eqb}
@@ -19,6 +19,7 @@ pub answered_drained : (r port : ℕ) (reply : Option Reply) (es : List SocketEv
 answered_drained r port None es h = h
 answered_drained r port (Some reply) es h = h
 
+-- a port that was drained stays so when another datagram is sent
 pub replied_drained : (r port : ℕ) (to : Option Endpoint) (bytes : List ℕ) (es : List SocketEvent) → is_drained r es ≡ true
     → is_drained r (replied port to bytes es) ≡ true
 replied_drained r port None bytes es h = h
@@ -35,6 +36,7 @@ either_drained true drained h = refl
 either_drained false drained h = h
 
 module _ {S F D : Type 0} (meaning : StoreMeaning S D) (sources : SourceMeaning F) where
+  -- a step at one port leaves another drained
   pub port_drained : (r now : ℕ) (old new : PortState S F D) → PortStep meaning sources now old new
       → (old.timer.port ≡ r → ⊥) → is_drained r old.events ≡ true → is_drained r new.events ≡ true
   port_drained r now old new (A_datagram d) apart h =

@@ -1,4 +1,4 @@
--- A server that drains receives nothing at its request port.
+-- A server that drains receives nothing at its request port. For `a_server_that_drains_only_finishes`.
 use Rattle.std.proofs.Common.{◌≡◌, ◌∙◌, ℕ, false, List, sym, ap}
 use Rattle.std.proofs.lemmas.Bool.{true≢false}
 use Rattle.tftp_file.specs.Source.{SourceMeaning}
@@ -45,6 +45,7 @@ module _ {S F D : Type 0} (meaning : StoreMeaning S D) (sources : SourceMeaning 
       let now = step_finishes middle t does was.1 in
       (Then was.0 (Finishes_by does now.0), now.1)
 
+  -- from the beginning of the drain on, each step only finishes work
   pub only_finishes : (old drains last : LoopState S F D) → BeginsDrain meaning sources old drains
       → Run (LoopStep meaning sources) drains last
       → Run (FinishesWork meaning sources) drains last × (last.drain ≡ Begun)
@@ -66,6 +67,7 @@ module _ {S F D : Type 0} (meaning : StoreMeaning S D) (sources : SourceMeaning 
   step_never s t (Transfer_closed d) never = ap (λ (u : LoopState S F D). u.drain) d.is ∙ never
   step_never s t (Drain_begun d) never = absurd (let e : Never ≡ Awaited = sym never ∙ d.awaited in cc)
 
+  -- without the option to drain no run begins to
   pub drains_by_a_signal : (config : LoopConfig) (port reading : ℕ) (server : ServerState S F D) (before : List SocketEvent)
       (last : LoopState S F D) → config.drains ≡ false
       → Run (LoopStep meaning sources) (at_start config port server reading before) last → last.drain ≡ Never

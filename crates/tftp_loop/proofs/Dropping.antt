@@ -1,4 +1,5 @@
--- What a server drops at its request port begins as no request, and only if it is told to.
+-- What a server drops at its request port begins as no request, and only with `--requests-only`. For
+-- `a_server_drops_no_request`.
 use Rattle.std.proofs.Common.{◌≡◌, ◌∙◌, ◌⊎◌, ℕ, true, false, List, inl, inr, refl, sym, ap}
 use Rattle.std.proofs.lemmas.Bool.{true≢false}
 use Rattle.tftp_wire.specs.Spelling.{Spells}
@@ -27,7 +28,7 @@ spelled_begins request bytes (inl spells) = ap begins_as_request spells.whole
 spelled_begins request bytes (inr spells) = ap begins_as_request spells.whole
 
 module _ {S F D : Type 0} (meaning : StoreMeaning S D) (sources : SourceMeaning F) where
-  -- what is dropped is none, and the server is told to
+  -- what is dropped is no request, and the server has the option
   why_dropped : (old : LoopState S F D) (from : Endpoint) (bytes : List ℕ)
       (why : RequestLoss meaning sources old from bytes) → IsDropped meaning sources why
       → (old.requests_only ≡ true) × (begins_as_request bytes ≡ false)
@@ -38,6 +39,7 @@ module _ {S F D : Type 0} (meaning : StoreMeaning S D) (sources : SourceMeaning 
   why_dropped old from bytes (Same_port opens port last taken) dropped = absurd dropped
   why_dropped old from bytes (Too_many opens most) dropped = absurd dropped
 
+  -- what is dropped spells no request
   pub drops_no_request : (old new : LoopState S F D) (loses : LosesRequest meaning sources old new)
       (request : Request) → Spells (Read request) loses.bytes ⊎ Spells (Write request) loses.bytes
       → IsDropped meaning sources loses.why → ⊥
@@ -45,7 +47,7 @@ module _ {S F D : Type 0} (meaning : StoreMeaning S D) (sources : SourceMeaning 
       true≢false
       (sym (spelled_begins request loses.bytes spells) ∙ (why_dropped old loses.from loses.bytes loses.why dropped).1)
 
-  -- no step changes whether it is told to
+  -- no step changes whether it has the option
   step_only : (s t : LoopState S F D) → LoopStep meaning sources s t → t.requests_only ≡ s.requests_only
   step_only s t (Waited d) = ap (λ (u : LoopState S F D). u.requests_only) d.is
   step_only s t (At_port d) = ap (λ (u : LoopState S F D). u.requests_only) d.is
@@ -64,6 +66,7 @@ module _ {S F D : Type 0} (meaning : StoreMeaning S D) (sources : SourceMeaning 
   stays_only s t Start = refl
   stays_only s t (Then {middle} run does) = step_only middle t does ∙ stays_only s middle run
 
+  -- without `--requests-only` nothing is dropped as no request
   pub drops_only_if_told : (config : LoopConfig) (port reading : ℕ) (server : ServerState S F D) (before : List SocketEvent)
       (old new : LoopState S F D) → config.requests_only ≡ false
       → Run (LoopStep meaning sources) (at_start config port server reading before) old
@@ -73,6 +76,7 @@ module _ {S F D : Type 0} (meaning : StoreMeaning S D) (sources : SourceMeaning 
       (sym (why_dropped old loses.from loses.bytes loses.why dropped).0
       ∙ (stays_only (at_start config port server reading before) old run ∙ off))
 
+  -- with it each datagram that is answered begins as a request
   pub answers_only_requests : (config : LoopConfig) (port reading : ℕ) (server : ServerState S F D)
       (before : List SocketEvent) (old new : LoopState S F D) → config.requests_only ≡ true
       → Run (LoopStep meaning sources) (at_start config port server reading before) old

@@ -1,4 +1,4 @@
--- What a step of an end leaves of its retries, and of the timeouts until it closes.
+-- What a step of an end leaves of its retries, and of the timeouts until it closes. For four other files.
 use Rattle.std.proofs.Common.{arith, ◌≡◌, ◌-◌, ◌≤◌, ◌+◌, ◌||◌, ◌&&◌, ◌⊎◌, not, max, ℕ, Bool, true, false}
 use Rattle.std.proofs.Common.{List, Option, Some, None, refl, sym, ap, subst, ◌∙◌, inl, inr}
 use Rattle.std.specs.Prelude.{◌==◌, if◌then◌else◌, is_some, Result, Ok, Err}
@@ -35,6 +35,7 @@ use Rattle.tftp_ends.specs.declared.phase.Terms.{Terms}
 use Rattle.tftp_loop.specs.Expiry.{ClosesInSilence}
 
 -- ---- how many timeouts in sequence close an end
+-- how many timeouts a phase has left until the end closes
 abbrev pub timeouts_in : ℕ → Phase → ℕ
 timeouts_in left (Waiting asked limit) = left + 1
 timeouts_in left (Sending terms number) = left + 1
@@ -43,9 +44,11 @@ timeouts_in left (Dallying terms number Fresh) = 2
 timeouts_in left (Dallying terms number Waited) = 1
 timeouts_in left (Closed terms number complete outcome) = 0
 
+-- how many timeouts an end has left until it closes
 abbrev pub timeouts_left : EndState → ℕ
 timeouts_left e = timeouts_in e.position.retries_left e.position.phase
 
+-- they are one more than the retries at most
 pub most_left : (p : Phase) (left retries : ℕ) → left ≤ retries → timeouts_in left p ≤ max 1 retries + 1
 most_left (Waiting asked limit) left retries h = omega (arith, h)
 most_left (Sending terms number) left retries h = omega (arith, h)
@@ -54,6 +57,7 @@ most_left (Dallying terms number Fresh) left retries h = omega arith
 most_left (Dallying terms number Waited) left retries h = omega arith
 most_left (Closed terms number complete outcome) left retries h = omega arith
 
+-- an open end has one at least
 pub open_left : (p : Phase) (left : ℕ) → is_some (outcome_of p) ≡ false → 1 ≤ timeouts_in left p
 open_left (Waiting asked limit) left h = omega arith
 open_left (Sending terms number) left h = omega arith
@@ -62,6 +66,7 @@ open_left (Dallying terms number Fresh) left h = omega arith
 open_left (Dallying terms number Waited) left h = omega arith
 open_left (Closed terms number complete outcome) left h = absurd (let e : true ≡ false = h in cc)
 
+-- a closed end has none
 pub closed_left : (p : Phase) (left : ℕ) → is_some (outcome_of p) ≡ true → timeouts_in left p ≡ 0
 closed_left (Waiting asked limit) left h = absurd (let e : false ≡ true = h in cc)
 closed_left (Sending terms number) left h = absurd (let e : false ≡ true = h in cc)
@@ -70,6 +75,7 @@ closed_left (Dallying terms number dally) left h = absurd (let e : false ≡ tru
 closed_left (Closed terms number complete outcome) left h = refl
 
 -- ---- how the position of an end changes in a step
+-- the position of an end after a step
 pub data Moves (e : EndState) (position : Position) : Type 0 where
   -- the phase stays
   Stays_in : position.phase ≡ e.position.phase → position.retries_left ≤ e.position.retries_left → Moves e position
@@ -154,6 +160,7 @@ limit_by : (b : Bool) (retries left left' : ℕ) → left' ≡ (if b then retrie
 limit_by true retries left left' e h = omega (arith, e)
 limit_by false retries left left' e h = omega (arith, e, h)
 
+-- a step leaves no more retries than the end began with
 pub moves_limit : (e : EndState) (position : Position) → Moves e position → e.position.retries_left ≤ e.role.retries
     → position.retries_left ≤ e.role.retries
 moves_limit e position (Stays_in is fewer) h = omega (arith, fewer, h)
@@ -256,6 +263,7 @@ module _ {S K : Type 0} (sources : SourceMeaning S) (sinks : SinkMeaning K) wher
   quiet_stays (Send terms number) quiet from bytes e files turn files' h = absurd quiet
   quiet_stays (Store terms number) quiet from bytes e files turn files' h = absurd quiet
 
+  -- a datagram moves the position so
   pub datagram_moves : (from : Endpoint) (bytes : List ℕ) (e : EndState) (files : Files S K) (turn : Turn)
       (files' : Files S K) → DatagramStep sources sinks from bytes e files turn files' → Moves e turn.position
   datagram_moves from bytes e files turn files' steps =
@@ -283,6 +291,7 @@ module _ {S K : Type 0} (sources : SourceMeaning S) (sinks : SinkMeaning K) wher
   ]
 
 -- ---- a timeout
+-- a timeout takes one of those that are left
 pub record Spends (e : EndState) (position : Position) : Type 0 where
   pub moves : Moves e position
   pub left : 1 ≤ timeouts_in position.retries_left position.phase
@@ -352,5 +361,6 @@ timeout_at (Closed terms number complete outcome) e =
       closes = λ o is. inr (inr is);
     })
 
+-- each timeout of an open end does
 pub timeout_spends : (e : EndState) → Spends e (timeout_turn e).position
 timeout_spends e = timeout_at e.position.phase e

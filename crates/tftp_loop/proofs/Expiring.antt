@@ -1,4 +1,5 @@
--- A transfer that makes no progress is closed in time, and its line is printed.
+-- A transfer that makes no progress is closed in time, and its line is printed. For
+-- `a_server_closes_what_makes_no_progress` and ByTheClock.
 use Rattle.std.proofs.Common.{arith, ◌≡◌, ◌<◌, ◌≤◌, ◌+◌, ◌*◌, ◌⊎◌, max, ℕ, Bool, true, false, List}
 use Rattle.std.proofs.Common.{[], ◌∷◌, ◌++◌, length, map, Option, Some, None, IsSome, refl, sym, ap, subst, ◌∙◌, inl}
 use Rattle.std.proofs.Common.{inr}
@@ -593,6 +594,7 @@ module _ {S F D : Type 0} (meaning : StoreMeaning S D) (sources : SourceMeaning 
         });
       }
 
+  -- a transfer from whose peer nothing comes closes by its timeouts, and in time
   pub times_out_in_silence : (start first last new : LoopState S F D) (timer : Timer) (transfer : TransferState F D)
       → start.timers ≡ [] → Run (LoopStep meaning sources) start first
       → Contains first.timers timer
@@ -612,6 +614,7 @@ module _ {S F D : Type 0} (meaning : StoreMeaning S D) (sources : SourceMeaning 
             (NoneReceived meaning sources idles) along.since last new waits soon late lasts)
       ]
 
+  -- one that makes no progress has closed by the time that its retries allow
   pub closes_without_progress : (start first last new : LoopState S F D) (timer : Timer)
       → start.timers ≡ [] → Run (LoopStep meaning sources) start first
       → Contains first.timers timer
@@ -633,6 +636,7 @@ module _ {S F D : Type 0} (meaning : StoreMeaning S D) (sources : SourceMeaning 
             (NoneReceived meaning sources idles) along.since last new waits soon late lasts)
       ]
 
+  -- one older than its age limit closes though datagrams come
   pub closes_over_age : (start first last new : LoopState S F D) (timer : Timer) (transfer : TransferState F D)
       → start.timers ≡ [] → Run (LoopStep meaning sources) start first
       → Contains first.timers timer → at timer.port first.server.held ≡ Some transfer

@@ -1,4 +1,4 @@
--- What becomes of a datagram of the request port before a server sleeps.
+-- What becomes of a datagram of the request port before a server sleeps. For `a_server_handles_before_it_sleeps`.
 use Rattle.std.proofs.Common.{arith, ◌≡◌, ◌≤◌, ◌==◌, ◌||◌, ◌&&◌, not, ◌⊎◌, ℕ, Bool, true, false, List, ◌∷◌, cond, Option, Some}
 use Rattle.std.proofs.Common.{None, map, refl, sym, ap, subst, ◌∙◌, inl, inr}
 use Rattle.std.specs.Prelude.{is_some, All, ◌≢◌}
@@ -119,6 +119,7 @@ module _ {S F D : Type 0} (meaning : StoreMeaning S D) (sources : SourceMeaning 
         })
       ]
 
+  -- before the server may sleep a datagram of the request port is answered or lost
   pub handles_before_it_sleeps : (old received last new : LoopState S F D)
       (receives : ReceivesRequest meaning sources old received) → Run (LoopStep meaning sources) received last
       → (waits : Waits meaning sources last new) → 1 ≤ waits.millis
@@ -222,6 +223,7 @@ module _ {S F D : Type 0} (meaning : StoreMeaning S D) (sources : SourceMeaning 
         })
       ]
 
+  -- it is so by the next wait, whether or not the server may sleep
   pub handles_by_the_next_wait : (config : LoopConfig) (port reading : ℕ) (server : ServerState S F D)
       (before : List SocketEvent) (old received waiting woken last new : LoopState S F D)
       → Run (LoopStep meaning sources) (at_start config port server reading before) old
@@ -287,6 +289,7 @@ module _ {S F D : Type 0} (meaning : StoreMeaning S D) (sources : SourceMeaning 
   reads_along s t (Then {middle} run (Goes_by does is)) reads =
       step_reads middle t does is (reads_along s middle run reads)
 
+  -- a request port that a wait reports is read before the next wait
   pub reads_the_request_port : (old woken last new : LoopState S F D) (waits : Waits meaning sources old woken)
       → is_among old.requests waits.ports ≡ true → Run (GoesOn meaning sources) woken last
       → Waits meaning sources last new → is_draining last.drain ≡ false → was_tried last.requests last.events ≡ true

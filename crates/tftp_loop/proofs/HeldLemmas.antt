@@ -33,9 +33,11 @@ module _ {T : Type 0} (P : T → Type 0) where
   held_next tid held after next all has is =
       subst AllHeld (sym is) (All-values-set_value (is_at (nat_cmp tid)) P held next all has)
 
+  -- what holds of all transfers and of a new one holds with the new one in the table
   pub held_new : (tid : ℕ) (held : List (ℕ × T)) (new : T) → AllHeld held → P new → AllHeld (with_new tid new held)
   held_new tid held new all has = All-values-insert_entry nat_cmp tid new P held all has
 
+  -- what holds of all holds without one of them
   pub held_without : (tid : ℕ) (held : List (ℕ × T)) → AllHeld held → AllHeld (without tid held)
   held_without tid held all =
       All-map-remove_entry (is_at (nat_cmp tid)) (λ (e : ℕ × T). e.1) P held all

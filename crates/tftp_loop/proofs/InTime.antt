@@ -1,4 +1,4 @@
--- The time that is left to a transfer that makes no progress, and what a step at its port leaves of it.
+-- The time that is left to a transfer that makes no progress, and what a step at its port leaves of it. For Expiring.
 use Rattle.std.proofs.Common.{arith, ◌≡◌, ◌≤◌, ◌+◌, ◌*◌, ◌-◌, max, mul-add, ℕ, Bool, true, false, Some, sym, ap, ◌∙◌}
 use Rattle.std.proofs.Common.{inl, inr}
 use Rattle.tftp_ends.specs.declared.outcome.Outcome.{Outcome}
@@ -18,12 +18,14 @@ pub record InTime (start millis round most since deadline left : ℕ) : Type 0 w
   pub newest : since ≤ start + (millis + round) * spent + millis
 
 module _ (start millis round most : ℕ) where
+  -- a timer that was set in this round is in time
   pub first_time : (since deadline left : ℕ) → since ≤ start → deadline ≤ start + millis → left ≤ most + 1
       → InTime start millis round most since deadline left
   first_time since deadline left from near few =
       let none : (millis + round) * 0 ≡ 0 = omega arith in
       record { spent = 0; few = omega (arith, few); due = omega (arith, near, none); newest = omega (arith, from, none) }
 
+  -- an earlier deadline and fewer timeouts are in time, too
   pub no_later : (since deadline deadline' left left' : ℕ) → deadline' ≤ deadline → left' ≤ left
       → InTime start millis round most since deadline left → InTime start millis round most since deadline' left'
   no_later since deadline deadline' left left' sooner fewer t =
@@ -56,6 +58,7 @@ module _ (start millis round most : ℕ) where
       let due = t.due in
       record { spent = t.spent; few = t.few; due = t.due; newest = omega (arith, due, before) }
 
+  -- a timer that is in time is due before the retries are spent
   pub at_last : (since deadline now left : ℕ) → 1 ≤ left → now ≤ deadline
       → InTime start millis round most since deadline left → now ≤ start + millis + (millis + round) * most
   at_last since deadline now left some before t =
@@ -74,10 +77,12 @@ abbrev pub latest : ℕ → ℕ → ℕ → Bool → ℕ → ℕ
 latest millis round since true deadline = max deadline (since + round + millis)
 latest millis round since false deadline = deadline
 
+-- a deadline is not after the latest that it may be
 pub latest_later : (millis round since : ℕ) (b : Bool) (deadline : ℕ) → deadline ≤ latest millis round since b deadline
 latest_later millis round since true deadline = omega arith
 latest_later millis round since false deadline = omega arith
 
+-- a deadline that is set from a reading of this round is not after the latest
 pub set_early : (millis round since time : ℕ) (b : Bool) (timer : Timer) → timer.interval * 1000 ≡ millis
     → time ≤ since + round → deadline_by time b timer ≤ latest millis round since b timer.deadline
 set_early millis round since time true timer interval soon =
@@ -88,6 +93,7 @@ set_early millis round since time false timer interval soon = omega arith
 -- ---- what a step at the port leaves
 module _ (start millis round most : ℕ) (Idle Silent : Type 0) (now since : ℕ) (timer timer' : Timer) (e e' : EndState)
     (changes : Changes Idle Silent now timer timer' e e') where
+  -- a step that makes no progress leaves the transfer in time
   pub changes_in_time : Idle → timer.interval * 1000 ≡ millis → now ≤ since + round
       → (1 ≤ timeouts_left e
       → InTime start millis round most since (latest millis round since timer.provisional timer.deadline)
@@ -128,6 +134,7 @@ module _ (start millis round most : ℕ) (Idle Silent : Type 0) (now since : ℕ
         (omega (arith, here)) (omega (arith, same)) (before (omega (arith, some, same)))
   ]
 
+  -- a step without a datagram of the peer does not complete the transfer
   pub changes_complete : Silent → is_complete e'.position.phase ≡ is_complete e.position.phase
   changes_complete quiet = elim changes [
     | By_datagram progress handled is_idle silent is ↦ absurd (silent quiet)
@@ -144,6 +151,7 @@ module _ (start millis round most : ℕ) (Idle Silent : Type 0) (now since : ℕ
   closes_first e0 outcome complete closes (inr (inl done)) = inr (inl (done.0, sym complete ∙ done.1))
   closes_first e0 outcome complete closes (inr (inr closed)) = closes outcome closed
 
+  -- without a datagram of the peer the transfer closes only as one in silence does
   pub changes_closes : Silent → (e0 : EndState) → is_complete e.position.phase ≡ is_complete e0.position.phase
       → ((o : Outcome) → outcome_of e.position.phase ≡ Some o → ClosesInSilence e0.position.phase o)
       → (o : Outcome) → outcome_of e'.position.phase ≡ Some o → ClosesInSilence e0.position.phase o

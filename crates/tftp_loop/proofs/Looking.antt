@@ -1,4 +1,4 @@
--- A port of a transfer that is not marked is drained, or is left for a while.
+-- A port of a transfer that is not marked is drained, or is left for a while. For Sleeping.
 use Rattle.std.proofs.Common.{arith, ◌≡◌, ◌≤◌, ◌<◌, ◌==◌, ◌||◌, ◌&&◌, ◌+◌, ◌⊎◌, not, ℕ, Bool, true, false, List, ◌∷◌}
 use Rattle.std.proofs.Common.{length, map, Option, Some, None, inl, inr, refl, sym, ap, subst, ◌∙◌}
 use Rattle.std.specs.Prelude.{slice_index_or, All, ◌≢◌}
@@ -36,11 +36,13 @@ pub record IsLeft (now : ℕ) (timer : Timer) : Type 0 where
   pub soon : timer.look_at ≤ now + look_after
   pub short : timer.look_at ≡ timer.deadline → (n : ℕ) → now ≤ n → deadline_of n timer.interval ≤ n + look_after
 
+-- a port is marked, drained, or may be left for a while
 pub data IsLooked (events : List SocketEvent) (now : ℕ) (timer : Timer) : Type 0 where
   Marked : timer.marked ≡ true → IsLooked events now timer
   Drained : is_drained timer.port events ≡ true → IsLooked events now timer
   Left : IsLeft now timer → IsLooked events now timer
 
+-- a port without a mark is drained, or looked at soon
 pub looked_at_rest : (timer : Timer) (events : List SocketEvent) (now : ℕ) → timer.marked ≡ false → IsLooked events now timer
     → (is_drained timer.port events ≡ true) ⊎ (timer.look_at ≤ now + look_after)
 looked_at_rest timer events now unmarked (Marked m) = absurd (let e : true ≡ false = sym m ∙ unmarked in cc)
@@ -111,6 +113,7 @@ set_looked es now watch timer h (Marked m) = Marked m
 set_looked es now watch timer h (Drained d) = Drained d
 set_looked es now watch timer h (Left l) = Left (set_left now watch.now timer.provisional timer h l)
 
+-- to read the clock leaves each port so
 pub read_looked : (es : List SocketEvent) (now : ℕ) (watch : Watch) (timers : List Timer) → now ≤ watch.now
     → All (IsLooked es now) timers → All (IsLooked (Watched watch ∷ es) watch.now) (map (set_by watch.now) timers)
 read_looked es now watch timers h looked k d within =
@@ -167,6 +170,7 @@ module _ {S F D : Type 0} (meaning : StoreMeaning S D) (sources : SourceMeaning 
       let timer = started now longest port from (interval_at (at port held)) in
       all_appended (IsLooked es now) timers timer h (Left (left_now now timer refl refl))
 
+  -- a step of the loop leaves each port marked, drained or left for a while
   pub step_looked : (s t : LoopState S F D) → LoopStep meaning sources s t
       → All (λ (timer : Timer). timer.port ≢ s.requests) s.timers → AreApart s.timers → AreLooked s → AreLooked t
   step_looked s t (Waited d) own apart looked =

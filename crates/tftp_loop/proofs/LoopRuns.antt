@@ -1,4 +1,4 @@
--- What happens at all ports, call by call.
+-- What happens at all ports, call by call. For seven functions and four other files.
 use Rattle.std.proofs.Common.{◌≡◌, ◌≤◌, ◌<◌, ◌-◌, ℕ, false, List, map, length, Option, Some, None, IsSome, refl, sym}
 use Rattle.std.proofs.Common.{ap, subst, ◌∙◌}
 use Rattle.std.specs.Prelude.{slice_set, slice_index_or, option_map, is_some, if◌then◌else◌}
@@ -69,6 +69,7 @@ none_taken closed None e h = refl
 none_taken closed (Some t) e h = absurd (false≢true (sym h ∙ ap (λ (c : Option Record). is_some c) e))
 
 module _ {S F D : Type 0} (meaning : StoreMeaning S D) (sources : SourceMeaning F) where
+  -- steps of the loop one after another
   abbrev pub Runs : LoopState S F D → LoopState S F D → Type 0
   Runs = Run (Works meaning sources)
 
@@ -189,6 +190,7 @@ module _ {S F D : Type 0} (meaning : StoreMeaning S D) (sources : SourceMeaning 
       closes_with s index timer t t.0.outcome server es some_left within is taken refl
       (outcome_taken (at timer.port s.server.held) t taken) held rest printed
 
+  -- a transfer that closed is taken out of the table, with its timer
   pub closes : (s : LoopState S F D) (index : ℕ) (timer : Timer) (tid : ℕ) (closed : Option Record)
       (server : ServerState S F D) (es : List SocketEvent)
       → 1 ≤ s.left → index < length s.timers → timer ≡ slice_index_or s.timers index timer → tid ≡ timer.port

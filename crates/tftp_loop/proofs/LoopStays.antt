@@ -1,4 +1,5 @@
--- What work keeps: each transfer has its own timer, and what was read stays so.
+-- What work keeps: each transfer has its own timer, and what was read stays so. For `ServerLoop::take_round` and ten
+-- other files.
 use Rattle.std.proofs.Common.{arith, ◌≡◌, ◌<◌, ◌≤◌, ◌-◌, ◌==◌, ◌||◌, ◌⊎◌, ℕ, Bool, true, false, List, [], ◌∷◌, ◌++◌}
 use Rattle.std.proofs.Common.{length, Option, None, Some, IsSome, refl, sym, ap, subst, ◌∙◌, inl, inr}
 use Rattle.std.specs.Prelude.{slice_set, slice_index_or, is_some, All}
@@ -50,6 +51,7 @@ set_ports timers i timer next within is same k d h =
       | inr apart ↦ ap (λ (t : Timer). t.port) (set_other timers i next k d apart)
     ]
 
+-- timers stay of different ports if one is replaced by one of the same port
 pub set_apart : (timers : List Timer) (i : ℕ) (timer next : Timer) → i < length timers →
     timer ≡ slice_index_or timers i timer → next.port ≡ timer.port → AreApart timers →
     AreApart (slice_set timers i next)
@@ -74,6 +76,7 @@ which_same n a b j k i hj hk (inl x) (inr y) e = let f = x.1 in let g = y.1 in a
 which_same n a b j k i hj hk (inr x) (inl y) e = let f = x.1 in let g = y.1 in absurd (omega (arith, f, g, e, hj))
 which_same n a b j k i hj hk (inr x) (inr y) e = sym x.1 ∙ (e ∙ y.1)
 
+-- and if one is removed
 pub removed_apart_timers : (timers : List Timer) (i : ℕ) (timer : Timer) → i < length timers → AreApart timers →
     AreApart (swap_remove timers i timer)
 removed_apart_timers timers i timer within apart j k d e hj hk h =
@@ -86,6 +89,7 @@ removed_apart_timers timers i timer within apart j k d e hj hk h =
     which_same (length timers - 1) a.index b.index j k i (omega (arith, long, hj)) (omega (arith, long, hk)) a.which
     b.which same
 
+-- and if one of a new port is added
 pub appended_apart : (timers : List Timer) (timer : Timer) →
     ((k : ℕ) (d : Timer) → k < length timers → port_at timers k d ≡ timer.port → ⊥) → AreApart timers →
     AreApart (timers ++ timer ∷ [])
@@ -118,10 +122,12 @@ later : (low i k index n : ℕ) → i < n → low ≤ i → low ≤ k → ((k �
 later low i k index n within first hl (inl x) = let e = x.1 in omega (arith, e, within, first)
 later low i k index n within first hl (inr x) = let e = x.1 in omega (arith, e, hl)
 
+-- an option that has a value is not empty
 pub some_none : {T : Type 0} (o : Option T) → IsSome o → o ≡ None → ⊥
 some_none o h e = let f : is_some o ≡ false = ap is_some e in (let g : true ≡ false = sym h ∙ f in cc)
 
 module _ (Q : Timer → Type 0) (timers : List Timer) where
+  -- what holds of all timers from an index on, but one, holds of all once that one is replaced
   pub all_set : (low i : ℕ) (next : Timer) → i < length timers →
       ((k : ℕ) (d : Timer) → low ≤ k → k < length timers → (k ≡ i → ⊥) → Q (slice_index_or timers k d)) → Q next
       → (k : ℕ) (d : Timer) → low ≤ k → k < length (slice_set timers i next) →
@@ -136,6 +142,7 @@ module _ (Q : Timer → Type 0) (timers : List Timer) where
         | inr apart ↦ subst Q (sym (set_other timers i next k d apart)) (rest k d hl h' apart)
       ]
 
+  -- and of all once that one is removed
   pub all_removed : (low i : ℕ) (timer : Timer) → low ≤ i → i < length timers →
       ((k : ℕ) (d : Timer) → low ≤ k → k < length timers → (k ≡ i → ⊥) → Q (slice_index_or timers k d))
       → (k : ℕ) (d : Timer) → low ≤ k → k < length (swap_remove timers i timer) →
@@ -145,6 +152,7 @@ module _ (Q : Timer → Type 0) (timers : List Timer) where
       subst Q (sym (w.is d)) (rest w.index d (later low i k w.index (length timers) within first hl w.which) w.within
       w.other)
 
+  -- and of all with one more of which it holds
   pub all_appended : (timer : Timer) → ((k : ℕ) (d : Timer) → k < length timers → Q (slice_index_or timers k d)) →
       Q timer
       → (k : ℕ) (d : Timer) → k < length (timers ++ timer ∷ []) → Q (slice_index_or (timers ++ timer ∷ []) k d)
@@ -170,6 +178,7 @@ module _ {S F D : Type 0} (meaning : StoreMeaning S D) (sources : SourceMeaning 
       (IsSome (at timer.port old) → IsSome (at timer.port new)) → IsHeld old timer → IsHeld new timer
   other_held old new timer there h = record { there = there h.there; look = h.look }
 
+  -- a port that was read stays so while tries are kept
   pub other_read : (es fs : List SocketEvent) (timer : Timer) → KeepsTries es fs → IsRead es timer → IsRead fs timer
   other_read es fs timer tries h marked = tries timer.port (h marked)
 
@@ -361,6 +370,7 @@ module _ {S F D : Type 0} (meaning : StoreMeaning S D) (sources : SourceMeaning 
         tried = λ h m. h (or_right (reads_requests s) (is_some s.pending) m);
       })
 
+  -- steps between two waits keep what was read and the timers of the others
   pub work_keeps : (s t : LoopState S F D) → Run (Works meaning sources) s t → Keeps s t
   work_keeps s t Start = record { tries = λ q h. h; kept = λ h. h; read = λ h. h; tried = λ h. h }
   work_keeps s t (Then {middle} run (Work_by does is)) =

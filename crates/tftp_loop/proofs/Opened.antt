@@ -1,4 +1,4 @@
--- A transfer that opens has not closed.
+-- A transfer that opens has not closed. For Receipts.
 use Rattle.std.proofs.Common.{◌≡◌, ◌⊎◌, ℕ, Bool, false, List, [], ◌∷◌, length, Option, Some, None, refl, sym, ap, subst}
 use Rattle.std.proofs.Common.{arith}
 use Rattle.std.proofs.Common.{◌∙◌, inl, inr}
@@ -150,6 +150,7 @@ module _ {S F D : Type 0} (meaning : StoreMeaning S D) (sources : SourceMeaning 
   prepared_asked s t (Then {middle} run (Sets_store d)) =
       ap (λ (u : LoopState S F D). u.asked) d.is ∙ prepared_asked s middle run
 
+  -- the end of a request's handling leaves what was asked
   pub concludes_asked : (s t : LoopState S F D) → Concludes meaning sources s t → t.asked ≡ s.asked
   concludes_asked s t c = elim c.ends [
     | inl d ↦ ap (λ (u : LoopState S F D). u.asked) d.is ∙ prepared_asked s c.middle c.prepares

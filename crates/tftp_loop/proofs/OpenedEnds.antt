@@ -48,6 +48,7 @@ module _ (Fits : ℕ → Type 0) (IsGiven : List ℕ → Type 0) (retries : ℕ)
     at = record { to = refl; with_peer = (refl, fits); said = An_oack (known ∷ others) refl };
   }
 
+  -- the end of a write begins so
   pub write_begins : (agreed : List Known) (mode : Mode)
       → BeginsAt Fits IsGiven retries peer (serving_write agreed peer mode retries)
   write_begins [] mode = record {
@@ -62,6 +63,7 @@ module _ (Fits : ℕ → Type 0) (IsGiven : List ℕ → Type 0) (retries : ℕ)
   no_other : (known : Known) (others : List Known) (P : Type 0) → known ∷ others ≡ [] → P
   no_other known others P e = absurd (cc)
 
+  -- the end of a read begins so
   pub serves_begins : {F : Type 0} (sources : SourceMeaning F) (agreed : List Known) (mode : Mode) (count : ℕ)
       (source rest : F) (e : EndState) → Fits (size agreed)
       → ((piece : List ℕ) → sources.gives source piece rest → length piece ≤ size agreed → IsGiven piece)

@@ -1,4 +1,4 @@
--- Lists that are turned round.
+-- Lists that are turned round. For `PortOrder::index`, `PortOrder::next` and `listed`.
 use Rattle.std.proofs.Common.{◌≡◌, ◌≤◌, ◌<◌, ◌+◌, ◌-◌, ℕ, zero, suc, List, [], ◌∷◌, ◌++◌, length, take, drop, refl, sym}
 use Rattle.std.proofs.Common.{ap, ◌∙◌, arith}
 use Rattle.std.specs.Prelude.{slice_index_or}
@@ -48,11 +48,13 @@ pub comes_first : (xs : List ℕ) (i : ℕ) (x : ℕ) → i < length xs → x �
     coming_from i xs ≡ x ∷ (drop (suc i) xs ++ take i xs)
 comes_first xs i x h e = ap (λ (ys : List ℕ). ys ++ take i xs) (drop_one xs i x h e)
 
+-- after the port at an index come those behind it, those before it, and it last
 pub comes_last : (xs : List ℕ) (i : ℕ) (x : ℕ) → i < length xs → x ≡ slice_index_or xs i x →
     coming_from (suc i) xs ≡ (drop (suc i) xs ++ take i xs) ++ x ∷ []
 comes_last xs i x h e =
     ap (λ (ys : List ℕ). drop (suc i) xs ++ ys) (take_one xs i x h e) ∙ assoc (drop (suc i) xs) (take i xs) (x ∷ [])
 
+-- a list of no length is empty
 pub none_within : (xs : List ℕ) → length xs ≤ 0 → xs ≡ []
 none_within [] h = refl
 none_within (x ∷ xs) h = absurd (omega (arith, h))
@@ -75,15 +77,18 @@ next_listed first port xs ys h e more =
     ∙ sym (one_more first (port - first))
     ∙ ap (range_with_len first) (sym n)
 
+-- the ports of a range are those up to its last, and then the last
 pub all_listed : (first last port : ℕ) (xs ys : List ℕ) → xs ≡ range_with_len first (port - first) →
     port - first ≡ last - first → ys ≡ xs ++ last ∷ [] → ys ≡ range_with_len first (last - first) ++ last ∷ []
 all_listed first last port xs ys e n more =
     more ∙ ap (λ (zs : List ℕ). zs ++ last ∷ []) (e ∙ ap (range_with_len first) n)
 
+-- `comes_last`, for an index that is said by an equation
 pub comes_next : (xs : List ℕ) (i j : ℕ) (x : ℕ) → i < length xs → x ≡ slice_index_or xs i x → j ≡ suc i →
     coming_from j xs ≡ (drop (suc i) xs ++ take i xs) ++ x ∷ []
 comes_next xs i j x h e next = ap (λ (n : ℕ). coming_from n xs) next ∙ comes_last xs i x h e
 
+-- of no ports none comes
 pub nothing_from : (n : ℕ) → coming_from n [] ≡ []
 nothing_from zero = refl
 nothing_from (suc n) = refl

@@ -1,4 +1,4 @@
--- No transfer has the request port.
+-- No transfer has the request port. For Handling and Sleeping.
 use Rattle.std.proofs.Common.{arith, ◌≡◌, ◌≢◌, ◌<◌, ℕ, List, [], map, length, Option, Some, None, refl, sym, subst}
 use Rattle.std.specs.Prelude.{All, IfSome}
 use Rattle.std.proofs.lemmas.List.{length-map}

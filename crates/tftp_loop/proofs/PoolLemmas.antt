@@ -1,4 +1,4 @@
--- Which ports an order has.
+-- Which ports an order has. For four functions.
 use Rattle.std.proofs.Common.{arith, ◌≡◌, ◌≤◌, ◌<◌, ◌+◌, ◌-◌, ◌==◌, ◌||◌, ℕ, zero, suc, Bool, true, false, List, [], ◌∷◌, ◌++◌}
 use Rattle.std.proofs.Common.{length, take, drop, eq-eqb, Option, Some, None, ap, refl, sym, subst, ◌∙◌}
 use Rattle.std.specs.Prelude.{All, IfSome, IsPermutation, IsSome, MatchOption}
@@ -81,19 +81,23 @@ module _ (old new : PortOrder) (port : ℕ) (has : HasPorts old) (uses : UsesNex
 abbrev MayUseNext : PortOrder → PortOrder → Option ℕ → Type 0
 MayUseNext old new made = MatchOption made ((coming old ≡ []) × (new ≡ old)) (λ port. UsesNext old new port)
 
+-- the next port leaves the range of the order
 pub same_range : (old new : PortOrder) (made : Option ℕ) → MayUseNext old new made → new.range ≡ old.range
 same_range old new None uses = ap (λ (o : PortOrder). o.range) uses.1
 same_range old new (Some port) uses = uses.range
 
+-- and the order has its ports still
 pub still_within : (old new : PortOrder) (made : Option ℕ) → HasPorts old → MayUseNext old new made → HasPorts new
 still_within old new None has uses = subst (λ (o : PortOrder). HasPorts o) (sym uses.1) has
 still_within old new (Some port) has uses = next_has_ports old new port has uses
 
+-- the next port is one of the range
 pub next_within : (old new : PortOrder) (made : Option ℕ) → HasPorts old → MayUseNext old new made
     → IfSome made (IsOneOf (Some old.range))
 next_within old new None has uses = tt
 next_within old new (Some port) has uses = used_within old new port has uses
 
+-- the next port, if there is one, is used
 pub next_uses : (old new : PortOrder) (made : Option ℕ) → MayUseNext old new made → IfSome made (UsesNext old new)
 next_uses old new None uses = tt
 next_uses old new (Some port) uses = uses
@@ -107,14 +111,17 @@ next_some old new None has uses =
 next_some old new (Some port) has uses = refl
 
 -- ---- what the trace says of ports that were tried
+-- the port that was bound ends the tries
 pub binds : {range : Option PortRange} (port : ℕ) (es fs gs : List SocketEvent) → gs ≡ Quiet (New_socket port) ∷ fs
     → TriesPorts range es fs → Binds range es gs port
 binds port es fs gs is tries = record { between = fs; earlier = tries; is = is }
 
+-- one more port of the range was tried and missed
 pub tried_more : {range : Option PortRange} (port : ℕ) (es fs gs : List SocketEvent) → IsOneOf range port
     → gs ≡ Quiet (No_socket port) ∷ fs → TriesPorts range es fs → TriesPorts range es gs
 tried_more port es fs gs within is tries = Then tries (record { port = port; within = within; is = is })
 
+-- if all were missed with it, no try bound a socket
 pub in_vain : {range : Option PortRange} (port : ℕ) (es fs gs : List SocketEvent) → IsOneOf range port
     → gs ≡ Quiet (No_socket port) ∷ fs → TriesPorts range es fs → AreAllMissed range gs → TriesInVain range es gs
 in_vain port es fs gs within is tries missed =
@@ -127,6 +134,7 @@ tries_any es fs None is = in_vain 0 es es fs tt is Start tt
 tries_any es fs (Some socket) is = binds socket.port es es fs is Start
 
 -- ---- each port of the range was tried
+-- no socket was bound to the port
 abbrev pub IsMissed : List SocketEvent → ℕ → Type 0
 IsMissed events port = is_among port (missed_last events) ≡ true
 

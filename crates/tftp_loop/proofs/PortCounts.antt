@@ -1,4 +1,4 @@
--- How many datagrams of a port the trace has between two waits.
+-- How many datagrams of a port the trace has between two waits. For `a_server_receives_few_between_waits`.
 use Rattle.std.proofs.Common.{arith, ◌≡◌, ◌≤◌, ◌<◌, ◌+◌, ◌*◌, ℕ, Bool, true, false, List, [], ◌∷◌, length, Option, Some, None}
 use Rattle.std.proofs.Common.{refl, sym, ap, subst, ◌∙◌, inl, inr}
 use Rattle.std.specs.Prelude.{All, if◌then◌else◌, is_some, slice_index_or, slice_set}
@@ -302,6 +302,7 @@ module _ {S F D : Type 0} (meaning : StoreMeaning S D) (sources : SourceMeaning 
   one_at_most true = omega arith
   one_at_most false = omega arith
 
+  -- since a run began a port had no more datagrams than three rounds allow between two waits
   pub few_at_a_port : (start now : LoopState S F D) → start.timers ≡ [] → Run (LoopStep meaning sources) start now
       → (port : ℕ) → (port ≡ start.requests → ⊥)
       → received_since port now.events ≤ 3 * most_in_round + received_since port start.events

@@ -1,4 +1,5 @@
--- What a step at a port does to the end of its transfer, and to the timer.
+-- What a step at a port does to the end of its transfer, and to the timer. For `ServerLoop::visit` and seven other
+-- files.
 use Rattle.std.proofs.Common.{arith, ◌≡◌, ◌≤◌, ◌+◌, ◌*◌, ℕ, Bool, true, false, not, List, Option, Some}
 use Rattle.std.proofs.Common.{refl, sym, ap, subst, ◌∙◌}
 use Rattle.std.specs.Prelude.{⊤}
@@ -44,6 +45,7 @@ pub data Changes (Idle Silent : Type 0) (now : ℕ) (timer timer' : Timer) (e e'
       → timer'.provisional ≡ timer.provisional → Changes Idle Silent now timer timer' e e'
 
 -- ---- timers
+-- a step leaves the port, the peer, the interval and the age limit of a timer
 pub record SameTimer (timer timer' : Timer) : Type 0 where
   pub port : timer'.port ≡ timer.port
   pub peer : timer'.peer ≡ timer.peer
@@ -78,9 +80,11 @@ set_near now time true timer h near =
     omega (arith, own, near, h)
 set_near now time false timer h near = omega (arith, near, h)
 
+-- a deadline that was set now is an interval away
 pub restarted_near : (now : ℕ) (timer : Timer) → IsNear now (restarted now timer)
 restarted_near now timer = (let h : deadline_of now timer.interval ≤ now + timer.interval * 1000 = omega arith in h)
 
+-- a step leaves it an interval away at most
 pub changes_near : (Idle Silent : Type 0) (now : ℕ) (timer timer' : Timer) (e e' : EndState)
     → Changes Idle Silent now timer timer' e e' → IsNear now timer → IsNear now timer'
 changes_near Idle Silent now timer timer' e e' (By_datagram progress handled idle silent is) near =
@@ -107,6 +111,7 @@ limit_moves retries e e' role moves limit =
     let fewer = moves_limit e e'.position moves (omega (arith, own, less)) in
     record { role = ap (λ (r : Role). r.retries) role ∙ own; left = omega (arith, fewer, own) }
 
+-- a step leaves the limit of retries
 pub changes_limit : (Idle Silent : Type 0) (now : ℕ) (timer timer' : Timer) (e e' : EndState)
     → Changes Idle Silent now timer timer' e e' → (retries : ℕ) → HasLimit retries e → HasLimit retries e'
 changes_limit Idle Silent now timer timer' e e' (By_datagram progress handled idle silent is) retries limit =
@@ -125,6 +130,7 @@ closed_by false h = absurd (let e : true ≡ false = h in cc)
 
 -- ---- at the port
 module _ {S F D : Type 0} (meaning : StoreMeaning S D) (sources : SourceMeaning F) where
+  -- a step at a port leaves port, interval and age limit of its timer
   pub same_timer : (now : ℕ) (old new : PortState S F D) → PortStep meaning sources now old new
       → SameTimer old.timer new.timer
   same_timer now old new (A_datagram d) = same_by old.timer new.timer
@@ -156,6 +162,7 @@ module _ {S F D : Type 0} (meaning : StoreMeaning S D) (sources : SourceMeaning 
   same_config now old new (A_missed_timeout d) = ap (λ (s : ServerState S F D). s.config) d.server
   same_config now old new (Work d) = d.works.config
 
+  -- a run at a port leaves the configuration of the server
   pub config_along : (now : ℕ) (old new : PortState S F D) → Run (PortStep meaning sources now) old new
       → new.server.config ≡ old.server.config
   config_along now old new Start = refl
@@ -178,6 +185,7 @@ module _ {S F D : Type 0} (meaning : StoreMeaning S D) (sources : SourceMeaning 
   put_next port old new transfer next found is = ap (at port) is
       ∙ set_found (is_at (nat_cmp port)) transfer next old found
 
+  -- what a step at a port does to the end that the table has there
   pub at_transfer : (now : ℕ) (old new : PortState S F D) (does : PortStep meaning sources now old new)
       (transfer : TransferState F D) → at old.timer.port old.server.held ≡ Some transfer
       → AtTransfer (IsIdleAt meaning sources does) (ReceivesNoneAt meaning sources does) now old new transfer

@@ -1,4 +1,5 @@
--- A server's calls and its socket's datagrams, as steps at a port.
+-- A server's calls and its socket's datagrams, as steps at a port. For `PortVisit::answer`, `time_out`, PortEnds,
+-- Unclosed and Visits.
 use Rattle.std.proofs.Common.{◌≡◌, ℕ, Bool, true, false, List, [], ◌∷◌, cond, Option, Some, None, IsSome, refl, sym, ap}
 use Rattle.std.proofs.Common.{subst, ◌∙◌, Bor}
 use Rattle.std.specs.Prelude.{option_map, is_some, if◌then◌else◌}
@@ -39,6 +40,7 @@ module _ {T : Type 0} (test : ℕ → Bool) (was next : T) where
   set_at e held more true h rest = ap (λ (c : Bool). cond c (Some next) (lookup test held)) h
   set_at e held more false h rest = ap (λ (c : Bool). cond c (Some e.1) (lookup test more)) h ∙ rest refl
 
+  -- a value that was found is the new one once it was replaced
   pub set_found : (held : List (ℕ × T)) → lookup test held ≡ Some was →
       lookup test (set_value test held next) ≡ Some next
   set_found [] found = absurd (none-some was found)

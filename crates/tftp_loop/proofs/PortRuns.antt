@@ -1,4 +1,5 @@
--- What happens at the port of a transfer, call by call.
+-- What happens at the port of a transfer, call by call. For `PortVisit::answer`, `PortVisit::take_datagrams`,
+-- `PortVisit::take_timeout` and LoopRuns.
 use Rattle.std.proofs.Common.{◌≡◌, ◌≤◌, ◌<◌, ◌⊎◌, ℕ, true, false, List, ◌∷◌, Option, Some, None, inl, inr, refl, ap, subst}
 use Rattle.std.proofs.Common.{◌∙◌}
 use Rattle.std.specs.Prelude.{MatchOption}
@@ -20,6 +21,7 @@ use Rattle.tftp_loop.specs.Steps.PortStep.{A_failed_receive, A_timeout, A_missed
 use Rattle.tftp_loop.proofs.RunLemmas.{once, idle, onward}
 
 module _ {S F D : Type 0} (meaning : StoreMeaning S D) (sources : SourceMeaning F) (now : ℕ) where
+  -- the state at a port of these parts
   abbrev pub here : ServerState S F D → Timer → List SocketEvent → PortState S F D
   here server timer events = record { server = server; timer = timer; events = events }
 
@@ -120,6 +122,7 @@ module _ {S F D : Type 0} (meaning : StoreMeaning S D) (sources : SourceMeaning 
         timer = timed;
       }))
 
+  -- a timeout at a port without an open transfer only restarts the timer
   pub elapses_missed : (old new : ServerState S F D) (timer timer' : Timer) (es before es' : List SocketEvent) (tid : ℕ)
       → timer.deadline ≤ now → timer.look_at ≡ timer.deadline → before ≡ Elapsed tid now ∷ es → tid ≡ timer.port
       → is_open (at timer.port old.held) ≡ false → new ≡ old → es' ≡ before

@@ -1,4 +1,4 @@
--- What a visit of one port leaves of the others.
+-- What a visit of one port leaves of the others. For `PortVisit::answer` and 13 other files.
 use Rattle.std.proofs.Common.{arith, ◌≡◌, ◌≤◌, ◌==◌, ◌||◌, ℕ, Bool, true, false, List, ◌∷◌, Option, Some, None, IsSome}
 use Rattle.std.proofs.Common.{◌+◌}
 use Rattle.std.proofs.Common.{refl, sym, ap, subst, ◌∙◌}
@@ -25,10 +25,12 @@ use Rattle.tftp_loop.specs.Steps.PortStep.{A_failed_receive, A_timeout, A_missed
 use Rattle.tftp_loop.specs.MayWait.{IsRead, KeepsTries}
 use Rattle.tftp_loop.proofs.Tables.{set_apart, set_there}
 
+-- a disjunction is true by its second part
 pub or_right : (a b : Bool) → b ≡ true → (a || b) ≡ true
 or_right true b h = refl
 or_right false b h = h
 
+-- or by its first
 pub or_left : (a b : Bool) → a ≡ true → (a || b) ≡ true
 or_left true b h = refl
 or_left false b h = absurd (let f : false ≡ true = h in cc)
@@ -39,6 +41,7 @@ pub answered_tries : (port : ℕ) (reply : Option Reply) (events : List SocketEv
 answered_tries port None events q h = h
 answered_tries port (Some reply) events q h = h
 
+-- to send an answer keeps the tries of all ports
 pub replied_tries : (port : ℕ) (to : Option Endpoint) (bytes : List ℕ) (events : List SocketEvent) →
     KeepsTries events (replied port to bytes events)
 replied_tries port None bytes events q h = h
@@ -47,6 +50,7 @@ replied_tries port (Some to) bytes events q h = h
 same_tries : (es fs : List SocketEvent) → fs ≡ es → KeepsTries es fs
 same_tries es fs e = subst (KeepsTries es) (sym e) (λ q h. h)
 
+-- a receive at a port is a try of that port
 pub own_receive : (port : ℕ) (before : Bool) → ((port == port) || before) ≡ true
 own_receive port before = or_left (port == port) before (eq-eqb port port refl)
 
@@ -63,12 +67,14 @@ module _ {F D : Type 0} where
     pub others : (q : ℕ) → (q ≡ port → ⊥) → at q new ≡ at q old
     pub there : (q : ℕ) → IsSome (at q old) → IsSome (at q new)
 
+  -- the same table stays so
   pub same_held : (port : ℕ) (old new : List (ℕ × TransferState F D)) → new ≡ old → StaysHeld port old new
   same_held port old new e = record {
     others = λ q apart. ap (at q) e;
     there = λ q h. subst (λ (held : List (ℕ × TransferState F D)). IsSome (at q held)) (sym e) h;
   }
 
+  -- a table with another transfer at the port keeps the others
   pub next_held : (port : ℕ) (old new : List (ℕ × TransferState F D)) (next : TransferState F D) →
       new ≡ with_next port next old → StaysHeld port old new
   next_held port old new next e = record {
@@ -78,6 +84,7 @@ module _ {F D : Type 0} where
         (set_there (is_at (nat_cmp port)) (is_at (nat_cmp q)) old next ∙ h);
   }
 
+  -- what stays twice stays
   pub held_onward : (port : ℕ) (a b c : List (ℕ × TransferState F D)) → StaysHeld port a b → StaysHeld port b c →
       StaysHeld port a c
   held_onward port a b c x y = record {
@@ -87,6 +94,7 @@ module _ {F D : Type 0} where
 
 -- ---- timers
 
+-- a port is looked at again not after its deadline
 pub looks_first : (now interval : ℕ) → next_look now interval ≤ deadline_of now interval
 looks_first now interval = omega arith
 
@@ -98,10 +106,12 @@ after_looks : (now : ℕ) (progress : Bool) (timer : Timer) → Looks (timer_aft
 after_looks now true timer = looks_first now timer.interval
 after_looks now false timer = omega arith
 
+-- the timer after a step has the same port
 pub after_port : (now : ℕ) (progress : Bool) (timer : Timer) → (timer_after now progress timer).port ≡ timer.port
 after_port now true timer = refl
 after_port now false timer = refl
 
+-- and counts one datagram more
 pub after_received : (now : ℕ) (progress : Bool) (timer : Timer)
     → (timer_after now progress timer).received ≡ timer.received + 1
 after_received now true timer = refl
@@ -116,6 +126,7 @@ module _ {S F D : Type 0} (meaning : StoreMeaning S D) (sources : SourceMeaning 
   keeps_held port None old new keeps = same_server port old new keeps
   keeps_held port (Some transfer) old new keeps = next_held port old.held new.held keeps.0 keeps.2
 
+  -- file work of one transfer leaves the others
   pub works_held : (port : ℕ) (o : Option (TransferState F D)) (old new : ServerState S F D) →
       WorksAt meaning sources port o old new → StaysHeld port old.held new.held
   works_held port None old new works = same_server port old new works
@@ -152,6 +163,7 @@ module _ {S F D : Type 0} (meaning : StoreMeaning S D) (sources : SourceMeaning 
         (more old.timer.port (reads old.timer.port ∙ own_receive old.timer.port (was_tried old.timer.port old.events)));
   }
 
+  -- a step at a port keeps the rest of the server
   pub stays_at : (now : ℕ) (old new : PortState S F D) → PortStep meaning sources now old new → StaysAt old new
   stays_at now old new (A_datagram d) =
       let received = Received old.timer.port d.from d.bytes in
@@ -222,6 +234,7 @@ module _ {S F D : Type 0} (meaning : StoreMeaning S D) (sources : SourceMeaning 
     read = λ h. y.read (x.read h);
   }
 
+  -- so does a run at a port
   pub stays_along : (now : ℕ) (old new : PortState S F D) → Run (PortStep meaning sources now) old new → StaysAt old new
   stays_along now old new Start = record {
     port = refl;

@@ -1,4 +1,5 @@
--- The ports that are used, one after the other, are those that were to come, in their order.
+-- The ports that are used, one after the other, are those that were to come, in their order. For
+-- `a_range_gives_each_port_once`, `bind_next` and PoolLemmas.
 use Rattle.std.proofs.Common.{arith, ◌≡◌, ◌<◌, ◌≤◌, ◌+◌, ◌-◌, ℕ, zero, suc, false, List, []}
 use Rattle.std.proofs.Common.{◌∷◌, ◌++◌, length, refl, sym, ap, subst, ◌∙◌, inl, inr}
 use Rattle.std.specs.Prelude.{nat_eq, IsPermutation}
@@ -24,6 +25,7 @@ nothing_after : (xs : List ℕ) → xs ++ [] ≡ xs
 nothing_after [] = refl
 nothing_after (x ∷ xs) = ap (λ (ys : List ℕ). x ∷ ys) (nothing_after xs)
 
+-- the length of two lists together is the sum
 pub long : (xs ys : List ℕ) → length (xs ++ ys) ≡ length xs + length ys
 long [] ys = let e : length ys ≡ 0 + length ys = omega arith in e
 long (x ∷ xs) ys = let e = long xs ys in omega (arith, e)
@@ -99,6 +101,7 @@ one_comes_last before used (next ∷ rest) others middle after port was is fewer
       is = last ∙ (ap (λ (xs : List ℕ). xs ++ port ∷ []) (sym tail) ∙ append_assoc rest used (port ∷ []));
     }
 
+-- after so many uses at most the used ports come last, in their order
 pub come_last : (first last : PortOrder) (ports : List ℕ) → UsesPorts first ports last → length ports ≤ length (coming first)
     → ComesLast (coming first) ports (coming last)
 come_last first last ports Unused fewer = record {
@@ -119,6 +122,7 @@ flips x y = elim (cases_eq x y) [
   | inr apart ↦ ne_eqb x y apart ∙ sym (ne_eqb y x (λ same. apart (sym same)))
 ]
 
+-- as many uses as the range has ports are of different ports
 pub uses_no_port_twice : (range : PortRange) (first last : PortOrder) (ports : List ℕ)
     → IsPermutation (ports_of range) (coming first) → UsesPorts first ports last
     → length ports ≤ range.last - range.first + 1

@@ -1,4 +1,4 @@
--- What is received at the request port, and what becomes of it.
+-- What is received at the request port, and what becomes of it. For six functions.
 use Rattle.std.proofs.Common.{arith, ◌≡◌, ◌||◌, ◌&&◌, not, ℕ, zero, suc, Bool, true, false, List, [], ◌∷◌, length, map, take, min}
 use Rattle.std.proofs.Common.{Option, Some, None, refl, sym, ap, subst, ◌∙◌, ◌⊎◌, inl, inr}
 use Rattle.std.specs.Prelude.{All, Result, Ok, Err, IfErr, IsErrAnd, OnOk}
@@ -52,6 +52,7 @@ pub found_nothing : (b : Bool) (event : QuietEvent) (es ns : List SocketEvent) �
     → ns ≡ es
 found_nothing b event es ns none is = is ∙ ap (λ (c : Bool). looked c event es) none
 
+-- an event that was looked for and found is noted
 pub found_it : (b : Bool) (event : QuietEvent) (es ns : List SocketEvent) → b ≡ true → ns ≡ looked b event es
     → ns ≡ Quiet event ∷ es
 found_it b event es ns found is = is ∙ ap (λ (c : Bool). looked c event es) found
@@ -67,6 +68,7 @@ module _ {S F D : Type 0} where
       AreTried (state_of buffer d events)
   to_state buffer d events h m = h (ap (λ (b : Bool). reads_of d || b) (sym (pending_same d.pending buffer)) ∙ m)
 
+  -- what the state says of the request port holds of the loop
   pub from_state : (buffer : List ℕ) (d : ServerLoop S F D) (events : List SocketEvent) →
       AreTried (state_of buffer d events) → HasTriedRequests d events
   from_state buffer d events h m = h (ap (λ (b : Bool). reads_of d || b) (pending_same d.pending buffer) ∙ m)
@@ -92,6 +94,7 @@ module _ {S F D : Type 0} (meaning : StoreMeaning S D) (sources : SourceMeaning 
       subst (λ (s : LoopState S F D). Runs meaning sources s (loop_state None middle ms)) (sym begins)
       (concludes_run meaning sources (loop_state (Some (from, bytes)) old es) (loop_state None middle ms) answers)
 
+  -- an answer to the pending request leaves every transfer settled
   pub answered_settled : (bytes : List ℕ) (old middle : ServerLoop S F D) (es ms : List SocketEvent)
       (from : Endpoint) → AnswersPending meaning sources from bytes old es middle ms → IsSettled old → IsSettled middle
   answered_settled bytes old middle es ms from answers settled =
@@ -105,6 +108,7 @@ module _ {S F D : Type 0} (meaning : StoreMeaning S D) (sources : SourceMeaning 
   answered_asked bytes old middle es ms from answers =
       concludes_asked meaning sources (loop_state (Some (from, bytes)) old es) (loop_state None middle ms) answers
 
+  -- and the counts of datagrams
   pub answered_few : (most : ℕ) (bytes : List ℕ) (old middle : ServerLoop S F D) (es ms : List SocketEvent)
       (from : Endpoint) → AnswersPending meaning sources from bytes old es middle ms → HasFew most old
       → HasFew most middle
@@ -226,6 +230,7 @@ module _ {S F D : Type 0} (meaning : StoreMeaning S D) (sources : SourceMeaning 
             ∙ ap (state_of buffer (record old { drain = Begun })) signalled;
       })) tt)
 
+  -- a request port without a datagram is noted as empty
   pub finds_none : (before after : List ℕ) (old new : ServerLoop S F D) (es ns : List SocketEvent) →
       old.pending ≡ None → reads_of old ≡ true →
       new ≡ record old { sockets = record old.sockets { is_ready = false } }
@@ -237,6 +242,7 @@ module _ {S F D : Type 0} (meaning : StoreMeaning S D) (sources : SourceMeaning 
         is = looked_state before after old new es ns false _ none is events;
       })) tt)
 
+  -- one that fails is noted as failed
   pub fails_to_find : (before after : List ℕ) (old new : ServerLoop S F D) (es ns : List SocketEvent) →
       old.pending ≡ None → reads_of old ≡ true → new ≡ old
       → ns ≡ Quiet (Failed old.sockets.requests.port) ∷ es → WorksRound meaning sources before old es after new ns
@@ -260,6 +266,7 @@ is_over buffer d events (inr (inr emptied)) = inr (inr (record {
   closed = ap (map timer_of) emptied.closed;
 }))
 
+-- a result of the loop ends the run as its counts or its fault say
 pub ends_by : {S F D A : Type 0} (result : Result A LoopFault) (buffer : List ℕ) (d : ServerLoop S F D)
     (before events : List SocketEvent) → OnOk result ((d.left ≡ 0) ⊎ ((d.rounds ≡ 0) ⊎ IsEmptied d))
     → IfErr result (λ fault. StopsRunning fault events) → EndsBy before result (state_of buffer d events)
@@ -273,9 +280,11 @@ returned r fault h = let p = err_from_is_err_and r h in p.1 ∙ ap Err p.2
 -- a line that could not be printed is the last event
 module _ {A : Type 0} (r : Result A LoopFault) (fault : LoopFault) (es : List SocketEvent) (is : r ≡ Err fault)
     (fails : FailsToPrint fault es) where
+  -- a fault is noted at the end as it is
   pub printed_last : es ≡ noted_at_end r es
   printed_last = ap (λ (q : Result A LoopFault). noted_at_end q es) (sym (is ∙ ap Err fails.is_output))
 
+  -- and it stops the run
   pub stops_printing : IfErr r (λ f. StopsRunning f es)
   stops_printing = subst (λ (q : Result A LoopFault). IfErr q (λ f. StopsRunning f es)) (sym is) (inr fails)
 
@@ -290,6 +299,7 @@ starts_settled d none =
       none_closed = λ k t h. absurd (omega (arith, h));
     })
 
+-- a loop without ports has received nothing at any
 pub starts_few : {S F D : Type 0} (d : ServerLoop S F D) → d.ports.items ≡ [] → HasFew 0 d
 starts_few d none =
     subst (λ (ts : List Timer). All (ReceivedFew 0) ts) (sym (ap (map timer_of) none))

@@ -1,4 +1,4 @@
--- A port that a wait reported is read by the next wait.
+-- A port that a wait reported is read by the next wait. For `a_server_reads_what_is_reported`.
 use Rattle.std.proofs.Common.{arith, ◌≡◌, ◌<◌, ◌==◌, ◌⊎◌, ℕ, true, List, [], ◌∷◌, length, map, Option, None, refl, sym}
 use Rattle.std.proofs.Common.{ap, subst, ◌∙◌, inl, inr}
 use Rattle.std.specs.Prelude.{slice_set, slice_index_or}
@@ -311,6 +311,7 @@ module _ {S F D : Type 0} (meaning : StoreMeaning S D) (sources : SourceMeaning 
             (sym (port_of d)) ∙ (waits.may.transfers has.0 d within).not_closed);
       })
 
+  -- a port that a wait reports is read before the next wait
   pub reads_what_is_reported : (config : LoopConfig) (requests reading : ℕ) (server : ServerState S F D) (before : List SocketEvent)
       (old woken last new : LoopState S F D)
       → Run (LoopStep meaning sources) (at_start config requests server reading before) old →

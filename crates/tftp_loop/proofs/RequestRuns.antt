@@ -1,4 +1,4 @@
--- What happens at the request port.
+-- What happens at the request port. For six functions, Opened, Receipts and Reserving.
 use Rattle.std.proofs.Common.{◌≡◌, ◌≢◌, ◌⊎◌, ℕ, Bool, true, false, List, [], ◌∷◌, ◌++◌, Option, Some, None, IsSome, refl, sym, ap}
 use Rattle.std.proofs.Common.{subst, ◌∙◌, inl, inr}
 use Rattle.std.specs.Prelude.{Ok, Err, is_ok, IfSome, is_some, ◌||◌, ◌&&◌, not}
@@ -39,6 +39,7 @@ abbrev pub refused_to : Endpoint → Option ErrorReply → Option Endpoint
 refused_to from None = None
 refused_to from (Some reply) = Some from
 
+-- the bytes of a refusal, or none
 abbrev pub refused_bytes : Option ErrorReply → List ℕ
 refused_bytes None = []
 refused_bytes (Some reply) = error_bytes reply
@@ -130,6 +131,7 @@ module _ {S F D : Type 0} (meaning : StoreMeaning S D) (sources : SourceMeaning 
       }
 
   -- ---- what is done first
+  -- what prepares an answer and then concludes it concludes
   pub prepares_first : (s m t : LoopState S F D) → Run (Prepares meaning sources) s m → Concludes meaning sources m t
       → Concludes meaning sources s t
   prepares_first s m t run c =
@@ -173,7 +175,7 @@ module _ {S F D : Type 0} (meaning : StoreMeaning S D) (sources : SourceMeaning 
     ends = inr (record { from = from; bytes = bytes; pending = pending; why = why; is = is });
   }
 
-  -- only requests are handled, and the datagram, which is none, was lost
+  -- only requests are handled, and the datagram, which is no request, was lost
   pub drops_as : (s t : LoopState S F D) (from : Endpoint) (bytes : List ℕ) → s.pending ≡ Some (from, bytes) →
       (s.requests_only && not (begins_as_request bytes)) ≡ true → t ≡ record s { pending = None }
       → Concludes meaning sources s t
@@ -298,6 +300,7 @@ module _ {S F D : Type 0} (meaning : StoreMeaning S D) (sources : SourceMeaning 
   ends_run s t (inl d) = once (Work_by (Request_answered d) tt)
   ends_run s t (inr d) = once (Work_by (Request_lost d) tt)
 
+  -- the end of a request's handling is a run of the loop
   pub concludes_run : (s t : LoopState S F D) → Concludes meaning sources s t → Runs meaning sources s t
   concludes_run s t c = onward (prepared_run s c.middle c.prepares) (ends_run c.middle t c.ends)
 
@@ -333,6 +336,7 @@ module _ {S F D : Type 0} (meaning : StoreMeaning S D) (sources : SourceMeaning 
         });
       }
 
+  -- a request that may not open is refused by one step
   pub refuses_as : (s t : LoopState S F D) (from : Endpoint) (bytes : List ℕ) (ask : Ask)
       → s.pending ≡ Some (from, bytes) → IsHandledBy s.requests_only bytes → Admits s.server from bytes ask
       → asks_store ask ≡ false

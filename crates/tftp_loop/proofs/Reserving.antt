@@ -1,4 +1,4 @@
--- What is reserved at the start suffices: for the port of each transfer, and for each ERROR.
+-- What is reserved at the start suffices: for the port of each transfer, and for each ERROR. For five functions.
 use Rattle.std.proofs.Common.{arith, ◌≡◌, ◌≤◌, ◌<◌, ◌⊎◌, ◌||◌, ℕ, suc, Bool, true, false, List, [], ◌∷◌, length, map}
 use Rattle.std.proofs.Common.{Option, Some, None, IsSome, refl, sym, ap, subst, ◌∙◌, inl, inr}
 use Rattle.std.specs.Prelude.{Ok, Err, Result, All, nat_le, is_some, if◌then◌else◌, slice_index_or}

@@ -1,4 +1,4 @@
--- A round lasts a second at most, by the clock of the program.
+-- A round lasts a second at most, by the clock of the program. For Expiring.
 use Rattle.std.proofs.Common.{arith, ◌≡◌, ◌≤◌, ◌+◌, ◌⊎◌, ℕ, ap, inl, inr}
 use Rattle.tftp_file.specs.Source.{SourceMeaning}
 use Rattle.tftp_store.specs.Store.{StoreMeaning}
@@ -33,6 +33,7 @@ module _ {S F D : Type 0} (meaning : StoreMeaning S D) (sources : SourceMeaning 
     pub limit : round_end s.now s.limit ≤ since + LONGEST_WAIT
     pub from : since ≤ s.now
 
+  -- a round begins now
   pub begins_round : (s : LoopState S F D) → InRound s.now s
   begins_round s = record { soon = omega arith; limit = omega arith; from = omega arith }
 
@@ -61,6 +62,7 @@ module _ {S F D : Type 0} (meaning : StoreMeaning S D) (sources : SourceMeaning 
         from = omega (arith, now, forward);
       }
 
+  -- a step without a wait stays within the round
   pub step_round : (since : ℕ) (s t : LoopState S F D) (does : LoopStep meaning sources s t)
       → IsNoWait meaning sources does → InRound since s → InRound since t
   step_round since s t (Waited d) is round = absurd is

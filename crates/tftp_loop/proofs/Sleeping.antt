@@ -1,4 +1,4 @@
--- A server that may sleep has nothing to do.
+-- A server that may sleep has nothing to do. For `a_server_rests_before_it_sleeps`, Bounded, Expiring and Reporting.
 use Rattle.std.proofs.Common.{arith, ◌≡◌, ◌<◌, ◌≤◌, ◌-◌, ◌||◌, ◌&&◌, not, ℕ, zero, suc, Bool, true, false, List, []}
 use Rattle.std.proofs.Common.{◌∷◌, length, map, cond, Option, Some, None, refl, sym, ap, subst, ◌∙◌}
 use Rattle.std.specs.Prelude.{slice_index_or, is_some, All, ◌≢◌}
@@ -84,6 +84,7 @@ module _ {S F D : Type 0} (meaning : StoreMeaning S D) (sources : SourceMeaning 
   step_drained s t (Drain_begun d) own h =
       subst (λ (u : LoopState S F D). u.marked ≡ false → is_drained u.requests u.events ≡ true) (sym d.is) h
 
+  -- a step keeps a timer for each open transfer
   pub step_kept : (s t : LoopState S F D) → LoopStep meaning sources s t → AreKept s.server.held s.timers →
       AreKept t.server.held t.timers
   step_kept s t (Waited d) kept =
@@ -109,6 +110,7 @@ module _ {S F D : Type 0} (meaning : StoreMeaning S D) (sources : SourceMeaning 
   step_kept s t (Drain_begun d) kept =
       (work_keeps meaning sources s t (Then Start (Work_by (Drain_begun d) tt))).kept kept
 
+  -- each state of a run has them
   pub kept_along : (config : LoopConfig) (port reading : ℕ) (server : ServerState S F D) (before : List SocketEvent)
       (old : LoopState S F D) → Run (LoopStep meaning sources) (at_start config port server reading before) old
       → AreKept old.server.held old.timers
@@ -181,6 +183,7 @@ look_longest now [] = omega arith
 look_longest now (timer ∷ timers) = let rest = look_longest now timers in omega (arith, rest)
 
 module _ {S F D : Type 0} (meaning : StoreMeaning S D) (sources : SourceMeaning F) where
+  -- a server that may sleep has no datagram to read, no timeout due and no file work
   pub rests_before_it_sleeps : (config : LoopConfig) (port reading : ℕ) (server : ServerState S F D) (before : List SocketEvent)
       (old new : LoopState S F D) → Run (LoopStep meaning sources) (at_start config port server reading before) old →
       (waits : Waits meaning sources old new) → 1 ≤ waits.millis →

@@ -1,4 +1,4 @@
--- Elements and entries that a change leaves as they were.
+-- Elements and entries that a change leaves as they were. For eleven other files and the crate tftp_daemon.
 use Rattle.std.proofs.Common.{arith, ◌≡◌, ◌<◌, ◌≤◌, ◌+◌, ◌-◌, ◌⊎◌, ℕ, zero, suc, Bool, true, false, List, [], ◌∷◌, ◌++◌}
 use Rattle.std.proofs.Common.{length, take, Option, Some, None, cond, refl, sym, ap, ◌∙◌, inl, inr}
 use Rattle.std.specs.Prelude.{slice_set, slice_index_or, is_some, if◌then◌else◌}
@@ -15,6 +15,7 @@ use Rattle.tftp_loop.proofs.ListLemmas.{set_long}
 
 -- ---- elements
 module _ {X : Type 0} where
+  -- a write leaves every other index
   pub set_other : (xs : List X) (i : ℕ) (y : X) (k : ℕ) (d : X) → (k ≡ i → ⊥) →
       slice_index_or (slice_set xs i y) k d ≡ slice_index_or xs k d
   set_other [] i y k d h = refl
@@ -23,6 +24,7 @@ module _ {X : Type 0} where
   set_other (x ∷ xs) (suc i) y zero d h = refl
   set_other (x ∷ xs) (suc i) y (suc k) d h = set_other xs i y k d (λ e. h (ap suc e))
 
+  -- the index that was written has the element
   pub set_own : (xs : List X) (i : ℕ) (y : X) (d : X) → i < length xs → slice_index_or (slice_set xs i y) i d ≡ y
   set_own [] i y d h = absurd (omega (arith, h))
   set_own (x ∷ xs) zero y d h = refl
@@ -41,17 +43,20 @@ module _ {X : Type 0} where
   taken_at (suc n) (x ∷ xs) zero d h = refl
   taken_at (suc n) (x ∷ xs) (suc k) d h = taken_at n xs k d (omega (arith, h))
 
+  -- an element more at the end leaves those before
   pub appended_at : (xs : List X) (x : X) (k : ℕ) (d : X) → k < length xs →
       slice_index_or (xs ++ x ∷ []) k d ≡ slice_index_or xs k d
   appended_at [] x k d h = absurd (omega (arith, h))
   appended_at (y ∷ xs) x zero d h = refl
   appended_at (y ∷ xs) x (suc k) d h = appended_at xs x k d (omega (arith, h))
 
+  -- and is the last
   pub appended_last : (xs : List X) (x : X) (k : ℕ) (d : X) → k ≡ length xs → slice_index_or (xs ++ x ∷ []) k d ≡ x
   appended_last [] x k d h = ap (λ (j : ℕ). slice_index_or (x ∷ []) j d) h
   appended_last (y ∷ xs) x zero d h = absurd (omega (arith, h))
   appended_last (y ∷ xs) x (suc k) d h = appended_last xs x k d (omega (arith, h))
 
+  -- and the list is longer by one
   pub appended_long : (xs : List X) (x : X) → length (xs ++ x ∷ []) ≡ suc (length xs)
   appended_long [] x = refl
   appended_long (y ∷ xs) x = ap suc (appended_long xs x)
@@ -62,6 +67,7 @@ module _ {X : Type 0} where
   take_long zero (x ∷ xs) h = refl
   take_long (suc n) (x ∷ xs) h = ap suc (take_long n xs (omega (arith, h)))
 
+  -- a list without one is shorter by one
   pub removed_long : (xs : List X) (i : ℕ) (x : X) → length (swap_remove xs i x) ≡ length xs - 1
   removed_long xs i x =
       let last = slice_index_or xs (length xs - 1) x in
@@ -76,6 +82,7 @@ module _ {X : Type 0} where
     pub is : (e : X) → y ≡ slice_index_or xs index e
     pub which : ((k ≡ i) × (index ≡ length xs - 1)) ⊎ ((k ≡ i → ⊥) × (index ≡ k))
 
+  -- an element of the shorter list was in the longer one
   pub was_at : (xs : List X) (i : ℕ) (x : X) (k : ℕ) (d : X) → i < length xs → k < length (swap_remove xs i x) →
       WasAt xs i k (slice_index_or (swap_remove xs i x) k d)
   was_at xs i x k d inside within =
@@ -128,6 +135,7 @@ module _ {X : Type 0} where
       ]
 
 -- ---- entries
+-- keys that compare as equal are equal
 pub compares : (tid key : ℕ) (o : Ordering) → nat_cmp tid key ≡ o → is_eq o ≡ true → tid ≡ key
 compares tid key o e = grind (arith, nat_tests)
 
@@ -163,6 +171,7 @@ module _ {T : Type 0} where
       ∙ sym (ap (λ (c : Bool). cond c (Some e.1) (lookup test held)) (h refl))
   set_apart_at test w e held more false h same = ap (λ (m : Option T). cond (test e.0) (Some e.1) m) same
 
+  -- a new value at one key leaves what is found at another
   pub set_apart : (tid q : ℕ) (held : List (ℕ × T)) (w : T) → (q ≡ tid → ⊥) →
       found q (set_value (is_at (nat_cmp tid)) held w) ≡ found q held
   set_apart tid q [] w apart = refl
@@ -176,6 +185,7 @@ module _ {T : Type 0} where
   set_there_at test w e held more true same = some_either (test e.0) e.1 w (lookup test held) (lookup test held) refl
   set_there_at test w e held more false same = some_either (test e.0) e.1 e.1 (lookup test held) (lookup test more) same
 
+  -- a new value leaves which keys there are
   pub set_there : (put test : ℕ → Bool) (held : List (ℕ × T)) (w : T) →
       is_some (lookup test (set_value put held w)) ≡ is_some (lookup test held)
   set_there put test [] w = refl
@@ -188,6 +198,7 @@ module _ {T : Type 0} where
   removed_apart_at test e held more true h same = sym (ap (λ (c : Bool). cond c (Some e.1) (lookup test held)) (h refl))
   removed_apart_at test e held more false h same = ap (λ (m : Option T). cond (test e.0) (Some e.1) m) same
 
+  -- to remove a key leaves what is found at another
   pub removed_apart : (tid q : ℕ) (held : List (ℕ × T)) → (q ≡ tid → ⊥) →
       found q (remove_entry (is_at (nat_cmp tid)) held) ≡ found q held
   removed_apart tid q [] apart = refl
@@ -208,6 +219,7 @@ module _ {T : Type 0} where
   inserted_apart_at Greater test tid v e held more misses same rest =
       ap (λ (m : Option T). cond (test e.0) (Some e.1) m) rest
 
+  -- to insert a key leaves what is found at another
   pub inserted_apart : (tid q : ℕ) (v : T) (held : List (ℕ × T)) → (q ≡ tid → ⊥) →
       found q (insert_entry nat_cmp held tid v) ≡ found q held
   inserted_apart tid q v [] apart = not_first (is_at (nat_cmp q)) tid v [] (other_key q tid tid apart refl)
@@ -228,6 +240,7 @@ module _ {T : Type 0} where
   inserted_own_at Equal test tid v e held more own same other rest = first test e.0 v held (same refl)
   inserted_own_at Greater test tid v e held more own same other rest = not_first test e.0 e.1 more (other refl) ∙ rest
 
+  -- and the inserted value is found
   pub inserted_own : (tid : ℕ) (v : T) (held : List (ℕ × T)) → found tid (insert_entry nat_cmp held tid v) ≡ Some v
   inserted_own tid v [] = first (is_at (nat_cmp tid)) tid v [] (own_test tid tid (nat_cmp tid tid) refl refl)
   inserted_own tid v (e ∷ held) =
@@ -235,7 +248,7 @@ module _ {T : Type 0} where
       (own_test tid tid (nat_cmp tid tid) refl refl)
       (λ h. ap is_eq h) (λ h. ap is_eq h) (inserted_own tid v held)
 
-  -- what is greater than each identifier is none
+  -- a number greater than each identifier is not there
   abbrev above : List (ℕ × T) → ℕ
   above [] = 0
   above (e ∷ held) = e.0 + 1 + above held
@@ -256,6 +269,7 @@ pub taken_by : {X : Type 0} (b : Bool) (x y : X) → (if b then Some x else None
 taken_by true x y h = same_Some x y h
 taken_by false x y h = absurd (none-some y h)
 
+-- if nothing was taken the test failed
 pub not_taken : {X : Type 0} (b : Bool) (x : X) → (if b then Some x else None) ≡ None → b ≡ false
 not_taken true x h = absurd (none-some x (sym h))
 not_taken false x h = refl

@@ -1,4 +1,4 @@
--- A visit that did not close its transfer left it open.
+-- A visit that did not close its transfer left it open. For five functions.
 use Rattle.std.proofs.Common.{◌≡◌, ◌⊎◌, ℕ, Bool, true, false, List, Option, Some, None, refl, sym, ap, subst, ◌∙◌}
 use Rattle.std.proofs.Common.{arith, inl, inr, ◌<◌, ◌≤◌, ◌+◌, length, map}
 use Rattle.std.specs.Prelude.{is_some, IfSome, if◌then◌else◌, slice_set, slice_index_or}
@@ -32,18 +32,21 @@ use Rattle.tftp_loop.proofs.Tables.{any_default, not_taken, set_own}
 use Rattle.tftp_loop.proofs.Visits.{works_unclosed}
 
 -- ---- unless the status is that it closed
+-- what holds in any case holds unless it closed
 pub unless_all : {P : Type 0} (status : PortStatus) → P → UnlessClosed status P
 unless_all statuses.Empty h = h
 unless_all statuses.Onward h = h
 unless_all statuses.Unfinished h = h
 unless_all statuses.Closed h = tt
 
+-- what follows unless a transfer closed may be replaced by what follows from it
 pub unless_map : {P Q : Type 0} (status : PortStatus) → (P → Q) → UnlessClosed status P → UnlessClosed status Q
 unless_map statuses.Empty f h = f h
 unless_map statuses.Onward f h = f h
 unless_map statuses.Unfinished f h = f h
 unless_map statuses.Closed f h = tt
 
+-- it holds if the status is not that it closed
 pub unless_not : {P : Type 0} (status : PortStatus) → (status ≡ statuses.Closed → ⊥) → UnlessClosed status P → P
 unless_not statuses.Empty apart h = h
 unless_not statuses.Onward apart h = h
@@ -101,6 +104,7 @@ module _ {S F D : Type 0} (meaning : StoreMeaning S D) (sources : SourceMeaning 
       (ap (at port) keeps.2 ∙ set_found (is_at (nat_cmp port)) transfer next old.held found)
       (ap (λ (e : EndState). is_some (outcome_of e.position.phase)) keeps.1.end ∙ still)
 
+  -- a datagram that is lost leaves the transfer open
   pub lost_open : (tid port : ℕ) (old new : ServerState S F D) → tid ≡ port →
       KeepsHeld meaning sources tid (at tid old.held) old new → IsUnclosed port old.held → IsUnclosed port new.held
   lost_open tid port old new same keeps =

@@ -1,4 +1,4 @@
--- A visit of the port of a transfer, call by call.
+-- A visit of the port of a transfer, call by call. For four functions.
 use Rattle.std.proofs.Common.{arith, ◌≡◌, ◌≤◌, ◌+◌, ℕ, true, List, ◌∷◌, MutBor, refl, sym, ap, subst, ◌∙◌}
 use Rattle.tftp_file.specs.Source.{SourceMeaning}
 use Rattle.tftp_store.specs.Store.{StoreMeaning}
@@ -21,12 +21,14 @@ pub receives_none : (event : QuietEvent) (most : ℕ) (es es' : List SocketEvent
 receives_none event most es es' noted =
     let same : received_in es' ≡ received_in es = ap received_in noted in omega (arith, same)
 
+-- a timeout receives no datagram
 pub elapses_none : (port time : ℕ) (es before es' : List SocketEvent) → before ≡ Elapsed port time ∷ es →
     ReceivesAtMost 0 before es' → ReceivesAtMost 0 es es'
 elapses_none port time es before es' noted none =
     let same : received_in before ≡ received_in es = ap received_in noted in omega (arith, same, none)
 
 module _ {N S F D : Type 0} where
+  -- a visit that stays the same twice stays the same
   pub same_onward : {a b c : PortVisit N S F D} → IsSameVisit a b → IsSameVisit b c → IsSameVisit a c
   same_onward x y = record {
     server = y.server ∙ x.server;

@@ -1,4 +1,5 @@
--- A visit of a port, and what it leaves if its transfer closed and if not.
+-- A visit of a port, and what it leaves if its transfer closed and if not. For `ServerLoop::finish`,
+-- `ServerLoop::sync`, `ServerLoop::visit`, Reporting and Unclosed.
 use Rattle.std.proofs.Common.{arith, ◌≡◌, ◌<◌, ◌≤◌, ◌+◌, ◌-◌, ℕ, Bool, true, false, List, [], length, map, Option, Some}
 use Rattle.std.proofs.Common.{None, IsSome, refl, sym, ap, subst, ◌∙◌, inl, inr}
 use Rattle.std.specs.Prelude.{slice_set, slice_index_or, is_some, option_map, if◌then◌else◌}
@@ -146,6 +147,7 @@ module _ {S F D : Type 0} (meaning : StoreMeaning S D) (sources : SourceMeaning 
   settled_by : (d : ServerLoop S F D) → new ≡ d → IsSettled d → IsSettled new
   settled_by d e h = subst (λ (n : ServerLoop S F D). IsSettled n) (sym e) h
 
+  -- a visit leaves every transfer settled
   pub visit_settled : IsSettled old → IsSettled new
   visit_settled settled = elim finishes [
     | Stays e noted unclosed ↦
@@ -174,6 +176,7 @@ module _ {S F D : Type 0} (meaning : StoreMeaning S D) (sources : SourceMeaning 
         }
   ]
 
+  -- it keeps the tries of the ports
   pub tries_after : KeepsTries ms ns
   tries_after = elim finishes [
     | Stays e noted unclosed ↦ subst (KeepsTries ms) (sym noted) (λ q h. h)
@@ -252,6 +255,7 @@ module _ {S F D : Type 0} (meaning : StoreMeaning S D) (sources : SourceMeaning 
     | Goes each ↦ once (Work_by (Transfer_closed (each buffer).0) tt)
   ]
 
+  -- it is work without a wait
   pub works_after : OnlyWorks meaning sources old es new ns
   works_after buffer = onward (visit_runs buffer) (finish_runs buffer)
 

@@ -1,4 +1,4 @@
--- A wait, and when it is allowed.
+-- A wait, and when it is allowed. For four functions and eight other files.
 use Rattle.std.proofs.Common.{arith, ◌≡◌, ◌<◌, ◌≤◌, ◌-◌, ◌||◌, ◌&&◌, not, ◌⊎◌, ◌+◌, ◌++◌, ℕ, zero, suc, Bool, List, [], ◌∷◌}
 use Rattle.std.proofs.Common.{length, map, take, drop, get_or, set, min, max, true, false, Option, Some, None, IsSome}
 use Rattle.std.proofs.Common.{refl, sym, ap, subst, ◌∙◌}
@@ -61,6 +61,7 @@ set_until : (time now : ℕ) (timers : List Timer) →
 set_until time now [] = refl
 set_until time now (timer ∷ timers) = ap (λ (n : ℕ). min (timer.look_at - now) n) (set_until time now timers)
 
+-- whether a request is pending, in the state and in the loop
 pub pending_same : (pending : Option (Endpoint × ℕ)) (buffer : List ℕ) →
     is_some (pending_in pending buffer) ≡ is_some pending
 pending_same None buffer = refl
@@ -71,6 +72,7 @@ shortest_by m n e (inl h) = inl (e ∙ h)
 shortest_by m n e (inr h) = inr h
 
 module _ {S F D : Type 0} where
+  -- how long a wait may be at most, in the state and in the loop
   pub millis_same : (buffer : List ℕ) (d : ServerLoop S F D) (events : List SocketEvent) →
       most_millis (state_of buffer d events) ≡ millis_of d
   millis_same buffer d events =
@@ -117,6 +119,7 @@ module _ {S F D : Type 0} where
       ∙ (ap (λ (ps : List (Port TransferSocket)). Millis (reads_of read) read.pending (any ps) (until ps))
       (sym r.ports) ∙ millis_same buffer read after))))
 
+  -- a loop that was tended may wait
   pub may_wait : (buffer : List ℕ) (d read : ServerLoop S F D) (before after : List SocketEvent) (millis : ℕ)
       (ports : List ℕ) → HasRead d before read after →
       IsTended d before → 1 ≤ d.left → 1 ≤ d.rounds → millis ≤ millis_of read
@@ -161,12 +164,14 @@ timers_woken time reported (port ∷ ports) =
     ap (λ (ts : List Timer). marked_by reported (set_by time (timer_of port)) ∷ ts) (timers_woken time reported ports)
 
 -- ---- what a wait leaves
+-- an element of a mapped list is mapped
 pub mapped_at : (f : Timer → Timer) (timers : List Timer) (k : ℕ) (d : Timer) → k < length timers →
     slice_index_or (map f timers) k d ≡ f (slice_index_or timers k d)
 mapped_at f timers k d h =
     let e = length-map timers f in
     any_default (map f timers) k d (f d) (omega (arith, e, h)) ∙ map_at f timers k d
 
+-- what a wait does to the timers it does to each
 pub waited_at : (time : ℕ) (ports : List ℕ) (timers : List Timer) (k : ℕ) (d : Timer) → k < length timers →
     slice_index_or (map (marked_by ports) (map (set_by time) timers)) k d
     ≡ marked_by ports (set_by time (slice_index_or timers k d))
@@ -183,6 +188,7 @@ record Changes (f : Timer → Timer) : Type 0 where
 marks : (ports : List ℕ) → Changes (marked_by ports)
 marks ports = record { port = λ t. refl; look = λ t h. h }
 
+-- a provisional deadline is only ever set later
 pub deadline_later : (time : ℕ) (b : Bool) (timer : Timer) → timer.deadline ≤ deadline_by time b timer
 deadline_later time true timer = omega arith
 deadline_later time false timer = omega arith
@@ -226,12 +232,14 @@ module _ {F D : Type 0} (held : List (ℕ × TransferState F D)) (f : Timer → 
   }
 
 module _ {F D : Type 0} (held : List (ℕ × TransferState F D)) (time : ℕ) where
+  -- to set the deadlines keeps a timer for each transfer
   pub set_kept : (timers : List Timer) → AreKept held timers → AreKept held (map (set_by time) timers)
   set_kept timers = mapped_kept held (set_by time) (sets time) timers
 
   set_held : (timers : List Timer) → AreSettled held timers → AreSettled held (map (set_by time) timers)
   set_held timers = mapped_held held (set_by time) (sets time) timers
 
+  -- so does the end of a wait
   pub waited_kept : (ports : List ℕ) (timers : List Timer) → AreKept held timers →
       AreKept held (map (marked_by ports) (map (set_by time) timers))
   waited_kept ports timers kept =
@@ -328,6 +336,7 @@ module _ {S F D : Type 0} (meaning : StoreMeaning S D) (sources : SourceMeaning 
       subst (λ (ts : List Timer). AreSettled noted.server.held ts) (sym slept.timers)
       (subst (λ (s : ServerState S F D). AreSettled s.held (timers_of old)) (sym slept.server) settled)
 
+  -- after a wait each transfer is settled as before it
   pub woken_settled : (noted new : ServerLoop S F D) (ports : List ℕ) {before after : List SocketEvent} →
       HasWoken ports noted before new after → IsSettled noted →
       IsSettled new

@@ -175,6 +175,7 @@ module _ (w : WorldState) (ok : Refines true w) (one other : ℕ) (x y : OpenEnd
   }
 
 -- ---- the server's end sends its newest datagram again
+-- an end that answers is one that is waited for
 abbrev pub waited_by : {w : WorldState} {one other : ℕ} {x y : OpenEnd} {asked : Asked} {limit : ℕ} →
     IsAnswering w one other x y asked limit → IsWaitedFor w one other x y asked limit
 waited_by a =

@@ -50,6 +50,7 @@ server_timed kind s =
     world_after (begun_world kind s) 1 (server_for kind s) (timeout_turn (server_for kind s).state)
     (files_of (server_for kind s)) (begun_world kind s).files
 
+-- a read recovers whose first DATA was lost
 pub read_recovers : SomeReadRecovers
 unfolding occurrences_of name_of number_of digits answered_option taken_option
 read_recovers = (
@@ -93,6 +94,7 @@ read_recovers = (
   refl,
 )
 
+-- a write recovers whose ACK 0 was lost
 pub write_recovers : SomeWriteRecovers
 unfolding occurrences_of name_of number_of digits answered_option taken_option
 write_recovers = (
@@ -176,6 +178,7 @@ read_opened s =
     opened_in (client_timed Read s)
     (sending_end (client_timed Read s) (client_for Read s).address (request_for Read s) s.mode name s.file s.agreed)
 
+-- the server accepts the sample read when its request is sent again
 pub read_accepted : (s : Sample) → Runs Read s →
     service (client_timed Read s) false (request_for Read s) (Some (packet_in (request_for Read s)))
     ≡ service_for Read s → IsAccepted (client_timed Read s) (client_for Read s) (service_for Read s)
@@ -193,6 +196,7 @@ read_accepted s runs is = record {
   is = is;
 }
 
+-- a read recovers whose request was lost
 pub read_request_recovers : SomeReadRequestRecovers
 unfolding occurrences_of name_of number_of digits answered_option taken_option
 read_request_recovers = (
@@ -239,12 +243,14 @@ read_request_recovers = (
   refl,
 )
 
+-- the world once the sample write has asked
 abbrev pub write_opened : WorldState
 write_opened =
     opened_in (client_timed Write oack)
     (receiving_end (client_timed Write oack) (client_for Write oack).address (request_for Write oack) oack.mode name
     oack.agreed)
 
+-- the server accepts the sample write when its request is sent again
 pub write_accepted : IsAccepted (client_timed Write oack) (client_for Write oack) (service_for Write oack)
 unfolding occurrences_of name_of number_of digits answered_option taken_option
 write_accepted = record {
@@ -261,6 +267,7 @@ write_accepted = record {
   is = refl;
 }
 
+-- a write recovers whose request was lost
 pub write_request_recovers : SomeWriteRequestRecovers
 unfolding occurrences_of name_of number_of digits answered_option taken_option
 write_request_recovers = (

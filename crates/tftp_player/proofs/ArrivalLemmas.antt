@@ -1,4 +1,5 @@
--- The effect of a datagram on a world, from its effect on the ends.
+-- The effect of a datagram on a world, from its effect on the ends. For `Ends::take`, `Simulation::arrive` and
+-- `Simulation::deliver`.
 use Rattle.std.proofs.Common.{◌≡◌, ◌≢◌, ℕ, suc, zero, ◌+◌, ◌<◌, ◌≤◌, List, [], ◌∷◌, ◌++◌, length, Some, None, refl, sym}
 use Rattle.std.proofs.Common.{ap, ◌∙◌, subst, arith, inl, inr}
 use Rattle.std.specs.Prelude.{◌⊎◌, slice_get, slice_index_or}
@@ -95,6 +96,7 @@ module _ (from to : Endpoint) (bytes : List ℕ) (before after : PlayedServer) (
         ends = xs;
       }) h.turns.next)
 
+  -- a datagram for an end that is there arrives by that end's step
   pub step_arrives : (index : ℕ) → to.port ≡ 1024 + index →
       EndsDatagramStep index from to bytes before after ps ps' effect →
       EndsDelivery from to bytes before after ps ps' effect
@@ -123,6 +125,7 @@ module _ (from to : Endpoint) (bytes : List ℕ) (before after : PlayedServer) (
         (subst (λ (a : Endpoint). Delivery (old sent) from a bytes (report_of (old sent) x h.turn) v) same
         (open_arrives (old sent) index x from bytes h.turn h.held after.store.files found h.steps h.commits))
 
+  -- a datagram for a port that nobody has is lost
   pub nobody_arrives : (count : ℕ) → count ≡ length ps → (to.port < 1024) ⊎ (1024 + count ≤ to.port) → after ≡ before →
       ps' ≡ ps → effect ≡ no_effect to → EndsDelivery from to bytes before after ps ps' effect
   nobody_arrives count counts none e f nothing sent =
@@ -135,6 +138,7 @@ module _ (from to : Endpoint) (bytes : List ℕ) (before after : PlayedServer) (
       (still sent lost)
       (none_arrives (old sent) from to bytes (ports sent) away (none_here before ps count to.port counts none))
 
+-- a datagram for the request port arrives by what that does
 pub asks_arrive :
     (from to : Endpoint) (bytes : List ℕ) (before after : PlayedServer) (ps ps' : List Player) (effect : Effect) →
     to ≡ request_port → EndsAsk from bytes before after ps ps' effect →
@@ -164,6 +168,7 @@ arrives_reported config sent from to bytes before after ps ps' effect old sent0 
     (world_of before.config ds after ps'))
     (sym (more ∙ ap (λ (ds : List Datagram). ds ++ said_by effect.from effect.to effect.bytes) same)) (a sent))))
 
+-- a delivery is a step of the world, with its report
 pub delivers_reported :
     (config : Config) (sent : List Datagram) (i : ℕ) (d : Datagram) (bytes : List ℕ) (before after : PlayedServer)
     (ps ps' : List Player) (effect : Effect) (old : WorldState) (sent0 sent1 : List Datagram) (report : Report) →
@@ -197,6 +202,7 @@ arrival_refused config sent to before ps old fault view r =
       by_fault NoSuchEnd h = absurd h
       by_fault BadRequest h = absurd h
 
+-- a delivery is refused as its datagram's arrival is
 pub delivery_refused : (old : WorldState) (i : ℕ) (d : Datagram) (fault : WorldFault) → slice_get old.sent i ≡ Some d →
     ArrivalRefuses old d.to fault → WorldRefuses old (Deliver i) fault
 delivery_refused old i d NoPort e h = (d, e, h)
@@ -214,6 +220,7 @@ delivery_refused old i d NoSuchDatagram e h = absurd h
 delivery_refused old i d NoSuchEnd e h = absurd h
 delivery_refused old i d BadRequest e h = absurd h
 
+-- and so is one whose datagram the ends refuse
 pub delivery_fault :
     (config : Config) (sent sent0 : List Datagram) (i : ℕ) (d : Datagram) (before : PlayedServer) (ps : List Player)
     (old : WorldState) (fault : WorldFault) →

@@ -1,4 +1,4 @@
--- The effect of a request on a world, from what the server did.
+-- The effect of a request on a world, from what the server did. For `Ends::ask`.
 use Rattle.std.proofs.Common.{◌≡◌, ◌≢◌, ℕ, Bool, ◌+◌, ◌<◌, ◌≤◌, true, false, List, [], ◌∷◌, ◌++◌, length, get_or}
 use Rattle.std.proofs.Common.{Option, Some, None, refl, sym, ap, ◌∙◌, subst, arith, inl, inr, length-append}
 use Rattle.std.specs.Prelude.{◌⊎◌, ◌↔◌, IsTrue, is_some, not, option_map}

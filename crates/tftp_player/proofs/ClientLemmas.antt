@@ -1,4 +1,4 @@
--- A client that was opened is the end that the world says.
+-- A client that was opened is the end that the world says. For OpenedLemmas.
 use Rattle.std.proofs.Common.{◌≡◌, ℕ, false, List, [], length, refl, ap}
 use Rattle.tftp_wire.specs.declared.mode.Mode.{Mode}
 use Rattle.tftp_wire.specs.declared.mode.Mode.TheVariants.{Octet, Netascii}
@@ -31,6 +31,7 @@ getting_client port name mode asked limit retries =
       request = [];
     }
 
+-- the end of a world's get is that of a client that gets
 pub reading_is : (w : WorldState) (name : List ℕ) (mode : Mode) (asked : Asked) →
     reading_client w name mode asked ≡ getting_client (next_port w) name mode asked w.limits.max_file w.retries
 reading_is w name mode asked =
@@ -52,6 +53,7 @@ putting_client port name mode asked file limit retries =
       request = [];
     }
 
+-- the end of a world's put is that of a client that puts
 pub writing_is : (w : WorldState) (name : List ℕ) (mode : Mode) (asked : Asked) (file : List ℕ) →
     writing_client w name mode asked file
     ≡ putting_client (next_port w) name mode asked file w.limits.max_file w.retries

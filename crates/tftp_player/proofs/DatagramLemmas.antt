@@ -1,4 +1,4 @@
--- The effect of a datagram for one end on all ends of a world.
+-- The effect of a datagram for one end on all ends of a world. For `Ends::on_datagram`.
 use Rattle.std.proofs.Common.{◌≡◌, ◌≢◌, ℕ, ◌+◌, ◌<◌, Bool, true, false, List, [], length, Option, Some, None, refl, sym}
 use Rattle.std.proofs.Common.{ap, ◌∙◌, subst, inl, inr}
 use Rattle.std.specs.Prelude.{◌&&◌, not, is_some, slice_get, slice_set, slice_index_or}
@@ -185,6 +185,7 @@ module _ (port : ℕ) (s s' : ServerEnd) (before after : PlayedServer) (from : E
         stepped = stepped_here;
       }
 
+-- a step of one player is one of its end in the world
 pub player_stepped :
     (port : ℕ) (p p' : Player) (before after : PlayedServer) (from : Endpoint) (bytes : List ℕ) (effect : Effect)
     (r : Record) →
@@ -224,6 +225,7 @@ module _ (server : PlayedServer) (ps : List Player) (records : List (ℕ × Reco
       LostAt to server.store.files server.store.files (ends_of server ps) (ends_of server (slice_set ps index p)) effect
   lost effect e = record { effects = e; next = ap (ends_of server) same_list; stays = refl }
 
+  -- an end on the other host does nothing
   pub step_away : (here : Endpoint) (effect : Effect) → here ≡ address_of to.port p → here ≢ to →
       effect ≡ no_effect to → EndsDatagramStep index from to bytes server server ps (slice_set ps index p) effect
   step_away here effect is differs e = record {
@@ -241,6 +243,7 @@ module _ (server : PlayedServer) (ps : List Player) (records : List (ℕ × Reco
   takes_nothing (Open_end y) effect closed l = absurd (true≢false (sym closed))
   takes_nothing (Closed_end y) effect closed l = l
 
+  -- a closed end does nothing
   pub step_closed : (here : Endpoint) (b : Bool) (effect : Effect) → here ≡ address_of to.port p → here ≡ to →
       b ≡ record_closed (slice_get records index) → b ≡ true → effect ≡ no_effect to →
       EndsDatagramStep index from to bytes server server ps (slice_set ps index p) effect
@@ -262,6 +265,7 @@ module _ (server : PlayedServer) (ps : List Player) (records : List (ℕ × Reco
       (has_not_ended (1024 + index) server.held p (closed_here b false record_is is))
       (subst (λ (n : ℕ). PlayerDatagramStep n from bytes p p' server after effect r) at_index.1 t)
 
+  -- an open end handles the datagram
   pub step_open : (here : Endpoint) (b : Bool) (p' : Player) (after : PlayedServer) (effect : Effect) (r : Record) →
       here ≡ address_of to.port p → here ≡ to → b ≡ record_closed (slice_get records index) → b ≡ false →
       PlayerDatagramStep to.port from bytes p p' server after effect r →
@@ -288,6 +292,7 @@ module _ (server : PlayedServer) (ps : List Player) (records : List (ℕ × Reco
         config = g.stepped.config;
       }
 
+  -- and the ends stay consistent
   pub step_keeps_stage : (b : Bool) (p' : Player) (after : PlayedServer) (effect : Effect) (r : Record) →
       b ≡ record_closed (slice_get records index) → b ≡ false →
       PlayerDatagramStep to.port from bytes p p' server after effect r →

@@ -1,4 +1,4 @@
--- The effect of a turn of a server's end on its draft and on the server's files.
+-- The effect of a turn of a server's end on its draft and on the server's files. For DatagramLemmas.
 use Rattle.std.proofs.Common.{length, ◌≡◌, ℕ, Bool, true, false, List, [], ◌∷◌, Option, Some, None, Result, Ok, Err}
 use Rattle.std.proofs.Common.{refl, sym, ap, ◌∙◌, subst}
 use Rattle.std.specs.Prelude.{◌&&◌, ◌==◌, not, if◌then◌else◌, is_none, is_ok, nat_lt, ⊤}
@@ -237,6 +237,7 @@ pub record ServerEndLeaves (x : OpenEnd) (turn : Turn) (held : Files (List ℕ) 
 
 module _ (port : ℕ) (s : ServerEnd) (from : Endpoint) (bytes : List ℕ) (e : EndState) (request : List ℕ)
     (store store' : Stored) (path' : List ℕ) (replace : Bool) (turn : Turn) where
+  -- a turn of a server's end leaves its draft and the server's files as the world has them
   pub served_leaves : (files files' : Files (List ℕ) Drafted) →
       StepIn memory_meaning memory_source from bytes e (files_in store s.path replace files) turn
       (files_in store' path' replace files') →

@@ -1,5 +1,5 @@
--- Values of ends in a list, each by the end's port and what is held at that port, and the number of
--- open ends.
+-- Values of ends in a list, each by the end's port and what is held at that port, and the number of open ends. For
+-- nine other files.
 use Rattle.std.proofs.Common.{◌≡◌, ◌≢◌, ℕ, suc, zero, ◌+◌, ◌<◌, ◌≤◌, Bool, true, false, List, [], ◌∷◌, ◌++◌, length}
 use Rattle.std.proofs.Common.{set, cond, count_by, Some, None, refl, sym, ap, ◌∙◌, subst, arith}
 use Rattle.std.specs.Prelude.{slice_get, slice_set}
@@ -18,6 +18,7 @@ module _ {P T X : Type 0} (mapped_at : ℕ → List (ℕ × T) → P → X) (map
     (empty : (port : ℕ) (held : List (ℕ × T)) → mapped_from port held [] ≡ [])
     (first : (port : ℕ) (held : List (ℕ × T)) (p : P) (ps : List P) →
     mapped_from port held (p ∷ ps) ≡ mapped_at port held p ∷ mapped_from (port + 1) held ps) where
+  -- there are as many values as ends
   pub mapped-length : (port : ℕ) (held : List (ℕ × T)) (ps : List P) → length (mapped_from port held ps) ≡ length ps
   mapped-length port held [] = ap length (empty port held)
   mapped-length port held (p ∷ ps) = ap length (first port held p ps) ∙ ap suc (mapped-length (port + 1) held ps)
@@ -96,10 +97,12 @@ module _ {P T X : Type 0} (mapped_at : ℕ → List (ℕ × T) → P → X) (map
 
 -- what is to hold of each one, by its port and by what is held there
 module _ {P T : Type 0} (Kept_at : ℕ → List (ℕ × T) → P → Type 0) where
+  -- what holds of each end, from a port on
   abbrev pub Kept_from : ℕ → List (ℕ × T) → List P → Type 0
   Kept_from port held [] = Unit {0}
   Kept_from port held (p ∷ ps) = Kept_at port held p × Kept_from (port + 1) held ps
 
+  -- what holds of each end holds of the one at an index
   pub kept-get : (port : ℕ) (held : List (ℕ × T)) (ps : List P) (k : ℕ) (p : P) → Kept_from port held ps →
       slice_get ps k ≡ Some p → Kept_at (port + k) held p
   kept-get port held [] k p h e = absurd (let f : None ≡ Some p = e in cc)
@@ -179,22 +182,26 @@ count_set {X = X} test (z ∷ xs) zero x y e =
 count_set {X = X} test (z ∷ xs) (suc k) x y e =
     omega (arith, count_one test z (set xs k y), count_one test z xs, count_set test xs k x y e)
 
+-- one more open transfer counts
 pub transfers-push : (ends : List WorldEnd) (x : WorldEnd) → is_transfer x ≡ true →
     open_transfers (ends ++ x ∷ []) ≡ suc (open_transfers ends)
 transfers-push ends x e =
     let one : one_if (is_transfer x) ≡ 1 = ap one_if e in omega (arith, count_pushed is_transfer ends x, one)
 
+-- one more end that is no open transfer does not
 pub transfers-push_other : (ends : List WorldEnd) (x : WorldEnd) → is_transfer x ≡ false →
     open_transfers (ends ++ x ∷ []) ≡ open_transfers ends
 transfers-push_other ends x e =
     let none : one_if (is_transfer x) ≡ 0 = ap one_if e in omega (arith, count_pushed is_transfer ends x, none)
 
+-- an end that stays an open transfer, or stays none, leaves the count
 pub transfers-set : (ends : List WorldEnd) (k : ℕ) (x y : WorldEnd) → slice_get ends k ≡ Some x →
     is_transfer y ≡ is_transfer x → open_transfers (slice_set ends k y) ≡ open_transfers ends
 transfers-set ends k x y e same =
     let one : one_if (is_transfer y) ≡ one_if (is_transfer x) = ap one_if same in
     omega (arith, count_set is_transfer ends k x y e, one)
 
+-- one that closes makes the count smaller by one
 pub transfers-close : (ends : List WorldEnd) (k : ℕ) (x y : WorldEnd) → slice_get ends k ≡ Some x →
     is_transfer x ≡ true → is_transfer y ≡ false →
     suc (open_transfers (slice_set ends k y)) ≡ open_transfers ends
@@ -204,23 +211,28 @@ transfers-close ends k x y e was is =
     omega (arith, count_set is_transfer ends k x y e, one, none)
 
 -- ---- of the ends of a world
+-- there are as many ends as players
 pub ends_length : (held : List (ℕ × ServerTransfer)) (ps : List Player) → length (ends_from 1024 held ps) ≡ length ps
 ends_length held ps = mapped-length end_at ends_from (λ port h. refl) (λ port h p qs. refl) 1024 held ps
 
+-- the end at an index is that of the player there
 pub ends_get : (held : List (ℕ × ServerTransfer)) (ps : List Player) (k : ℕ) (p : Player) → slice_get ps k ≡ Some p →
     slice_get (ends_from 1024 held ps) k ≡ Some (end_at (1024 + k) held p)
 ends_get held ps k p e = mapped-get end_at ends_from (λ port h. refl) (λ port h q qs. refl) 1024 held ps k p e
 
+-- what holds of each player, in the words of this file
 pub to_kept : (port : ℕ) (held : List (ℕ × ServerTransfer)) (ps : List Player) → AllKept port held ps →
     Kept_from PlayerKept port held ps
 to_kept port held [] k = tt
 to_kept port held (p ∷ ps) k = (k.0, to_kept (port + 1) held ps k.1)
 
+-- and back
 pub from_kept : (port : ℕ) (held : List (ℕ × ServerTransfer)) (ps : List Player) → Kept_from PlayerKept port held ps →
     AllKept port held ps
 from_kept port held [] k = tt
 from_kept port held (p ∷ ps) k = (k.0, from_kept (port + 1) held ps k.1)
 
+-- what holds of each player holds of the one at an index
 pub kept_at : (held : List (ℕ × ServerTransfer)) (ps : List Player) (k : ℕ) (p : Player) → AllKept 1024 held ps →
     slice_get ps k ≡ Some p → PlayerKept (1024 + k) held p
 kept_at held ps k p all e = kept-get PlayerKept 1024 held ps k p (to_kept 1024 held ps all) e
@@ -237,6 +249,7 @@ records_get port (y ∷ ends) (suc k) x e =
     let there : port + 1 + k ≡ port + suc k = omega arith in
     records_get (port + 1) ends k x e ∙ ap (λ (n : ℕ). Some (n, end_record x)) there
 
+-- a new end at an index has its record there
 pub records_set : (port : ℕ) (ends : List WorldEnd) (k : ℕ) (y : WorldEnd) →
     records_from port (slice_set ends k y) ≡ slice_set (records_from port ends) k (port + k, end_record y)
 records_set port [] k y = refl

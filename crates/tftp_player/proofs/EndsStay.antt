@@ -29,10 +29,12 @@ use Rattle.tftp_player.proofs.WorldFacts.{holds, m, matched}
 use Rattle.tftp_player.proofs.WorldRuns.{steps_are_rules}
 
 -- ---- an event is more rules, by which the ends of the machine go on
+-- the world refines the rules, and each of its ends has gone on
 pub record Grown (w v : WorldState) (ok : Refines true w) : Type 0 where
   pub now : Refines true v
   pub grows : AllGrow (Machine.party (m w ok)) (Machine.party (m v now))
 
+-- a step of a world only adds to what was sent, and changes ends as a step of each may
 pub grown : (w v : WorldState) (event : Event) (report : Report) (ok : Refines true w) → WorldStep w event report v →
     Grown w v ok
 grown w v event report ok s =
@@ -118,6 +120,7 @@ module _ (w v : WorldState) (report : Report) (k : ℕ) (x : WorldEnd) (there : 
   timed_still j (Open_end y) at t = turned_still j y _ _ at t
 
   -- ---- and complete, if it was
+  -- the end is there and complete
   abbrev pub Remains : Type 0
   Remains = (z : WorldEnd) × (slice_get v.ends k ≡ Some z) × IsComplete z
 
@@ -134,8 +137,10 @@ module _ (w v : WorldState) (report : Report) (k : ℕ) (x : WorldEnd) (there : 
             ∙ (g.grows.grows (end_address x) before.is_open).complete (before.complete ∙ done)),
       )
 
+  -- a complete end stays so at a delivery
   pub remains_delivered : (i : ℕ) → Refines true w → WorldStep w (Deliver i) report v → IsComplete x → Remains
   remains_delivered i ok s done = remains (Deliver i) ok s done (arrived_still _ _ _ s.2)
 
+  -- and at a timeout
   pub remains_timed : (port : ℕ) → Refines true w → WorldStep w (Timeout port) report v → IsComplete x → Remains
   remains_timed port ok s done = remains (Timeout port) ok s done (timed_still s.0 s.1 s.2.there s.3)

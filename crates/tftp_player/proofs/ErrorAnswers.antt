@@ -37,6 +37,7 @@ abbrev pub IsRefusal : List ℕ → Type 0
 IsRefusal bytes = (fault : StoreFault) × (bytes ≡ error_bytes (commit_reply fault))
 
 -- ---- an end that has sent an ERROR of these bytes there, in this position
+-- the end has sent its peer this ERROR
 abbrev pub ToldAt : Position → Endpoint → List ℕ → Type 0
 ToldAt position to bytes =
     (peer_of position.phase ≡ Some to → host_of to ≢ Elsewhere →

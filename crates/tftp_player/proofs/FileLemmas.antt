@@ -1,4 +1,4 @@
--- The server's files by path, after one was added.
+-- The server's files by path, after one was added. For DraftLemmas and ServerTurns.
 use Rattle.std.proofs.Common.{◌≡◌, ◌≢◌, ℕ, Bool, true, false, List, Option, Some, None, refl, sym}
 use Rattle.std.specs.Prelude.{◌&&◌, not, is_some}
 use Rattle.std.proofs.lemmas.Bool.{true≢false}
@@ -18,10 +18,12 @@ taken_by true o e none = absurd (true≢false (sym e))
 taken_by false None e none = absurd (true≢false (sym e))
 taken_by false (Some file) e none = absurd (cc)
 
+-- a path that is not taken has no file in the way
 pub not_taken : (replace : Bool) (path : List ℕ) (files : FileList) → is_taken replace path files ≡ false →
     in_the_way replace (file_at files path) ≡ None
 not_taken replace path files e = free_by replace (file_at files path) e
 
+-- one that is taken has
 pub is_in_the_way : (replace : Bool) (path : List ℕ) (files : FileList) → is_taken replace path files ≡ true →
     in_the_way replace (file_at files path) ≢ None
 is_in_the_way replace path files e = taken_by replace (file_at files path) e

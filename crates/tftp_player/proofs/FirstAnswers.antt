@@ -29,12 +29,14 @@ use Rattle.tftp_player.proofs.StraightRuns.{IsFit, next_is_stored}
 
 -- by whether it reads or writes
 module _ (e : EndState) (asked : Asked) (limit : ℕ) (from : Endpoint) (p : Packet) where
+  -- a client that reads does as a reader
   pub reads_as : is_sender e.role.side ≡ false →
       packet_action e from (Some p) (Waiting asked limit) ≡ reader_action e.role.mode asked limit from (Some p)
   reads_as receives =
       ap (λ (b : Bool). if b then writer_action e.role.mode asked limit e.role.length from (Some p)
       else reader_action e.role.mode asked limit from (Some p)) receives
 
+  -- a client that writes does as a writer
   pub writes_as : is_sender e.role.side ≡ true →
       packet_action e from (Some p) (Waiting asked limit)
       ≡ writer_action e.role.mode asked limit e.role.length from (Some p)

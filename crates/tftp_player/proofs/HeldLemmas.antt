@@ -1,4 +1,4 @@
--- The transfers that a server holds, in rising order of their identifiers.
+-- The transfers that a server holds, in rising order of their identifiers. For five other files.
 use Rattle.std.proofs.Common.{◌≡◌, ◌≢◌, ℕ, suc, ◌+◌, ◌<◌, Bool, true, false, List, [], ◌∷◌, ◌++◌, length, cond}
 use Rattle.std.proofs.Common.{Some, None, refl, sym, ap, ◌∙◌, subst, arith}
 use Rattle.std.proofs.lemmas.Bool.{true≢false}
@@ -38,6 +38,7 @@ module _ {T : Type 0} where
   out_length tid e held more true h rest = refl
   out_length tid e held more false h rest = ap suc (rest refl)
 
+  -- without one there is one less
   pub length-without : (tid : ℕ) (was : T) (held : List (ℕ × T)) → at tid held ≡ Some was →
       suc (length (without tid held)) ≡ length held
   length-without tid was [] found = absurd (let f : None ≡ Some was = found in cc)
@@ -57,6 +58,7 @@ module _ {T : Type 0} where
   all_next P next e held more true all rest = (all.0, all.1)
   all_next P next e held more false all rest = (all.0, rest)
 
+  -- what holds of each identifier still does if one has a new transfer
   pub AllKeys-with_next : (P : ℕ → Type 0) (tid : ℕ) (next : T) (held : List (ℕ × T)) →
       AllByRecursion (λ (f : ℕ × T). P f.0) held → AllByRecursion (λ (f : ℕ × T). P f.0) (with_next tid next held)
   AllKeys-with_next P tid next [] all = tt
@@ -70,12 +72,14 @@ module _ {T : Type 0} where
   all_out P e held more true all rest = all.1
   all_out P e held more false all rest = (all.0, rest)
 
+  -- or if one is removed
   pub AllKeys-without : (P : ℕ → Type 0) (tid : ℕ) (held : List (ℕ × T)) → AllByRecursion (λ (f : ℕ × T). P f.0) held →
       AllByRecursion (λ (f : ℕ × T). P f.0) (without tid held)
   AllKeys-without P tid [] all = tt
   AllKeys-without P tid (e ∷ held) all =
       all_out P e held (without tid held) (is_at (nat_cmp tid) e.0) all (AllKeys-without P tid held all.1)
 
+  -- or if one is added of which it holds
   pub AllKeys-with_new : (P : ℕ → Type 0) (tid : ℕ) (new : T) (held : List (ℕ × T)) → AreBelow tid held →
       AllByRecursion (λ (f : ℕ × T). P f.0) held → P tid →
       AllByRecursion (λ (f : ℕ × T). P f.0) (with_new tid new held)
@@ -89,6 +93,7 @@ module _ {T : Type 0} where
   AllKeys-weaker P Q [] f all = tt
   AllKeys-weaker P Q (e ∷ held) f all = (f e.0 all.0, AllKeys-weaker P Q held f all.1)
 
+  -- what follows from two facts of each transfer holds of each
   pub all_both : (P Q R : ℕ × T → Type 0) (held : List (ℕ × T)) → ((e : ℕ × T) → P e → Q e → R e) →
       AllByRecursion P held → AllByRecursion Q held → AllByRecursion R held
   all_both P Q R [] f all also = tt
@@ -101,6 +106,7 @@ module _ {T : Type 0} where
   rising_next next e held more true rises rest above = (rises.0, rises.1)
   rising_next next e held more false rises rest above = (above, rest)
 
+  -- identifiers rise still if one has a new transfer
   pub IsRising-with_next : (tid : ℕ) (next : T) (held : List (ℕ × T)) → IsRising held →
       IsRising (with_next tid next held)
   IsRising-with_next tid next [] rises = tt
@@ -113,6 +119,7 @@ module _ {T : Type 0} where
   rising_out e held more true rises rest above = rises.1
   rising_out e held more false rises rest above = (above, rest)
 
+  -- or if one is removed
   pub IsRising-without : (tid : ℕ) (held : List (ℕ × T)) → IsRising held → IsRising (without tid held)
   IsRising-without tid [] rises = tt
   IsRising-without tid (e ∷ held) rises =
@@ -125,6 +132,7 @@ module _ {T : Type 0} where
   rising_pushed tid new (e ∷ held) below rises =
       (all_pushed (λ (f : ℕ × T). e.0 < f.0) tid new held rises.0 below.0, rising_pushed tid new held below.1 rises.1)
 
+  -- or if a higher one is added
   pub IsRising-with_new : (tid : ℕ) (new : T) (held : List (ℕ × T)) → AreBelow tid held → IsRising held →
       IsRising (with_new tid new held)
   IsRising-with_new tid new held below rises =
@@ -140,6 +148,7 @@ module _ {T : Type 0} where
       (λ k l. let n : k ≢ tid = omega (arith, here, l) in n) above
   gone_out tid e held more false h above rest = ((λ same. true≢false (sym (at_same numbers tid e.0 same) ∙ h)), rest)
 
+  -- one that was removed is not there
   pub gone-without : (tid : ℕ) (held : List (ℕ × T)) → IsRising held →
       AllByRecursion (λ (f : ℕ × T). f.0 ≢ tid) (without tid held)
   gone-without tid [] rises = tt
@@ -161,10 +170,12 @@ module _ {T : Type 0} where
 
   -- below the next identifier, if below this one
 
+  -- identifiers below one are below a higher one
   pub AreBelow-more : (tid more : ℕ) (held : List (ℕ × T)) → tid < more → AreBelow tid held → AreBelow more held
   AreBelow-more tid more held l below =
       AllKeys-weaker (λ (k : ℕ). k < tid) (λ (k : ℕ). k < more) held (λ k h. omega arith) below
 
+  -- with a new one all are below the next
   pub AreBelow-with_new : (tid : ℕ) (new : T) (held : List (ℕ × T)) → AreBelow tid held →
       AreBelow (tid + 1) (with_new tid new held)
   AreBelow-with_new tid new held below =

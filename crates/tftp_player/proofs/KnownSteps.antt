@@ -1,5 +1,5 @@
--- The step of an end with a file in memory is one with a file of known content, and an answer from
--- the server's address is from the server.
+-- The step of an end with a file in memory is one with a file of known content, and an answer from the server's
+-- address is from the server. For BlamelessEnds and WorldRuns.
 use Rattle.std.proofs.Common.{ℕ, List, sym, refl}
 use Rattle.tftp_file.specs.Memory.{memory_source}
 use Rattle.tftp_file.specs.Sink.{Holding}

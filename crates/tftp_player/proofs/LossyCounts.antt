@@ -34,6 +34,7 @@ count_few w v i k before after limit (Has_sent fresh) few = omega arith
 count_few w v i k before after limit Stays_at few = few
 
 module _ (retries limit first ks kr : ℕ) where
+  -- the retries that an end has left
   abbrev pub left : WorldState → ℕ → ℕ
   left w k = left_of retries (slice_get w.ends k)
 

@@ -30,6 +30,7 @@ no_text : (mode : Mode) → wire_text mode [] ++ [] ≡ []
 no_text Octet = refl
 no_text Netascii = refl
 
+-- a receiver that stores nothing has received no block
 pub nothing_received : (x : OpenEnd) (size : ℕ) (whole : List ℕ) → x.stored ≡ [] → x.state.position.held_back ≡ [] →
     wire_text x.state.role.mode x.stored ++ x.state.position.held_back ≡ take (0 * size) whole
 nothing_received x size whole stored held =
@@ -109,6 +110,7 @@ module _ (t : Transfer) (o : Offer) where
       }
 
   -- ---- no more timeouts were made than the limit for each datagram of the straight run
+  -- the timeouts so far are within the bound
   pub made_few : (lost total ns nr made heard : ℕ) (sending : Bool) (w : WorldState) → heard + 1 ≤ total →
       IsPaced t.retries lost t.first t.ks t.kr sending heard ns nr made w → made ≤ lost * total
   made_few lost total ns nr made heard sending w within p =
@@ -120,6 +122,7 @@ module _ (t : Transfer) (o : Offer) where
         by true = p.few_s
         by false = p.few_r
 
+  -- one more first arrival is within the number of all datagrams
   pub heard_within : (lost total heard : ℕ) (sending : Bool) (w : WorldState) →
       total + t.met.low_s + t.met.low_r ≡ 2 * blocks t + 3 → t.met.low_s + t.met.low_r ≤ 2 → AtStage t o lost sending heard w →
       heard + 1 ≤ total

@@ -106,6 +106,7 @@ module _ (t : Transfer) where
     pub left_kr : left t w t.kr ≤ left t v t.kr
     pub left_ks : t.retries ≤ left t v t.ks
 
+  -- a sender that was sent the ACK of its block has sent the next
   pub sends_more : (w v : WorldState) (n i : ℕ) (report : Report) → Pair t w n n → WorldStep w (Deliver i) report v →
       DataSent t w v n → SendsMore w v n
   sends_more w v n i report p step s =
@@ -131,6 +132,7 @@ module _ (t : Transfer) where
       ]
   newest_ack w (suc n) p = refl
 
+  -- an ACK of the newest block that arrives for the first time does so
   pub hears_ack : (w v : WorldState) (n i : ℕ) (report : Report) → Pair t w n n →
       slice_get w.sent i ≡ Some (datagram t.ra t.sa (said_r t n)) → WorldStep w (Deliver i) report v → SendsMore w v n
   hears_ack w v n i report p at step =
@@ -154,6 +156,7 @@ module _ (t : Transfer) where
       (ap (λ (q : Phase). is_progress q (Sending t.met.st (n + 1))) p.gives.is.phase ∙ progress_s t n))
 
   -- ---- any delivery
+  -- any datagram of this transfer that arrives at the receiver is stored, or changes nothing
   pub data_arrives : (w v : WorldState) (r i : ℕ) (report : Report) (d : Datagram) → Pair t w (r + 1) r → t.first ≤ i →
       slice_get w.sent i ≡ Some d → WorldStep w (Deliver i) report v → StoresTook (not t.client_sends) report →
       MovesOn w v r ⊎ PairRests t w v (r + 1) r
@@ -171,6 +174,7 @@ module _ (t : Transfer) where
     by (From_receiver k low few is) =
         inr (old_r_rests t w v (r + 1) r p report i step k low (omega (arith, few)) (at ∙ ap Some is))
 
+  -- any datagram of this transfer that arrives at the sender does so, or changes nothing
   pub ack_arrives : (w v : WorldState) (n i : ℕ) (report : Report) (d : Datagram) → Pair t w n n → t.first ≤ i →
       slice_get w.sent i ≡ Some d → WorldStep w (Deliver i) report v → SendsMore w v n ⊎ PairRests t w v n n
   ack_arrives w v n i report d p from at step = by (p.ours i d from at) where

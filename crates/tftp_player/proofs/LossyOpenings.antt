@@ -43,7 +43,7 @@ use Rattle.tftp_player.proofs.StraightSteps.{ports_of}
 use Rattle.tftp_player.proofs.UnansweredLemmas.{any_at}
 use Rattle.tftp_player.proofs.WorldRuns.{step_keeps}
 
--- ---- one of several, after one was replaced that is none of them
+-- ---- one of several, after another one was replaced
 module _ {T : Type 0} (Holds : T → Type 0) where
   any_set : (xs : List T) (k : ℕ) (x y : T) → slice_get xs k ≡ Some x → (Holds x → ⊥) → AnyByRecursion Holds xs →
       AnyByRecursion Holds (set xs k y)
@@ -107,6 +107,7 @@ same_files w v k x report client t =
     t.stored
 
 -- ---- an end that has sent only its first datagram so far
+-- an end as it opened
 pub record IsBegun (t : Transfer) (x : OpenEnd) (mine to : Endpoint) (now : Phase) (sent : List ℕ)
     (sends client : Bool) : Type 0 where
   pub address : x.address ≡ mine
@@ -131,10 +132,12 @@ pub record Opened (t : Transfer) (w : WorldState) (k : ℕ) (mine to : Endpoint)
 
 module _ (t : Transfer) (w v : WorldState) (k : ℕ) (mine to : Endpoint) (now : Phase) (sent : List ℕ)
     (sends client : Bool) where
+  -- an end that stays at its index stays as it opened
   pub opened_at : slice_get v.ends k ≡ slice_get w.ends k → Opened t w k mine to now sent sends client →
       Opened t v k mine to now sent sends client
   opened_at same o = record { x = o.x; there = same ∙ o.there; is = o.is }
 
+  -- the datagram that an opened end sent last
   pub opened_own : (o : Opened t w k mine to now sent sends client) →
       datagram o.x.address o.x.state.position.last_sent_to o.x.state.position.last_sent ≡ datagram mine to sent
   opened_own o =
@@ -142,6 +145,7 @@ module _ (t : Transfer) (w v : WorldState) (k : ℕ) (mine to : Endpoint) (now :
       ∙ (ap (λ (a : Endpoint). datagram mine a o.x.state.position.last_sent) o.is.goes_to
       ∙ ap (datagram mine to) o.is.newest)
 
+  -- it is that end's newest
   pub opened_newest : Opened t w k mine to now sent sends client → newest w k ≡ Some (datagram mine to sent)
   opened_newest o = ap newest_of o.there ∙ ap Some (opened_own o)
 
@@ -154,6 +158,7 @@ module _ (t : Transfer) (w v : WorldState) (k : ℕ) (mine to : Endpoint) (now :
     pub sent_again : v.sent ≡ w.sent ++ datagram mine to sent ∷ []
     pub left_k : left t w k ≤ left t v k + 1
 
+  -- a timeout sends it again, while retries are left
   pub opened_waits : (report : Report) → Refines true w → (o : Opened t w k mine to now sent sends client) →
       MaySendAgain now → 0 < left t w k → WorldStep w (Timeout (1024 + k)) report v → OpenedWaits o report
   opened_waits report ok o may some step =
@@ -198,6 +203,7 @@ module _ (t : Transfer) (w v : WorldState) (k : ℕ) (mine to : Endpoint) (now :
       }
 
 -- ---- how the server's end answers
+-- what the client asked for, and what the server's end answers
 pub record Offer : Type 0 where
   -- what the client asked for
   pub asked : Asked
@@ -215,15 +221,19 @@ module _ (t : Transfer) (o : Offer) where
   abbrev pub client : ℕ
   client = active t.ks t.kr t.client_sends
 
+  -- the datagram of the request
   abbrev pub asks_by : Datagram
   asks_by = datagram t.asker request_port t.request
 
+  -- the first datagram of the server's end
   abbrev pub answers_by : Datagram
   answers_by = datagram o.answerer t.asker o.answer
 
+  -- the client waits for an answer
   abbrev pub ClientAt : WorldState → Type 0
   ClientAt w = Opened t w client t.asker request_port (Waiting o.asked o.limit) t.request t.client_sends true
 
+  -- the server's end has sent its answer
   abbrev pub ServerAt : WorldState → Type 0
   ServerAt w = Opened t w (server t) o.answerer t.asker o.now o.answer (not t.client_sends) false
 
@@ -352,6 +362,7 @@ module _ (t : Transfer) (o : Offer) where
       ServiceStep o.accepts w c.address c.state.position.last_sent report v →
       (x : OpenEnd) × OpeningStep w x report v × IsFirst x
 
+  -- once the request arrives the answer is made
   pub asking_heard : (w v : WorldState) (i : ℕ) (report : Report) → Asking w → server t ≡ client + 1 → Opens →
       slice_get w.sent i ≡ Some asks_by → WorldStep w (Deliver i) report v → AnswerMade w v
   asking_heard w v i report a next opens at step =
@@ -400,6 +411,7 @@ module _ (t : Transfer) (o : Offer) where
       }
 
   -- ---- the server's end has answered
+  -- a timeout of one of the two, once the server has answered
   pub record AnsweredWaits (w v : WorldState) : Type 0 where
     pub answered : Answered v
     pub left_c : left t w client ≤ left t v client + 1

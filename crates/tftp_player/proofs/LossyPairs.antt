@@ -80,12 +80,15 @@ pub record Transfer : Type 0 where
   pub asked : Spells packet request
 
 module _ (t : Transfer) where
+  -- the text of the file on the wire
   abbrev pub text : List ℕ
   text = wire_text t.mode t.file
 
+  -- the number of its blocks
   abbrev pub blocks : ℕ
   blocks = block_count text t.met.st.size
 
+  -- each block
   abbrev pub piece : ℕ → List ℕ
   piece n = block text t.met.st.size (n + 1)
 
@@ -94,18 +97,22 @@ module _ (t : Transfer) where
   said_s zero = t.met.zero_s
   said_s (suc n) = data_bytes (suc n) (block text t.met.st.size (suc n))
 
+  -- what the receiver has said after so many blocks
   abbrev pub said_r : ℕ → List ℕ
   said_r zero = t.met.zero_r
   said_r (suc n) = ack_bytes (suc n)
 
+  -- what the sender says next is a DATA
   pub said_data : (n : ℕ) → said_s (n + 1) ≡ data_bytes (n + 1) (piece n)
   said_data n =
       ap said_s (add-one n) ∙ sym (ap (λ (k : ℕ). data_bytes k (block text t.met.st.size k)) (add-one n))
 
+  -- what the receiver says next is an ACK
   pub said_ack : (n : ℕ) → said_r (n + 1) ≡ ack_bytes (n + 1)
   said_ack n = ap said_r (add-one n) ∙ sym (ap ack_bytes (add-one n))
 
   -- ---- what was sent so far
+  -- a datagram of this transfer
   pub data IsOurs (n r : ℕ) (d : Datagram) : Type 0 where
     Asks : d ≡ datagram t.asker request_port t.request → IsOurs n r d
     From_sender : (k : ℕ) → t.met.low_s ≤ k → k ≤ n → d ≡ datagram t.sa t.ra (said_s k) → IsOurs n r d
@@ -120,10 +127,12 @@ module _ (t : Transfer) where
   more_ours n r n' r' d hn hr (From_sender k low few is) = From_sender k low (omega (arith, few, hn)) is
   more_ours n r n' r' d hn hr (From_receiver k low few is) = From_receiver k low (omega (arith, few, hr)) is
 
+  -- the datagrams of this transfer are the same if none was sent
   pub ours_same : (w v : WorldState) (n r : ℕ) → v.sent ≡ w.sent → AreOurs w n r → AreOurs v n r
   ours_same w v n r same ours i d from at =
       ours i d from (sym (ap (λ (ds : List Datagram). slice_get ds i) same) ∙ at)
 
+  -- and are these if one more of it was sent
   pub ours_more : (w v : WorldState) (n r n' r' : ℕ) (a : Datagram) → n ≤ n' → r ≤ r' → v.sent ≡ w.sent ++ a ∷ [] →
       IsOurs n' r' a → AreOurs w n r → AreOurs v n' r'
   ours_more w v n r n' r' a hn hr sent new ours i d from at =
@@ -144,6 +153,7 @@ module _ (t : Transfer) where
     pub retries : x.state.role.retries ≡ t.retries
     pub newest : x.state.position.last_sent ≡ said_s n
 
+  -- the sender is open, and has sent so many blocks
   pub record Gives (w : WorldState) (n : ℕ) : Type 0 where
     pub x : OpenEnd
     pub there : slice_get w.ends t.ks ≡ Some (Open_end x)
@@ -163,6 +173,7 @@ module _ (t : Transfer) where
     pub willing : IsWilling (not t.client_sends) x
     pub newest : x.state.position.last_sent ≡ said_r r
 
+  -- the receiver is open, and has stored so many blocks
   pub record Takes (w : WorldState) (r : ℕ) : Type 0 where
     pub x : OpenEnd
     pub there : slice_get w.ends t.kr ≡ Some (Open_end x)
@@ -184,18 +195,22 @@ module _ (t : Transfer) where
     pub more : r < blocks
 
   -- ---- what stays of an end if the other changes
+  -- a sender that stays at its index gives as before
   pub gives_at : (w v : WorldState) (n : ℕ) → slice_get v.ends t.ks ≡ slice_get w.ends t.ks → Gives w n → Gives v n
   gives_at w v n same g = record { x = g.x; there = same ∙ g.there; is = g.is }
 
+  -- a receiver that stays at its index takes as before
   pub takes_at : (w v : WorldState) (r : ℕ) → slice_get v.ends t.kr ≡ slice_get w.ends t.kr → Takes w r → Takes v r
   takes_at w v r same g = record { x = g.x; there = same ∙ g.there; is = g.is }
 
   -- ---- and what an end is after its step
+  -- a sender that sends a block gives as before
   pub gives_then : (w v : WorldState) (n : ℕ) (x y : OpenEnd) → slice_get w.ends t.ks ≡ Some (Open_end x) →
       v.ends ≡ slice_set w.ends t.ks (Open_end y) → IsSending y n → Gives v n
   gives_then w v n x y there ends is =
       record { x = y; there = set_at w v t.ks (Open_end x) (Open_end y) ends there; is = is }
 
+  -- one that only sends again does so, too
   pub takes_again : (w v : WorldState) (r : ℕ) (g : Takes w r) (y : OpenEnd) →
       v.ends ≡ slice_set w.ends t.kr (Open_end y) → y.address ≡ g.x.address → y.state.role ≡ g.x.state.role →
       y.state.position.phase ≡ g.x.state.position.phase → y.stored ≡ g.x.stored →

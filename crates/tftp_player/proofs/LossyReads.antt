@@ -479,6 +479,7 @@ read_by old begun new report name mode asked file (known ∷ others) lost c s ma
     (options_offered old name mode asked file h.path h.length step.1 h.there known others taken same h.answered.1
     spelled) enough refl (omega arith) (omega arith) run
 
+-- every such get completes
 pub reads_despite_loss : ReadsDespiteLoss
 reads_despite_loss strangers old begun new report name mode asked file agreed lost c s made ok step h enough run =
     read_by old begun new report name mode asked file agreed lost c s made (any_of strangers old ok) step h enough run

@@ -69,10 +69,12 @@ first_bytes (d ∷ ds) = d.bytes
 pub progress_r : (t : Transfer) (r : ℕ) → is_progress (Receiving t.met.rt r) (Receiving t.met.rt (r + 1)) ≡ true
 progress_r t r = ap (λ (b : Bool). b || false) (lt-ltb r (r + 1) (omega arith))
 
+-- to send the next block is progress
 pub progress_s : (t : Transfer) (n : ℕ) → is_progress (Sending t.met.st n) (Sending t.met.st (n + 1)) ≡ true
 progress_s t n = ap (λ (b : Bool). b || false) (lt-ltb n (n + 1) (omega arith))
 
 module _ (t : Transfer) where
+  -- the retries that an end has left
   abbrev pub left : WorldState → ℕ → ℕ
   left w k = left_of t.retries (slice_get w.ends k)
 
@@ -448,12 +450,14 @@ module _ (t : Transfer) where
     }
 
   -- ---- an answer at which a sender sends its next block
+  -- the sender has sent its next block
   pub record DataSent (w v : WorldState) (n : ℕ) : Type 0 where
     pub sent : v.sent ≡ w.sent ++ datagram t.sa t.ra (said_s t (n + 1)) ∷ []
     pub receiver : slice_get v.ends t.kr ≡ slice_get w.ends t.kr
     pub gives : Gives t v (n + 1)
     pub left_ks : left v t.ks ≡ t.retries
 
+  -- a sender that sends its next block is a pair with its receiver as before
   pub data_sent : (w v : WorldState) (n : ℕ) (bytes : List ℕ) (report : Report) (x : OpenEnd)
       (h : Handles w t.ks x t.ra bytes report v) (y : OpenEnd) → y.state.position.phase ≡ Sending t.met.st (n + 1) →
       Becomes w v t.ks x t.ra bytes report h y (datagram x.address t.ra (data_bytes (n + 1) (piece t n)) ∷ []) →

@@ -145,6 +145,7 @@ module _ (reads : Bool) (host : List ℕ → List ℕ) (begun : WorldState) wher
   rounds zero b w i = w
   rounds (suc n) b w i = rounds n (not b) (round b w i) (i + 2)
 
+  -- so many rounds, in each of which a datagram is lost and sent again
   abbrev pub AreRounds : ℕ → Bool → WorldState → ℕ → Type 0
   AreRounds zero b w i = ⊤
   AreRounds (suc n) b w i = IsRound b w i × AreRounds n (not b) (round b w i) (i + 2)
@@ -225,6 +226,7 @@ read_first =
     (request_delivered Read pair (client_timed Read pair) (read_opened pair) (omega arith) refl
     (read_accepted pair pair_run refl) (pair.file, refl, record { reports = refl; is = refl })) refl tt refl
 
+-- a read in which each datagram is lost once
 pub read_is_lossy : SomeReadIsLossy Octet blocks_of_8 two_blocks (Blksize 8 ∷ []) 1
 unfolding occurrences_of name_of number_of digits answered_option taken_option
 read_is_lossy = (
@@ -282,6 +284,7 @@ write_first =
     (request_delivered Write oack (client_timed Write oack) write_opened (omega arith) refl write_accepted
     (record { reports = refl; is = refl })) refl tt refl
 
+-- a write in which each datagram is lost once
 pub write_is_lossy : SomeWriteIsLossy Octet blocks_of_8 two_blocks (Blksize 8 ∷ []) 1
 unfolding occurrences_of name_of number_of digits answered_option taken_option
 write_is_lossy = (
@@ -326,6 +329,7 @@ acked_ok =
     step_keeps false (begun_world Read read) acked_world (Deliver 1) _ tt begun
     (delivers read.host (begun_world Read read) 1 (slice_get (begun_world Read read).sent 1) refl read_runs.all.0)
 
+-- a sender that receives the last ACK
 pub sender_hears_the_end : SomeSenderHearsTheEnd
 unfolding occurrences_of
 sender_hears_the_end = (

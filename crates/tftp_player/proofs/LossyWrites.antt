@@ -404,6 +404,7 @@ write_by old begun new report name mode asked file (known ∷ others) lost c s m
     (options_offered old name mode asked file h.path step.1 known others taken same h.answered.1 spelled
     (subst (λ (n : ℕ). Fits (wire_text mode file) n) same h.fits)) enough refl same_blocks (omega arith) run
 
+-- every such put completes at its receiver
 pub writes_despite_loss : WritesDespiteLoss
 writes_despite_loss strangers old begun new report name mode asked file agreed lost c s made ok step h enough run =
     write_by old begun new report name mode asked file agreed lost c s made (any_of strangers old ok) step h enough run

@@ -1,4 +1,4 @@
--- The measured length of a file is its length, if its blocks can be numbered.
+-- The measured length of a file is its length, if its blocks can be numbered. For ServerLemmas and WorldKeeps.
 use Rattle.std.proofs.Common.{◌≡◌, ◌+◌, ℕ, ◌*◌, ◌<◌, ◌≤◌, List, length, arith}
 use Rattle.std.specs.Prelude.{min}
 use Rattle.tftp_file.specs.declared.length.TheConstants.{MAX_WIRE}
@@ -17,6 +17,7 @@ pub measured_whole : (mode : Mode) (file : List ℕ) (size : ℕ) → size ≤ M
     measured mode file ≡ length (wire_text mode file)
 measured_whole mode file size small few = counted_whole (length (wire_text mode file)) size small few
 
+-- a text of that measured length has no more blocks than can be numbered
 pub measured_fits : (mode : Mode) (file : List ℕ) (size : ℕ) → size ≤ MAX_BLOCK → measured mode file < 65535 * size →
     Fits (wire_text mode file) size
 measured_fits mode file size small few =

@@ -152,6 +152,7 @@ module _ (client : Bool) where
         (acts_by memory_source (world_sink refuses_commit) from bytes e action files files' turn d.acts)
 
 -- ---- the ends of a world
+-- what an open end of a world sent last
 abbrev pub EndNewest : WorldEnd → Type 0
 EndNewest (Open_end x) = Newest (is_client x.state.role.side) x.state.position.last_sent x.state.position.phase
 EndNewest (Closed_end x) = Unit {0}

@@ -1,36 +1,25 @@
 -- A client that took no OACK has a peer that was opened without options.
 -- For BlamelessActions, Blameless and ErrorsKnown.
-use Rattle.std.proofs.Common.{◌≡◌, ℕ, ◌≤◌, Bool, true, false, List, Option, Some, None, refl, sym, ap, ◌∙◌, subst}
-use Rattle.std.proofs.Common.{arith, inl, inr}
-use Rattle.std.specs.Prelude.{◌≢◌, ◌==◌, not, if◌then◌else◌, option_map, slice_get}
+use Rattle.std.proofs.Common.{◌≡◌, ℕ, Bool, true, false, List, Option, Some, None, refl, sym, ap, ◌∙◌, subst}
+use Rattle.std.proofs.Common.{inl, inr}
+use Rattle.std.specs.Prelude.{◌≢◌, not, if◌then◌else◌, option_map, slice_get}
 use Rattle.std.specs.List.{Contains}
 use Rattle.std.specs.Cmp.Lexicographic.{same_text}
-use Rattle.std.proofs.lemmas.Bool.{true≢false, cases_Bool}
-use Rattle.std.proofs.lemmas.Option.{same_Some}
+use Rattle.std.proofs.lemmas.Bool.{true≢false}
 use Rattle.tftp_wire.specs.declared.packet.Packet.{Packet}
-use Rattle.tftp_wire.specs.declared.packet.Packet.TheVariants.{Read, Write, Data, Ack, Error, Oack}
 use Rattle.tftp_negotiate.specs.declared.asked.Asked.{Asked}
-use Rattle.tftp_negotiate.specs.declared.known.Known.{Known}
 use Rattle.tftp_file.specs.Memory.{memory_source}
-use Rattle.tftp_file.specs.declared.fault.StoreFault.{StoreFault}
 use Rattle.tftp_file.specs.declared.files.Files.{Files}
 use Rattle.tftp_file.specs.declared.files.Files.TheVariants.{Source, Sink}
 use Rattle.tftp_file.specs.Sink.{Holding}
-use Rattle.tftp_ends.specs.declared.action.Action.{Action}
-use Rattle.tftp_ends.specs.declared.action.Action.TheVariants.{Respond, Send, Store}
-use Rattle.tftp_ends.specs.declared.action.Response.{Response}
-use Rattle.tftp_ends.specs.declared.action.Response.TheVariants.{Ignore, WrongPeer, ResendReply, Retransmit, Wait}
-use Rattle.tftp_ends.specs.declared.action.Response.TheVariants.{Close, Refuse, Accept, Complete}
 use Rattle.tftp_ends.specs.declared.outcome.Outcome.{Outcome}
-use Rattle.tftp_ends.specs.declared.phase.Dally.TheVariants.{Fresh, Waited}
 use Rattle.tftp_ends.specs.declared.phase.Phase.{Phase}
 use Rattle.tftp_ends.specs.declared.phase.Phase.TheVariants.{Waiting, Sending, Receiving, Dallying, Closed}
 use Rattle.tftp_ends.specs.declared.phase.Terms.{Terms}
-use Rattle.tftp_ends.specs.End.{EndState, is_sender, is_client, terms_of, outcome_of, Position}
-use Rattle.tftp_ends.specs.Action.{Decodes, is_wrong_peer, datagram_action, timeout_response, same_address}
-use Rattle.tftp_ends.specs.Phase.{waited}
-use Rattle.tftp_ends.specs.Step.{Turn, DatagramStep, response_turn, timeout_turn}
-use Rattle.tftp_ends.specs.Waiting.{default_terms, agreed_terms}
+use Rattle.tftp_ends.specs.End.{is_sender, is_client, terms_of, outcome_of}
+use Rattle.tftp_ends.specs.Action.{Decodes, is_wrong_peer, same_address}
+use Rattle.tftp_ends.specs.Step.{Turn, timeout_turn}
+use Rattle.tftp_ends.specs.Waiting.{default_terms}
 use Rattle.tftp_rules.specs.EndKept.{PhaseKept}
 use Rattle.tftp_rules.specs.Hosts.{host_of, two_hosts}
 use Rattle.tftp_rules.specs.Machine.{Endpoint, At_server, Elsewhere, Machine, Party}
@@ -170,6 +159,7 @@ module _ (w : WorldState) (ok : Refines true w) where
       (λ ks b. absurd (true≢false b)) (plain_answer j x i from bytes a) d)
 
 -- ---- a world with what is known of its clients
+-- a world whose ends were opened as their first datagrams say
 pub record Known_world (w : WorldState) : Type 0 where
   pub ok : Refines true w
   pub plain : ArePlain w ok

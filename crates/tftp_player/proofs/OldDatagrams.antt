@@ -14,6 +14,7 @@ use Rattle.tftp_ends.specs.Receiver.{data_action, next_action, receiver_action}
 use Rattle.tftp_ends.specs.Sender.{acked_action, illegal_action, sender_action}
 
 -- ---- a receiver, at the block that it stored last
+-- the newest DATA again is acknowledged again
 pub data_again : (mode : Mode) (held : List ℕ) (terms : Terms) (stored n : ℕ) (piece : List ℕ) → n ≡ stored →
     data_action mode held terms stored n piece ≡ Respond ResendReply
 data_again mode held terms stored n piece same =
@@ -40,16 +41,19 @@ module _ (client : Bool) (mode : Mode) (held : List ℕ) (terms : Terms) (option
       ∙ ap (λ (b : Bool). if b then (if n == 0 then Respond ResendReply else Respond Ignore)
       else illegal_action terms) by_oack
 
+  -- an OACK again before the first block is answered again
   pub oack_again : (n : ℕ) → n ≡ 0 →
       receiver_action client mode held terms n (Some (Oack options)) ≡ Respond ResendReply
   oack_again n none =
       oack_taken n ∙ ap (λ (b : Bool). if b then Respond ResendReply else Respond Ignore) (eq-eqb n 0 none)
 
+  -- a later one is ignored
   pub oack_older : (n : ℕ) → n ≢ 0 → receiver_action client mode held terms n (Some (Oack options)) ≡ Respond Ignore
   oack_older n some =
       oack_taken n ∙ ap (λ (b : Bool). if b then Respond ResendReply else Respond Ignore) (ne_eqb n 0 some)
 
 -- ---- a sender, at an ACK of an older block
+-- an older ACK is ignored
 pub ack_older : (length n old : ℕ) (terms : Terms) → old < n → acked_action length terms n old ≡ Respond Ignore
 ack_older length n old terms less =
     let next : Action = if nat_lt n (length / terms.size + 1) then Send terms (n + 1) else Respond Complete in

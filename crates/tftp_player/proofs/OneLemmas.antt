@@ -1,4 +1,4 @@
--- What an event adds to all that was sent.
+-- What an event adds to all that was sent. For `an_event_sends_one_datagram_at_most` and ErrorsHeard.
 use Rattle.std.proofs.Common.{◌≡◌, ℕ, ◌≤◌, List, [], ◌∷◌, length, Option, Some, None, sym, ap, ◌∙◌, arith}
 use Rattle.std.proofs.lemmas.List.{append-nil}
 use Rattle.tftp_ends.specs.Step.{Turn, Reply}
@@ -64,6 +64,7 @@ times_out : (old new : WorldState) (k : ℕ) (x : WorldEnd) (report : Report) �
 times_out old new k (Closed_end x) report s = stays old new report s
 times_out old new k (Open_end x) report t = turns old new k x _ _ report t
 
+-- every event adds one datagram at most
 pub events_add_one_at_most : EventsAddOneAtMost
 events_add_one_at_most old new (Get name mode asked) report s = opens old new _ report s.2
 events_add_one_at_most old new (Put name mode asked bytes) report s = opens old new _ report s.2

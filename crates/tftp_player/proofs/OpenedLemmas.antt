@@ -1,4 +1,4 @@
--- A client that opens.
+-- A client that opens. For five functions and AskingLemmas.
 use Rattle.std.proofs.Common.{◌≡◌, ℕ, suc, zero, ◌+◌, ◌<◌, ◌≤◌, true, List, [], ◌∷◌, ◌++◌, length, Some, None, refl}
 use Rattle.std.proofs.Common.{sym, ap, ◌∙◌, subst, arith, length-append}
 use Rattle.tftp_rules.specs.OpenEnds.{OpenEnd}
@@ -45,10 +45,12 @@ use Rattle.tftp_player.proofs.Standing.{standing_record}
 use Rattle.tftp_player.proofs.SimulationLemmas.{kept_by_port, no_transfer}
 use Rattle.tftp_player.proofs.StepLemmas.{get_step, put_step}
 
+-- one more player is one more end
 pub ends_push : (server : PlayedServer) (ps : List Player) (p : Player) →
     ends_of server (ps ++ p ∷ []) ≡ ends_of server ps ++ end_at (1024 + length ps) server.held p ∷ []
 ends_push server ps p = mapped-push end_at ends_from (λ port h. refl) (λ port h q qs. refl) 1024 server.held ps p
 
+-- and one more record
 pub records_push : (port : ℕ) (ends : List WorldEnd) (x : WorldEnd) →
     records_from port (ends ++ x ∷ []) ≡ records_from port ends ++ (port + length ends, end_record x) ∷ []
 records_push port [] x = let here : port ≡ port + zero = omega arith in ap (λ (n : ℕ). (n, end_record x) ∷ []) here
@@ -218,6 +220,7 @@ module _ (old : WorldState) (setup : ClientSetup) (s : IsSetup old setup) (name 
       (effects ∙ ap (λ (n : ℕ). sending_effect n name mode asked) s.port) e
       (put_step old name mode asked file s.has can)
 
+-- no port is left
 pub no_port :
     (config : Config) (sent : List Datagram) (server : PlayedServer) (ps : List Player) (old : WorldState) (count : ℕ) →
     world_of config sent server ps ≡ old → count ≡ length ps → 65535 < 1024 + count → 65535 < next_port old
@@ -226,6 +229,7 @@ no_port config sent server ps old count view e h =
     let l : 65535 < 1024 + length (ends_of server ps) = omega (arith, n, e, h) in
     subst (λ (w : WorldState). 65535 < next_port w) view l
 
+-- a port is left
 pub has_port :
     (config : Config) (sent : List Datagram) (server : PlayedServer) (ps : List Player) (old : WorldState)
     (count port : ℕ) → world_of config sent server ps ≡ old → count ≡ length ps → port ≡ 1024 + count → port < 65536 →
@@ -245,6 +249,7 @@ port_found config sent server ps old count port view e is =
 
 -- why a client did not open
 module _ (old : WorldState) (name : List ℕ) (mode : Mode) (asked : Asked) (has : HasPort old) where
+  -- a get is refused as its client is
   pub get_refused : (fault : WorldFault) → AskRefuses (MayGet name mode asked) fault →
       WorldRefuses old (Get name mode asked) fault
   get_refused BadRequest cannot = (has, cannot)
@@ -259,6 +264,7 @@ module _ (old : WorldState) (name : List ℕ) (mode : Mode) (asked : Asked) (has
   get_refused NoSuchEnd h = absurd h
   get_refused NoPort h = absurd h
 
+  -- a put is refused as its client is
   pub put_refused : (file : List ℕ) (fault : WorldFault) →
       AskRefuses (MayPut name mode asked (length (wire_text mode file))) fault →
       WorldRefuses old (Put name mode asked file) fault

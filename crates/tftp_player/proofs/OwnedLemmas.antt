@@ -1,4 +1,4 @@
--- The transfers that a server holds are those of its open ends, also after one end has changed.
+-- The transfers that a server holds are those of its open ends, also after one end has changed. For four other files.
 use Rattle.std.proofs.Common.{◌≡◌, ◌≢◌, ℕ, ◌+◌, Bool, true, false, List, [], ◌∷◌, ◌++◌, Some, None, refl, sym, ap, ◌∙◌}
 use Rattle.std.proofs.Common.{arith}
 use Rattle.std.specs.Prelude.{slice_get, slice_set}
@@ -53,6 +53,7 @@ not_a_client ps index c k there o e =
     let f : Server o.served ≡ Client c = cc in
     cc
 
+-- a client that changes owns no transfer of the server
 pub client_owned : (ps : List Player) (index : ℕ) (c : PlayedClient) (p' : Player) (held : List (ℕ × ServerTransfer)) →
     slice_get ps index ≡ Some (Client c) → AllOwned ps held → AllOwned (slice_set ps index p') held
 client_owned ps index c p' held there all =
@@ -80,6 +81,7 @@ same_end ps index s k there e o =
     let both : Some (Server o.served) ≡ Some (Server s) = sym o.there ∙ (ap (slice_get ps) same ∙ there) in
     cc
 
+-- a server's end that stays open, or stays closed, owns what it did
 pub same_owned : (ps : List Player) (index : ℕ) (s s' : ServerEnd) (held : List (ℕ × ServerTransfer)) →
     slice_get ps index ≡ Some (Server s) → s'.ended ≡ s.ended → AllOwned ps held →
     AllOwned (slice_set ps index (Server s')) held

@@ -1,4 +1,5 @@
--- The effect of a turn at one index on all ends of a world, and on the world.
+-- The effect of a turn at one index on all ends of a world, and on the world. For four functions and four other
+-- files.
 use Rattle.std.proofs.Common.{◌≡◌, ℕ, suc, ◌+◌, ◌<◌, ◌≤◌, Bool, true, false, List, [], ◌∷◌, ◌++◌, length, Option}
 use Rattle.std.proofs.Common.{Some, None, refl, sym, ap, ◌∙◌, subst, arith, inl, inr}
 use Rattle.std.specs.Prelude.{◌⊎◌, is_some, slice_get, slice_set, slice_index_or, option_map}
@@ -65,10 +66,12 @@ module _ (index : ℕ) (before after : PlayedServer) (ps : List Player) (p : Pla
       mapped-set end_at ends_from (λ port h. refl) (λ port h q qs. refl) by_port 1024 before.held after.held ps index p'
       t.others
 
+  -- the ends of the world after a turn of one
   pub turn_ends : ends_of after (slice_set ps index p')
       ≡ slice_set (ends_of before ps) index (standing (end_after x turn held))
   turn_ends = set_ends ∙ ap (λ (y : WorldEnd). slice_set (ends_of before ps) index y) t.end
 
+  -- and they are consistent
   pub turn_consistent : (records : List (ℕ × Record)) → slice_get ps index ≡ Some p → ArePartsConsistent before ps records →
       ArePartsConsistent after (slice_set ps index p') (slice_set records index (1024 + index, r))
   turn_consistent records there consistent = record {
@@ -134,6 +137,7 @@ pub record TimedOut (port : ℕ) (p p' : Player) (before after : PlayedServer) (
   pub end : OpenEnd
   pub stepped : Stepped port p end p' before after (timeout_turn end.state) (files_of end) effect r
 
+-- a timeout of one player is one of its end in the world
 pub player_times_out : (port : ℕ) (p p' : Player) (before after : PlayedServer) (effect : Effect) (r : Record) →
     PlayerKept port before.held p → has_ended p ≡ false → PlayerTimeoutStep port p p' before after effect r →
     TimedOut port p p' before after effect r
@@ -194,6 +198,7 @@ ended_by : (port : ℕ) (s : ServerEnd) (o : Option Record) (h : Option ServerTr
 ended_by port s None h e = refl
 ended_by port s (Some r) h e = absurd (true≢false e)
 
+-- an end that is open in the world has not ended
 pub has_not_ended : (port : ℕ) (held : List (ℕ × ServerTransfer)) (p : Player) → is_closed (end_at port held p) ≡ false →
     has_ended p ≡ false
 has_not_ended port held (Client c) e = sym (standing_closed (client_end port c)) ∙ e
@@ -215,6 +220,7 @@ record_shows port held (Client c) k =
     ∙ sym (standing_closed (client_end port c))
 record_shows port held (Server s) k = served_shows port s s.ended held k
 
+-- the record of an end says whether it is closed
 pub closed_is : (server : PlayedServer) (ps : List Player) (records : List (ℕ × Record)) (k : ℕ) (p : Player) →
     ArePartsConsistent server ps records → slice_get ps k ≡ Some p →
     record_closed (slice_get records k) ≡ is_closed (end_at (1024 + k) server.held p)
@@ -224,6 +230,7 @@ closed_is server ps records k p consistent e =
     (records_get 1024 (ends_of server ps) k (end_at (1024 + k) server.held p) (ends_get server.held ps k p e))
     ∙ record_shows (1024 + k) server.held p (kept_at server.held ps k p consistent.kept e))
 
+-- a timeout of one end on all ends
 pub ends_time_out :
     (index : ℕ) (before after : PlayedServer) (ps : List Player) (p p' : Player) (effect : Effect) (r : Record) →
     slice_get ps index ≡ Some p →
@@ -247,6 +254,7 @@ stays_by : (index : ℕ) (x : WorldEnd) (ends : List WorldEnd) (effect : Effect)
 stays_by index (Open_end x) ends effect closed is = absurd (true≢false (sym closed))
 stays_by index (Closed_end x) ends effect closed is = record { effects = is; next = refl }
 
+-- a closed end does nothing
 pub ends_stay : (index : ℕ) (server : PlayedServer) (ps : List Player) (p : Player) (effect : Effect) →
     slice_get ps index ≡ Some p → is_closed (end_at (1024 + index) server.held p) ≡ true →
     effect ≡ no_effect (end_address (end_at (1024 + index) server.held p)) →
@@ -272,6 +280,7 @@ index_is : (w : WorldState) (reply : Option Reply) →
 index_is w None = refl
 index_is w (Some reply) = refl
 
+-- the report of a turn is what its effect reports
 pub report_is : (w : WorldState) (x : OpenEnd) (turn : Turn) (effect : Effect) → effect ≡ effect_of x.address turn →
     report_by w.sent effect ≡ report_of w x turn
 report_is w x turn effect e =
@@ -320,6 +329,7 @@ timed_by config sent index before after ps ps' effect port (Open_end x) at store
     (subst (λ (v : WorldState). WorldStep w (Timeout port) (report_of w x turn) v) (sym same)
     (timeout_step w port index x at))
 
+-- a timeout on the world
 pub world_timed_out :
     (config : Config) (sent : List Datagram) (index : ℕ) (before after : PlayedServer) (ps ps' : List Player)
     (effect : Effect) (port : ℕ) → port ≡ 1024 + index →
@@ -345,6 +355,7 @@ served_address port s (Some r) h = refl
 served_address port s None (Some h) = refl
 served_address port s None None = refl
 
+-- the address of an end is that of its player
 pub address_is : (port : ℕ) (held : List (ℕ × ServerTransfer)) (p : Player) →
     end_address (end_at port held p) ≡ address_of port p
 address_is port held (Client c) = standing_address (client_end port c)
@@ -360,6 +371,7 @@ module _ (server : PlayedServer) (ps : List Player) (records : List (ℕ × Reco
   read_back : slice_set ps index p ≡ ps
   read_back = ap (slice_set ps index) reads ∙ set-get_or ps index p
 
+  -- the player at the index is kept
   pub read_kept : PlayerKept port server.held p
   read_kept =
       subst (λ (n : ℕ). PlayerKept n server.held p) (sym at_index.1)
@@ -369,9 +381,11 @@ module _ (server : PlayedServer) (ps : List Player) (records : List (ℕ × Reco
       is_closed (end_at (1024 + index) server.held p) ≡ c
   recorded_as b c record_is is = sym (closed_is server ps records index p consistent is_there) ∙ (sym record_is ∙ is)
 
+  -- and has not ended, if its record is that of an open end
   pub read_open : (b : Bool) → b ≡ record_closed (slice_get records index) → b ≡ false → has_ended p ≡ false
   read_open b record_is is = has_not_ended (1024 + index) server.held p (recorded_as b false record_is is)
 
+  -- its index is one of the records
   pub records_within : index < length records
   records_within =
       let n : length records ≡ length ps =
@@ -379,6 +393,7 @@ module _ (server : PlayedServer) (ps : List Player) (records : List (ℕ × Reco
       let w = at_index.0 in
       omega (arith, n)
 
+  -- a timeout at a closed end does nothing
   pub stays_consistent : (b : Bool) (here : Endpoint) (effect : Effect) → b ≡ record_closed (slice_get records index) →
       b ≡ true → here ≡ address_of port p → effect ≡ no_effect here →
       EndsTimeoutStep index server server ps (slice_set ps index p) effect
@@ -398,6 +413,7 @@ module _ (server : PlayedServer) (ps : List Player) (records : List (ℕ × Reco
       (read_open b record_is is)
       (subst (λ (n : ℕ). PlayerTimeoutStep n p p' server after effect r) at_index.1 t)
 
+  -- a timeout at an open end is a step of all ends
   pub times_out_consistent : (b : Bool) (p' : Player) (after : PlayedServer) (effect : Effect) (r : Record) →
       b ≡ record_closed (slice_get records index) → b ≡ false →
       PlayerTimeoutStep port p p' server after effect r →
@@ -406,6 +422,7 @@ module _ (server : PlayedServer) (ps : List Player) (records : List (ℕ × Reco
       ends_time_out index server after ps p p' effect r is_there (stepped_here b p' after effect r record_is is t)
       (keeps_store port p p' server after effect r t)
 
+  -- and they are consistent
   pub times_out_keeps : (b : Bool) (p' : Player) (after : PlayedServer) (effect : Effect) (r : Record) →
       b ≡ record_closed (slice_get records index) → b ≡ false →
       PlayerTimeoutStep port p p' server after effect r →
@@ -434,6 +451,7 @@ timeout_result config sent index before after ps ps' effect port old sent0 sent1
     (sym (more ∙ ap (λ (ds : List Datagram). ds ++ said_by effect.from effect.to effect.bytes) same))
     (world_timed_out config sent index before after ps ps' effect port is t)))
 
+-- a port without a player has no end
 pub none_here : (server : PlayedServer) (ps : List Player) (count port : ℕ) → count ≡ length ps →
     (port < 1024) ⊎ (1024 + count ≤ port) → (port < 1024) ⊎ (1024 + length (ends_of server ps) ≤ port)
 none_here server ps count port e (inl low) = inl low

@@ -1,4 +1,4 @@
--- What a world that is played keeps, by whether a stray has arrived.
+-- What a world that is played keeps, by whether a stray has arrived. For four functions.
 use Rattle.std.proofs.Common.{◌≡◌, ℕ, ◌+◌, suc, arith, Bool, true, false, List, [], ◌∷◌, ◌++◌, length, refl, sym, ap}
 use Rattle.std.proofs.Common.{subst, ◌∙◌}
 use Rattle.std.proofs.lemmas.Bool.{true≢false}

@@ -1,4 +1,4 @@
--- What is visible of what the server's request port did.
+-- What is visible of what the server's request port did. For AskingLemmas.
 use Rattle.std.proofs.Common.{◌≡◌, ℕ, Bool, true, false, List, [], ◌∷◌, Option, Some, None, Result, Ok, Err, refl, sym}
 use Rattle.std.proofs.Common.{ap, ◌∙◌, inl, inr, rules}
 use Rattle.std.specs.Prelude.{◌⊎◌, ◌*◌, if◌then◌else◌, nat_lt, nat_le, is_some, option_map}
@@ -167,6 +167,7 @@ pub record IsNewEnd (w : WorldState) (from : Endpoint) (s : ServerEnd) (transfer
   pub path : transfer.path ≡ s.path
   pub ended : s.ended ≡ None
 
+-- a sender that opens is the world's new end
 pub new_sender :
     (w : WorldState) (from : Endpoint) (bytes : List ℕ) (mode : Mode) (path file : List ℕ) (agreed : List Known) →
     IsNewEnd w from (new_server_end mode path file) (held_sender (sending_end w from bytes mode path file agreed))
@@ -174,6 +175,7 @@ pub new_sender :
 new_sender w from bytes mode path file [] = search rules
 new_sender w from bytes mode path file (known ∷ agreed) = search rules
 
+-- so is a receiver that opens
 pub new_receiver :
     (w : WorldState) (from : Endpoint) (bytes : List ℕ) (mode : Mode) (path : List ℕ) (agreed : List Known) →
     IsNewEnd w from (new_server_end mode path []) (held_receiver (receiving_end w from bytes mode path agreed))
@@ -274,6 +276,7 @@ module _ (w : WorldState) (asking : PortAsking) (result : PortLeft) where
     ])
   ]
 
+  -- a request that opens nothing is refused, or gets no answer
   pub port_not_opened : (what : Service) → PortDid w what asking result → result.opened.tid ≡ None →
       PortRefused what ⊎ PortSilent what
   port_not_opened what did tid_is = elim (port_seen what did) [

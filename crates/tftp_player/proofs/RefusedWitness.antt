@@ -94,6 +94,7 @@ abbrev closed_in : Option WorldEnd → ClosedEnd
 closed_in (Some (Closed_end x)) = x
 closed_in _ = closed_end (client_for Write write)
 
+-- there is such a write
 pub an_end_is_refused : SomeEndIsRefused
 unfolding occurrences_of
 an_end_is_refused = (

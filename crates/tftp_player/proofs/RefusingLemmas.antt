@@ -1,4 +1,4 @@
--- An end that is set to refuse its next append or commit.
+-- An end that is set to refuse its next append or commit. For `Simulation::refuse_store`.
 use Rattle.std.proofs.Common.{◌≡◌, ℕ, ◌+◌, ◌<◌, Bool, true, false, List, [], length, Option, Some, None, refl, sym, ap}
 use Rattle.std.proofs.Common.{◌∙◌, subst}
 use Rattle.std.specs.Prelude.{is_some, if◌then◌else◌, slice_get, slice_set, slice_index_or}
@@ -130,6 +130,7 @@ armed_ended : (o : Option Record) (h : Option ServerTransfer) (s : ServerEnd) �
 armed_ended (Some r) h s = refl
 armed_ended None h s = drafts_ended (draft_at h) s
 
+-- an end that is set so is set so in the world, and kept
 pub player_armed : (port : ℕ) (held : List (ℕ × ServerTransfer)) (p : Player) → PlayerKept port held p →
     (end_at port held (armed_player port held p) ≡ armed_end (end_at port held p))
     × PlayerKept port held (armed_player port held p)
@@ -194,6 +195,7 @@ module _ (config : Config) (sent : List Datagram) (server : PlayedServer) (ps : 
       (λ other n. refl)
       ∙ ap (λ (y : WorldEnd). slice_set (ends_of server ps) index y) armed.0
 
+  -- the ends are consistent
   pub refused_consistent : ArePartsConsistent server (slice_set ps index q) records
   refused_consistent = record {
     kept =
@@ -227,6 +229,7 @@ module _ (config : Config) (sent : List Datagram) (server : PlayedServer) (ps : 
         (records_get 1024 (ends_of server ps) index x (ends_get server.held ps index p there))))
         ∙ set-get_or (records_from 1024 (ends_of server ps)) index action))
 
+  -- and it is a step of the world
   pub refused_step : WorldStep old (RefuseStore port) no_report (world_of config sent server (slice_set ps index q))
   refused_step =
       let w = world_of config sent server ps in

@@ -1,5 +1,5 @@
--- A datagram repeats the request of a transfer that the played server holds exactly if it repeats
--- that of an open end of its world.
+-- A datagram repeats the request of a transfer that the played server holds exactly if it repeats that of an open end
+-- of its world. For AskingLemmas.
 use Rattle.std.proofs.Common.{◌≡◌, ℕ, ◌+◌, Bool, true, false, List, [], ◌∷◌, cond, Option, Some, None, refl, sym, ap}
 use Rattle.std.proofs.Common.{◌∙◌, subst, inl, inr}
 use Rattle.std.specs.BTreeMap.{is_at}

@@ -1,4 +1,5 @@
--- A request that repeats that of an open transfer opens nothing, and repeats it while that transfer is open.
+-- A request that repeats that of an open transfer opens nothing, and repeats it while that transfer is open. For
+-- `a_repeat_opens_nothing` and six other files.
 use Rattle.std.proofs.Common.{◌≡◌, ℕ, ◌<◌, Bool, true, false, List, [], ◌∷◌, ◌++◌, length, Option, Some, None, refl}
 use Rattle.std.proofs.Common.{sym, ap, ◌∙◌, subst, inl, inr, arith}
 use Rattle.std.specs.Prelude.{if◌then◌else◌, slice_get, slice_set}
@@ -81,6 +82,7 @@ module _ (old new : WorldState) (from : Endpoint) (packet : Packet) (bytes : Lis
   stays strangers to ok here (At_closed_end k x there at s) = s
   stays strangers to ok here (At_nobody away nobody s) = absurd (away here)
 
+-- a repeated request opens nothing
 pub repeats_open_nothing : RepeatsOpenNothing
 repeats_open_nothing strangers old new from packet bytes report ok asks spells any l =
     let s = stays old new from packet bytes report asks spells any strangers request_port ok refl l in
@@ -93,6 +95,7 @@ any_last : (from : Endpoint) (packet : Packet) (ends : List WorldEnd) (x : World
 any_last from packet [] x r = inl r
 any_last from packet (y ∷ ends) x r = inr (any_last from packet ends x r)
 
+-- the datagram that opened a sender repeats its request
 pub sender_repeats :
     (w : WorldState) (from : Endpoint) (bytes : List ℕ) (mode : Mode) (path file : List ℕ) (agreed : List Known)
     (packet : Packet) → Spells packet bytes →
@@ -101,6 +104,7 @@ sender_repeats w from bytes mode path file [] packet spells = record { still = r
 sender_repeats w from bytes mode path file (known ∷ agreed) packet spells =
     record { still = refl; peer = refl; same = spells }
 
+-- the datagram that opened a receiver repeats its request
 pub receiver_repeats :
     (w : WorldState) (from : Endpoint) (bytes : List ℕ) (mode : Mode) (path : List ℕ) (agreed : List Known)
     (packet : Packet) → Spells packet bytes →
@@ -179,6 +183,7 @@ module _ (old new : WorldState) (from : Endpoint) (bytes : List ℕ) (report : R
   opens to (At_closed_end k x there at s) = absurd (still s)
   opens to (At_nobody away nobody s) = absurd (still s)
 
+-- what opens an end repeats no request
 pub only_new_requests_open : OnlyNewRequestsOpen
 only_new_requests_open old new from to bytes report l more = opens old new from bytes report more to l
 
@@ -279,6 +284,7 @@ module _ (from : Endpoint) (packet : Packet) where
         set_at s.0 s.1 (armed_end s.1) (ap (λ (w : WorldState). w.ends) s.4) s.2.there (λ own o. armed_lasts s.1 own)
     at_event (Stray by to bytes) s = at_arrival _ _ _ s.1
 
+-- a request is repeated as long as its end is open
 pub requests_last : RequestsLast
 requests_last old new event report from packet k x y s there r here open_now =
     at_event from packet old new report k x y there r here event s open_now

@@ -1,4 +1,5 @@
--- The datagram of a turn fits the capacity that was reserved before it.
+-- The datagram of a turn fits the capacity that was reserved before it. For `Client::on_datagram` and
+-- ServerEndLemmas.
 use Rattle.std.proofs.Common.{◌≡◌, ◌≤◌, ℕ, Bool, true, false, List, [], ◌∷◌, length, Option, Some, None, Result, Ok}
 use Rattle.std.proofs.Common.{Err, refl, sym, ap, subst, arith}
 use Rattle.std.specs.Prelude.{◌==◌, ◌+◌, ◌/◌, ◌*◌, max, nat_lt, nat_le, is_none, is_some, option_map, ◌&&◌}
@@ -349,6 +350,7 @@ module _ {S K : Type 0} (sources : SourceMeaning S) (sinks : SinkMeaning K) (fro
   known_within most (Closed None n complete outcome) w = (tt, λ h. absurd (true≢false (sym h)))
   known_within most (Closed (Some terms) n complete outcome) w = (tt, λ h. omega arith)
 
+  -- an answer fits the capacity that was reserved for it
   pub answer_short : (most : ℕ) (files files' : Files S K) (turn : Turn) → AgreesWithin most e.position.phase →
       AreFilesOf e.role.side files → DatagramStep sources sinks from bytes e files turn files' →
       length (reply_bytes turn.reply) ≤ answer_room most (record_of e)
@@ -382,6 +384,7 @@ timeout_by e (Dallying terms n Fresh) = omega arith
 timeout_by e (Dallying terms n Waited) = omega arith
 timeout_by e (Closed terms n complete outcome) = retransmits e (e.position.retries_left == 0)
 
+-- what a timeout sends again does, too
 pub timeout_short : (e : EndState) → length (reply_bytes (timeout_turn e).reply) ≤ length e.position.last_sent
 timeout_short e = timeout_by e e.position.phase
 

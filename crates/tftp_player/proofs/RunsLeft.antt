@@ -1,4 +1,4 @@
--- What is left of a run of deliveries, and that it ends.
+-- What is left of a run of deliveries, and that it ends. For ten other files.
 use Rattle.std.proofs.Common.{◌≡◌, ℕ, ◌+◌, ◌<◌, ◌≤◌, suc, Bool, true, false, List, [], ◌∷◌}
 use Rattle.std.proofs.Common.{length, Some, sym, ap, subst, arith}
 use Rattle.std.specs.Prelude.{slice_get, ⊤}
@@ -13,6 +13,7 @@ use Rattle.tftp_player.specs.declared.event.Event.TheVariants.{Deliver}
 use Rattle.tftp_player.specs.declared.report.Report.{Report}
 
 -- ---- the premise on the stores of a run that does not read: for a client that reads it follows
+-- the claim holds of writes
 abbrev pub UnlessReads : Bool → Type 0 → Type 0
 UnlessReads true claim = ⊤
 UnlessReads false claim = claim
@@ -31,6 +32,7 @@ IsWilling true x = (is_client x.state.role.side ≡ true) × (x.refuses ≡ fals
 IsWilling false x = ⊤
 
 -- ---- what is left of a run of deliveries
+-- a run of deliveries that leads from one world to another
 pub record IsLeft (reads : Bool) (w : WorldState) (i : ℕ) (v : WorldState) : Type 0 where
   pub reports : List Report
   pub settles : Settles w i reports v
@@ -141,12 +143,14 @@ writer_through old new count o =
       counted = o.counted;
     }
 
+-- a read ends after so many deliveries
 pub reader_ends : (old new : WorldState) (made n count : ℕ) → n ≡ count →
     Reaches new (length old.ends + 1) (length old.ends) (length old.sent) made n → Ends old new made count
 reader_ends old new made n count is r =
     subst (λ (c : ℕ). Ends old new made c) is
     (record { few = r.few; goes_on = r.goes_on; through = λ e. reader_through old new n (r.over e) })
 
+-- a write ends after so many deliveries
 pub writer_ends : (old new : WorldState) (made n count : ℕ) → n ≡ count →
     Reaches new (length old.ends) (length old.ends + 1) (length old.sent) made n → Ends old new made count
 writer_ends old new made n count is r =

@@ -1,4 +1,4 @@
--- What each delivery of a sample run does, computed from the world before it.
+-- What each delivery of a sample run does, computed from the world before it. For five other files.
 use Rattle.std.proofs.Common.{◌≡◌, ◌≢◌, ℕ, ◌+◌, ◌-◌, ◌<◌, Bool, true, false, cond, List, [], ◌∷◌, get_or, length}
 use Rattle.std.proofs.Common.{take, drop, Option, Some, None, Result, Ok, refl, sym, ap, subst, ◌∙◌, zero, suc, arith}
 use Rattle.std.specs.Prelude.{nat_lt, ◌&&◌, not, min, slice_get, ⊤}
@@ -38,6 +38,7 @@ use Rattle.tftp_player.specs.declared.event.Event.TheVariants.{Deliver}
 use Rattle.tftp_player.specs.declared.report.Report.{Report}
 
 -- ---- bytes, and the packet that they spell
+-- each number is a byte
 abbrev pub all_bytes : List ℕ → Bool
 all_bytes [] = true
 all_bytes (b ∷ bytes) = nat_lt b 256 && all_bytes bytes
@@ -55,16 +56,20 @@ bytes_below [] e k = omega arith
 bytes_below (b ∷ bytes) e zero = ltb-true b 256 (first_of (nat_lt b 256) (all_bytes bytes) e)
 bytes_below (b ∷ bytes) e (suc k) = bytes_below bytes (second_of (nat_lt b 256) (all_bytes bytes) e) k
 
+-- bytes that spell a packet
 abbrev pub IsSpelled : List ℕ → Type 0
 IsSpelled bytes = (all_bytes bytes ≡ true) × (first_fault bytes ≡ None)
 
+-- they spell the packet in them
 pub spells : (bytes : List ℕ) → IsSpelled bytes → Spells (packet_in bytes) bytes
 spells bytes is = fault_where_nothing bytes (bytes_below bytes is.0) is.1
 
+-- the data of a DATA
 abbrev pub data_of : Packet → List ℕ
 data_of (Data number bytes) = bytes
 data_of _ = []
 
+-- there are bytes
 abbrev pub HasBytes : List ℕ → Type 0
 HasBytes [] = ⊥
 HasBytes (b ∷ bytes) = ⊤
@@ -85,9 +90,11 @@ appends may (b ∷ bytes) h free some = (freely h.refuses h _ _ free refl, tt, t
 
 -- ---- the turn of an open end at a datagram, by its action; a block stands for these bytes of the host
 module _ (host : List ℕ → List ℕ) (d : Datagram) (x : OpenEnd) where
+  -- the block that the datagram carries
   abbrev pub piece : List ℕ
   piece = data_of (packet_in d.bytes)
 
+  -- it is shorter than a full block
   abbrev pub is_last : Terms → Bool
   is_last terms = nat_lt (length piece) terms.size
 
@@ -99,11 +106,13 @@ module _ (host : List ℕ → List ℕ) (d : Datagram) (x : OpenEnd) where
   abbrev pub with_block : Holding
   with_block = with_piece (holding_of x) (host piece)
 
+  -- the turn of a receiver that stores it
   abbrev pub stored_turn : Bool → Terms → ℕ → Turn
   stored_turn true terms number = committed_turn {A = Done} terms number d.from (holding [] x.state) (Ok tt)
   stored_turn false terms number =
       sent_turn (Receiving terms number) d.from (ack_bytes number) (holding [] x.state)
 
+  -- the turn of an action
   abbrev pub turn_by : Action → Turn
   turn_by (Respond response) = response_turn response d.from x.state
   turn_by (Send terms number) =
@@ -173,14 +182,17 @@ module _ (host : List ℕ → List ℕ) (d : Datagram) (x : OpenEnd) where
   abbrev pub end_by : Action → OpenEnd
   end_by action = end_after x (turn_by action) (files_by action)
 
+  -- a server's receiver commits in that turn
   abbrev pub has_stored : Action → Bool
   has_stored action = not (is_client x.state.role.side) && has_committed x (end_by action)
 
 -- ---- the server's files
+-- the files with one more, if it was committed
 abbrev pub with_file : Bool → List ℕ → List ℕ → List StoredFile → List StoredFile
 with_file true path bytes files = (path, bytes) ∷ files
 with_file false path bytes files = files
 
+-- the path of the file is free, if a file is committed
 abbrev pub IsFree : Bool → Bool → List ℕ → List ℕ → List StoredFile → Type 0
 IsFree overwrite true path bytes files =
     (in_the_way overwrite (file_at files path) ≡ None) × (file_at ((path, bytes) ∷ files) path ≡ Some bytes)
@@ -203,6 +215,7 @@ files_after overwrite true path bytes files free = record {
 files_after overwrite false path bytes files free = refl
 
 -- ---- one delivery to an open end
+-- a report, and the world after it
 pub record Delivered : Type 0 where
   pub report : Report
   pub world : WorldState
@@ -226,10 +239,12 @@ module _ (host : List ℕ → List ℕ) (w : WorldState) where
             (with_file (has_stored host d x action) x.path (end_by host d x action).stored w.files);
       }
 
+  -- what the delivery does at the end that is there
   abbrev pub at_end : Datagram → Option WorldEnd → Delivered
   at_end d (Some (Open_end x)) = by_action d x (action_of d x)
   at_end d _ = record { report = no_report; world = w }
 
+  -- what the delivery of a datagram does
   abbrev pub of_datagram : Option Datagram → Delivered
   of_datagram (Some d) = at_end d (slice_get w.ends (index_of d))
   of_datagram None = record { report = no_report; world = w }
@@ -241,10 +256,12 @@ module _ (host : List ℕ → List ℕ) (w : WorldState) where
       × AcksAgain x.state (turn_by host d x action) action
       × IsFree w.overwrite (has_stored host d x action) x.path (end_by host d x action).stored w.files
 
+  -- what is to be checked of it at that end
   abbrev pub IsHandledAt : Datagram → Option WorldEnd → Type 0
   IsHandledAt d (Some (Open_end x)) = IsHandled d x (action_of d x)
   IsHandledAt d _ = ⊥
 
+  -- what is to be checked of it
   abbrev pub IsDelivered : Option Datagram → Type 0
   IsDelivered (Some d) = IsHandledAt d (slice_get w.ends (index_of d))
   IsDelivered None = ⊥
@@ -290,35 +307,43 @@ module _ (host : List ℕ → List ℕ) (w : WorldState) where
 
 -- ---- n deliveries, from the datagram at an index on
 module _ (host : List ℕ → List ℕ) where
+  -- what the delivery at an index does
   abbrev pub next : WorldState → ℕ → Delivered
   next w i = of_datagram host w (slice_get w.sent i)
 
+  -- the reports of so many deliveries from an index on
   abbrev pub reports : ℕ → WorldState → ℕ → List Report
   reports zero w i = []
   reports (suc n) w i = (next w i).report ∷ reports n (next w i).world (i + 1)
 
+  -- the world after them
   abbrev pub world_at : ℕ → WorldState → ℕ → WorldState
   world_at zero w i = w
   world_at (suc n) w i = world_at n (next w i).world (i + 1)
 
+  -- what is to be checked of each of them
   abbrev pub AllDelivered : ℕ → WorldState → ℕ → Type 0
   AllDelivered zero w i = ⊤
   AllDelivered (suc n) w i = IsDelivered host w (slice_get w.sent i) × AllDelivered n (next w i).world (i + 1)
 
+  -- if it was checked they are what `settle` does
   pub settles : (n : ℕ) (w : WorldState) (i : ℕ) → AllDelivered n w i → Settles w i (reports n w i) (world_at n w i)
   settles zero w i all = refl
   settles (suc n) w i all =
       ((next w i).world, delivers host w i (slice_get w.sent i) refl all.0, settles n (next w i).world (i + 1) all.1)
 
+  -- there are as many reports as deliveries
   pub count_reports : (n : ℕ) (w : WorldState) (i : ℕ) → length (reports n w i) ≡ n
   count_reports zero w i = refl
   count_reports (suc n) w i = ap suc (count_reports n (next w i).world (i + 1))
 
 -- ---- the events of a straight run
+-- as many deliveries as reports
 abbrev pub deliveries : ℕ → List Report → List Event
 deliveries i [] = []
 deliveries i (report ∷ reports) = Deliver i ∷ deliveries (i + 1) reports
 
+-- what `settle` does is a run of deliveries
 pub plays : (w : WorldState) (i : ℕ) (reports : List Report) (new : WorldState) → Settles w i reports new →
     PlaysAll w (deliveries i reports) new
 plays w i [] new settled = settled

@@ -2,8 +2,8 @@
 -- For the laws on recovery, and for what ERRORs say (ErrorAnswers).
 use Rattle.std.proofs.Common.{◌≡◌, ℕ, ◌+◌, ◌-◌, ◌<◌, ◌≤◌, Bool, true, false, List, [], ◌∷◌, ◌++◌, length, Option, Some}
 use Rattle.std.proofs.Common.{None, refl, sym, ap, ◌∙◌, subst, arith, inl, inr, length-append}
-use Rattle.std.specs.Prelude.{◌≢◌, ◌⊎◌, ◌==◌, if◌then◌else◌, nat_lt, slice_get, slice_set}
-use Rattle.std.proofs.lemmas.Bool.{ne_eqb, cases_Bool, ltb-true, ltb-false}
+use Rattle.std.specs.Prelude.{◌≢◌, ◌==◌, if◌then◌else◌, slice_get, slice_set}
+use Rattle.std.proofs.lemmas.Bool.{ne_eqb}
 use Rattle.std.proofs.lemmas.List.{append-nil}
 use Rattle.std.proofs.lemmas.Option.{same_Some}
 use Rattle.tftp_wire.specs.declared.limits.TheConstants.{MAX_BLOCK}
@@ -25,7 +25,7 @@ use Rattle.tftp_ends.specs.declared.outcome.Outcome.TheVariants as outcomes
 use Rattle.tftp_ends.specs.declared.phase.Phase.{Phase}
 use Rattle.tftp_ends.specs.declared.phase.Phase.TheVariants.{Waiting, Sending, Receiving, Dallying, Closed}
 use Rattle.tftp_ends.specs.End.{is_sender, is_client, outcome_of, number_of}
-use Rattle.tftp_ends.specs.Action.{Decodes, datagram_action, timeout_response}
+use Rattle.tftp_ends.specs.Action.{datagram_action, timeout_response}
 use Rattle.tftp_ends.specs.Step.{Turn, Acts, AcksAgain, IsAck, Reply, response_turn, after_turn, ack_bytes, data_bytes}
 use Rattle.tftp_ends.specs.Step.{timeout_turn}
 use Rattle.tftp_rules.specs.Machine.{Endpoint}
@@ -47,6 +47,7 @@ use Rattle.tftp_player.proofs.StraightRuns.{IsReady}
 use Rattle.tftp_player.proofs.WorldRuns.{set_same, step_keeps}
 
 -- ---- what bytes say
+-- the second byte
 abbrev pub second : List ℕ → ℕ
 second [] = 0
 second (a ∷ []) = 0
@@ -78,6 +79,7 @@ same_with true z = refl
 same_with false z = refl
 
 -- ---- a receiver acknowledges again
+-- the end has acknowledged again
 pub record Again (w v : WorldState) (k : ℕ) (x : OpenEnd) (from : Endpoint) (n : ℕ) : Type 0 where
   pub y : OpenEnd
   pub sent : v.sent ≡ w.sent ++ datagram x.address from (ack_bytes n) ∷ []
@@ -149,10 +151,12 @@ handles_again w v k x from bytes report n packet h spelled is still number =
     }
 
 -- ---- an end ignores a datagram: nothing changes
+-- nothing was sent, and no end has changed
 pub record Ignored (w v : WorldState) : Type 0 where
   pub sent : v.sent ≡ w.sent
   pub ends : v.ends ≡ w.ends
 
+-- an end that ignores a datagram stays as it is and sends nothing
 pub handles_ignored : (w v : WorldState) (k : ℕ) (x : OpenEnd) (from : Endpoint) (bytes : List ℕ) (report : Report)
     (packet : Packet) → Handles w k x from bytes report v → Spells packet bytes →
     datagram_action x.state from bytes (Some packet) ≡ Respond Ignore →
@@ -180,6 +184,7 @@ handles_ignored w v k x from bytes report packet h spelled is still there =
     }
 
 -- ---- an end sends again
+-- the end has sent its newest datagram again
 pub record Resent (w v : WorldState) (k : ℕ) (x : OpenEnd) : Type 0 where
   pub y : OpenEnd
   pub sent : v.sent ≡ w.sent ++ datagram x.address x.state.position.last_sent_to x.state.position.last_sent ∷ []

@@ -1,4 +1,4 @@
--- Each end that was opened has sent a datagram.
+-- Each end that was opened has sent a datagram. For `World::apply` and `draw`.
 use Rattle.std.proofs.Common.{◌≡◌, ℕ, ◌+◌, ◌<◌, ◌≤◌, suc, zero, Bool, true, false, List, [], ◌∷◌, ◌++◌, length, sym}
 use Rattle.std.proofs.Common.{subst, ap, ◌∙◌, refl, arith, length-append}
 use Rattle.std.specs.Prelude.{◌%◌, slice_index_or, slice_set, nat_lt, if◌then◌else◌, Option, Some, None}
@@ -77,6 +77,7 @@ times_out : (old new : WorldState) (k : ℕ) (x : WorldEnd) (report : Report) �
 times_out old new k (Closed_end x) report s h = stays old new report s h
 times_out old new k (Open_end x) report t h = turns old new k x _ _ report t h
 
+-- in a step each end that opens sends a datagram
 pub sends_each : (old new : WorldState) (event : Event) (report : Report) → WorldStep old event report new →
     HasSentEach old → HasSentEach new
 sends_each old new (Get name mode asked) report s h = opens old new _ report s.2 h
@@ -108,11 +109,13 @@ module _ (w : WorldState) (kind index : ℕ) where
       if none then None else if nat_lt (kind % 8) 6 then Some (Deliver (index % length w.sent)) else Some
       (Timeout (1024 + index % length w.ends))
 
+  -- with no ends no event is drawn
   pub draws_none : (records : List (ℕ × Record)) → records ≡ records_from 1024 w.ends → length records ≡ 0 →
       None ≡ drawn w kind index
   draws_none records are none =
       ap by_count (sym (eq-eqb (length w.ends) 0 (sym (records_count 1024 w.ends) ∙ (ap length (sym are) ∙ none))))
 
+  -- a timeout that is drawn is of one of the ends
   pub draws_timeout : (records : List (ℕ × Record)) (d : ℕ × Record) → records ≡ records_from 1024 w.ends →
       (length records ≡ 0 → ⊥) → 6 ≤ kind % 8 →
       Some (Timeout (slice_index_or records (index % length records) d).0) ≡ drawn w kind index
@@ -132,6 +135,7 @@ module _ (w : WorldState) (kind index : ℕ) where
         not_low true e = absurd (let l = ltb-true (kind % 8) 6 e in omega (arith, l, high))
         not_low false e = e
 
+-- with no ends no more words are drawn
 pub no_words : (w : WorldState) (g : Lcg) (records : List (ℕ × Record)) → records ≡ records_from 1024 w.ends →
     length records ≡ 0 → g ≡ words_drawn w g
 no_words w g records are none =

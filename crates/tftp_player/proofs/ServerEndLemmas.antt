@@ -1,4 +1,4 @@
--- What an end of the server did, from what the server did.
+-- What an end of the server did, from what the server did. For `ServerEnd::on_datagram` and `ServerEnd::on_timeout`.
 use Rattle.std.proofs.Common.{◌≡◌, ◌≤◌, ℕ, Bool, true, false, List, [], ◌∷◌, length, Option, Some, None, cond, refl}
 use Rattle.std.proofs.Common.{sym, ap, ◌∙◌, subst, arith}
 use Rattle.std.specs.Prelude.{is_some, option_map}
@@ -44,6 +44,7 @@ closes_as port h next held held' turn step found e is reports =
     subst (ClosesAs step.closed) (sym (ap (at port) e ∙ lookup-set_same numbers port h next held found))
     (ap (λ (s : Step). s.closed) reports ∙ ap (λ (e : EndState). outcome_of e.position.phase) (sym is))
 
+-- a timeout closes an end as the server says
 pub times_out_closes : (port : ℕ) (old new : List (ℕ × ServerTransfer)) (step : Step) (outgoing : Outgoing) →
     TimesOutLent port old new step outgoing → ClosesAs step.closed (at port new)
 times_out_closes port old new step outgoing t =
@@ -99,6 +100,7 @@ sent_is : (outgoing : Outgoing) (o : Option ServerTransfer) (h : ServerTransfer)
     IsSentBy outgoing o out r → (out ≡ lent outgoing h.end) × (r ≡ record_of h.end)
 sent_is outgoing o h out r found sent = subst (λ (p : Option ServerTransfer). IsSentBy outgoing p out r) found sent
 
+-- a timeout of a transfer is one of its end
 pub served_times_out :
     (port : ℕ) (old new : ServerEnd) (before mid after : PlayedServer) (step : Step) (outgoing : Outgoing) (out : List ℕ)
     (effect : Effect) (r : Record) →
@@ -308,6 +310,7 @@ transfer_is next h a b c d =
     ∙ (ap (λ (p : List ℕ). record { end = h.end; files = h.files; path = p; request = next.request }) c
     ∙ ap (λ (q : List ℕ). record h { request = q }) d))
 
+-- a datagram that the server could not handle leaves it as it was
 pub not_taken : (port : ℕ) (was : ServerEnd) (before armed mid quieted : PlayedServer) → ServerEndKept port was before.held →
     before.store.refuses ≡ false → armed ≡ server_armed before was.refuses →
     KeepsHeld memory_meaning memory_source port (at port armed.held) armed mid →

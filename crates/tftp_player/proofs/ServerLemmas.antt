@@ -1,4 +1,4 @@
--- What the server's request port did is what the world has of it, for a store in memory.
+-- What the server's request port did is what the world has of it, for a store in memory. For four other files.
 use Rattle.std.proofs.Common.{◌≡◌, ◌≢◌, ℕ, ◌*◌, ◌<◌, Bool, true, false, List, [], ◌∷◌, length, get_or, take, drop, min}
 use Rattle.std.proofs.Common.{Option, Some, None, Result, Ok, Err, refl, sym, ap, ◌∙◌, subst, arith, inl, inr}
 use Rattle.std.specs.Prelude.{◌&&◌, not, is_some, IfErr, if◌then◌else◌, nat_lt}
@@ -133,6 +133,7 @@ taken_is false there = refl
 abbrev pub held_sender : OpenEnd → ServerTransfer
 held_sender x = record { end = x.state; files = Source x.left; path = x.path; request = x.request }
 
+-- the transfer of a receiver
 abbrev pub held_receiver : OpenEnd → ServerTransfer
 held_receiver x = record { end = x.state; files = Sink new_draft; path = x.path; request = x.request }
 
@@ -147,6 +148,7 @@ pub record PortAsking : Type 0 where
 abbrev pub PortLeft : Type 0
 PortLeft = Left Stored (List ℕ) Drafted
 
+-- the result of a request, for a store in memory
 abbrev pub PortCame : Type 0
 PortCame = Came Stored (List ℕ) Drafted
 

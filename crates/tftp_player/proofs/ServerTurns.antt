@@ -1,4 +1,5 @@
--- A turn of a transfer that the server holds, in the words of the world's ends.
+-- A turn of a transfer that the server holds, in the words of the world's ends. For DatagramLemmas, DraftLemmas and
+-- StepLemmas.
 use Rattle.std.proofs.Common.{◌≡◌, ℕ, Bool, true, false, List, refl, sym, ap, ◌∙◌, subst, inl, inr}
 use Rattle.std.specs.Prelude.{◌&&◌, not, if◌then◌else◌}
 use Rattle.std.proofs.lemmas.Option.{same_Some}
@@ -32,6 +33,7 @@ none_put : (client : Bool) → (client && false) ≡ false
 none_put true = refl
 none_put false = refl
 
+-- files stay the same where nothing is committed
 pub files_same : (overwrite client old new : Bool) (path bytes : List ℕ) (files : List StoredFile) → new ≡ old →
     FilesAfter overwrite (not client && (not old && new)) path bytes files files
 files_same overwrite client old new path bytes files e =
@@ -45,13 +47,16 @@ same_with : (b : Bool) (x : OpenEnd) → with_files x (if b then Source x.left e
 same_with true x = refl
 same_with false x = refl
 
+-- after a timeout an end has its files still
 pub timeout_after : (x : OpenEnd) (turn : Turn) → end_after x turn (files_of x) ≡ in_state (after_turn x.state turn) x
 timeout_after x turn = same_with (is_sender x.state.role.side) (in_state (after_turn x.state turn) x)
 
 -- ---- a datagram, at a transfer of the server: its draft and the store are a sink of the world
+-- a draft and the store of its server
 abbrev pub Drafts : Type 0
 Drafts = Drafting Stored Drafted
 
+-- a draft as the world has it
 abbrev pub seen : Drafts → Holding
 seen d = record { bytes = d.draft.bytes; committed = d.draft.committed; refuses = d.store.refuses }
 
@@ -113,6 +118,7 @@ sources = record {
 -- a step of the transfer is a step of the end
 module _ (from : Endpoint) (bytes : List ℕ) (e : EndState) (store store' : Stored) (path path' : List ℕ)
     (replace : Bool) (turn : Turn) where
+  -- a step of a server's transfer is one of its end
   pub end_step : (files files' : Files (List ℕ) Drafted) →
       StepIn memory_meaning memory_source from bytes e (files_in store path replace files) turn
       (files_in store' path' replace files') →

@@ -1,4 +1,5 @@
--- `settle` makes as many deliveries as an accepted transfer needs, if its limit is not below.
+-- `settle` makes as many deliveries as an accepted transfer needs, if its limit is not below. For
+-- `a_straight_run_completes` and RecoveriesSettled.
 use Rattle.std.proofs.Common.{◌≡◌, ◌≢◌, ◌⊎◌, inl, inr, ℕ, ◌+◌, ◌<◌, ◌≤◌, Bool, true, false, nat_lt, List, [], ◌∷◌}
 use Rattle.std.proofs.Common.{length, Option, Some, None, refl, sym, ap, ◌∙◌, arith}
 use Rattle.std.specs.Prelude.{slice_get}
@@ -163,6 +164,7 @@ took_all first (report ∷ reports) w v i stay s taken =
           taken f.k f.x (stay_closed reports s.0 v (i + 1) f.k f.x s.2 f.there)
           (not_closed first w f.k f.x f.was_open stay f.before) (f.outcome_is ∙ ap Some fault)
 
+-- a read settles
 pub reads_settle : ReadsSettle
 reads_settle strangers old begun new report name mode asked file agreed most made ok asks accepts s enough =
     let run : RunsStraight old (Get name mode asked) new =
@@ -171,6 +173,7 @@ reads_settle strangers old begun new report name mode asked file agreed most mad
     settled_ends old begun new most made (read_adds mode file agreed) s enough
     (reads_complete strangers old new name mode asked file agreed ok read)
 
+-- a write settles
 pub writes_settle : WritesSettle
 writes_settle strangers old begun new report name mode asked file agreed most made ok asks accepts s have enough =
     let taken = took_all begun s.reports begun new (length old.sent) (λ k x e. e) s.delivered have in

@@ -1,4 +1,4 @@
--- The effect of a turn of one player on the ends of a world.
+-- The effect of a turn of one player on the ends of a world. For eight other files.
 use Rattle.std.proofs.Common.{◌≡◌, ◌≢◌, ℕ, suc, ◌+◌, ◌<◌, length, inl, inr, Bool, true, false, List, [], Option, Some}
 use Rattle.std.proofs.Common.{None, refl, sym, ap, ◌∙◌, subst}
 use Rattle.std.specs.Prelude.{◌⊎◌, ◌&&◌, not, is_some, if◌then◌else◌, slice_get, slice_set}
@@ -58,6 +58,7 @@ served_by_port port s None held held' e k = record {
   path = k.path;
 }
 
+-- a player is kept while what is held at its port is
 pub kept_by_port : (port : ℕ) (held held' : List (ℕ × ServerTransfer)) (p : Player) → at port held' ≡ at port held →
     PlayerKept port held p → PlayerKept port held' p
 kept_by_port port held held' (Client c) e k = k
@@ -85,6 +86,7 @@ pub record Stepped (port : ℕ) (p : Player) (x : OpenEnd) (p' : Player) (before
   pub config : after.config ≡ before.config
 
 -- ---- a client
+-- the files of a client's end are the client's
 pub client_files : (port : ℕ) (c : PlayedClient) → AreFilesOf c.end.role.side c.files →
     files_of (client_end port c) ≡ c.files
 client_files port c fits = by_kind c.end.role.side c.files fits where
@@ -102,6 +104,7 @@ client_files port c fits = by_kind c.end.role.side c.files fits where
 abbrev pub SameKind : Files (List ℕ) Holding → Files (List ℕ) Holding → Type 0
 SameKind old new = AreSame (λ (a b : List ℕ). Unit {0}) (λ (a b : Holding). Unit {0}) old new
 
+-- files are of their own kind
 pub same_kind : (files : Files (List ℕ) Holding) → SameKind files files
 same_kind (Source left) = tt
 same_kind (Sink holding) = tt
@@ -125,6 +128,7 @@ files_kept side (Sink holding) (Source left) k f = absurd k
 pub no_transfer : (x : OpenEnd) → is_client x.state.role.side ≡ true → is_transfer (standing x) ≡ false
 no_transfer x e = standing_transfer x ∙ ap (λ (b : Bool). not b && not (is_some (outcome_of x.state.position.phase))) e
 
+-- a turn of an open client is one of its end
 pub client_open :
     (port : ℕ) (c c' : PlayedClient) (server : PlayedServer) (turn : Turn) (files : Files (List ℕ) Holding)
     (effect : Effect) (r : Record) →
@@ -180,17 +184,20 @@ not_some (Some r) e = absurd (true≢false e)
 abbrev pub held_end : ℕ → ServerEnd → ServerTransfer → OpenEnd
 held_end port s h = open_server_end port s h.end (left_in h.files) (draft_of h.files) h.request
 
+-- a server's end that has not ended is the one that is held at its port
 pub served_is : (port : ℕ) (s : ServerEnd) (held : List (ℕ × ServerTransfer)) (h : ServerTransfer) → is_some s.ended ≡ false →
     at port held ≡ Some h → end_at port held (Server s) ≡ Open_end (held_end port s h)
 served_is port s held h open_now found =
     ap (λ (o : Option Record). server_end port s o (at port held)) (not_some s.ended open_now)
     ∙ ap (λ (o : Option ServerTransfer). server_end port s None o) found
 
+-- and it is kept
 pub served_kept : (port : ℕ) (s : ServerEnd) (held : List (ℕ × ServerTransfer)) → is_some s.ended ≡ false →
     PlayerKept port held (Server s) → ServerEndKept port s held
 served_kept port s held open_now kept =
     subst (λ (o : Option Record). IsServerEndAt port s o held) (not_some s.ended open_now) kept
 
+-- two transfers that were found in one place are one
 pub same_transfer : (a b : ServerTransfer) → Some a ≡ Some b → a ≡ b
 same_transfer a b e = cc
 
@@ -199,6 +206,7 @@ abbrev pub held_files : Bool → Files (List ℕ) Drafted → Files (List ℕ) H
 held_files refuses (Source left) = Source left
 held_files refuses (Sink draft) = Sink (record { bytes = draft.bytes; committed = draft.committed; refuses = refuses })
 
+-- its files are those of the transfer
 pub served_files : (port : ℕ) (s : ServerEnd) (e : EndState) (files : Files (List ℕ) Drafted) (request : List ℕ) →
     AreFilesOf e.role.side files →
     files_of (open_server_end port s e (left_in files) (draft_of files) request) ≡ held_files s.refuses files
@@ -214,6 +222,7 @@ served_files port s e (Sink draft) request fits =
 abbrev pub SameDraftKind : Files (List ℕ) Drafted → Files (List ℕ) Drafted → Type 0
 SameDraftKind old new = AreSame (λ (a b : List ℕ). Unit {0}) (λ (a b : Drafted). Unit {0}) old new
 
+-- drafts are of their own kind
 pub same_draft_kind : (files : Files (List ℕ) Drafted) → SameDraftKind files files
 same_draft_kind (Source left) = tt
 same_draft_kind (Sink draft) = tt
@@ -236,10 +245,12 @@ abbrev pub KeepsArmed : Files (List ℕ) Drafted → Bool → Bool → Type 0
 KeepsArmed (Source left) old new = new ≡ old
 KeepsArmed (Sink draft) old new = Unit {0}
 
+-- a store that stays armed, or stays unarmed, keeps its arming
 pub same_armed : (files : Files (List ℕ) Drafted) (armed : Bool) → KeepsArmed files armed armed
 same_armed (Source left) armed = refl
 same_armed (Sink draft) armed = tt
 
+-- a store that is kept keeps its arming
 pub keeps_armed : (files : Files (List ℕ) Drafted) (before after : Stored) (armed : Bool) →
     KeepsStore files (with_armed before armed) after → KeepsArmed files armed after.refuses
 keeps_armed (Source left) before after armed k = ap (λ (s : Stored). s.refuses) k

@@ -1,4 +1,4 @@
--- An end after a turn, in the world: open, or closed with its record.
+-- An end after a turn, in the world: open, or closed with its record. For ten other files.
 use Rattle.std.proofs.Common.{◌≡◌, ℕ, Bool, true, false, List, set, Option, Some, None, refl, sym, ap, ◌∙◌, subst, inl}
 use Rattle.std.proofs.Common.{inr}
 use Rattle.std.specs.Prelude.{◌&&◌, not, is_some, slice_get}
@@ -40,6 +40,7 @@ view_in (Receiving terms number) x = refl
 view_in (Dallying terms number dally) x = refl
 view_in (Closed terms number complete outcome) x = refl
 
+-- an end is viewed as itself
 pub standing_view : (x : OpenEnd) → IsViewedAs x (standing x)
 standing_view x = view_in x.state.position.phase x
 
@@ -51,15 +52,19 @@ over_in (Receiving terms number) closed d = absurd (true≢false (sym closed))
 over_in (Dallying terms number dally) closed d = absurd (true≢false (sym closed))
 over_in (Closed terms number complete outcome) closed d = ap not d
 
+-- an end with an outcome is not in service
 pub closed_over : (x : OpenEnd) → is_some (outcome_of x.state.position.phase) ≡ true → IsInService (open_view x) → ⊥
 closed_over x closed busy = true≢false (sym (over_in x.state.position.phase closed busy.1) ∙ busy.2)
 
+-- its record is that of its state
 pub standing_record : (x : OpenEnd) → end_record (standing x) ≡ record_of x.state
 standing_record x = stands_as end_record (record_of x.state) x refl refl
 
+-- its address stays
 pub standing_address : (x : OpenEnd) → end_address (standing x) ≡ x.address
 standing_address x = stands_as end_address x.address x refl refl
 
+-- without an outcome there is none to find
 pub no_outcome : (o : Option Outcome) → is_some o ≡ false → o ≡ None
 no_outcome None e = refl
 no_outcome (Some outcome) e = absurd (true≢false e)
@@ -68,6 +73,7 @@ no_outcome (Some outcome) e = absurd (true≢false e)
 pub standing_open : (x : OpenEnd) → is_some (outcome_of x.state.position.phase) ≡ false → standing x ≡ Open_end x
 standing_open x e = ap (λ (o : Option Outcome). by_outcome o x) (no_outcome (outcome_of x.state.position.phase) e)
 
+-- an end without an outcome is viewed as open
 pub open_is : (x : OpenEnd) → is_some (outcome_of x.state.position.phase) ≡ false →
     view_of_end (Open_end x) ≡ open_view x
 open_is x e = open_in x.state.position.phase x e where

@@ -1,4 +1,4 @@
--- Steps of a world, from what happened at one index of it.
+-- Steps of a world, from what happened at one index of it. For six other files.
 use Rattle.std.proofs.Common.{◌≡◌, ◌≢◌, ℕ, ◌+◌, ◌<◌, ◌≤◌, Bool, true, List, length, Some, refl, sym, ap, ◌∙◌, subst}
 use Rattle.std.proofs.Common.{arith, inl, inr}
 use Rattle.std.specs.Prelude.{◌⊎◌, ◌&&◌, not, slice_get, slice_set}
@@ -30,6 +30,7 @@ pub turns_as : (w : WorldState) (k : ℕ) (x : OpenEnd) (turn : Turn) (held : Fi
     Turns w k x turn held (report_of w x turn) (world_after w k x turn held w.files)
 turns_as w k x turn held same = record { files = w.files; stored = same; reports = refl; is = refl }
 
+-- a client leaves the server's files
 pub client_files : (overwrite client b : Bool) (path bytes : List ℕ) (files : List StoredFile) → client ≡ true →
     FilesAfter overwrite (not client && b) path bytes files files
 client_files overwrite client b path bytes files e =
@@ -40,6 +41,7 @@ pub get_step : (w : WorldState) (name : List ℕ) (mode : Mode) (asked : Asked) 
     WorldStep w (Get name mode asked) (sent_report w) (opened_in w (reading_client w name mode asked))
 get_step w name mode asked port may = (port, may, record { reports = refl; is = refl })
 
+-- a put is a step of a world
 pub put_step : (w : WorldState) (name : List ℕ) (mode : Mode) (asked : Asked) (file : List ℕ) → HasPort w →
     MayPut name mode asked (length (wire_text mode file)) →
     WorldStep w (Put name mode asked file) (sent_report w) (opened_in w (writing_client w name mode asked file))
@@ -57,6 +59,7 @@ timeout_step w port k x at =
     (end_after x turn held).stored w.files (ap (λ (z : OpenEnd). z.committed) (timeout_after x turn)) in
     (k, Open_end x, at, turns_as w k x turn held same)
 
+-- a timeout at a closed end changes nothing
 pub timeout_stays : (w : WorldState) (port k : ℕ) (x : ClosedEnd) → IsAtPort w port k (Closed_end x) →
     WorldStep w (Timeout port) no_report w
 timeout_stays w port k x at = (k, Closed_end x, at, record { reports = refl; is = refl })

@@ -1,4 +1,4 @@
--- What a world returns of the end at a port.
+-- What a world returns of the end at a port. For `Simulation::committed` and `Simulation::stored`.
 use Rattle.std.proofs.Common.{◌≡◌, ℕ, ◌+◌, ◌-◌, ◌<◌, ◌≤◌, Bool, true, false, List, length, Option, Some, None, refl}
 use Rattle.std.proofs.Common.{sym, ap, ◌∙◌, subst, arith, inl, inr}
 use Rattle.std.specs.Prelude.{◌⊎◌, not, is_some, nat_lt, if◌then◌else◌, unwrap_or, slice_get, slice_index_or}
@@ -66,6 +66,7 @@ served_commits port s (Some r) h = refl
 served_commits port s None (Some h) = refl
 served_commits port s None None = refl
 
+-- what a player has stored is what its end has
 pub stores_is : (port : ℕ) (held : List (ℕ × ServerTransfer)) (p : Player) → PlayerKept port held p →
     stored_of port held p ≡ stored_in (end_at port held p)
 stores_is port held (Client c) k =
@@ -75,6 +76,7 @@ stores_is port held (Client c) k =
     (client_end port c) refl refl)
 stores_is port held (Server s) k = served_stores port s s.ended held k
 
+-- and so is whether that is committed
 pub commits_is : (port : ℕ) (held : List (ℕ × ServerTransfer)) (p : Player) →
     committed_of port held p ≡ end_committed (end_at port held p)
 commits_is port held (Client c) =

@@ -1,4 +1,4 @@
--- What an end does at the datagram that it waits for.
+-- What an end does at the datagram that it waits for. For eleven other files.
 use Rattle.std.proofs.Common.{◌≡◌, ℕ, ◌+◌, ◌/◌, ◌<◌, ◌≤◌, Bool, true, false, List, [], ◌∷◌, length, Option, Some, None}
 use Rattle.std.proofs.Common.{refl, ap, ◌∙◌, arith}
 use Rattle.std.specs.Prelude.{◌&&◌, ◌==◌, not, if◌then◌else◌, nat_eq, nat_lt}
@@ -21,6 +21,7 @@ use Rattle.tftp_ends.specs.Text.{is_readable}
 use Rattle.tftp_rules.specs.Machine.{Endpoint}
 
 -- ---- from whom it is
+-- a list is found equal to itself
 pub same_list : (xs : List ℕ) → pointwise nat_eq xs xs ≡ true
 same_list [] = refl
 same_list (x ∷ xs) = ap (λ (b : Bool). b && pointwise nat_eq xs xs) (eq-eqb x x refl) ∙ same_list xs
@@ -45,6 +46,7 @@ near e from bytes packet known =
     if b then Respond (garbled_response e.position.phase) else packet_action e from (Some packet) e.position.phase)
     (none_garbled (has_error_opcode bytes))
 
+-- a datagram of the peer is not of a wrong peer
 pub peer_near : (terms : Terms) (to from : Endpoint) → terms.peer ≡ from → is_wrong_peer (Some terms) to from ≡ false
 peer_near terms to from peer =
     ap (λ (b : Bool). not b) (ap (λ (p : Endpoint). same_endpoint p from) peer ∙ same_self from)
@@ -72,6 +74,7 @@ from_server e phase from bytes packet is none server =
     ∙ ap (packet_action e from (Some packet)) is
 
 -- ---- a sender with the ACK of its newest block
+-- the ACK of a block before the last sends the next
 pub acked_more : (length n : ℕ) (terms : Terms) → n < length / terms.size + 1 →
     acked_action length terms n n ≡ Send terms (n + 1)
 acked_more length n terms more =
@@ -80,6 +83,7 @@ acked_more length n terms more =
     then Respond Ignore else illegal_action terms) (eq-eqb n n refl)
     ∙ ap (λ (b : Bool). if b then Send terms (n + 1) else Respond Complete) (lt-ltb n (length / terms.size + 1) more)
 
+-- the ACK of the last block completes a sender
 pub acked_last : (length n : ℕ) (terms : Terms) → length / terms.size + 1 ≤ n →
     acked_action length terms n n ≡ Respond Complete
 acked_last length n terms last =
@@ -110,6 +114,7 @@ next_stores mode held terms number piece fits short readable =
     (λ a b. short (eqb-true number 65535 a) (eqb-true (length piece) terms.size b)))
     ∙ ap (λ (b : Bool). if b then Store terms number else refuse) readable)
 
+-- the DATA with the next number is stored
 pub data_next : (mode : Mode) (held : List ℕ) (terms : Terms) (n : ℕ) (piece : List ℕ) →
     data_action mode held terms n (n + 1) piece ≡ next_action mode held terms (n + 1) piece
 data_next mode held terms n piece =

@@ -1,4 +1,4 @@
--- The beginning of a run without loss: a client asks, and the server's port accepts its request.
+-- The beginning of a run without loss: a client asks, and the server's port accepts its request. For six other files.
 use Rattle.std.proofs.Common.{◌≡◌, ℕ, ◌+◌, ◌*◌, ◌<◌, Bool, true, false, List, [], ◌∷◌, ◌++◌, length, Option, Some, None}
 use Rattle.std.proofs.Common.{Result, Ok, Err, refl, sym, ap, ◌∙◌, subst, arith, length-append}
 use Rattle.std.specs.Prelude.{◌↔◌, IsTrue, if◌then◌else◌, nat_le, nat_lt, slice_get}
@@ -40,6 +40,7 @@ use Rattle.tftp_player.proofs.ServerLemmas.{says_one}
 use Rattle.tftp_player.proofs.WorldRuns.{step_keeps}
 
 -- ---- a client asked
+-- the client is there and has sent its request
 pub record HasAsked (strangers : Bool) (old w : WorldState) (c : OpenEnd) : Type 0 where
   pub ok : Refines strangers w
   pub sent : w.sent ≡ old.sent ++ datagram c.address c.state.position.last_sent_to c.state.position.last_sent ∷ []
@@ -50,6 +51,7 @@ pub record HasAsked (strangers : Bool) (old w : WorldState) (c : OpenEnd) : Type
   pub there : slice_get w.ends (length old.ends) ≡ Some (Open_end c)
   pub files : w.files ≡ old.files
 
+-- a client that opens has asked
 pub has_asked : (strangers : Bool) (old w : WorldState) (c : OpenEnd) (event : Event) (report : Report) →
     MayHappen strangers event → Refines strangers old → WorldStep old event report w →
     w ≡ opened_in old c → HasAsked strangers old w c
@@ -106,6 +108,7 @@ module _ (w v : WorldState) (i : ℕ) (c : OpenEnd) (report : Report) (accepts :
   arrived (At_closed_end k x at here s) = absurd (outside k (Closed_end x) at here)
   arrived (At_nobody away nobody s) = absurd (away refl)
 
+  -- at the delivery of the request the port accepts it
   pub port_comes : slice_get w.sent i ≡ Some (datagram c.address request_port c.state.position.last_sent) →
       WorldStep w (Deliver i) report v → Comes
   port_comes newest s =
@@ -118,11 +121,13 @@ pub record HasOpened (w v : WorldState) (x : OpenEnd) : Type 0 where
   pub sent : v.sent ≡ w.sent ++ datagram x.address x.state.position.last_sent_to x.state.position.last_sent ∷ []
   pub ends : v.ends ≡ w.ends ++ Open_end x ∷ []
 
+-- an end opens as the newest one
 pub has_opened : (w v : WorldState) (x : OpenEnd) (report : Report) → OpeningStep w x report v → HasOpened w v x
 has_opened w v x report o =
     record { sent = ap (λ (u : WorldState). u.sent) o.is; ends = ap (λ (u : WorldState). u.ends) o.is }
 
 -- ---- what the port agreed to is its answer to some options
+-- the service is an answer, not a refusal
 abbrev pub IsAnswer : WorldState → Service → Type 0
 IsAnswer w (Sends path mode length agreed) =
     (options : List RawOption) × (answer options kinds.Read mode length w.limits ≡ Ok agreed)
@@ -192,6 +197,7 @@ module _ (w : WorldState) where
   packet_answers repeated (Some (Error code text)) = tt
   packet_answers repeated (Some (Oack options)) = tt
 
+  -- what the port decides is an answer
   pub service_answers : (repeated : Bool) (bytes : List ℕ) (decoded : Option Packet) →
       IsAnswer w (service w repeated bytes decoded)
   service_answers repeated bytes decoded =

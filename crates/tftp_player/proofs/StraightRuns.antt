@@ -1,4 +1,4 @@
--- A run without loss, from the first DATA or the first ACK that is to be delivered.
+-- A run without loss, from the first DATA or the first ACK that is to be delivered. For 15 other files.
 use Rattle.std.proofs.Common.{◌≡◌, ◌≢◌, ℕ, ◌+◌, ◌*◌, ◌/◌, ◌<◌, ◌≤◌, suc, zero, Bool, true, false, List, [], ◌∷◌, ◌++◌}
 use Rattle.std.proofs.Common.{length, take, drop, Some, refl, sym, ap, ◌∙◌, subst, arith, length-append}
 use Rattle.std.specs.Prelude.{nat_lt, slice_get, slice_set}
@@ -44,16 +44,19 @@ use Rattle.tftp_player.proofs.StraightSteps.{ports_of, Handles, delivered, Becom
 use Rattle.tftp_player.proofs.StraightSteps.{is_armed, HasStored, stored_phase, takes_data, handles_data}
 use Rattle.tftp_player.proofs.WorldRuns.{step_keeps}
 
+-- a delivery may happen
 pub deliver_may : (strangers : Bool) (i : ℕ) → MayHappen strangers (Deliver i)
 deliver_may true i = tt
 deliver_may false i = tt
 
 -- ---- a world in which this datagram is the only one to be delivered
+-- the newest datagram is ready to be delivered
 pub record IsReady (strangers : Bool) (w : WorldState) (i : ℕ) (d : Datagram) : Type 0 where
   pub ok : Refines strangers w
   pub newest : slice_get w.sent i ≡ Some d
   pub count : length w.sent ≡ i + 1
 
+-- after a delivery the next datagram is ready
 pub ready_next : (strangers : Bool) (w v : WorldState) (i : ℕ) (d next : Datagram) (report : Report) →
     IsReady strangers w i d → WorldStep w (Deliver i) report v →
     v.sent ≡ w.sent ++ next ∷ [] → IsReady strangers v (i + 1) next
@@ -72,15 +75,18 @@ pub stays_at : (w v : WorldState) (k j : ℕ) (x y : WorldEnd) → v.ends ≡ sl
 stays_at w v k j x y ends away there =
     ap (λ (xs : List WorldEnd). slice_get xs j) ends ∙ (slice_get-set_other w.ends k j y away ∙ there)
 
+-- the end that was written is at its index
 pub set_at : (w v : WorldState) (k : ℕ) (x y : WorldEnd) → v.ends ≡ slice_set w.ends k y → slice_get w.ends k ≡ Some x →
     slice_get v.ends k ≡ Some y
 set_at w v k x y ends there = ap (λ (xs : List WorldEnd). slice_get xs k) ends ∙ slice_get-set_same w.ends k y x there
 
+-- after a full block a receiver goes on
 pub stored_more_phase : (terms : Terms) (number : ℕ) (l : ℕ) → l ≡ terms.size →
     stored_phase terms number (nat_lt l terms.size) ≡ Receiving terms number
 stored_more_phase terms number l e =
     ap (stored_phase terms number) (le-ltb l terms.size (let f : terms.size ≤ l = omega (arith, e) in f))
 
+-- after a shorter one it dallies
 pub stored_last_phase : (terms : Terms) (number : ℕ) (l : ℕ) → l < terms.size →
     stored_phase terms number (nat_lt l terms.size) ≡ Dallying terms number Fresh
 stored_last_phase terms number l e = ap (stored_phase terms number) (lt-ltb l terms.size e)
@@ -146,6 +152,7 @@ module _ (strangers : Bool) (ks kr : ℕ) (apart : kr ≢ ks) (sa ra : Endpoint)
   under_way w n ok s =
       subst (λ (p : Phase). PhaseKept two_hosts s.x p) s.phase (ok.ends ks (Open_end s.x) s.there).stands.kept.phase
 
+  -- the blocks of a sender fit their numbers
   pub fit_of : (w : WorldState) (n : ℕ) → Refines strangers w → SendsAt w n → IsFit
   fit_of w n ok s =
       let u = under_way w n ok s in
@@ -155,6 +162,7 @@ module _ (strangers : Bool) (ks kr : ℕ) (apart : kr ≢ ks) (sa ra : Endpoint)
         fits = subst (λ (t : List ℕ). Fits t st.size) (text_of_sender w n ok s) u.fits;
       }
 
+  -- the bytes of each DATA spell it
   pub spelled_at : (n : ℕ) → IsFit → n + 1 ≤ blocks → Spells (Data (n + 1) (piece n)) (data_bytes (n + 1) (piece n))
   spelled_at n f l = spells_own (Data (n + 1) (piece n)) (valid_data text st.size n f.positive f.small f.fits l)
 
@@ -202,6 +210,7 @@ module _ (strangers : Bool) (ks kr : ℕ) (apart : kr ≢ ks) (sa ra : Endpoint)
       (nat_lt (length (piece n)) rt.size) whole
       (λ e. last_rest text st.size f.positive f.fits n (ap (nat_lt (length (piece n))) (sym same_size) ∙ e)))
 
+  -- a receiver stores the next DATA
   pub receiving_stores : (x : OpenEnd) (n : ℕ) → IsFit → n + 1 ≤ blocks → x.state.position.phase ≡ Receiving rt n →
       x.state.role.mode ≡ mode →
       wire_text x.state.role.mode x.stored ++ x.state.position.held_back ≡ take (n * st.size) text →
@@ -379,6 +388,7 @@ module _ (strangers : Bool) (ks kr : ℕ) (apart : kr ≢ ks) (sa ra : Endpoint)
       }
 
   -- ---- the rest of the run, from DATA n + 1 on, after which m blocks are left
+  -- how many deliveries are left from a DATA on
   pub from_data : (reads : Bool) (m i n : ℕ) (w v : WorldState) → n + 1 + m ≡ blocks →
       IsReady strangers w i (data_at n) → SendsAt w (n + 1) → AwaitsAt reads w n → (l : IsLeft reads w i v) →
       Reaches v ks kr i (length l.reports) (2 + 2 * m)

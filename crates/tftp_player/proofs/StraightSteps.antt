@@ -1,4 +1,5 @@
--- The delivery of a datagram at the open end that it is for, if that sends, stores or is complete.
+-- The delivery of a datagram at the open end that it is for, if that sends, stores or is complete. For twelve other
+-- files.
 use Rattle.std.proofs.Common.{◌≡◌, ℕ, ◌+◌, ◌*◌, Bool, true, false, List, [], ◌∷◌, ◌++◌, length, drop, Option, Some}
 use Rattle.std.proofs.Common.{None, Result, Ok, Err, refl, sym, ap, ◌∙◌, subst, arith, inl, inr}
 use Rattle.std.specs.Prelude.{◌≢◌, if◌then◌else◌, nat_lt, slice_get, slice_set, IfErr}
@@ -204,9 +205,11 @@ module _ (w v : WorldState) (k : ℕ) (x : OpenEnd) (from : Endpoint) (bytes : L
     pub newest : said ≡ datagram x.address y.state.position.last_sent_to y.state.position.last_sent ∷ []
 
   -- ---- a sender sends
+  -- the turn that sends a block
   abbrev pub data_turn_at : Terms → ℕ → List ℕ → Turn
   data_turn_at terms n piece = sent_turn (Sending terms (n + 1)) from (data_bytes (n + 1) piece) x.state
 
+  -- a sender that is to send its next block does
   pub handles_send : (packet : Packet) (terms : Terms) (n : ℕ) (text : List ℕ) → Spells packet bytes →
       datagram_action x.state from bytes (Some packet) ≡ Send terms (n + 1) →
       is_sender x.state.role.side ≡ true → x.state.role.length ≡ length text → x.left ≡ drop (n * terms.size) text →
@@ -246,6 +249,7 @@ module _ (w v : WorldState) (k : ℕ) (x : OpenEnd) (from : Endpoint) (bytes : L
   same_with true z = refl
   same_with false z = refl
 
+  -- a sender whose last block is acknowledged completes
   pub handles_last : (packet : Packet) → Spells packet bytes →
       datagram_action x.state from bytes (Some packet) ≡ Respond Complete →
       (y : WorldEnd) × IsComplete y × (v.sent ≡ w.sent ++ []) × (v.ends ≡ slice_set w.ends k y)
@@ -263,6 +267,7 @@ module _ (w v : WorldState) (k : ℕ) (x : OpenEnd) (from : Endpoint) (bytes : L
       )
 
   -- ---- a reader accepts an OACK
+  -- a reader accepts an OACK
   pub handles_oack : (packet : Packet) (terms : Terms) → Spells packet bytes →
       datagram_action x.state from bytes (Some packet) ≡ Respond (Accept terms) →
       (y : OpenEnd) × (y.state.position.phase ≡ Receiving terms 0) × (y.stored ≡ x.stored)

@@ -1,4 +1,4 @@
--- What a datagram of neither host leaves unchanged.
+-- What a datagram of neither host leaves unchanged. For `a_stray_changes_no_record`.
 use Rattle.std.proofs.Common.{◌≡◌, ◌≢◌, ℕ, Bool, true, false, List, map, set, Some, refl, sym, ap, ◌∙◌, subst, inl, inr}
 use Rattle.std.specs.Prelude.{◌⊎◌, not, is_some, is_none, ◌&&◌, if◌then◌else◌, slice_get}
 use Rattle.std.proofs.lemmas.Bool.{true≢false}
@@ -162,10 +162,12 @@ arrived strangers old new from to bytes report k x ok far (At_closed_end j y at 
 arrived strangers old new from to bytes report k x ok far (At_nobody away nobody s) there home =
     as_is old new k x (ap (λ (w : WorldState). w.ends) s.is) there
 
+-- no datagram of neither host changes a record
 pub strays_change_no_record : StraysChangeNoRecord
 strays_change_no_record strangers old new from to bytes report k x ok s there home =
     arrived strangers old new from to bytes report k x ok s.0 s.1 there home
 
+-- the peer of a client is at the server's host
 pub clients_have_servers : ClientsHaveServers
 clients_have_servers strangers w x p ok i client peer =
     let by = shown_by two_hosts (map view_of_end w.ends) ok.messages ok.shown in

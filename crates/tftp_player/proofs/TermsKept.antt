@@ -1,4 +1,4 @@
--- The agreed terms stay, for all later steps of an end.
+-- The agreed terms stay, for all later steps of an end. For six other files.
 use Rattle.std.proofs.Common.{◌≡◌, ℕ, Bool, true, false, List, Option, Some, None, refl, sym, ap, ◌∙◌}
 use Rattle.std.specs.Prelude.{◌==◌, is_some, if◌then◌else◌, option_map}
 use Rattle.std.proofs.lemmas.Bool.{true≢false}
@@ -103,6 +103,7 @@ module _ (agreed : Terms) where
   response_has (Accept terms) from e s h = ap Some s
   response_has Complete from e s h = h
 
+  -- a timeout keeps them
   pub timeout_has : (e : EndState) → Has e.position → Has (timeout_turn e).position
   timeout_has e h =
       response_has (timeout_response e.position.retries_left e.position.phase) e.position.last_sent_to e

@@ -1,4 +1,4 @@
--- A request that repeats that of no open transfer is answered by no end that is shown.
+-- A request that repeats that of no open transfer is answered by no end that is shown. For four other files.
 use Rattle.std.proofs.Common.{◌≡◌, ℕ, zero, suc, Bool, false, List, [], ◌∷◌, map, Option, Some, None, refl, sym, ap}
 use Rattle.std.proofs.Common.{◌∙◌, subst, inl, inr}
 use Rattle.std.specs.Prelude.{not, option_map, slice_get}
@@ -23,6 +23,7 @@ answers_repeat : (from : Endpoint) (packet : Packet) (x : WorldEnd) → IsAnswer
 answers_repeat from packet (Open_end x) a = record { still = a.serving.0; peer = a.peer_is; same = a.spells }
 answers_repeat from packet (Closed_end x) a = absurd (true≢false (sym (ap not a.serving.1) ∙ a.serving.2))
 
+-- no end that is shown answers it
 pub none_answers :
     (from : Endpoint) (packet : Packet) (ends : List WorldEnd) (repeated : Bool) (decoded : Option Packet) →
     IsRepeated repeated from decoded ends →

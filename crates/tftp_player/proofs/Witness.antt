@@ -1,5 +1,5 @@
 -- The world after a sample transfer, computed: a client opens, and each datagram from its request on is delivered
--- once, in order. What is left to check are equations, which hold by computation.
+-- once, in order. What is left to check are equations, which hold by computation. For five other files.
 use Rattle.std.proofs.Common.{◌≡◌, ℕ, true, false, List, [], ◌∷◌, length, Option, Some, None, refl, sym, ap}
 use Rattle.std.proofs.Common.{subst, ◌∙◌, suc, arith, inl, inr}
 use Rattle.std.specs.Prelude.{slice_get}
@@ -35,9 +35,11 @@ use Rattle.tftp_player.proofs.SampleDeliveries.{IsSpelled, spells, reports, worl
 use Rattle.tftp_player.proofs.SampleDeliveries.{settles, count_reports, deliveries, plays}
 
 -- ---- a transfer of one file, of this name and in a world in which nothing has happened
+-- the name of the file
 abbrev pub name : List ℕ
 name = 97 ∷ []
 
+-- the configuration of the sample worlds
 abbrev pub config : Config
 config = record { limits = record { max_block = 1428; max_file = 10 }; retries = 2; cap = 1; overwrite = false }
 
@@ -57,40 +59,50 @@ abbrev pub files_for : Kind → Sample → List StoredFile
 files_for Read s = (name, s.file) ∷ []
 files_for Write s = []
 
+-- the world at its start
 abbrev pub new_world_for : Kind → Sample → WorldState
 new_world_for kind s = new_world (files_for kind s) config
 
+-- the event by which the client opens
 abbrev pub event_for : Kind → Sample → Event
 event_for Read s = Get name s.mode s.asked
 event_for Write s = Put name s.mode s.asked s.file
 
+-- the client may open so
 abbrev pub MayOpen : Kind → Sample → Type 0
 MayOpen Read s = MayGet name s.mode s.asked
 MayOpen Write s = MayPut name s.mode s.asked (length (wire_text s.mode s.file))
 
+-- the client as it opens
 abbrev pub client_for : Kind → Sample → OpenEnd
 client_for Read s = reading_client (new_world_for Read s) name s.mode s.asked
 client_for Write s = writing_client (new_world_for Write s) name s.mode s.asked s.file
 
+-- the bytes of its request
 abbrev pub request_for : Kind → Sample → List ℕ
 request_for kind s = (client_for kind s).state.position.last_sent
 
+-- the world once it has asked
 abbrev pub asked_world : Kind → Sample → WorldState
 asked_world kind s = opened_in (new_world_for kind s) (client_for kind s)
 
+-- what the server decides
 abbrev pub service_for : Kind → Sample → Service
 service_for Read s = Sends name s.mode (length (wire_text s.mode s.file)) s.agreed
 service_for Write s = Takes name s.mode s.agreed
 
+-- the server's end as it opens
 abbrev pub server_for : Kind → Sample → OpenEnd
 server_for Read s =
     sending_end (asked_world Read s) (client_for Read s).address (request_for Read s) s.mode name s.file s.agreed
 server_for Write s =
     receiving_end (asked_world Write s) (client_for Write s).address (request_for Write s) s.mode name s.agreed
 
+-- the world once that has opened
 abbrev pub begun_world : Kind → Sample → WorldState
 begun_world kind s = opened_in (asked_world kind s) (server_for kind s)
 
+-- the world after all deliveries
 abbrev pub last_world : Kind → Sample → WorldState
 last_world kind s = world_at s.host s.count (begun_world kind s) 1
 
@@ -104,6 +116,7 @@ pub record Runs (kind : Kind) (s : Sample) : Type 0 where
   pub answered : TakesAnswer s.asked kind s.mode config.limits.max_file s.agreed
   pub all : AllDelivered s.host s.count (begun_world kind s) 1
 
+-- the client opens by a step
 pub asks : (kind : Kind) (s : Sample) → MayOpen kind s →
     WorldStep (new_world_for kind s) (event_for kind s) (sent_report (new_world_for kind s)) (asked_world kind s)
 asks Read s may = get_step (new_world_for Read s) name s.mode s.asked (omega arith) may
@@ -115,15 +128,18 @@ begins : (kind : Kind) (s : Sample) →
 begins Read s = (s.file, refl, record { reports = refl; is = refl })
 begins Write s = record { reports = refl; is = refl }
 
+-- its request goes to the request port
 pub is_to_port : (kind : Kind) (s : Sample) → (client_for kind s).state.position.last_sent_to ≡ request_port
 is_to_port Read s = refl
 is_to_port Write s = refl
 
+-- it is a client
 pub is_of_client : (kind : Kind) (s : Sample) → is_client (client_for kind s).state.role.side ≡ true
 is_of_client Read s = refl
 is_of_client Write s = refl
 
 module _ (kind : Kind) (s : Sample) (runs : Runs kind s) where
+  -- the server accepts the request
   pub accepted : IsAccepted (asked_world kind s) (client_for kind s) (service_for kind s)
   accepted = record {
     decoded = Some (packet_in (request_for kind s));
@@ -142,6 +158,7 @@ module _ (kind : Kind) (s : Sample) (runs : Runs kind s) where
       ],
     )
 
+  -- the server's end opens by a step
   pub opens : WorldStep (asked_world kind s) (Deliver 0) (sent_report (asked_world kind s)) (begun_world kind s)
   opens = (
     datagram (client_for kind s).address (client_for kind s).state.position.last_sent_to (request_for kind s),
@@ -164,6 +181,7 @@ module _ (kind : Kind) (s : Sample) (runs : Runs kind s) where
   }
 
 -- ---- the results
+-- a read of which all this was computed is straight
 pub read_is_straight_by : (s : Sample) → Runs Read s → suc s.count ≡ read_adds s.mode s.file s.agreed →
     SomeReadIsStraight s.mode s.asked s.file s.agreed
 read_is_straight_by s runs counted = (
@@ -184,6 +202,7 @@ read_is_straight_by s runs counted = (
   ap suc (count_reports s.host s.count (begun_world Read s) 1) ∙ counted,
 )
 
+-- a write of which all this was computed is straight
 pub write_is_straight_by : (s : Sample) → Runs Write s → Fits (wire_text s.mode s.file) (size s.agreed) →
     AllTaken (reports s.host s.count (begun_world Write s) 1) → suc s.count ≡ write_adds s.mode s.file s.agreed →
     SomeWriteIsStraight s.mode s.asked s.file s.agreed
@@ -231,10 +250,12 @@ abbrev pub sender_at : Kind → ℕ
 sender_at Read = 1
 sender_at Write = 0
 
+-- the index of the receiver
 abbrev pub receiver_at : Kind → ℕ
 receiver_at Read = 0
 receiver_at Write = 1
 
+-- a sample whose receiver has the file transfers it
 pub transfers_by : (kind : Kind) (s : Sample) (runs : Runs kind s) →
     HaveMoved s.file (slice_get (last_world kind s).ends (sender_at kind))
     (slice_get (last_world kind s).ends (receiver_at kind)) →

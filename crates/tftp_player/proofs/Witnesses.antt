@@ -1,4 +1,5 @@
--- Sample transfers that complete without loss: reads and writes, with and without options.
+-- Sample transfers that complete without loss: reads and writes, with and without options. For
+-- `a_straight_run_completes`, `some_worlds_transfer` and four other files.
 use Rattle.std.proofs.Common.{ℕ, List, [], ◌∷◌, refl, arith, rules}
 use Rattle.std.specs.Fmt.{digits}
 use Rattle.tftp_wire.specs.declared.mode.Mode.TheVariants.{Octet, Netascii}
@@ -18,23 +19,29 @@ abbrev same : List ℕ → List ℕ
 same piece = piece
 
 -- ---- a read of one byte in octet, without options
+-- a read of one byte
 abbrev pub read : Sample
 read = record { mode = Octet; asked = nothing_asked; agreed = []; file = 65 ∷ []; count = 2; host = same }
 
+-- the read of a byte, without options
 pub read_runs : Runs Read read
 unfolding occurrences_of
 read_runs = search rules
 
+-- its file arrives
 pub read_transfers : Transfers (Get name Octet nothing_asked) (65 ∷ [])
 read_transfers = transfers_by Read read read_runs (search rules)
 
+-- it is straight
 pub read_is_straight : SomeReadIsStraight Octet nothing_asked (65 ∷ []) []
 read_is_straight = read_is_straight_by read read_runs refl
 
 -- ---- a write of one byte in octet, without options
+-- a write of one byte
 abbrev pub write : Sample
 write = record { mode = Octet; asked = nothing_asked; agreed = []; file = 65 ∷ []; count = 3; host = same }
 
+-- the write of a byte, without options
 pub write_runs : Runs Write write
 unfolding occurrences_of
 write_runs = record {
@@ -45,9 +52,11 @@ write_runs = record {
   all = search rules;
 }
 
+-- its file arrives
 pub write_transfers : Transfers (Put name Octet nothing_asked (65 ∷ [])) (65 ∷ [])
 write_transfers = transfers_by Write write write_runs (search rules)
 
+-- it is straight
 pub write_is_straight : SomeWriteIsStraight Octet nothing_asked (65 ∷ []) []
 write_is_straight = write_is_straight_by write write_runs (omega arith) (tt, (tt, ((λ e. cc), tt))) refl
 
@@ -60,9 +69,11 @@ text_runs : Runs Read text
 unfolding occurrences_of
 text_runs = search rules
 
+-- a file in netascii arrives
 pub netascii_transfers : Transfers (Get name Netascii nothing_asked) (10 ∷ [])
 netascii_transfers = transfers_by Read text text_runs (search rules)
 
+-- its read is straight
 pub netascii_is_straight : SomeReadIsStraight Netascii nothing_asked (10 ∷ []) []
 netascii_is_straight = read_is_straight_by text text_runs refl
 
@@ -80,15 +91,18 @@ options_run = record {
   all = search rules;
 }
 
+-- a read with an option brings its file
 pub options_transfer : Transfers (Get name Octet blocks_of_8) (65 ∷ [])
 unfolding occurrences_of name_of number_of digits answered_option taken_option
 options_transfer = transfers_by Read options options_run (search rules)
 
 -- ---- a read of 17 bytes in three blocks of 8
+-- a read of three blocks
 abbrev pub blocks : Sample
 blocks =
     record { mode = Octet; asked = blocks_of_8; agreed = Blksize 8 ∷ []; file = three_blocks; count = 8; host = same }
 
+-- the read of three blocks of 8 bytes
 pub blocks_run : Runs Read blocks
 unfolding occurrences_of name_of number_of digits answered_option taken_option
 blocks_run = record {
@@ -99,13 +113,16 @@ blocks_run = record {
   all = search rules;
 }
 
+-- it is straight
 pub blocks_are_straight : SomeReadIsStraight Octet blocks_of_8 three_blocks (Blksize 8 ∷ [])
 blocks_are_straight = read_is_straight_by blocks blocks_run refl
 
 -- ---- a write of 9 bytes in two blocks of 8, which an OACK answers
+-- a write of two blocks
 abbrev pub oack : Sample
 oack = record { mode = Octet; asked = blocks_of_8; agreed = Blksize 8 ∷ []; file = two_blocks; count = 5; host = same }
 
+-- the write of two blocks of 8 bytes
 pub oack_runs : Runs Write oack
 unfolding occurrences_of name_of number_of digits answered_option taken_option
 oack_runs = record {
@@ -116,6 +133,7 @@ oack_runs = record {
   all = search rules;
 }
 
+-- it is straight
 pub oack_is_straight : SomeWriteIsStraight Octet blocks_of_8 two_blocks (Blksize 8 ∷ [])
 unfolding occurrences_of name_of number_of digits answered_option taken_option
 oack_is_straight = write_is_straight_by oack oack_runs (omega arith) (tt, (tt, (tt, (tt, ((λ e. cc), tt))))) refl

@@ -1,4 +1,4 @@
--- Clients that open, and the request port, keep a world.
+-- Clients that open, and the request port, keep a world. For five other files.
 use Rattle.std.proofs.Common.{◌≡◌, ℕ, ◌+◌, ◌*◌, ◌<◌, ◌≤◌, Bool, true, false, List, [], ◌∷◌, ◌++◌, length, map}
 use Rattle.std.proofs.Common.{Option, Some, None, Result, Ok, Err, sym, refl, ap, ◌∙◌, subst, inl, inr, arith}
 use Rattle.std.specs.Prelude.{◌≢◌, if◌then◌else◌, nat_lt, nat_le}
@@ -98,6 +98,7 @@ shown_as P Q strangers w ok shown = record {
   ends = ok.ends;
 }
 
+-- a step that changes nothing keeps a world
 pub stays_ok : (first : List Rule) (strangers : Bool) (w v : WorldState) (report : Report) →
     RefinesAt first strangers w →
     Stays w report v → RefinesWithin 3 first strangers v
@@ -126,6 +127,7 @@ reading_keeps first strangers w v name mode asked report ok may o =
       committed = λ _. refl;
     }) refl refl (opens_elsewhere w x refl) o
 
+-- a client that opens to write keeps it
 pub writing_keeps :
     (first : List Rule) (strangers : Bool) (w v : WorldState) (name : List ℕ) (mode : Mode) (asked : Asked)
     (file : List ℕ) (report : Report) → RefinesAt first strangers w →

@@ -1,4 +1,4 @@
--- Each event keeps a world, and so does every run.
+-- Each event keeps a world, and so does every run. For `World::new`, `a_step_keeps_a_world` and 24 other files.
 use Rattle.std.proofs.Common.{◌≡◌, ℕ, Bool, true, false, List, [], ◌∷◌, ◌++◌, map, set, Option, Some, None, sym, refl}
 use Rattle.std.proofs.Common.{ap, ◌∙◌, subst, inl, inr, zero, suc, length, length-append, append_assoc, arith}
 use Rattle.std.specs.Prelude.{◌≤◌, if◌then◌else◌, is_some, slice_get}
@@ -48,12 +48,14 @@ use Rattle.tftp_player.proofs.WorldTurns.{ports_set, nothing_in, one_in, turn_ke
 use Rattle.tftp_player.proofs.WorldKeeps.{reading_keeps, writing_keeps, serving_keeps, asked_so, stays_ok, none_more}
 use Rattle.tftp_player.proofs.WorldKeeps.{shown_as}
 
+-- a list contains what is at an index
 pub contains_at : {X : Type 0} (xs : List X) (k : ℕ) (x : X) → slice_get xs k ≡ Some x → Contains xs x
 contains_at {X = X} [] k x e = absurd (let f : None ≡ Some x = e in cc)
 contains_at {X = X} (y ∷ ys) zero x e =
     subst (λ (z : X). Contains (y ∷ ys) z) (same_Some y x e) (Contains-append_left (y ∷ []) ys y (Contains-push [] y))
 contains_at {X = X} (y ∷ ys) (suc k) x e = Contains-append_right (y ∷ []) ys x (contains_at ys k x e)
 
+-- to write what is there changes nothing
 pub set_same : {X : Type 0} (xs : List X) (k : ℕ) (x : X) → slice_get xs k ≡ Some x → set xs k x ≡ xs
 set_same {X = X} [] k x e = refl
 set_same {X = X} (y ∷ ys) zero x e = ap (λ (z : X). z ∷ ys) (sym (same_Some y x e))
@@ -264,6 +266,7 @@ pub record Strayed (first : List Rule) (w : WorldState) (from to : Endpoint) (by
   pub ok : RefinesAt (first ++ more) true w
   pub come : (p : WirePacket) → Spells p bytes → Contains ok.messages (message from to (said p))
 
+-- a datagram of neither host is a step of the rules, whatever it spells
 pub with_decoded :
     (first : List Rule) (w : WorldState) (ok : RefinesAt first true w) (from to : Endpoint) (bytes : List ℕ)
     (decoded : Option WirePacket) → host_of from ≡ Elsewhere → Decodes bytes decoded →
@@ -306,6 +309,7 @@ three_or_four first strangers v ok =
     shown_as (IsShownWithin two_hosts 3 first) (IsShownWithin two_hosts 4 first) strangers v ok
     (shown_within two_hosts 3 4 first (map view_of_end v.ends) ok.messages (omega arith) ok.shown)
 
+-- its arrival keeps a world
 pub stray_keeps :
     (first : List Rule) (w v : WorldState) (ok : RefinesAt first true w) (report : Report) (from to : Endpoint)
     (bytes : List ℕ) → host_of from ≡ Elsewhere → Delivery w from to bytes report v → RefinesWithin 4 first true v
@@ -342,11 +346,13 @@ step_after first strangers w v (RefuseStore port) report may ok s =
 step_after first true w v (Stray from to bytes) report may ok s = stray_keeps first w v ok report from to bytes s.0 s.1
 step_after first false w v (Stray from to bytes) report may ok s = absurd may
 
+-- every step of a world is one of at most so many rules
 pub steps_are_rules : StepsAreRules
 steps_are_rules strangers w v event report may ok s =
     step_after ok.shown.0 strangers w v event report may
     (shown_as (IsShown two_hosts) (IsShownAt two_hosts ok.shown.0) strangers w ok ok.shown.1) s
 
+-- every step keeps a world
 pub step_keeps : StepsKeep
 step_keeps strangers w v event report may ok s =
     let next = steps_are_rules strangers w v event report may ok s in
@@ -376,6 +382,7 @@ new_ok strangers files config ok = record {
   ends = λ k x i. absurd (let f : None ≡ Some x = i in cc);
 }
 
+-- with strangers any events may happen
 pub any_may : (events : List Event) → MayAllHappen true events
 any_may [] = tt
 any_may (event ∷ events) = (tt, any_may events)

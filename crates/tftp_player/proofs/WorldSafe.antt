@@ -1,4 +1,4 @@
--- A world that is kept is safe.
+-- A world that is kept is safe. For six functions, AnsweringEnds and ErrorsKnown.
 use Rattle.std.proofs.Common.{◌≡◌, ℕ, Bool, true, false, List, [], ◌++◌, map, Some, sym, refl, ap, ◌∙◌, subst, arith}
 use Rattle.std.specs.Prelude.{◌≢◌, if◌then◌else◌, slice_get}
 use Rattle.std.specs.Cmp.Lexicographic.{same_text}
@@ -69,6 +69,7 @@ home_ip false true c ip p q h = same_text ip server_ip (sym p)
 home_ip false false true ip p q h = cc
 home_ip false false false ip p q h = cc
 
+-- an endpoint of a host has that host's address
 pub ip_at_home : (a : Endpoint) (client : Bool) → host_of a ≡ home client → a.ip ≡ (if client then client_ip else server_ip)
 unfolding host_of
 ip_at_home a client h = home_ip client (is_same_ip a.ip server_ip) (is_same_ip a.ip client_ip) a.ip refl refl h
@@ -282,6 +283,7 @@ module _ (strangers : Bool) (w : WorldState) (ok : Refines strangers w) where
         );
   }
 
+  -- a world that refines the rules is safe
   pub ok_safe : IsSafe w
   ok_safe = record {
     at_address = λ k x i.
@@ -302,13 +304,16 @@ module _ (strangers : Bool) (w : WorldState) (ok : Refines strangers w) where
     is_at_path = λ o x i r d c. (ok.ends i.0 x i.1).stored o c r d;
   }
 
+-- a world that is kept is safe
 pub kept_is_safe : KeptIsSafe
 kept_is_safe strangers w ok = ok_safe strangers w ok
 
+-- every run leads to a safe world
 pub worlds_are_safe : WorldsAreSafe
 worlds_are_safe files config events w max r =
     ok_safe true w (run_keeps true events (new_world files config) w (any_may events) (new_ok true files config max) r)
 
+-- without strangers every peer is at one of the two hosts
 pub peers_stay_home : PeersStayHome
 peers_stay_home files config events w max may r =
     ok_at_home w (run_keeps false events (new_world files config) w may (new_ok false files config max) r)

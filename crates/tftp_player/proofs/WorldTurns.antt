@@ -1,4 +1,4 @@
--- A turn of an end, an opening and an ERROR keep a world.
+-- A turn of an end, an opening and an ERROR keep a world. For seven other files.
 use Rattle.std.proofs.Common.{◌≡◌, ℕ, ◌+◌, length, Bool, true, false, List, [], ◌∷◌, ◌++◌, map, set, Option, Some, None}
 use Rattle.std.proofs.Common.{sym, refl, ap, ◌∙◌, subst, arith, inl, inr}
 use Rattle.std.specs.Prelude.{◌≢◌, ◌⊎◌, ◌&&◌, not, slice_get, option_map}
@@ -11,17 +11,16 @@ use Rattle.std.proofs.lemmas.Option.{same_Some, slice_get-map}
 use Rattle.tftp_wire.specs.declared.packet.Packet.{Packet as WirePacket}
 use Rattle.tftp_wire.specs.Spelling.{Spells}
 use Rattle.tftp_file.specs.declared.files.Files.{Files}
-use Rattle.tftp_file.specs.declared.files.Files.TheVariants.{Source, Sink}
 use Rattle.tftp_file.specs.Sink.{Holding}
 use Rattle.tftp_file.specs.Netascii.{wire_text}
 use Rattle.tftp_ends.specs.End.{is_sender, is_client, is_complete, outcome_of, terms_of}
 use Rattle.tftp_ends.specs.declared.phase.Terms.{Terms}
-use Rattle.tftp_ends.specs.Step.{Turn, Reply, after_turn}
+use Rattle.tftp_ends.specs.Step.{Turn, Reply}
 use Rattle.tftp_rules.specs.Hosts.{host_of, request_port, two_hosts}
 use Rattle.tftp_rules.specs.Machine.{Endpoint, Elsewhere, Message, Machine}
 use Rattle.tftp_rules.specs.Rules.{Rule, message}
 use Rattle.tftp_rules.specs.Said.{said}
-use Rattle.tftp_rules.specs.OpenEnds.{OpenEnd, with_files, end_after}
+use Rattle.tftp_rules.specs.OpenEnds.{OpenEnd, end_after}
 use Rattle.tftp_rules.specs.EndKept.{EndKept}
 use Rattle.tftp_rules.specs.Facts.{home, Holds}
 use Rattle.tftp_rules.specs.Recorded.{AreRecorded}
@@ -41,9 +40,11 @@ use Rattle.tftp_rules.proofs.Indices.{slice_get-set_cases, slice_get-push_cases}
 use Rattle.tftp_player.proofs.Standing.{standing_address, standing_shown, standing_kept}
 use Rattle.tftp_player.proofs.TermsKept.{same_peer}
 
+-- the empty list contains nothing
 pub nothing_in : {X : Type 0} (x : X) → Contains [] x → ⊥
 nothing_in x h = let l = h.1 in omega arith
 
+-- a list of one element contains only it
 pub one_in : {X : Type 0} (x y : X) → Contains (y ∷ []) x → y ≡ x
 one_in x y h = elim (Contains-push_cases [] y x h) [
   | inl n ↦ absurd (nothing_in x n)
@@ -53,6 +54,7 @@ one_in x y h = elim (Contains-push_cases [] y x h) [
 here_in : {X : Type 0} (x : X) → Contains (x ∷ []) x
 here_in x = Contains-push [] x
 
+-- a datagram whose bytes spell a packet says it
 pub says_message : (from to : Endpoint) (bytes : List ℕ) (p : WirePacket) → Spells p bytes →
     SaysSo (datagram from to bytes) (message from to (said p))
 says_message from to bytes p s = record { packet = p; spells = s; says = refl }
@@ -86,6 +88,7 @@ replied_from : (from : Endpoint) (reply : Option Reply) (d : Datagram) → Conta
 replied_from from None d i = absurd (nothing_in d i)
 replied_from from (Some reply) d i = ap (λ (z : Datagram). z.from) (one_in d (datagram from reply.to reply.bytes) i)
 
+-- the two hosts are not elsewhere
 pub home_not_elsewhere : (b : Bool) → home b ≢ Elsewhere
 home_not_elsewhere true e = cc
 home_not_elsewhere false e = cc
@@ -137,23 +140,6 @@ ports_push w x ports port j z i = elim (slice_get-push_cases w.ends j (Open_end 
   | inr h ↦ ap (λ (u : WorldEnd). (end_address u).port) h.1 ∙ (port ∙ ap (λ (n : ℕ). 1024 + n) (sym h.0))
 ]
 
-same_end : (x : OpenEnd) (held : Files (List ℕ) Holding) →
-    ((with_files x held).address ≡ x.address) × ((with_files x held).path ≡ x.path)
-    × ((with_files x held).state ≡ x.state)
-same_end x (Source left) = (refl, refl, refl)
-same_end x (Sink holding) = (refl, refl, refl)
-
-same_wire : (x : OpenEnd) (held : Files (List ℕ) Holding) → x.text ≡ wire_text x.state.role.mode x.file →
-    (with_files x held).text ≡ wire_text (with_files x held).state.role.mode (with_files x held).file
-same_wire x (Source left) wire = wire
-same_wire x (Sink holding) wire = wire
-
--- the end after a turn has its path and its file, and its peer
-same_served : (x : OpenEnd) (held : Files (List ℕ) Holding) →
-    ((with_files x held).path ≡ x.path) × ((with_files x held).file ≡ x.file)
-same_served x (Source left) = (refl, refl)
-same_served x (Sink holding) = (refl, refl)
-
 -- the terms of an end stay in a turn
 abbrev pub TermsStay : OpenEnd → Turn → Type 0
 TermsStay x turn =
@@ -161,14 +147,7 @@ TermsStay x turn =
 
 turned_asked : (w : WorldState) (x : OpenEnd) (turn : Turn) (held : Files (List ℕ) Holding) → TermsStay x turn →
     HasAsker w (Open_end x) → HasAsker w (Open_end (end_after x turn held))
-turned_asked w x turn (Source left) stays h = (
-  h.0,
-  same_peer x.state.position.phase turn.position.phase h.0 h.1 stays,
-  λ near.
-      let q = h.2 near in
-      record { write = q.write; request = q.request; sent = q.sent; opened = q.opened; path = q.path },
-)
-turned_asked w x turn (Sink holding) stays h = (
+turned_asked w x turn held stays h = (
   h.0,
   same_peer x.state.position.phase turn.position.phase h.0 h.1 stays,
   λ near.
@@ -235,6 +214,7 @@ still_kept w v added x more set_same stay h = record {
 module _ (first : List Rule) (strangers : Bool) (w : WorldState) (ok : RefinesAt first strangers w) (from : Endpoint)
     (own : host_of from ≢ Elsewhere)
     (reply : Option Reply) (said_now : List Message) (r : Replies from reply said_now) where
+  -- after a turn each datagram is said by a message
   pub sent_then : (d : Datagram) → Contains (w.sent ++ replied from reply) d →
       (m : Message) × SaysSo d m × Contains (ok.messages ++ said_now) m
   sent_then d i = elim (Contains-append_cases w.sent (replied from reply) d i) [
@@ -243,6 +223,7 @@ module _ (first : List Rule) (strangers : Bool) (w : WorldState) (ok : RefinesAt
         (h.0, h.1, Contains-append_right ok.messages said_now h.0 h.2)
   ]
 
+  -- and each message is of a datagram, or from elsewhere
   pub only_then : (m : Message) → Contains (ok.messages ++ said_now) m →
       ((d : Datagram) × Contains (w.sent ++ replied from reply) d × SaysSo d m) ⊎ (host_of m.from ≡ Elsewhere)
   only_then m i = elim (Contains-append_cases ok.messages said_now m i) [
@@ -254,6 +235,7 @@ module _ (first : List Rule) (strangers : Bool) (w : WorldState) (ok : RefinesAt
         inl (h.0, Contains-append_right w.sent (replied from reply) h.0 h.1, h.2)
   ]
 
+  -- and of an end that may speak
   pub speakers_then : (m : Message) → Contains (ok.messages ++ said_now) m → MaySpeak strangers m.from
   speakers_then m i = elim (Contains-append_cases ok.messages said_now m i) [
     | inl o ↦ ok.speakers m o
@@ -325,12 +307,9 @@ turn_keeps first strangers w v ok k x turn held report at g terms t =
           is_sender (end_after x turn held).state.role.side ≡ true →
           file_at t.files (end_after x turn held).path ≡ Some (end_after x turn held).file
       sends_is o c s =
-          let same = same_served (record x { state = after_turn x.state turn }) held in
           let client : is_client x.state.role.side ≡ false = ap is_client (sym g.side) ∙ c in
           let sender : is_sender x.state.role.side ≡ true = ap is_sender (sym g.side) ∙ s in
-          ap (file_at t.files) same.0
-          ∙ (stays o x.path x.file ((ok.ends k (Open_end x) at).sends o client sender)
-          ∙ ap (λ (f : List ℕ). Some f) (sym same.1))
+          stays o x.path x.file ((ok.ends k (Open_end x) at).sends o client sender)
 
       stored_is : w.overwrite ≡ false → is_client (end_after x turn held).state.role.side ≡ false →
           is_sender (end_after x turn held).state.role.side ≡ false →
@@ -338,12 +317,10 @@ turn_keeps first strangers w v ok k x turn held report at g terms t =
           file_at t.files (end_after x turn held).path ≡ Some (end_after x turn held).stored
       stored_is o c r d =
           let y = end_after x turn held in
-          let path = (same_end (record x { state = after_turn x.state turn }) held).1 in
           let client : is_client x.state.role.side ≡ false = ap is_client (sym g.side) ∙ c in
           let receiver : is_sender x.state.role.side ≡ false = ap is_sender (sym g.side) ∙ r in
           let old = was.kept.committed receiver in
           let new : y.committed ≡ true = g.kept.committed r ∙ d in
-          let under : file_at t.files x.path ≡ Some y.stored =
           elim (complete_then (is_complete x.state.position.phase) (is_client x.state.role.side) x.committed y.committed
           old new client) [
             | inl h ↦
@@ -351,13 +328,11 @@ turn_keeps first strangers w v ok k x turn held report at g terms t =
                 ((ok.ends k (Open_end x) at).stored o client receiver h.0
                 ∙ ap (λ (z : List ℕ). Some z) (sym (g.stored h.0)))
             | inr h ↦ (subst (λ (b : Bool). FilesAfter w.overwrite b x.path y.stored w.files t.files) h t.stored).here
-          ] in
-          subst (λ (q : List ℕ). file_at t.files q ≡ Some y.stored) (sym path) under
+          ]
 
       later : RefinesWithin 3 first strangers (world_after w k x turn held t.files)
       later =
           let y = end_after x turn held in
-          let same_address = (same_end (record x { state = after_turn x.state turn }) held).0 in
           let own = at_home first strangers w ok k (Open_end x) at in
           record {
             messages = ok.messages ++ g.said_now;
@@ -370,18 +345,13 @@ turn_keeps first strangers w v ok k x turn held report at g terms t =
             sent = sent_then first strangers w ok x.address own turn.reply g.said_now g.replies;
             only = only_then first strangers w ok x.address own turn.reply g.said_now g.replies;
             speakers = speakers_then first strangers w ok x.address own turn.reply g.said_now g.replies;
-            ports = ports_set w k (Open_end x) (standing y) ok.ports at (standing_address y ∙ same_address);
+            ports = ports_set w k (Open_end x) (standing y) ok.ports at (standing_address y);
             max_block = ok.max_block;
             ends = λ j z i. elim (slice_get-set_cases w.ends k j (standing y) z i) [
               | inl h ↦ subst (λ (u : WorldEnd). IsKeptIn (world_after w k x turn held t.files) u) (sym h.1)
                   (standing_kept (world_after w k x turn held t.files) y g.kept
-                  (subst
-                  (λ (a : Endpoint).
-                  Contains (w.sent ++ replied x.address turn.reply)
-                  (datagram a y.state.position.last_sent_to y.state.position.last_sent)) (sym same_address)
-                  (last_sent_is y.state.position.last_sent_to y.state.position.last_sent g.last_sent)) stored_is
-                  (same_wire (record x { state = after_turn x.state turn }) held (ok.ends k (Open_end x) at).text)
-                  asked_is sends_is)
+                  (last_sent_is y.state.position.last_sent_to y.state.position.last_sent g.last_sent) stored_is
+                  (ok.ends k (Open_end x) at).text asked_is sends_is)
               | inr h ↦
                   still_kept w (world_after w k x turn held t.files) (replied x.address turn.reply) z refl refl stays
                   (ok.ends j z h.1)

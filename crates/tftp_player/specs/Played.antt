@@ -16,7 +16,8 @@ use Rattle.tftp_rules.specs.OpenEnds.{OpenEnd}
 use Rattle.tftp_player.specs.Clients.{client_at, server_at, left_in, holding_in, ClientTurns}
 use Rattle.tftp_player.specs.Clients.{ClientDatagramStep, stored_by, armed_client}
 use Rattle.tftp_player.specs.PlayedClient.{PlayedClient}
-use Rattle.tftp_player.specs.ServerEnd.{PlayedServer, ServerTransfer, ServerEndKept, ServerEndTimeoutStep}
+use Rattle.tftp_player.specs.ServerEnd.{PlayedServer, ServerTransfer, ServerEndKept}
+use Rattle.tftp_player.specs.ServerEnd.{ServerEndTimeoutStep}
 use Rattle.tftp_player.specs.ServerEnd.{ServerEndDatagramStep}
 use Rattle.tftp_player.specs.World.{ClosedEnd, WorldEnd, Open_end, Closed_end, end_record}
 use Rattle.tftp_player.specs.World.{standing}

@@ -40,7 +40,8 @@ CommitsLast (Source left) phase = Unit {0}
 CommitsLast (Sink draft) phase = is_complete phase ≡ false → draft.committed ≡ false
 
 -- an open end of the server: the server holds its transfer, with a peer and the same mode and path
-pub record ServerEndKept (port : ℕ) (s : ServerEnd) (held : List (ℕ × ServerTransfer)) : Type 0 where
+pub record ServerEndKept (port : ℕ) (s : ServerEnd) (held : List (ℕ × ServerTransfer))
+    : Type 0 where
   pub transfer : ServerTransfer
   pub found : at port held ≡ Some transfer
   pub is_open : server.is_closed transfer ≡ false
@@ -119,7 +120,8 @@ ClosesAs closed None = ⊥
 ClosesAs closed (Some h) = closed ≡ outcome_of h.end.position.phase
 
 -- the transfer was removed with its record and its draft, if it has closed
-abbrev pub Concludes : ℕ → Option ServerTransfer → ServerEnd → ServerEnd → PlayedServer → PlayedServer
+abbrev pub Concludes : ℕ → Option ServerTransfer → ServerEnd → ServerEnd → PlayedServer
+    → PlayedServer
     → Type 0
 Concludes port None old new before after = ⊥
 Concludes port (Some h) old new before after =

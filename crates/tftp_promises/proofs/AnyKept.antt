@@ -33,8 +33,8 @@ use Rattle.tftp_promises.specs.Drafts.{HadStore, StoreBegan, TookSince}
 use Rattle.tftp_promises.specs.Given.{GaveSince, StoreOpened}
 use Rattle.tftp_promises.specs.Moved.{Moved}
 use Rattle.tftp_promises.specs.Openings.{ArePortsFresh, moved_at, opened_at}
-use Rattle.tftp_promises.specs.Order.{Programs, IsStranger, requests_at}
-use Rattle.tftp_promises.specs.Programs.{ClientProgram, endpoint}
+use Rattle.tftp_promises.specs.Order.{Programs, IsStranger, ClientOf}
+use Rattle.tftp_promises.specs.Programs.{endpoint}
 use Rattle.tftp_promises.specs.Network.{HasOpened, joined}
 use Rattle.tftp_promises.specs.Snapshots.{Has_asked, all_of}
 use Rattle.tftp_promises.proofs.ClientRoles.{run_role}
@@ -61,11 +61,10 @@ whole_text e stored (Closed terms number done outcome) is complete =
     wire_text e.role.mode stored) is
 
 module _ {S F D G K : Type 0} {stores : StoreMeaning S D} {sources : SourceMeaning F} {inputs : SourceMeaning G}
-    {outputs : SinkMeaning K}
-    (programs : Programs stores sources inputs outputs) (fresh : ArePortsFresh programs) (kept : (pad : ℕ) →
-    IsKept programs pad (all_of programs)) where
+    {outputs : SinkMeaning K} (programs : Programs stores sources inputs outputs) (fresh : ArePortsFresh programs)
+    (kept : (pad : ℕ) → IsKept pad (all_of programs)) where
   abbrev Client : Type 0
-  Client = ClientProgram inputs outputs (requests_at programs)
+  Client = ClientOf programs
 
   abbrev views : ℕ → List EndView
   views pad = (kept pad).views
@@ -112,11 +111,11 @@ module _ {S F D G K : Type 0} {stores : StoreMeaning S D} {sources : SourceMeani
     moved_there : moved_at programs x.address programs.server.run ≡ moved_at programs a programs.server.run
     moved_there = ap (λ (e : Endpoint). moved_at programs e programs.server.run) at
 
-    measured : IsOpened programs (all_of programs) x →
+    measured : IsOpened programs programs.server.run x →
         length_of (opened_at programs x.address programs.server.run) ≡ x.state.role.length
     measured h = ap length_of h.opened ∙ ap (λ (r : Role). r.length) h.role
 
-    transfer_stands : (files : Files F D) → HasStored programs pad (all_of programs) x files →
+    transfer_stands : (files : Files F D) → HasStored pad (all_of programs) x files →
         (is_sender x.state.role.side ≡ true →
         x.text ≡ pad_to pad x.state.role.length (moved_at programs a programs.server.run).bytes)
         × (is_sender x.state.role.side ≡ true → GaveSo x (moved_at programs a programs.server.run))
@@ -194,8 +193,7 @@ module _ {S F D G K : Type 0} {stores : StoreMeaning S D} {sources : SourceMeani
     -- and the view at its endpoint is its own
     own_view : (v : EndView) → IsAmong (views pad) v → v.address ≡ x.address → v ≡ view
     own_view v inside same =
-        view_there (joined programs) (views pad) (kept pad).messages s.end v (kept pad).shown s.viewed inside
-        (same ∙ sym s.address)
+        view_there (kept pad).shown s.viewed inside (same ∙ sym s.address)
 
     sender_at : is_sender x.state.role.side ≡ true → is_sender s.end.state.role.side ≡ true
     sender_at sends = ap (λ (e : EndState). is_sender e.role.side) s.state ∙ sends
@@ -249,7 +247,7 @@ module _ {S F D G K : Type 0} {stores : StoreMeaning S D} {sources : SourceMeani
         | inr s ↦
             let same : s.peer ≡ p =
             same_Some s.peer p (sym s.is_peer ∙ (ap (λ (e : EndState). (record_of e).peer) h.state ∙ peer)) in
-            absurd (ours (subst (λ (b : Endpoint). IsStranger stores sources inputs outputs programs b) same s.strange))
+            absurd (ours (subst (λ (b : Endpoint). IsStranger programs b) same s.strange))
       ]
 
   -- a sender among the views, and its end
@@ -413,7 +411,7 @@ module _ {S F D G K : Type 0} {stores : StoreMeaning S D} {sources : SourceMeani
 
   -- what the server opened at a place
   opened_so : (transfer : TransferState F D) (a : Endpoint) (x : OpenEnd) → x.address ≡ a → x.state ≡ transfer.end →
-      x.path ≡ transfer.path → IsOpened programs (all_of programs) x → WasOpened programs transfer a
+      x.path ≡ transfer.path → IsOpened programs programs.server.run x → WasOpened programs transfer a
   opened_so transfer a x at state path h = record {
     opening = h.opening;
     opened = ap (λ (e : Endpoint). opened_at programs e programs.server.run) (sym at) ∙ h.opened;
@@ -421,8 +419,8 @@ module _ {S F D G K : Type 0} {stores : StoreMeaning S D} {sources : SourceMeani
     role = h.role ∙ ap (λ (e : EndState). e.role) state;
   }
 
-  opened_of : (files : Files F D) (x : OpenEnd) → HasStored programs 0 (all_of programs) x files →
-      IsOpened programs (all_of programs) x
+  opened_of : (files : Files F D) (x : OpenEnd) → HasStored 0 (all_of programs) x files →
+      IsOpened programs programs.server.run x
   opened_of (Source source) x has = has.opened
   opened_of (Sink draft) x has = has.opened
 
@@ -435,7 +433,7 @@ module _ {S F D G K : Type 0} {stores : StoreMeaning S D} {sources : SourceMeani
   -- what it has given since the store opened it
   given_so : (transfer : TransferState F D) (a : Endpoint) (x : OpenEnd) → x.address ≡ a → x.state ≡ transfer.end →
       x.path ≡ transfer.path → x.request ≡ transfer.request → (source : F) → transfer.files ≡ Source source →
-      IsGiven programs (all_of programs) x source → WasGiven programs transfer a
+      IsGiven programs programs.server.run x source → WasGiven programs transfer a
   given_so transfer a x at state path request source is h = record {
     opening = h.opening;
     first =
@@ -455,7 +453,7 @@ module _ {S F D G K : Type 0} {stores : StoreMeaning S D} {sources : SourceMeani
 
   given_of : (transfer : TransferState F D) (a : Endpoint) (x : OpenEnd) → x.address ≡ a → x.state ≡ transfer.end →
       x.path ≡ transfer.path → x.request ≡ transfer.request → is_sender transfer.end.role.side ≡ true →
-      (files : Files F D) → transfer.files ≡ files → HasStored programs 0 (all_of programs) x files →
+      (files : Files F D) → transfer.files ≡ files → HasStored 0 (all_of programs) x files →
       WasGiven programs transfer a
   given_of transfer a x at state path request sends (Source source) is has =
       given_so transfer a x at state path request source is has.given
@@ -471,8 +469,7 @@ module _ {S F D G K : Type 0} {stores : StoreMeaning S D} {sources : SourceMeani
   -- what its draft has taken since the store began it
   taken_so : (transfer : TransferState F D) (a : Endpoint) (x : OpenEnd) → x.address ≡ a → x.state ≡ transfer.end →
       x.path ≡ transfer.path → x.request ≡ transfer.request → x.committed ≡ is_complete x.state.position.phase →
-      (draft : D) → transfer.files ≡ Sink draft → IsTaken programs (all_of programs) x draft →
-      WasTaken programs transfer a
+      (draft : D) → transfer.files ≡ Sink draft → IsTaken programs programs.server.run x draft → WasTaken programs transfer a
   taken_so transfer a x at state path request complete draft is h = record {
     began_with = h.first;
     began =
@@ -503,7 +500,7 @@ module _ {S F D G K : Type 0} {stores : StoreMeaning S D} {sources : SourceMeani
       x.path ≡ transfer.path → x.request ≡ transfer.request →
       (is_sender x.state.role.side ≡ false → x.committed ≡ is_complete x.state.position.phase) →
       is_sender transfer.end.role.side ≡ false → (files : Files F D) → transfer.files ≡ files →
-      HasStored programs 0 (all_of programs) x files → WasTaken programs transfer a
+      HasStored 0 (all_of programs) x files → WasTaken programs transfer a
   taken_of transfer a x at state path request complete receives (Sink draft) is has =
       taken_so transfer a x at state path request (complete has.receiver) draft is has.taken
   taken_of transfer a x at state path request complete receives (Source source) is has =

@@ -31,8 +31,8 @@ use Rattle.tftp_server.specs.State.{TransferState, at}
 use Rattle.tftp_promises.specs.AnyFiles.{IsEnd, ProgramEnd, ServesClient, client_end, peer_of, transfer_end}
 use Rattle.tftp_promises.specs.ClientRuns.{moved_in}
 use Rattle.tftp_promises.specs.Openings.{ArePortsFresh}
-use Rattle.tftp_promises.specs.Order.{Programs, requests_at}
-use Rattle.tftp_promises.specs.Programs.{ClientOpens, ClientProgram, To_read, To_write, client_at, name_of, packet_of}
+use Rattle.tftp_promises.specs.Order.{Programs, requests_at, ClientOf}
+use Rattle.tftp_promises.specs.Programs.{ClientOpens, To_read, To_write, client_at, name_of, packet_of}
 use Rattle.tftp_promises.specs.Network.{HasOpened, joined}
 use Rattle.tftp_promises.specs.Snapshots.{Has_asked, all_of}
 use Rattle.tftp_promises.proofs.Invariant.{ClientKept, IsKept, TransferKept}
@@ -108,14 +108,13 @@ answers_it a to x y write request serves asks =
     ∙ ap (requested write) (serves.request ∙ asks.request))
 
 module _ {S F D G K : Type 0} {stores : StoreMeaning S D} {sources : SourceMeaning F} {inputs : SourceMeaning G}
-    {outputs : SinkMeaning K}
-    (programs : Programs stores sources inputs outputs) {pad : ℕ} (kept : IsKept programs pad
-    (all_of programs)) where
+    {outputs : SinkMeaning K} (programs : Programs stores sources inputs outputs) {pad : ℕ}
+    (kept : IsKept pad (all_of programs)) where
   abbrev Client : Type 0
-  Client = ClientProgram inputs outputs (requests_at programs)
+  Client = ClientOf programs
 
   abbrev there : Client → Endpoint
-  there client = client_at inputs outputs (requests_at programs) client
+  there client = client_at client
 
   client_kept : (k : ℕ) (client : Client) → slice_get programs.clients k ≡ Some client →
       ClientKept programs pad kept.views kept.messages client client.last client.files (moved_in client.runs)
@@ -141,8 +140,7 @@ module _ {S F D G K : Type 0} {stores : StoreMeaning S D} {sources : SourceMeani
       let x = client_kept k client found in
       let y = kept.transfers port transfer a opened in
       let one : open_view y.end ≡ open_view x.end =
-      view_there (joined programs) kept.views kept.messages x.end (open_view y.end) kept.shown x.viewed
-      (y.viewed.index, y.viewed.viewed) (y.address ∙ (sym same ∙ sym x.address)) in
+      view_there kept.shown x.viewed (y.viewed.index, y.viewed.viewed) (y.address ∙ (sym same ∙ sym x.address)) in
       true≢false (sym x.side ∙ (ap (λ (v : EndView). v.client) (sym one) ∙ y.side))
 
   pub one_there : ArePortsFresh programs → (x y : ProgramEnd) → IsEnd programs x → IsEnd programs y →
@@ -208,7 +206,7 @@ module _ {S F D G K : Type 0} {stores : StoreMeaning S D} {sources : SourceMeani
         (own_client (joined programs) (there client) (clients_there programs k client found)))
 
     module _ (port : ℕ) (transfer : TransferState F D) (opened : HasOpened programs port transfer p) where
-      y : TransferKept programs pad kept.views kept.messages (all_of programs) port transfer p
+      y : TransferKept pad kept.views kept.messages (all_of programs) port transfer p
       y = kept.transfers port transfer p opened
 
       view : EndView
@@ -276,8 +274,7 @@ module _ {S F D G K : Type 0} {stores : StoreMeaning S D} {sources : SourceMeani
           | inl of ↦
               let z = client_kept of.k of.client of.found in
               let one : view ≡ open_view z.end =
-              view_there (joined programs) kept.views kept.messages z.end view kept.shown z.viewed
-              (at_peer.0, at_peer.2) (of.address ∙ sym z.address) in
+              view_there kept.shown z.viewed (at_peer.0, at_peer.2) (of.address ∙ sym z.address) in
               absurd (true≢false
               (sym z.side ∙ (ap (λ (v : EndView). v.client) (sym one) ∙ (sym there_matches.client ∙ serving.client))))
           | inr of ↦

@@ -206,7 +206,7 @@ module _ {S F D G K : Type 0} {stores : StoreMeaning S D} {sources : SourceMeani
   Client = OneClient several
 
   abbrev there : Client → Endpoint
-  there client = client_at inputs outputs (endpoint several.ip several.port) client
+  there client = client_at client
 
   abbrev m : ℕ
   m = number_of several k
@@ -259,8 +259,7 @@ module _ {S F D G K : Type 0} {stores : StoreMeaning S D} {sources : SourceMeani
   only (suc q) x e = absurd (let f : None ≡ Some x = e in cc)
 
   -- a stranger is one still, and so is another client
-  stranger_still : (a : Endpoint) → IsStrangerTo several.ip [] several.clients a →
-      IsStranger stores sources inputs outputs both a
+  stranger_still : (a : Endpoint) → IsStrangerTo several.ip [] several.clients a → IsStranger both a
   stranger_still a h =
       record {
         server = λ same. absurd (nothing_in a.port (h.server same));
@@ -268,10 +267,9 @@ module _ {S F D G K : Type 0} {stores : StoreMeaning S D} {sources : SourceMeani
       }
 
   other_strange : (j : ℕ) (c : Client) → slice_get several.clients j ≡ Some c → j ≢ k → (port : ℕ) → port ≡ c.port →
-      IsStranger stores sources inputs outputs both (endpoint c.ip port)
+      IsStranger both (endpoint c.ip port)
   other_strange j c at n port own =
-      subst (λ (p : ℕ). IsStranger stores sources inputs outputs both (endpoint c.ip p)) (sym own)
-      (among.others j c at n)
+      subst (λ (p : ℕ). IsStranger both (endpoint c.ip p)) (sym own) (among.others j c at n)
 
   -- for the server's address, or for the client
   abbrev IsNear : Endpoint → Type 0
@@ -280,7 +278,7 @@ module _ {S F D G K : Type 0} {stores : StoreMeaning S D} {sources : SourceMeani
   -- what another server sent there is a stranger's, or an ERROR
   by_other : (j : ℕ) (x : OneServer several) → slice_get several.servers j ≡ Some x → j ≢ i →
       (port : ℕ) (to : Endpoint) (bytes : List ℕ) → Contains x.noted (Sent port to bytes) → IsNear to →
-      MayCome stores sources inputs outputs both (endpoint several.ip port) bytes
+      MayCome both (endpoint several.ip port) bytes
   by_other j x at n port to bytes c near = elim (cases_Bool (has_port (known_ports several server client) port)) [
     | inl own ↦
         inr (among.apart j x port to bytes at n c (port_in (known_ports several server client) port own) near)
@@ -296,8 +294,7 @@ module _ {S F D G K : Type 0} {stores : StoreMeaning S D} {sources : SourceMeani
 
   abbrev Comes : List Noted → Endpoint → Endpoint → List ℕ → Type 0
   Comes earlier from to bytes =
-      WasSent stores sources inputs outputs both (heard_with i m earlier) from to bytes
-      ⊎ MayCome stores sources inputs outputs both from bytes
+      WasSent both (heard_with i m earlier) from to bytes ⊎ MayCome both from bytes
 
   -- what a program sent comes from one of both, or may come nevertheless
   module _ (earlier : List Noted) (within : (e : Noted) → Contains earlier e → Contains all e) (p port : ℕ)
@@ -317,7 +314,7 @@ module _ {S F D G K : Type 0} {stores : StoreMeaning S D} {sources : SourceMeani
           let noted =
           subst (λ (es : List SocketEvent). Contains es (Sent port to bytes)) (among.is_order.servers p x is)
           (noted_in p (Sent port to bytes) all (within (p, Sent port to bytes) c)) in
-          inr (subst (λ (a : Endpoint). MayCome stores sources inputs outputs both a bytes)
+          inr (subst (λ (a : Endpoint). MayCome both a bytes)
           (ap (λ (a : List ℕ). endpoint a port) (sym ip) ∙ sym at.2)
           (by_other p x is n port to bytes noted near))
     ]
@@ -343,7 +340,7 @@ module _ {S F D G K : Type 0} {stores : StoreMeaning S D} {sources : SourceMeani
                     (subst (λ (q : ℕ). Contains earlier (number_of several q, Sent port to bytes)) same sent);
               })
           | inr n ↦
-              inr (inl (subst (λ (a : Endpoint). IsStranger stores sources inputs outputs both a)
+              inr (inl (subst (λ (a : Endpoint). IsStranger both a)
               (ap (λ (a : List ℕ). endpoint a port) (sym ip) ∙ sym at.2)
               (other_strange j y is n port (own_port j y is port to bytes
               (within (number_of several j, Sent port to bytes) sent)))))
@@ -365,11 +362,10 @@ module _ {S F D G K : Type 0} {stores : StoreMeaning S D} {sources : SourceMeani
   nevertheless from bytes earlier to (inl strange) = inr (inl (stranger_still from strange))
   nevertheless from bytes earlier to (inr error) = inr (inr error)
 
-  comes : (p q : ℕ) (ip : List ℕ) → slice_get (ips_of several) p ≡ Some ip →
-      slice_get (ips stores sources inputs outputs both) q ≡ Some ip → (e : SocketEvent) → ForBoth ip e →
-      (earlier : List Noted) → ((x : Noted) → Contains earlier x → Contains all x) →
+  comes : (p q : ℕ) (ip : List ℕ) → slice_get (ips_of several) p ≡ Some ip → slice_get (ips both) q ≡ Some ip →
+      (e : SocketEvent) → ForBoth ip e → (earlier : List Noted) → ((x : Noted) → Contains earlier x → Contains all x) →
       CanComeOf (ips_of several) (IsStrangerTo several.ip [] several.clients) p e earlier →
-      CanCome stores sources inputs outputs both q e (heard_with i m earlier)
+      CanCome both q e (heard_with i m earlier)
   comes p q ip at_p at_q (Received port from bytes) near earlier within h =
       let same : h.1.0 ≡ ip = same_Some h.1.0 ip (sym h.1.1 ∙ at_p) in
       let to_is : h.0 ≡ endpoint ip port = h.1.2 ∙ ap (λ (a : List ℕ). endpoint a port) same in
@@ -405,12 +401,12 @@ module _ {S F D G K : Type 0} {stores : StoreMeaning S D} {sources : SourceMeani
   for_client (Quiet event) c = tt
 
   abbrev Honest : List Noted → Type 0
-  Honest order = IsHonest stores sources inputs outputs both (heard_with i m order)
+  Honest order = IsHonest both (heard_with i m order)
 
   honest_by : (is_server member : Bool) (e : Noted) (earlier : List Noted) →
       ((x : Noted) → Contains (e ∷ earlier) x → Contains all x) → (e.0 == i) ≡ is_server → (e.0 == m) ≡ member →
       CanComeOf (ips_of several) (IsStrangerTo several.ip [] several.clients) e.0 e.1 earlier → Honest earlier →
-      IsHonest stores sources inputs outputs both (heard_by is_server member e (heard_with i m earlier))
+      IsHonest both (heard_by is_server member e (heard_with i m earlier))
   honest_by true member e earlier within is at h rest =
       let here : slice_get (ips_of several) e.0 ≡ Some several.ip =
       ap (slice_get (ips_of several)) (eqb-true e.0 i is)
@@ -435,7 +431,7 @@ module _ {S F D G K : Type 0} {stores : StoreMeaning S D} {sources : SourceMeani
       honest_by (e.0 == i) (e.0 == m) e earlier within refl refl h.0
       (honest_heard earlier (λ x c. within x (later_in e earlier x c)) h.1)
 
-  pub order_both : IsOrder stores sources inputs outputs both (heard_with i m all)
+  pub order_both : IsOrder both (heard_with i m all)
   order_both = record {
     server = server_events i m two_numbers all ∙ among.is_order.servers i server at_i;
     clients = λ q x e.
@@ -444,11 +440,11 @@ module _ {S F D G K : Type 0} {stores : StoreMeaning S D} {sources : SourceMeani
         (sym (only q x e).1)));
   }
 
-  pub honest_both : IsHonest stores sources inputs outputs both (heard_with i m all)
+  pub honest_both : IsHonest both (heard_with i m all)
   honest_both = honest_heard all (λ x c. c) among.honest
 
   pub joined_both : TakesOwn several.ip (other_ports several i server client) client.runs →
-      AreJoined stores sources inputs outputs both (heard_with i m all)
+      AreJoined both (heard_with i m all)
   joined_both own = record {
     is_order = order_both;
     honest = honest_both;

@@ -39,13 +39,13 @@ module _ (more : List Client) (before : List Noted) where
   with_others = record { ip = server_ip; port = 69; server = server; others = []; clients = reading ∷ more }
 
   abbrev Comes : ℕ → SocketEvent → List Noted → Type 0
-  Comes program e earlier = CanCome memory_meaning memory_source memory_source memory_sink with_others program e earlier
+  Comes program e earlier = CanCome with_others program e earlier
 
   abbrev At : ℕ → List ℕ → Type 0
-  At program ip = slice_get (ips memory_meaning memory_source memory_source memory_sink with_others) program ≡ Some ip
+  At program ip = slice_get (ips with_others) program ≡ Some ip
 
   abbrev Strange : Endpoint → Type 0
-  Strange a = IsStranger memory_meaning memory_source memory_source memory_sink with_others a
+  Strange a = IsStranger with_others a
 
   -- a datagram that a program sent comes to another
   delivered : (sender program : ℕ) (sip ip : List ℕ) → At sender sip → At program ip →
@@ -62,8 +62,7 @@ module _ (more : List Client) (before : List Noted) where
   -- the first events of the exchange are honest
   abbrev Honest : ℕ → Type 0
   Honest count =
-      IsHonest memory_meaning memory_source memory_source memory_sink with_others (reverse (take count exchange)
-      ++ before)
+      IsHonest with_others (reverse (take count exchange) ++ before)
 
   module _ (strange : Strange stranger) (honest_0 : Honest 0) where
     honest_2 : Honest 2
@@ -114,9 +113,7 @@ module _ (c : Client) where
   abbrev only_with : Programs memory_meaning memory_source memory_source memory_sink
   only_with = two_alone server c
 
-  not_here : (x : Client) → x.ip ≢ server_ip → c.port ≢ x.port →
-      IsStranger memory_meaning memory_source memory_source memory_sink only_with
-      (client_at memory_source memory_sink requests x)
+  not_here : (x : Client) → x.ip ≢ server_ip → c.port ≢ x.port → IsStranger only_with (client_at x)
   not_here x away n =
       record {
         server = λ same. absurd (away same);
@@ -149,7 +146,7 @@ strange_there port = record {
       (apart_by (endpoint client_ip 5000) (endpoint other_ip port) 2 3 refl refl (λ e. omega (arith, e))) k c e;
 }
 
-pub joined : AreJoined memory_meaning memory_source memory_source memory_sink programs order
+pub joined : AreJoined programs order
 joined = record {
   is_order = record { server = refl; clients = each (λ k c. events_of (suc k) order ≡ c.noted) refl };
   honest = honest_all [] [] (strange_there 7000) tt (strays [] [] 69 latecomer read_request _ (strange_there 7001));
@@ -215,8 +212,7 @@ in_order = record {
 
 abbrev NotOne : ℕ → Client → ℕ → Client → Type 0
 NotOne k c j x =
-    j ≢ k → IsStranger memory_meaning memory_source memory_source memory_sink (alone two 0 server c)
-    (client_at memory_source memory_sink requests x)
+    j ≢ k → IsStranger (alone two 0 server c) (client_at x)
 
 -- there is no other server
 no_other : (c : Client) (j : ℕ) (s : Server) → slice_get two.servers j ≡ Some s → j ≢ 0 → ⊥

@@ -30,13 +30,10 @@ pub client_away : client_ip ≢ server_ip
 client_away e = let n : 2 ≡ 1 = last_bytes 3 client_ip server_ip e in omega (arith, n)
 
 -- a datagram that a program sent comes to another
-pub comes_to : (programs : Both) (sender program : ℕ) (sip ip : List ℕ) →
-    slice_get (ips memory_meaning memory_source memory_source memory_sink programs) sender ≡ Some sip →
-    slice_get (ips memory_meaning memory_source memory_source memory_sink programs) program ≡ Some ip →
-    (sport port : ℕ) (bytes : List ℕ) (earlier : List Noted) →
+pub comes_to : (programs : Both) (sender program : ℕ) (sip ip : List ℕ) → slice_get (ips programs) sender ≡ Some sip →
+    slice_get (ips programs) program ≡ Some ip → (sport port : ℕ) (bytes : List ℕ) (earlier : List Noted) →
     Contains earlier (sender, Sent sport (endpoint ip port) bytes) →
-    CanCome memory_meaning memory_source memory_source memory_sink programs program
-    (Received port (endpoint sip sport) bytes) earlier
+    CanCome programs program (Received port (endpoint sip sport) bytes) earlier
 comes_to programs sender program sip ip there here sport port bytes earlier sent = (
   endpoint ip port,
   (ip, here, refl),

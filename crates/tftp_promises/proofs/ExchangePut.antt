@@ -9,7 +9,7 @@ use Rattle.tftp_wire.specs.declared.packet.Packet.TheVariants.{Data, Write}
 use Rattle.tftp_negotiate.specs.Answer.{answered_option}
 use Rattle.tftp_negotiate.specs.Negotiation.{occurrences_of}
 use Rattle.tftp_negotiate.specs.Options.{name_of}
-use Rattle.tftp_file.specs.Memory.{memory_sink, memory_source}
+use Rattle.tftp_file.specs.Memory.{memory_source}
 use Rattle.tftp_file.specs.declared.fault.StoreFault.TheVariants.{Memory}
 use Rattle.tftp_file.specs.declared.files.Files.TheVariants.{Sink}
 use Rattle.tftp_ends.specs.declared.outgoing.Outgoing.TheVariants.{LastSent}
@@ -204,7 +204,7 @@ each P writes (suc k) c e = absurd (let f : None ≡ Some c = e in cc)
 -- the first events of the put are honest
 abbrev Honest : ℕ → Type 0
 Honest count =
-    IsHonest memory_meaning memory_source memory_source memory_sink programs (reverse (take count put_exchange))
+    IsHonest programs (reverse (take count put_exchange))
 
 honest_2 : Honest 2
 honest_2 = (comes_to programs 1 0 client_ip server_ip refl refl 5001 69 write_request _ (0, omega arith, refl), (tt, tt))
@@ -233,7 +233,7 @@ honest_all = (
   ),
 )
 
-joined : AreJoined memory_meaning memory_source memory_source memory_sink programs (reverse put_exchange)
+joined : AreJoined programs (reverse put_exchange)
 joined = record {
   is_order = record {
     server = refl;

@@ -168,7 +168,7 @@ module _ (i : ℕ) (s : Server) (port : ℕ) (ports : our_ports (alone shared i 
   fresh_of = record {
     server = subst (λ (known : List ℕ). AreDistinct (69 ∷ known)) (sym ports) (two_apart 69 port not_requests);
     clients = λ j k x y e f same. the_client (λ q c. q ≡ 0) refl j x e ∙ sym (the_client (λ q c. q ≡ 0) refl k y f);
-    apart = λ k q x e known same. far q (ap (λ (c : Client). client_at memory_source memory_sink requests c)
+    apart = λ k q x e known same. far q (ap (λ (c : Client). client_at c)
         (sym (the_client (λ q c. c ≡ reading) refl k x e)) ∙ same);
     others = λ q known other. apart q (known_is q known) other;
   }

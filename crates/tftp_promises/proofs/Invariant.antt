@@ -28,6 +28,8 @@ use Rattle.tftp_rules.specs.ViewSafety.{IsAmong}
 use Rattle.tftp_rules.proofs.UnblamedEnds.{IsUnblamed}
 use Rattle.tftp_server.specs.State.{TransferState, at}
 use Rattle.tftp_sockets.specs.Trace.{SocketEvent}
+use Rattle.tftp_loop.specs.Run.{Run}
+use Rattle.tftp_loop.specs.Steps.{LoopState, LoopStep}
 use Rattle.tftp_client.specs.Converses.{State}
 use Rattle.tftp_promises.specs.ClientRuns.{moved_in}
 use Rattle.tftp_promises.specs.Drafts.{HadStore, StoreBegan, WasCommitted}
@@ -35,9 +37,9 @@ use Rattle.tftp_promises.specs.Given.{GaveSince, StoreOpened}
 use Rattle.tftp_promises.specs.Joint.{WasSentBefore}
 use Rattle.tftp_promises.specs.Moved.{Moved}
 use Rattle.tftp_promises.specs.Openings.{HasClosed, above, moved_at, opened_at, our_ports, place_at}
-use Rattle.tftp_promises.specs.Order.{Programs, IsStranger, requests_at}
+use Rattle.tftp_promises.specs.Order.{Programs, IsStranger, requests_at, ClientOf}
 use Rattle.tftp_promises.specs.Ports.{AreDistinct}
-use Rattle.tftp_promises.specs.Programs.{endpoint, ClientProgram, client_at}
+use Rattle.tftp_promises.specs.Programs.{endpoint, client_at}
 use Rattle.tftp_promises.specs.Network.{joined}
 use Rattle.tftp_promises.specs.Snapshots.{Snapshot, ClientStage, Unasked, Has_asked}
 use Rattle.tftp_promises.proofs.RunPlaces.{places}
@@ -98,7 +100,7 @@ module _ {S F D G K : Type 0} {stores : StoreMeaning S D} {sources : SourceMeani
     {outputs : SinkMeaning K}
     (programs : Programs stores sources inputs outputs) where
   -- the text of a client that sends: what moved in its run, padded by this byte
-  abbrev pub client_text : ℕ → ClientProgram inputs outputs (requests_at programs) → List ℕ
+  abbrev pub client_text : ℕ → ClientOf programs → List ℕ
   client_text pad client = pad_to pad client.first.role.length (moved_in client.runs).bytes
 
   -- the text of a transfer that sends, at this place
@@ -109,24 +111,21 @@ module _ {S F D G K : Type 0} {stores : StoreMeaning S D} {sources : SourceMeani
   -- what a client or a transfer there sends is the text of a file in this mode
   pub record SendsText (pad : ℕ) (a : Endpoint) (mode : Mode) : Type 0 where
     pub file : List ℕ
-    pub client : (k : ℕ) (client : ClientProgram inputs outputs (requests_at programs)) →
+    pub client : (k : ℕ) (client : ClientOf programs) → slice_get programs.clients k ≡ Some client →
+        a ≡ client_at client → wire_text mode file ≡ client_text pad client
+    pub transfer : ((k : ℕ) (client : ClientOf programs) →
         slice_get programs.clients k ≡ Some client →
-        a ≡ client_at inputs outputs (requests_at programs) client → wire_text mode file ≡ client_text pad client
-    pub transfer : ((k : ℕ) (client : ClientProgram inputs outputs (requests_at programs)) →
-        slice_get programs.clients k ≡ Some client →
-        a ≢ client_at inputs outputs (requests_at programs) client) →
+        a ≢ client_at client) →
         (opening : TransferState F D) → opened_at programs a programs.server.run ≡ Some opening →
         wire_text mode file ≡ place_text pad a
 
   -- a client's source has given since what was sent
-  pub record ClientGiven (client : ClientProgram inputs outputs (requests_at programs)) (x : OpenEnd) (source : G)
-      (moved : Moved) : Type 0 where
+  pub record ClientGiven (client : ClientOf programs) (x : OpenEnd) (source : G) (moved : Moved) : Type 0 where
     pub first : G
     pub is_first : client.file ≡ Source first
     pub since : GaveSince inputs first x.state moved.bytes source
 
-  pub record ClientGave (pad : ℕ) (client : ClientProgram inputs outputs (requests_at programs))
-      (x : OpenEnd) (source : G) (moved : Moved) : Type 0 where
+  pub record ClientGave (pad : ℕ) (client : ClientOf programs) (x : OpenEnd) (source : G) (moved : Moved) : Type 0 where
     pub sender : is_sender x.state.role.side ≡ true
     pub role : x.state.role ≡ client.first.role
     pub text : x.text ≡ client_text pad client
@@ -139,106 +138,116 @@ module _ {S F D G K : Type 0} {stores : StoreMeaning S D} {sources : SourceMeani
     pub took : TookSo x moved
 
   -- what is known of the file of a client's end
-  abbrev pub HasFile : ℕ → ClientProgram inputs outputs (requests_at programs) → OpenEnd →
-      Files G K → Moved → Type 0
+  abbrev pub HasFile : ℕ → ClientOf programs → OpenEnd → Files G K → Moved → Type 0
   HasFile pad client x (Source source) moved = ClientGave pad client x source moved
   HasFile pad client x (Sink sink) moved = ClientTook x moved
 
   -- the end of a client that has asked
-  pub record ClientKept (pad : ℕ) (views : List EndView) (messages : List Message)
-      (client : ClientProgram inputs outputs (requests_at programs))
+  pub record ClientKept (pad : ℕ) (views : List EndView) (messages : List Message) (client : ClientOf programs)
       (s : State) (files : Files G K) (moved : Moved) : Type 0 where
     pub end : OpenEnd
-    pub address : end.address ≡ client_at inputs outputs (requests_at programs) client
+    pub address : end.address ≡ client_at client
     pub state : end.state ≡ s.end
     pub side : is_client end.state.role.side ≡ true
     pub viewed : IsViewed (joined programs) (SendsText pad) views messages end
     -- its request is among the messages
-    pub asks : IsThere messages (client_at inputs outputs (requests_at programs) client)
-        (requests_at programs) client.first.position.last_sent
+    pub asks : IsThere messages (client_at client) (requests_at programs) client.first.position.last_sent
     pub has : HasFile pad client end files moved
 
   -- the end of a client, once it has asked
-  abbrev pub StageKept : ℕ → List EndView → List Message →
-      ClientProgram inputs outputs (requests_at programs) → ClientStage G K → Type 0
+  abbrev pub StageKept : ℕ → List EndView → List Message → ClientOf programs → ClientStage G K → Type 0
   StageKept pad views messages client Unasked = Unit {0}
   StageKept pad views messages client (Has_asked s files noted moved) =
       ClientKept pad views messages client s files moved
 
+  -- the end of a stranger's transfer: its peer is one, and its last datagram went to one
+  pub record IsStrangers (e : EndState) : Type 0 where
+    pub peer : Endpoint
+    pub is_peer : peer_of e.position.phase ≡ Some peer
+    pub strange : IsStranger programs peer
+    pub last_sent_to : IsStranger programs e.position.last_sent_to
+
+  -- the endpoint of a client that has asked
+  pub record IsOfClient (stages : List (ClientStage G K)) (a : Endpoint) : Type 0 where
+    pub k : ℕ
+    pub client : ClientOf programs
+    pub found : slice_get programs.clients k ≡ Some client
+    pub s : State
+    pub files : Files G K
+    pub noted : List SocketEvent
+    pub moved : Moved
+    pub is_stage : slice_get stages k ≡ Some (Has_asked s files noted moved)
+    pub address : a ≡ client_at client
+
+  module _ {state : LoopState S F D} (run : Run (LoopStep stores sources) programs.server.start state) where
+    -- what a run, the server's so far, says of a transfer at its place: it was opened so
+    pub record IsOpened (x : OpenEnd) : Type 0 where
+      pub opening : TransferState F D
+      pub opened : opened_at programs x.address run ≡ Some opening
+      pub path : opening.path ≡ x.path
+      pub role : opening.end.role ≡ x.state.role
+
+    -- the store opened its file so, and its source has given since what was sent
+    pub record IsGiven (x : OpenEnd) (source : F) : Type 0 where
+      pub opening : Opening F
+      pub first : StoreOpened run x.path x.request x.state.role.mode opening
+      pub long : x.state.role.length ≡ opening.length
+      pub since : GaveSince sources opening.source x.state (moved_at programs x.address run).bytes source
+
+    -- what a transfer sends, and what it stored, by the run
+    pub record SendsMoved (pad : ℕ) (x : OpenEnd) (source : F) : Type 0 where
+      pub sender : is_sender x.state.role.side ≡ true
+      pub opened : IsOpened x
+      pub text : x.text ≡ place_text pad x.address
+      pub gave : GaveSo x (moved_at programs x.address run)
+      pub given : IsGiven x source
+
+    -- the store began its draft so, and that has taken since what was handed to it
+    pub record IsTaken (x : OpenEnd) (draft : D) : Type 0 where
+      pub first : D
+      pub began : StoreBegan run x.path x.request x.state.role.mode programs.server.start.server.config.overwrite first
+      pub since : TookBy stores (HadStore run) x.path programs.server.start.server.config.overwrite first x
+          (moved_at programs x.address run).bytes draft
+
+    pub record StoresMoved (x : OpenEnd) (draft : D) : Type 0 where
+      pub receiver : is_sender x.state.role.side ≡ false
+      pub opened : IsOpened x
+      pub took : TookSo x (moved_at programs x.address run)
+      pub taken : IsTaken x draft
+
+module _ {S F D G K : Type 0} {stores : StoreMeaning S D} {sources : SourceMeaning F} {inputs : SourceMeaning G}
+    {outputs : SinkMeaning K} {programs : Programs stores sources inputs outputs} where
   -- the server holds the transfer, which is at this place, or has removed it
   abbrev pub HasTransferBy : Snapshot programs → ℕ → TransferState F D → Endpoint → Type 0
   HasTransferBy snapshot port transfer a =
       ((at port snapshot.state.server.held ≡ Some transfer) × (a ≡ place_at programs port snapshot.run))
       ⊎ HasClosed programs snapshot.run port transfer a
 
-  -- the end of a stranger's transfer: its peer is one, and its last datagram went to one
-  pub record IsStrangers (e : EndState) : Type 0 where
-    pub peer : Endpoint
-    pub is_peer : peer_of e.position.phase ≡ Some peer
-    pub strange : IsStranger stores sources inputs outputs programs peer
-    pub last_sent_to : IsStranger stores sources inputs outputs programs e.position.last_sent_to
-
-  -- the transfer was opened so at its place
-  pub record IsOpened (snapshot : Snapshot programs) (x : OpenEnd) : Type 0 where
-    pub opening : TransferState F D
-    pub opened : opened_at programs x.address snapshot.run ≡ Some opening
-    pub path : opening.path ≡ x.path
-    pub role : opening.end.role ≡ x.state.role
-
-  -- the store opened its file so, and its source has given since what was sent
-  pub record IsGiven (snapshot : Snapshot programs) (x : OpenEnd) (source : F) : Type 0 where
-    pub opening : Opening F
-    pub first : StoreOpened snapshot.run x.path x.request x.state.role.mode opening
-    pub long : x.state.role.length ≡ opening.length
-    pub since : GaveSince sources opening.source x.state (moved_at programs x.address snapshot.run).bytes source
-
-  -- what a transfer sends, and what it stored, by the run
-  pub record SendsMoved (pad : ℕ) (snapshot : Snapshot programs) (x : OpenEnd) (source : F) : Type 0 where
-    pub sender : is_sender x.state.role.side ≡ true
-    pub opened : IsOpened snapshot x
-    pub text : x.text ≡ place_text pad x.address
-    pub gave : GaveSo x (moved_at programs x.address snapshot.run)
-    pub given : IsGiven snapshot x source
-
-  -- the store began its draft so, and that has taken since what was handed to it
-  pub record IsTaken (snapshot : Snapshot programs) (x : OpenEnd) (draft : D) : Type 0 where
-    pub first : D
-    pub began : StoreBegan snapshot.run x.path x.request x.state.role.mode
-        programs.server.start.server.config.overwrite first
-    pub since : TookBy stores (HadStore snapshot.run) x.path programs.server.start.server.config.overwrite first x
-        (moved_at programs x.address snapshot.run).bytes draft
-
-  pub record StoresMoved (snapshot : Snapshot programs) (x : OpenEnd) (draft : D) : Type 0 where
-    pub receiver : is_sender x.state.role.side ≡ false
-    pub opened : IsOpened snapshot x
-    pub took : TookSo x (moved_at programs x.address snapshot.run)
-    pub taken : IsTaken snapshot x draft
-
   -- what is known of the file of a transfer
   abbrev pub HasStored : ℕ → Snapshot programs → OpenEnd → Files F D → Type 0
-  HasStored pad snapshot x (Source source) = SendsMoved pad snapshot x source
-  HasStored pad snapshot x (Sink draft) = StoresMoved snapshot x draft
+  HasStored pad snapshot x (Source source) = SendsMoved programs snapshot.run pad x source
+  HasStored pad snapshot x (Sink draft) = StoresMoved programs snapshot.run x draft
 
   -- the end of a transfer, held or removed, which is at its port, or a stranger's
   pub record TransferKept (pad : ℕ) (views : List EndView) (messages : List Message) (snapshot : Snapshot programs)
       (port : ℕ) (transfer : TransferState F D) (a : Endpoint) : Type 0 where
     pub end : OpenEnd
     pub address : end.address ≡ a
-    pub seat : (a ≡ endpoint programs.ip port) ⊎ IsStrangers end.state
+    pub seat : (a ≡ endpoint programs.ip port) ⊎ IsStrangers programs end.state
     pub state : end.state ≡ transfer.end
     pub path : end.path ≡ transfer.path
     pub request : end.request ≡ transfer.request
     pub named : IsNamed transfer.path transfer.request
     pub side : is_client end.state.role.side ≡ false
-    pub viewed : IsViewed (joined programs) (SendsText pad) views messages end
+    pub viewed : IsViewed (joined programs) (SendsText programs pad) views messages end
     pub has : HasStored pad snapshot end transfer.files
 
   -- a transfer whose end is as it was, and is still viewed with what its file did
   pub same_transfer : {pad : ℕ} {views views' : List EndView} {messages messages' : List Message}
       {snapshot snapshot' : Snapshot programs} {port : ℕ} {transfer : TransferState F D} {a : Endpoint}
       (h : TransferKept pad views messages snapshot port transfer a) →
-      IsViewed (joined programs) (SendsText pad) views' messages' h.end → HasStored pad snapshot' h.end transfer.files →
-      TransferKept pad views' messages' snapshot' port transfer a
+      IsViewed (joined programs) (SendsText programs pad) views' messages' h.end →
+      HasStored pad snapshot' h.end transfer.files → TransferKept pad views' messages' snapshot' port transfer a
   same_transfer h viewed has = record {
     end = h.end;
     address = h.address;
@@ -271,18 +280,6 @@ module _ {S F D G K : Type 0} {stores : StoreMeaning S D} {sources : SourceMeani
     pub opened : (port : ℕ) (transfer : TransferState F D) (a : Endpoint) → HasTransferBy snapshot port transfer a →
         Contains (places programs snapshot.run) a
 
-  -- the endpoint of a client that has asked
-  pub record IsOfClient (snapshot : Snapshot programs) (a : Endpoint) : Type 0 where
-    pub k : ℕ
-    pub client : ClientProgram inputs outputs (requests_at programs)
-    pub found : slice_get programs.clients k ≡ Some client
-    pub s : State
-    pub files : Files G K
-    pub noted : List SocketEvent
-    pub moved : Moved
-    pub is_stage : slice_get snapshot.clients k ≡ Some (Has_asked s files noted moved)
-    pub address : a ≡ client_at inputs outputs (requests_at programs) client
-
   -- the place of a transfer, held or removed
   pub record IsOfTransfer (snapshot : Snapshot programs) (a : Endpoint) : Type 0 where
     pub port : ℕ
@@ -295,18 +292,17 @@ module _ {S F D G K : Type 0} {stores : StoreMeaning S D} {sources : SourceMeani
     pub messages : List Message
     pub shown : IsShown (joined programs) views messages
     -- what was sent is there, unless it is for a stranger
-    pub sent : (from to : Endpoint) (bytes : List ℕ) → WasSentBefore programs snapshot from to bytes →
-        IsThere messages from to bytes ⊎ IsStranger stores sources inputs outputs programs to
+    pub sent : (from to : Endpoint) (bytes : List ℕ) → WasSentBefore snapshot from to bytes →
+        IsThere messages from to bytes ⊎ IsStranger programs to
     pub server : ServerKept messages snapshot
-    pub clients : (k : ℕ) (client : ClientProgram inputs outputs (requests_at programs))
-        (stage : ClientStage G K) →
+    pub clients : (k : ℕ) (client : ClientOf programs) (stage : ClientStage G K) →
         slice_get programs.clients k ≡ Some client → slice_get snapshot.clients k ≡ Some stage →
-        StageKept pad views messages client stage
+        StageKept programs pad views messages client stage
     pub transfers : (port : ℕ) (transfer : TransferState F D) (a : Endpoint) → HasTransferBy snapshot port transfer a →
         TransferKept pad views messages snapshot port transfer a
     -- the view of an end at an endpoint is the only one there, so this determines it
     pub only : (view : EndView) → IsAmong views view →
-        IsOfClient snapshot view.address ⊎ IsOfTransfer snapshot view.address
+        IsOfClient programs snapshot.clients view.address ⊎ IsOfTransfer snapshot view.address
 
   -- what has moved so far at the place of a transfer that was opened begins what moved there in all, at the same
   -- transfer
@@ -319,19 +315,14 @@ module _ {S F D G K : Type 0} {stores : StoreMeaning S D} {sources : SourceMeani
   pub record IsFreshBy (snapshot : Snapshot programs) : Type 0 where
     pub server : AreDistinct (programs.port ∷ our_ports programs snapshot.run)
     pub below : (port : ℕ) → Contains (our_ports programs snapshot.run) port → port < above programs
-    pub clients : (j k : ℕ) (x y : ClientProgram inputs outputs (requests_at programs)) →
-        slice_get programs.clients j ≡ Some x → slice_get programs.clients k ≡ Some y →
-        client_at inputs outputs (requests_at programs) x ≡ client_at inputs outputs
-        (requests_at programs) y → j ≡ k
-    pub apart : (k port : ℕ) (x : ClientProgram inputs outputs (requests_at programs)) →
-        slice_get programs.clients k ≡ Some x →
-        Contains (programs.port ∷ our_ports programs snapshot.run) port →
-        client_at inputs outputs (requests_at programs) x ≢ endpoint programs.ip port
+    pub clients : (j k : ℕ) (x y : ClientOf programs) → slice_get programs.clients j ≡ Some x →
+        slice_get programs.clients k ≡ Some y → client_at x ≡ client_at y → j ≡ k
+    pub apart : (k port : ℕ) (x : ClientOf programs) → slice_get programs.clients k ≡ Some x →
+        Contains (programs.port ∷ our_ports programs snapshot.run) port → client_at x ≢ endpoint programs.ip port
     pub others : (port : ℕ) → Contains (programs.port ∷ our_ports programs snapshot.run) port →
         Contains programs.others port → ⊥
     pub told : (a : Endpoint) → Contains (places programs snapshot.run) a → IsToldAt snapshot a
-    pub gave : (k : ℕ) (client : ClientProgram inputs outputs (requests_at programs)) (s : State)
-        (files : Files G K) (noted : List SocketEvent) (moved : Moved) →
-        slice_get programs.clients k ≡ Some client →
+    pub gave : (k : ℕ) (client : ClientOf programs) (s : State) (files : Files G K) (noted : List SocketEvent)
+        (moved : Moved) → slice_get programs.clients k ≡ Some client →
         slice_get snapshot.clients k ≡ Some (Has_asked s files noted moved) →
         IsPrefixOf moved.bytes (moved_in client.runs).bytes

@@ -24,9 +24,9 @@ use Rattle.tftp_promises.specs.ClientRuns.{ClientDoes, ClientRun, Starts, Goes_o
 use Rattle.tftp_promises.specs.Joint.{Joint, All_begin, Server_does, Client_asks, Client_does, CanTake, WasSentBefore}
 use Rattle.tftp_promises.specs.Joint.{TracesAreJoint}
 use Rattle.tftp_promises.specs.Moved.{Moved, nothing_moved}
-use Rattle.tftp_promises.specs.Order.{Noted, Programs, events_of, IsAt, IsHonest, IsOrder, CanCome, requests_at}
+use Rattle.tftp_promises.specs.Order.{Noted, Programs, events_of, IsAt, IsHonest, IsOrder, CanCome, ClientOf}
 use Rattle.tftp_promises.specs.Others.{DoesOwn, TakesOwn}
-use Rattle.tftp_promises.specs.Programs.{endpoint, ClientProgram}
+use Rattle.tftp_promises.specs.Programs.{endpoint}
 use Rattle.tftp_promises.specs.Snapshots.{ClientStage, Unasked, Has_asked, noted_by, Snapshot, just_asked, client_did}
 use Rattle.tftp_promises.specs.Snapshots.{all_of}
 use Rattle.tftp_promises.proofs.ClientTraces.{converse}
@@ -39,7 +39,7 @@ use Rattle.tftp_promises.proofs.StepEvents.{IsOther, IsQuiet, Silent, Notes, Res
 module _ {S F D G K : Type 0} {stores : StoreMeaning S D} {sources : SourceMeaning F} {inputs : SourceMeaning G}
     {outputs : SinkMeaning K} (programs : Programs stores sources inputs outputs) where
   abbrev Client : Type 0
-  Client = ClientProgram inputs outputs (requests_at programs)
+  Client = ClientOf programs
 
   abbrev ServerRun : LoopState S F D → Type 0
   ServerRun state = Run (LoopStep stores sources) (programs.server.start) state
@@ -102,10 +102,9 @@ module _ {S F D G K : Type 0} {stores : StoreMeaning S D} {sources : SourceMeani
         ClientHas sn.clients order k client
 
   -- what was sent of these events was noted
-  sent_before : (sn : Snapshot programs) (order : List Noted) → Fits sn order →
-      (program port : ℕ) (from to : Endpoint) (bytes : List ℕ) →
-      IsAt stores sources inputs outputs programs program port from →
-      Contains order (program, Sent port to bytes) → WasSentBefore programs sn from to bytes
+  sent_before : (sn : Snapshot programs) (order : List Noted) → Fits sn order → (program port : ℕ) (from to : Endpoint)
+      (bytes : List ℕ) → IsAt programs program port from → Contains order (program, Sent port to bytes) →
+      WasSentBefore sn from to bytes
   sent_before sn order fits zero port from to bytes at i =
       let same = same_Some programs.ip at.0 at.1 in
       inl (record {
@@ -130,16 +129,16 @@ module _ {S F D G K : Type 0} {stores : StoreMeaning S D} {sources : SourceMeani
 
   -- a program can take what comes to it
   can_take : (sn : Snapshot programs) (order : List Noted) → Fits sn order → (program : ℕ) (ip : List ℕ) →
-      ((port : ℕ) (a : Endpoint) → IsAt stores sources inputs outputs programs program port a → a ≡ endpoint ip port) →
-      (e : SocketEvent) → CanCome stores sources inputs outputs programs program e order → (ahead : List SocketEvent) (x : SocketEvent) →
-      AllByRecursion IsOther ahead → e ≡ x → CanTake programs sn ip (ahead ++ x ∷ [])
+      ((port : ℕ) (a : Endpoint) → IsAt programs program port a → a ≡ endpoint ip port) →
+      (e : SocketEvent) → CanCome programs program e order → (ahead : List SocketEvent) (x : SocketEvent) →
+      AllByRecursion IsOther ahead → e ≡ x → CanTake sn ip (ahead ++ x ∷ [])
   can_take sn order fits program ip is_ip e comes ahead x others same port from bytes i =
       let received = same ∙ oldest_in ahead x port from bytes others i in
-      let come : CanCome stores sources inputs outputs programs program (Received port from bytes) order =
-      subst (λ (z : SocketEvent). CanCome stores sources inputs outputs programs program z order) received comes in
+      let come : CanCome programs program (Received port from bytes) order =
+      subst (λ (z : SocketEvent). CanCome programs program z order) received comes in
       elim come.2 [
         | inl sent ↦
-            inl (subst (λ (a : Endpoint). WasSentBefore programs sn from a bytes) (is_ip port come.0 come.1)
+            inl (subst (λ (a : Endpoint). WasSentBefore sn from a bytes) (is_ip port come.0 come.1)
             (sent_before sn order fits sent.program sent.port from come.0 bytes sent.is_at sent.sent))
         | inr nevertheless ↦ inr nevertheless
       ]
@@ -148,19 +147,18 @@ module _ {S F D G K : Type 0} {stores : StoreMeaning S D} {sources : SourceMeani
 
   -- a silent step of the server
   server_rests : {old new : LoopState S F D} {run : ServerRun old} {noted : List SocketEvent}
-      {clients : List (ClientStage G K)} → Joint programs (snap run noted clients) →
-      (does : LoopStep stores sources old new) → new.events ≡ old.events →
-      Joint programs (snap (Then run does) noted clients)
+      {clients : List (ClientStage G K)} → Joint (snap run noted clients) → (does : LoopStep stores sources old new) →
+      new.events ≡ old.events → Joint (snap (Then run does) noted clients)
   server_rests joint does same =
       Server_does joint does [] same (λ port from bytes i. absurd (let l = i.1 in omega arith))
 
   -- at the beginning of the order the server has made silent steps only
   server_first : {state : LoopState S F D} (run : ServerRun state) (noted : List SocketEvent)
       (clients : List (ClientStage G K)) → state.events ≡ noted ++ programs.server.start.events → noted ≡ [] →
-      map (λ (client : Client). Unasked) programs.clients ≡ clients → Joint programs (snap run noted clients)
+      map (λ (client : Client). Unasked) programs.clients ≡ clients → Joint (snap run noted clients)
   server_first Start noted clients is none all =
-      subst (λ (cs : List (ClientStage G K)). Joint programs (snap Start noted cs)) all
-      (subst (λ (es : List SocketEvent). Joint programs (snap Start es (map (λ (client : Client). Unasked) programs.clients)))
+      subst (λ (cs : List (ClientStage G K)). Joint (snap Start noted cs)) all
+      (subst (λ (es : List SocketEvent). Joint (snap Start es (map (λ (client : Client). Unasked) programs.clients)))
       (sym none) All_begin)
   server_first (Then {middle = old} {last = new} run does) noted clients is none all = elim (server_adds does) [
     | Silent same ↦ server_rests (server_first run noted clients (sym same ∙ is) none all) does same
@@ -170,29 +168,29 @@ module _ {S F D G K : Type 0} {stores : StoreMeaning S D} {sources : SourceMeani
         new.events noted added before.1 is)
   ]
 
-  module _ (e : SocketEvent) (earlier : List Noted) (comes : CanCome stores sources inputs outputs programs 0 e earlier)
+  module _ (e : SocketEvent) (earlier : List Noted) (comes : CanCome programs 0 e earlier)
       (clients : List (ClientStage G K))
       (count : length clients ≡ length programs.clients)
       (fit : (k : ℕ) (client : Client) → slice_get programs.clients k ≡ Some client →
       ClientHas clients earlier k client)
-      (ih : (sn : Snapshot programs) → Fits sn earlier → Joint programs sn) where
+      (ih : (sn : Snapshot programs) → Fits sn earlier → Joint sn) where
     -- the last step of the server has noted the event
     server_steps : {old new : LoopState S F D} {run : ServerRun old} {old_noted noted : List SocketEvent} →
         old.events ≡ old_noted ++ programs.server.start.events → (does : LoopStep stores sources old new) →
         Split old.events new.events old_noted noted (e ∷ events_of 0 earlier) →
-        Joint programs (snap (Then run does) noted clients)
+        Joint (snap (Then run does) noted clients)
     server_steps {old = old} {new = new} {run = run} {old_noted = old_noted} {noted = noted} is does
         (split ahead x [] others own added noted_is seen_is) =
         let h = heads e x (events_of 0 earlier) old_noted seen_is in
         let fits : Fits (snap run old_noted clients) earlier =
         record { server = After_steps is (sym h.1); count = count; clients = fit } in
         let joint = ih (snap run old_noted clients) fits in
-        let ip_is : (port : ℕ) (a : Endpoint) → IsAt stores sources inputs outputs programs 0 port a →
+        let ip_is : (port : ℕ) (a : Endpoint) → IsAt programs 0 port a →
         a ≡ endpoint programs.ip port = λ port a at. at.2 ∙ ap (λ (ip : List ℕ). endpoint ip port)
         (sym (same_Some programs.ip at.0 at.1)) in
         let takes =
         can_take (snap run old_noted clients) earlier fits 0 programs.ip ip_is e comes ahead x others h.0 in
-        subst (λ (es : List SocketEvent). Joint programs (snap (Then run does) es clients)) (sym noted_is)
+        subst (λ (es : List SocketEvent). Joint (snap (Then run does) es clients)) (sym noted_is)
         (Server_does joint does (ahead ++ x ∷ []) added takes)
     server_steps {run = run} {noted = noted} is does (split ahead x (y ∷ rest) others own added noted_is seen_is) =
         let h = heads e x (events_of 0 earlier) (y ∷ rest ++ _) seen_is in
@@ -207,7 +205,7 @@ module _ {S F D G K : Type 0} {stores : StoreMeaning S D} {sources : SourceMeani
     -- the event is the last that the server has noted
     server_back : {state : LoopState S F D} (run : ServerRun state) (noted : List SocketEvent) →
         state.events ≡ noted ++ programs.server.start.events → noted ≡ e ∷ events_of 0 earlier →
-        Joint programs (snap run noted clients)
+        Joint (snap run noted clients)
     server_back Start noted is seen_is =
         no_more e (events_of 0 earlier)
         (sym (at_first programs.server.start.events programs.server.start.events noted refl is) ∙ seen_is)
@@ -221,7 +219,7 @@ module _ {S F D G K : Type 0} {stores : StoreMeaning S D} {sources : SourceMeani
     ]
 
     server_any : {state : LoopState S F D} {run : ServerRun state} {noted : List SocketEvent} →
-        ServerFits (e ∷ events_of 0 earlier) state run noted → Joint programs (snap run noted clients)
+        ServerFits (e ∷ events_of 0 earlier) state run noted → Joint (snap run noted clients)
     server_any (After_steps {run = run} {noted = noted} is seen_is) = server_back run noted is seen_is
     server_any (Within_step is does s) = server_steps is does s
 
@@ -245,7 +243,7 @@ module _ {S F D G K : Type 0} {stores : StoreMeaning S D} {sources : SourceMeani
 
   all_fit : (k : ℕ) (client : Client) (sn : Snapshot programs) (order : List Noted) →
       slice_get programs.clients k ≡ Some client → OthersFit k sn order → (stage : ClientStage G K) →
-      ClientFits client (events_of (suc k) order) stage → Fits (client_did programs sn k stage) order
+      ClientFits client (events_of (suc k) order) stage → Fits (client_did sn k stage) order
   all_fit k client sn order is_client others stage fits = record {
     server = others.server;
     count = length-set sn.clients k stage ∙ others.count;
@@ -262,12 +260,10 @@ module _ {S F D G K : Type 0} {stores : StoreMeaning S D} {sources : SourceMeani
   }
 
   module _ (k : ℕ) (client : Client) (is_client : slice_get programs.clients k ≡ Some client) (e : SocketEvent)
-      (earlier : List Noted)
-      (comes : CanCome stores sources inputs outputs programs (suc k) e earlier) (sn : Snapshot programs)
-      (others : OthersFit k sn earlier)
-      (ih : (old : Snapshot programs) → Fits old earlier → Joint programs old) where
+      (earlier : List Noted) (comes : CanCome programs (suc k) e earlier) (sn : Snapshot programs)
+      (others : OthersFit k sn earlier) (ih : (old : Snapshot programs) → Fits old earlier → Joint old) where
     abbrev At : ClientStage G K → Snapshot programs
-    At stage = client_did programs sn k stage
+    At stage = client_did sn k stage
 
     abbrev With : List (ClientStage G K) → Snapshot programs
     With stages = record sn { clients = stages }
@@ -275,8 +271,7 @@ module _ {S F D G K : Type 0} {stores : StoreMeaning S D} {sources : SourceMeani
     stage_is : (stage : ClientStage G K) → slice_get (set sn.clients k stage) k ≡ Some stage
     stage_is stage = slice_get-set_same sn.clients k stage others.there.0 others.there.1
 
-    at_ip : (port : ℕ) (a : Endpoint) → IsAt stores sources inputs outputs programs (suc k) port a →
-        a ≡ endpoint client.ip port
+    at_ip : (port : ℕ) (a : Endpoint) → IsAt programs (suc k) port a → a ≡ endpoint client.ip port
     at_ip port a at =
         let own : option_map (λ (c : Client). c.ip) (slice_get programs.clients k) ≡ Some client.ip =
         ap (λ (o : Option Client). option_map (λ (c : Client). c.ip) o) is_client in
@@ -285,13 +280,12 @@ module _ {S F D G K : Type 0} {stores : StoreMeaning S D} {sources : SourceMeani
 
     -- the client makes a step
     client_goes : {s s' : State} {files files' : Files G K} (noted : List SocketEvent) (moved : Moved) →
-        Joint programs (At (Has_asked s files noted moved)) →
-        (does : ClientDoes inputs outputs client.port s files s' files') → DoesOwn programs.ip programs.others does →
-        (added : List SocketEvent) → s'.events ≡ added ++ s.events →
-        CanTake programs (At (Has_asked s files noted moved)) client.ip added →
-        Joint programs (At (Has_asked s' files' (added ++ noted) (client_moves does moved)))
+        Joint (At (Has_asked s files noted moved)) → (does : ClientDoes inputs outputs client.port s files s' files') →
+        DoesOwn programs.ip programs.others does → (added : List SocketEvent) → s'.events ≡ added ++ s.events →
+        CanTake (At (Has_asked s files noted moved)) client.ip added →
+        Joint (At (Has_asked s' files' (added ++ noted) (client_moves does moved)))
     client_goes {s = s} {s' = s'} {files = files} {files' = files'} noted moved joint does so added is takes =
-        subst (λ (stages : List (ClientStage G K)). Joint programs (With stages))
+        subst (λ (stages : List (ClientStage G K)). Joint (With stages))
         (set_again sn.clients k (Has_asked s files noted moved)
         (Has_asked s' files' (added ++ noted) (client_moves does moved)))
         (Client_does joint k client is_client (stage_is (Has_asked s files noted moved)) does so added is takes)
@@ -302,7 +296,7 @@ module _ {S F D G K : Type 0} {stores : StoreMeaning S D} {sources : SourceMeani
         s.events ≡ old_noted ++ client.before → (waits : List SocketEvent) → AllByRecursion IsQuiet waits →
         (does : ClientDoes inputs outputs client.port s files s' files') → DoesOwn programs.ip programs.others does →
         Split (waits ++ s.events) s'.events (waits ++ old_noted) noted (e ∷ events_of (suc k) earlier) →
-        Joint programs (At (Has_asked s' files' noted (client_moves does (moved_in run))))
+        Joint (At (Has_asked s' files' noted (client_moves does (moved_in run))))
     client_steps {s = s} {s' = s'} {files = files} {files' = files'} {noted = noted} old_noted run takes_own is waits quiet
         does so (split ahead x [] others_are own added noted_is seen_is) =
         let h = heads e x (events_of (suc k) earlier) (waits ++ old_noted) seen_is in
@@ -312,11 +306,10 @@ module _ {S F D G K : Type 0} {stores : StoreMeaning S D} {sources : SourceMeani
         let takes =
         can_take (At (Has_asked s files old_noted (moved_in run))) earlier fits (suc k) client.ip at_ip e comes
         ahead x others_are h.0 in
-        let all : CanTake programs (At (Has_asked s files old_noted (moved_in run))) client.ip
-        ((ahead ++ x ∷ []) ++ waits) =
+        let all : CanTake (At (Has_asked s files old_noted (moved_in run))) client.ip ((ahead ++ x ∷ []) ++ waits) =
         λ port from bytes i. takes port from bytes (before_waits (ahead ++ x ∷ []) waits (Received port from bytes)
         quiet (λ q. q) i) in
-        subst (λ (es : List SocketEvent). Joint programs (At (Has_asked s' files' es (client_moves does (moved_in run)))))
+        subst (λ (es : List SocketEvent). Joint (At (Has_asked s' files' es (client_moves does (moved_in run)))))
         (sym (noted_is ∙ sym (append_assoc (ahead ++ x ∷ []) waits old_noted)))
         (client_goes old_noted (moved_in run) (ih (At (Has_asked s files old_noted (moved_in run))) fits) does so
         ((ahead ++ x ∷ []) ++ waits) (added ∙ sym (append_assoc (ahead ++ x ∷ []) waits s.events)) all)
@@ -335,8 +328,8 @@ module _ {S F D G K : Type 0} {stores : StoreMeaning S D} {sources : SourceMeani
         (noted : List SocketEvent) →
         s'.events ≡ noted ++ client.before →
         noted ≡ e ∷ events_of (suc k) earlier → ((older : List SocketEvent) → s.events ≡ older ++ client.before →
-        older ≡ e ∷ events_of (suc k) earlier → Joint programs (At (Has_asked s files older (moved_in run)))) →
-        Joint programs (At (Has_asked s' files' noted (client_moves does (moved_in run))))
+        older ≡ e ∷ events_of (suc k) earlier → Joint (At (Has_asked s files older (moved_in run)))) →
+        Joint (At (Has_asked s' files' noted (client_moves does (moved_in run))))
     client_last {s = s} {s' = s'} run takes_own does so noted is seen_is rest_of = elim (client_adds does) [
       | Rests same ↦
           client_goes noted (moved_in run) (rest_of noted (sym same ∙ is) seen_is) does so [] same
@@ -353,27 +346,25 @@ module _ {S F D G K : Type 0} {stores : StoreMeaning S D} {sources : SourceMeani
     ]
 
     client_back : {s : State} {files : Files G K} (run : Conversed client s files) →
-        TakesOwn programs.ip programs.others run → (noted : List SocketEvent) →
-        s.events ≡ noted ++ client.before → noted ≡ e ∷ events_of (suc k) earlier →
-        Joint programs (At (Has_asked s files noted (moved_in run)))
+        TakesOwn programs.ip programs.others run → (noted : List SocketEvent) → s.events ≡ noted ++ client.before →
+        noted ≡ e ∷ events_of (suc k) earlier → Joint (At (Has_asked s files noted (moved_in run)))
     client_back Starts takes_own noted is seen_is =
         let request = Sent client.port client.first.position.last_sent_to client.first.position.last_sent in
         let noted_is : noted ≡ request ∷ [] = append_cancel_right noted (request ∷ []) client.before (sym is) in
         let none = (heads e request (events_of (suc k) earlier) [] (sym seen_is ∙ noted_is)).1 in
         let joint = ih (At Unasked) (all_fit k client sn earlier is_client others Unasked (Not_yet none)) in
         let asks =
-        subst (λ (stages : List (ClientStage G K)). Joint programs (With stages))
+        subst (λ (stages : List (ClientStage G K)). Joint (With stages))
         (set_again sn.clients k Unasked (just_asked client))
         (Client_asks joint k client is_client (stage_is Unasked)) in
-        subst (λ (es : List SocketEvent). Joint programs
+        subst (λ (es : List SocketEvent). Joint
         (At (Has_asked (begun client.port client.reading client.first client.before) client.file es nothing_moved))) (sym noted_is)
         asks
     client_back (Goes_on run does) takes_own noted is seen_is =
         client_last run takes_own.0 does takes_own.1 noted is seen_is
         (λ older i seen. client_back run takes_own.0 older i seen)
 
-    client_any : {stage : ClientStage G K} → ClientFits client (e ∷ events_of (suc k) earlier) stage →
-        Joint programs (At stage)
+    client_any : {stage : ClientStage G K} → ClientFits client (e ∷ events_of (suc k) earlier) stage → Joint (At stage)
     client_any (Not_yet none) = no_more e (events_of (suc k) earlier) (sym none)
     client_any (Conversed_so {noted = noted} run own is [] quiet seen_is) = client_back run own noted is seen_is
     client_any (Conversed_so {s = s} {files = files} {noted = noted} run own is (w ∷ waits) quiet seen_is) =
@@ -401,11 +392,9 @@ module _ {S F D G K : Type 0} {stores : StoreMeaning S D} {sources : SourceMeani
   not_suc : (j k : ℕ) → j ≢ k → suc j ≢ suc k
   not_suc j k n = omega (arith, n)
 
-  of_client : (k : ℕ) (e : SocketEvent) (earlier : List Noted) →
-      CanCome stores sources inputs outputs programs (suc k) e earlier →
-      ((old : Snapshot programs) → Fits old earlier → Joint programs old) →
-      (sn : Snapshot programs) → Fits sn ((suc k, e) ∷ earlier) → (o : Option Client) →
-      slice_get programs.clients k ≡ o → Joint programs sn
+  of_client : (k : ℕ) (e : SocketEvent) (earlier : List Noted) → CanCome programs (suc k) e earlier →
+      ((old : Snapshot programs) → Fits old earlier → Joint old) → (sn : Snapshot programs) →
+      Fits sn ((suc k, e) ∷ earlier) → (o : Option Client) → slice_get programs.clients k ≡ o → Joint sn
   of_client k e earlier comes ih sn fits None none =
       let apart : (j : ℕ) (client : Client) → slice_get programs.clients j ≡ Some client → j ≢ k =
       λ j client is same. none-some client
@@ -425,14 +414,14 @@ module _ {S F D G K : Type 0} {stores : StoreMeaning S D} {sources : SourceMeani
         there = (has.0, has.1);
         clients = λ j c n is. has_other sn.clients j c (suc k) e earlier (not_suc j k n) (fits.clients j c is);
       } in
-      subst (λ (stages : List (ClientStage G K)). Joint programs (record sn { clients = stages }))
+      subst (λ (stages : List (ClientStage G K)). Joint (record sn { clients = stages }))
       (set_own sn.clients k has.0 has.1)
       (client_any k client is_client e earlier comes sn others ih
       (subst (λ (es : List SocketEvent). ClientFits client es has.0) (events_own (suc k) e earlier) has.2))
 
-  of_program : (p : ℕ) (e : SocketEvent) (earlier : List Noted) → CanCome stores sources inputs outputs programs p e earlier →
-      ((old : Snapshot programs) → Fits old earlier → Joint programs old) →
-      (sn : Snapshot programs) → Fits sn ((p, e) ∷ earlier) → Joint programs sn
+  of_program : (p : ℕ) (e : SocketEvent) (earlier : List Noted) → CanCome programs p e earlier →
+      ((old : Snapshot programs) → Fits old earlier → Joint old) →
+      (sn : Snapshot programs) → Fits sn ((p, e) ∷ earlier) → Joint sn
   of_program zero e earlier comes ih sn fits =
       server_any e earlier comes sn.clients fits.count
       (λ j c is. has_other sn.clients j c 0 e earlier (let n : suc j ≢ zero = omega arith in n)
@@ -454,14 +443,12 @@ module _ {S F D G K : Type 0} {stores : StoreMeaning S D} {sources : SourceMeani
 
   all_first : (clients : List (ClientStage G K)) {state : LoopState S F D} {run : ServerRun state}
       {noted : List SocketEvent} → map (λ (client : Client). Unasked) programs.clients ≡ clients →
-      ServerFits [] state run noted →
-      Joint programs (snap run noted clients)
+      ServerFits [] state run noted → Joint (snap run noted clients)
   all_first clients all (After_steps {run = run} {noted = noted} is none) = server_first run noted clients is none all
   all_first clients all (Within_step is does (split ahead x rest others own added noted_is none)) =
       no_more x (rest ++ _) none
 
-  joint_to : (order : List Noted) → IsHonest stores sources inputs outputs programs order → (sn : Snapshot programs) →
-      Fits sn order → Joint programs sn
+  joint_to : (order : List Noted) → IsHonest programs order → (sn : Snapshot programs) → Fits sn order → Joint sn
   joint_to [] honest sn fits =
       all_first sn.clients (all_are programs.clients sn.clients Unasked fits.count
       (λ k client is. let has = fits.clients k client is in has.1 ∙ ap (λ (stage : ClientStage G K). Some stage)
@@ -469,10 +456,10 @@ module _ {S F D G K : Type 0} {stores : StoreMeaning S D} {sources : SourceMeani
   joint_to (x ∷ earlier) honest sn fits =
       of_program x.0 x.1 earlier honest.0 (λ old f. joint_to earlier honest.1 old f) sn fits
 
-  pub all_joint : (order : List Noted) → IsOrder stores sources inputs outputs programs order →
-      IsHonest stores sources inputs outputs programs order →
+  pub all_joint : (order : List Noted) → IsOrder programs order →
+      IsHonest programs order →
       ((k : ℕ) (client : Client) → slice_get programs.clients k ≡ Some client →
-      TakesOwn programs.ip programs.others client.runs) → Joint programs (all_of programs)
+      TakesOwn programs.ip programs.others client.runs) → Joint (all_of programs)
   all_joint order is_order honest own =
       let stage_of : Client → ClientStage G K =
       λ client. Has_asked client.last client.files client.noted (moved_in client.runs) in

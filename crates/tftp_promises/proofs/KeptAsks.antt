@@ -33,8 +33,8 @@ use Rattle.tftp_rules.proofs.SaidLemmas.{spells_own}
 use Rattle.tftp_rules.proofs.UnblamedEnds.{opens_unblamed}
 use Rattle.tftp_promises.specs.ClientRuns.{moved_in}
 use Rattle.tftp_promises.specs.Moved.{Moved, nothing_moved}
-use Rattle.tftp_promises.specs.Order.{Programs, requests_at}
-use Rattle.tftp_promises.specs.Programs.{ClientProgram, client_at, endpoint, ClientOpens, To_read}
+use Rattle.tftp_promises.specs.Order.{Programs, requests_at, ClientOf}
+use Rattle.tftp_promises.specs.Programs.{client_at, endpoint, ClientOpens, To_read}
 use Rattle.tftp_promises.specs.Programs.{To_write}
 use Rattle.tftp_promises.specs.Programs.{OpensToRead, OpensToWrite}
 use Rattle.tftp_promises.specs.Network.{joined}
@@ -64,15 +64,13 @@ opening a first bytes text =
     }
 
 module _ {S F D G K : Type 0} {stores : StoreMeaning S D} {sources : SourceMeaning F} {inputs : SourceMeaning G}
-    {outputs : SinkMeaning K}
-    (programs : Programs stores sources inputs outputs) (pad : ℕ) (k : ℕ)
-    (client : ClientProgram inputs outputs (requests_at programs))
-    (found : slice_get programs.clients k ≡ Some client) where
+    {outputs : SinkMeaning K} (programs : Programs stores sources inputs outputs) (pad : ℕ) (k : ℕ)
+    (client : ClientOf programs) (found : slice_get programs.clients k ≡ Some client) where
   abbrev to : Endpoint
   to = requests_at programs
 
   abbrev here : Endpoint
-  here = client_at inputs outputs to client
+  here = client_at client
 
   -- what a client with this end and this file needs to have its own file
   abbrev Own : EndState → Files G K → List ℕ → List ℕ → Type 0
@@ -186,14 +184,11 @@ says_request true request = refl
 says_request false request = refl
 
 module _ {S F D G K : Type 0} {stores : StoreMeaning S D} {sources : SourceMeaning F} {inputs : SourceMeaning G}
-    {outputs : SinkMeaning K}
-    (programs : Programs stores sources inputs outputs) (pad : ℕ) (old : Snapshot programs)
-    (kept : IsKept programs pad old) (fresh : IsFreshBy programs old)
-    (k : ℕ) (client : ClientProgram inputs outputs (requests_at programs))
-    (found : slice_get programs.clients k ≡ Some client)
-    (unasked : slice_get old.clients k ≡ Some Unasked) where
+    {outputs : SinkMeaning K} {programs : Programs stores sources inputs outputs} {pad : ℕ} {old : Snapshot programs}
+    (kept : IsKept pad old) (fresh : IsFreshBy old) (k : ℕ) (client : ClientOf programs)
+    (found : slice_get programs.clients k ≡ Some client) (unasked : slice_get old.clients k ≡ Some Unasked) where
   abbrev a : Endpoint
-  a = client_at inputs outputs (requests_at programs) client
+  a = client_at client
 
   -- no end is there
   pub nobody_there : NoneAt kept.views a
@@ -204,7 +199,7 @@ module _ {S F D G K : Type 0} {stores : StoreMeaning S D} {sources : SourceMeani
         same_Some (Has_asked h.s h.files h.noted h.moved) Unasked
         (sym h.is_stage ∙ (ap (slice_get old.clients) k_is ∙ unasked)) in
         absurd (asked_or_not h.s h.files h.noted h.moved f)
-    | inr h ↦ transfer_apart programs old kept fresh k client found view.address h (sym same)
+    | inr h ↦ transfer_apart kept fresh k client found view.address h (sym same)
   ] where
     asked_or_not : (s : State) (files : Files G K) (noted : List SocketEvent) (moved : Moved) →
         Has_asked s files noted moved ≡ Unasked → ⊥
@@ -266,13 +261,13 @@ module _ {S F D G K : Type 0} {stores : StoreMeaning S D} {sources : SourceMeani
               (subst (λ (d : Endpoint). IsThere (kept.messages ++ m ∷ []) (endpoint client.ip p) d bytes') to_is
               (subst (λ (c : List ℕ). IsThere (kept.messages ++ m ∷ []) (endpoint client.ip p) t c) bytes_are there))
 
-    turns : ClientTurns programs old kept k client (begun client.port client.reading client.first client.before) client.file
+    turns : ClientTurns kept k client (begun client.port client.reading client.first client.before) client.file
         (Sent client.port client.first.position.last_sent_to client.first.position.last_sent ∷ []) nothing_moved
     turns = record {
       views = kept.views ++ open_view x ∷ [];
       said_now = m ∷ [];
       shown = shown_now;
-      others = λ z apart v. viewed_before (joined programs) kept.views kept.messages (m ∷ []) (open_view x) z v;
+      others = λ z apart v. viewed_before (m ∷ []) (open_view x) v;
       own = record {
         end = x;
         address = refl;
@@ -297,9 +292,9 @@ module _ {S F D G K : Type 0} {stores : StoreMeaning S D} {sources : SourceMeani
       ];
     }
 
-  pub asks_keeps : IsKept programs pad (client_did programs old k (just_asked client))
+  pub asks_keeps : IsKept pad (client_did old k (just_asked client))
   asks_keeps =
       let h : Asks_with = requests programs pad k client found client.opens in
-      client_keeps programs old kept fresh k client found Unasked unasked (begun client.port client.reading client.first client.before)
+      client_keeps kept fresh k client found Unasked unasked (begun client.port client.reading client.first client.before)
       client.file
       (Sent client.port client.first.position.last_sent_to client.first.position.last_sent ∷ []) nothing_moved (turns h)

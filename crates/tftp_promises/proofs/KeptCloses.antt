@@ -13,7 +13,7 @@ use Rattle.tftp_rules.specs.Machine.{Endpoint, Message}
 use Rattle.tftp_rules.specs.Shows.{IsShown}
 use Rattle.tftp_rules.proofs.Entries.{lookup-remove_other, numbers}
 use Rattle.tftp_promises.specs.Openings.{HasClosed, place_at}
-use Rattle.tftp_promises.specs.Order.{Programs, requests_at}
+use Rattle.tftp_promises.specs.Order.{Programs}
 use Rattle.tftp_promises.specs.Network.{joined}
 use Rattle.tftp_promises.specs.Snapshots.{Snapshot, server_did}
 use Rattle.tftp_promises.proofs.Identifiers.{at-without_cases, once-without}
@@ -26,15 +26,14 @@ use Rattle.tftp_promises.proofs.MovedSteps.{MovesNone}
 use Rattle.tftp_promises.proofs.ServerStays.{stored_after}
 
 module _ {S F D G K : Type 0} {stores : StoreMeaning S D} {sources : SourceMeaning F} {inputs : SourceMeaning G}
-    {outputs : SinkMeaning K}
-    (programs : Programs stores sources inputs outputs) {pad : ℕ} (old : Snapshot programs)
-    (kept : IsKept programs pad old) {new : LoopState S F D}
-    (closes : Closes stores sources old.state new) (added : List SocketEvent) (silent : IsSilent added) where
+    {outputs : SinkMeaning K} {programs : Programs stores sources inputs outputs} {pad : ℕ} {old : Snapshot programs}
+    (kept : IsKept pad old) {new : LoopState S F D} (closes : Closes stores sources old.state new)
+    (added : List SocketEvent) (silent : IsSilent added) where
   abbrev does : LoopStep stores sources old.state new
   does = Transfer_closed closes
 
   abbrev now : Snapshot programs
-  now = server_did programs old does added
+  now = server_did old does added
 
   abbrev messages : List Message
   messages = kept.messages ++ []
@@ -68,15 +67,15 @@ module _ {S F D G K : Type 0} {stores : StoreMeaning S D} {sources : SourceMeani
       at port old.state.server.held ≡ Some transfer
   removed_at q transfer r = ap (λ (p : ℕ). at p old.state.server.held) (sym r.0) ∙ r.1
 
-  held_before : (q : ℕ) (transfer : TransferState F D) (a : Endpoint) → HasTransferBy programs now q transfer a →
-      HasTransferBy programs old q transfer a
+  held_before : (q : ℕ) (transfer : TransferState F D) (a : Endpoint) → HasTransferBy now q transfer a →
+      HasTransferBy old q transfer a
   held_before q transfer a (inl e) = inl ((still_held q transfer e.0).1, e.1)
   held_before q transfer a (inr (inl removes)) = inl (removes.0.1, removes.1)
   held_before q transfer a (inr (inr closed)) = inr closed
 
   -- and is so after the step
-  held_after : (q : ℕ) (transfer : TransferState F D) (a : Endpoint) → HasTransferBy programs old q transfer a →
-      HasTransferBy programs now q transfer a
+  held_after : (q : ℕ) (transfer : TransferState F D) (a : Endpoint) → HasTransferBy old q transfer a →
+      HasTransferBy now q transfer a
   held_after q transfer a (inl e) = elim (cases_eq q port) [
     | inl same ↦ inr (inl ((same, e.0), e.1))
     | inr n ↦ inl (ap (at q) held ∙ (lookup-remove_other numbers port q old.state.server.held n ∙ e.0), e.1)
@@ -107,19 +106,18 @@ module _ {S F D G K : Type 0} {stores : StoreMeaning S D} {sources : SourceMeani
   gone_once p q t u a (inr closed) (inl s) = absurd (removed_twice q p u t a s closed)
   gone_once p q t u a (inr c) (inr d) = kept.server.gone_once p q t u a c d
 
-  all_transfers : (q : ℕ) (transfer : TransferState F D) (a : Endpoint) → HasTransferBy programs now q transfer a →
-      TransferKept programs pad kept.views messages now q transfer a
+  all_transfers : (q : ℕ) (transfer : TransferState F D) (a : Endpoint) → HasTransferBy now q transfer a →
+      TransferKept pad kept.views messages now q transfer a
   all_transfers q transfer a is =
       let h = kept.transfers q transfer a (held_before q transfer a is) in
-      same_transfer programs h (viewed_still (joined programs) kept.views kept.messages [] h.end h.viewed)
-      (stored_after programs pad old does added h.end (none h.end.address) transfer.files h.has)
+      same_transfer h (viewed_still [] h.viewed)
+      (stored_after pad old does added h.end (none h.end.address) transfer.files h.has)
 
-  server_kept : ServerKept programs messages now
+  server_kept : ServerKept messages now
   server_kept = record {
     requests = ap (λ (s : LoopState S F D). s.requests) closes.is ∙ kept.server.requests;
     config = ap (λ (s : ServerState S F D). s.config) server_is ∙ kept.server.config;
-    pending = λ from bytes e.
-        arrived_still kept.messages [] from (requests_at programs) bytes
+    pending = λ from bytes e. arrived_still kept.messages []
         (kept.server.pending from bytes (ap (λ (s : LoopState S F D). s.pending) (sym closes.is) ∙ e));
     once =
         subst (λ (hs : List (ℕ × TransferState F D)). AreKeyedOnce hs) (sym held)
@@ -130,7 +128,7 @@ module _ {S F D G K : Type 0} {stores : StoreMeaning S D} {sources : SourceMeani
     opened = λ q transfer a is. kept.server.opened q transfer a (held_before q transfer a is);
   }
 
-  close_turns : ServerTurns programs old kept now added
+  close_turns : ServerTurns kept now added
   close_turns = record {
     views = kept.views;
     said_now = [];
@@ -139,7 +137,7 @@ module _ {S F D G K : Type 0} {stores : StoreMeaning S D} {sources : SourceMeani
         kept.shown;
     sends = λ q to bytes c. absurd (silent q to bytes c);
     server = server_kept;
-    clients = λ k client found z at_client h. viewed_still (joined programs) kept.views kept.messages [] z h;
+    clients = λ k client found z at_client h. viewed_still [] h;
     transfers = all_transfers;
     only = λ view among. inl among;
     were =
@@ -150,5 +148,5 @@ module _ {S F D G K : Type 0} {stores : StoreMeaning S D} {sources : SourceMeani
         };
   }
 
-  pub closing_keeps : IsKept programs pad now
-  closing_keeps = server_keeps programs old kept does added close_turns
+  pub closing_keeps : IsKept pad now
+  closing_keeps = server_keeps kept does added close_turns

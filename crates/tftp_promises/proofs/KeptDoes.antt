@@ -1,6 +1,6 @@
 -- Each step of a client keeps the invariant.
 use Rattle.std.proofs.Common.{◌≡◌, ℕ, Bool, List, [], ◌∷◌, ◌++◌, Option, Some, None, refl, sym, ap, ◌∙◌, subst}
-use Rattle.std.specs.Prelude.{◌≢◌, slice_get, is_some, IsSome}
+use Rattle.std.specs.Prelude.{◌≢◌, is_some, IsSome}
 use Rattle.std.specs.List.{Contains}
 use Rattle.std.proofs.lemmas.List.Elements.{Contains-append_left, Contains-push}
 use Rattle.tftp_wire.specs.Spelling.{Spells}
@@ -35,12 +35,12 @@ use Rattle.tftp_promises.specs.ClientRuns.{client_moves, line_printed, moved_in}
 use Rattle.tftp_promises.specs.Joint.{CanTake}
 use Rattle.tftp_promises.specs.Moved.{Moved, handling_moves, step_moves}
 use Rattle.tftp_promises.specs.Openings.{our_ports}
-use Rattle.tftp_promises.specs.Order.{Programs, requests_at}
+use Rattle.tftp_promises.specs.Order.{Programs}
 use Rattle.tftp_promises.specs.Others.{DoesOwn, HandlesOwn, IsOtherAnswer}
-use Rattle.tftp_promises.specs.Programs.{ClientProgram, client_at}
+use Rattle.tftp_promises.specs.Programs.{client_at}
 use Rattle.tftp_promises.specs.Network.{joined}
 use Rattle.tftp_promises.specs.Snapshots.{Snapshot, Has_asked, client_did}
-use Rattle.tftp_promises.proofs.Invariant.{HasArrived, IsKept, IsFreshBy}
+use Rattle.tftp_promises.proofs.Invariant.{HasArrived, IsKept, IsFreshBy, ClientKept, IsOfClient}
 use Rattle.tftp_promises.proofs.KeptAnswers.{answer_from_server}
 use Rattle.tftp_promises.proofs.KeptEvents.{IsSilent, added_by, added_none, answered_has, answered_sends}
 use Rattle.tftp_promises.proofs.KeptEvents.{elapsed_silent}
@@ -57,43 +57,41 @@ no_outcome None still = refl
 no_outcome (Some outcome) still = absurd (still refl)
 
 module _ {S F D G K : Type 0} {stores : StoreMeaning S D} {sources : SourceMeaning F} {inputs : SourceMeaning G}
-    {outputs : SinkMeaning K}
-    (programs : Programs stores sources inputs outputs) {pad : ℕ} (old : Snapshot programs)
-    (kept : IsKept programs pad old) (fresh : IsFreshBy programs old)
-    (k : ℕ) (client : ClientProgram inputs outputs (requests_at programs))
-    (found : slice_get programs.clients k ≡ Some client)
-    (s : State) (files : Files G K) (noted : List SocketEvent) (moved : Moved)
-    (is_stage : slice_get old.clients k ≡ Some (Has_asked s files noted moved)) where
+    {outputs : SinkMeaning K} {programs : Programs stores sources inputs outputs} {pad : ℕ} {old : Snapshot programs}
+    (kept : IsKept pad old) (fresh : IsFreshBy old) {a : Endpoint} (c : IsOfClient programs old.clients a) where
+  open c use {k, client, found, s, files, noted, moved, is_stage}
+
   abbrev here : Endpoint
-  here = client_at inputs outputs (requests_at programs) client
+  here = client_at client
+
+  -- its end before the step
+  abbrev o : ClientKept programs pad kept.views kept.messages client s files moved
+  o = own kept fresh c
 
   abbrev x : OpenEnd
-  x = (own programs old kept fresh k client found s files noted moved is_stage).end
+  x = o.end
 
   -- its end is among all that is shown
-  stands : Stands (joined programs) kept.shown.0 kept.views kept.messages
-      (own programs old kept fresh k client found s files noted moved is_stage).viewed.index (open_view x)
+  stands : Stands (joined programs) kept.shown.0 kept.views kept.messages o.viewed.index (open_view x)
   stands =
       record {
         shown = kept.shown.1;
-        viewed = (own programs old kept fresh k client found s files noted moved
-            is_stage).viewed.viewed;
+        viewed = o.viewed.viewed;
       }
 
   -- an open one has no outcome
   still_open : IsOpen s.end → outcome_of x.state.position.phase ≡ None
   still_open still =
-      ap (λ (e : EndState). outcome_of e.position.phase) (own programs old kept fresh k client found s files noted moved
-      is_stage).state ∙ no_outcome (outcome_of s.end.position.phase) still
+      ap (λ (e : EndState). outcome_of e.position.phase) o.state ∙ no_outcome (outcome_of s.end.position.phase) still
 
   -- what the client then has
   abbrev Then_keeps : State → Files G K → List SocketEvent → Moved → Type 0
   Then_keeps s' files' added moved' =
-      IsKept programs pad (client_did programs old k (Has_asked s' files' (added ++ noted) moved'))
+      IsKept pad (client_did old k (Has_asked s' files' (added ++ noted) moved'))
 
   -- what it has moved then begins what it moves in all
   pub told_now : (s' : State) (files' : Files G K) (noted' : List SocketEvent) (moved' : Moved) →
-      IsFreshBy programs (client_did programs old k (Has_asked s' files' noted' moved')) →
+      IsFreshBy (client_did old k (Has_asked s' files' noted' moved')) →
       IsPrefixOf moved'.bytes (moved_in client.runs).bytes
   told_now s' files' noted' moved' now =
       now.gave k client s' files' noted' moved' found
@@ -118,7 +116,7 @@ module _ {S F D G K : Type 0} {stores : StoreMeaning S D} {sources : SourceMeani
         answer_from_server (joined programs) kept.views kept.messages kept.shown from x.address
         (near_server programs from near (λ other. takes_own no_peer
         (record { near = near; other = other; packet = p; spells = spells; answer = answer })))
-        (ap (joined programs).host_of (own programs old kept fresh k client found s files noted moved is_stage).address
+        (ap (joined programs).host_of o.address
         ∙ clients_there programs k client found)
         p answer (there p spells)
 
@@ -134,7 +132,6 @@ module _ {S F D G K : Type 0} {stores : StoreMeaning S D} {sources : SourceMeani
         Then_keeps (turned client.port turn (received client.port from bytes watch s)) files' added
         (step_moves inputs outputs from bytes s.end files turn files' step moved)
     answers arrived spelled turn files' added still step takes_own told events =
-        let o = own programs old kept fresh k client found s files noted moved is_stage in
         let added_is = added_by client.port turn.reply receipt s.events added events in
         let there : HasArrived kept.messages from x.address bytes =
         subst (λ (a : Endpoint). HasArrived kept.messages from a bytes) (sym o.address) arrived in
@@ -162,12 +159,11 @@ module _ {S F D G K : Type 0} {stores : StoreMeaning S D} {sources : SourceMeani
         })
         there from_server over.steps in
         let unblamed =
-        turn_unblamed programs old kept fresh x o.viewed (still_open still)
-        (λ same. fresh.apart k programs.port client found
+        turn_unblamed kept fresh x o.viewed (still_open still) (λ same. fresh.apart k programs.port client found
         (Contains-append_left (programs.port ∷ []) (our_ports programs old.run) programs.port
         (Contains-push [] programs.port)) (sym o.address ∙ same))
         from bytes there spelled from_server turn over.content over.steps in
-        turn_keeps programs old kept fresh k client found s files noted moved is_stage turn over.content goes
+        turn_keeps kept fresh c turn over.content goes
         (turned client.port turn (received client.port from bytes watch s)) refl files'
         (step_moves inputs outputs from bytes s.end files turn files' step moved) unblamed over.has
         added (λ port to b c. answered_sends client.port turn.reply receipt receipt_silent port to b
@@ -178,10 +174,8 @@ module _ {S F D G K : Type 0} {stores : StoreMeaning S D} {sources : SourceMeani
         receipt ++ s.events ≡ added ++ s.events →
         Then_keeps (received client.port from bytes watch s) files' added moved
     loses files' added keeps events =
-        let o = own programs old kept fresh k client found s files noted moved is_stage in
         let added_is = added_by client.port None receipt s.events added events in
-        stays_keeps programs old kept fresh k client found s files noted moved is_stage
-        (received client.port from bytes watch s) refl files' moved
+        stays_keeps kept fresh c (received client.port from bytes watch s) refl files' moved
         (file_kept programs client x pad files files' moved o.has keeps)
         added (subst (λ (es : List SocketEvent). IsSilent es) added_is receipt_silent)
 
@@ -190,7 +184,6 @@ module _ {S F D G K : Type 0} {stores : StoreMeaning S D} {sources : SourceMeani
       answered client.port (timeout_turn s.end).reply (Elapsed client.port s.now ∷ s.events) ≡ added ++ s.events →
       Then_keeps (elapsed client.port s) files added moved
   times_out added still events =
-      let o = own programs old kept fresh k client found s files noted moved is_stage in
       let turn = timeout_turn x.state in
       let goes = timeout_goes (joined programs) kept.shown.0 kept.views kept.messages o.viewed.index x
       (record {
@@ -202,7 +195,7 @@ module _ {S F D G K : Type 0} {stores : StoreMeaning S D} {sources : SourceMeani
       let added_is =
       added_by client.port (timeout_turn s.end).reply (Elapsed client.port s.now ∷ []) s.events added events in
       let same : timeout_turn s.end ≡ turn = ap timeout_turn (sym o.state) in
-      turn_keeps programs old kept fresh k client found s files noted moved is_stage turn (files_of x) goes
+      turn_keeps kept fresh c turn (files_of x) goes
       (elapsed client.port s) (ap (after_turn s.end) same) files moved
       (timeout_unblamed (joined programs) kept.messages x.state o.viewed.unblamed)
       (file_same programs client x pad turn files moved (λ c. still_open still) o.has)
@@ -215,8 +208,7 @@ module _ {S F D G K : Type 0} {stores : StoreMeaning S D} {sources : SourceMeani
   pub elapses : (next : State) (added : List SocketEvent) → MayElapse client.port s next → next.events ≡ added ++ s.events →
       Then_keeps next files added moved
   elapses next added (Stays why) events =
-      let o = own programs old kept fresh k client found s files noted moved is_stage in
-      stays_keeps programs old kept fresh k client found s files noted moved is_stage s refl files moved o.has added
+      stays_keeps kept fresh c s refl files moved o.has added
       (subst (λ (es : List SocketEvent). IsSilent es) (added_none s.events added events) none_silent)
   elapses next added (Elapses due still) events = times_out added still events
 
@@ -225,9 +217,7 @@ module _ {S F D G K : Type 0} {stores : StoreMeaning S D} {sources : SourceMeani
       Then_keeps (waited event watch s) files added moved
   waits event watch added events =
       let wait = Watched watch ∷ Quiet event ∷ Quiet (Slept (wait_at s)) ∷ [] in
-      let o = own programs old kept fresh k client found s files noted moved is_stage in
-      stays_keeps programs old kept fresh k client found s files noted moved is_stage (waited event watch s) refl files
-      moved o.has added
+      stays_keeps kept fresh c (waited event watch s) refl files moved o.has added
       (subst (λ (es : List SocketEvent). IsSilent es) (added_by client.port None wait s.events added events)
       (unsent_silent wait (tt, (tt, (tt, tt)))))
 
@@ -235,9 +225,7 @@ module _ {S F D G K : Type 0} {stores : StoreMeaning S D} {sources : SourceMeani
   pub reads : (progress : Bool) (watch : Watch) (added : List SocketEvent) → Watched watch ∷ s.events ≡ added ++ s.events →
       Then_keeps (renewed progress watch s) files added moved
   reads progress watch added events =
-      let o = own programs old kept fresh k client found s files noted moved is_stage in
-      stays_keeps programs old kept fresh k client found s files noted moved is_stage (renewed progress watch s) refl
-      files moved o.has added
+      stays_keeps kept fresh c (renewed progress watch s) refl files moved o.has added
       (subst (λ (es : List SocketEvent). IsSilent es) (added_by client.port None (Watched watch ∷ []) s.events added events)
       (unsent_silent (Watched watch ∷ []) (tt, tt)))
 
@@ -245,35 +233,29 @@ module _ {S F D G K : Type 0} {stores : StoreMeaning S D} {sources : SourceMeani
   pub prints : (line : List ℕ) (added : List SocketEvent) → Printed line ∷ s.events ≡ added ++ s.events →
       Then_keeps (line_printed line s) files added moved
   prints line added events =
-      let o = own programs old kept fresh k client found s files noted moved is_stage in
-      stays_keeps programs old kept fresh k client found s files noted moved is_stage (line_printed line s) refl files
-      moved o.has added
+      stays_keeps kept fresh c (line_printed line s) refl files moved o.has added
       (subst (λ (es : List SocketEvent). IsSilent es) (added_by client.port None (Printed line ∷ []) s.events added events)
       (printed_silent line))
 
   pub works : (files' : Files G K) (added : List SocketEvent) → WorksOnFile inputs outputs files files' →
       s.events ≡ added ++ s.events → Then_keeps s files' added moved
   works files' added work events =
-      let o = own programs old kept fresh k client found s files noted moved is_stage in
-      stays_keeps programs old kept fresh k client found s files noted moved is_stage s refl files' moved
+      stays_keeps kept fresh c s refl files' moved
       (file_worked programs client x pad files files' moved o.has work) added
       (subst (λ (es : List SocketEvent). IsSilent es) (added_none s.events added events) none_silent)
 
 module _ {S F D G K : Type 0} {stores : StoreMeaning S D} {sources : SourceMeaning F} {inputs : SourceMeaning G}
-    {outputs : SinkMeaning K}
-    (programs : Programs stores sources inputs outputs) {pad : ℕ} (old : Snapshot programs)
-    (kept : IsKept programs pad old) (fresh : IsFreshBy programs old)
-    (k : ℕ) (client : ClientProgram inputs outputs (requests_at programs))
-    (found : slice_get programs.clients k ≡ Some client)
-    (s : State) (files : Files G K) (noted : List SocketEvent) (moved : Moved)
-    (is_stage : slice_get old.clients k ≡ Some (Has_asked s files noted moved)) where
+    {outputs : SinkMeaning K} {programs : Programs stores sources inputs outputs} {pad : ℕ} {old : Snapshot programs}
+    (kept : IsKept pad old) (fresh : IsFreshBy old) {a : Endpoint} (c : IsOfClient programs old.clients a) where
+  open c use {k, client, found, s, files, noted, moved, is_stage}
+
   -- a datagram is handled once it is among the messages
   handles : (from : Endpoint) (bytes : List ℕ) (watch : Watch) (next : State) (files' : Files G K) (added : List SocketEvent)
       (handled : HandlesReceived inputs outputs client.port from bytes (received client.port from bytes watch s) files
       next files') → HandlesOwn programs.ip programs.others handled →
       IsPrefixOf (handling_moves handled moved).bytes (moved_in client.runs).bytes →
-      next.events ≡ added ++ s.events → CanTake programs old client.ip added →
-      IsKept programs pad (client_did programs old k
+      next.events ≡ added ++ s.events → CanTake old client.ip added →
+      IsKept pad (client_did old k
       (Has_asked next files' (added ++ noted) (handling_moves handled moved)))
   handles from bytes watch next files' added (Answers {turn} still step) takes_own told events take =
       let receipt = Watched watch ∷ Received client.port from bytes ∷ Quiet (Slept (wait_at s)) ∷ [] in
@@ -285,34 +267,28 @@ module _ {S F D G K : Type 0} {stores : StoreMeaning S D} {sources : SourceMeani
       take client.port from bytes (subst (λ (es : List SocketEvent). Contains es (Received client.port from bytes))
       added_is (answered_has client.port turn.reply receipt (Received client.port from bytes) receipt_in)) in
       let a =
-      arrives programs old kept from (client_at inputs outputs (requests_at programs) client)
-      bytes
-      (stranger_no_client programs (client_at inputs outputs (requests_at programs) client) k
+      arrives kept from (client_at client) bytes (stranger_no_client programs (client_at client) k
       client found refl) came in
-      answers programs old a.now fresh k client found s files noted moved is_stage from bytes watch a.come a.spelled turn
-      files' added still step takes_own told events
+      answers a.now fresh c from bytes watch a.come a.spelled turn files' added still step takes_own told events
   handles from bytes watch next files' added (Loses lost keeps) takes_own told events take =
-      loses programs old kept fresh k client found s files noted moved is_stage from bytes watch files' added keeps
-      events
+      loses kept fresh c from bytes watch files' added keeps events
 
   pub does_keeps : (s' : State) (files' : Files G K) (added : List SocketEvent)
       (does : ClientDoes inputs outputs client.port s files s' files') → DoesOwn programs.ip programs.others does →
-      IsFreshBy programs (client_did programs old k (Has_asked s' files' (added ++ noted) (client_moves does moved))) →
-      s'.events ≡ added ++ s.events →
-      CanTake programs old client.ip added →
-      IsKept programs pad (client_did programs old k
-      (Has_asked s' files' (added ++ noted) (client_moves does moved)))
+      IsFreshBy (client_did old k (Has_asked s' files' (added ++ noted) (client_moves does moved))) →
+      s'.events ≡ added ++ s.events → CanTake old client.ip added →
+      IsKept pad (client_did old k (Has_asked s' files' (added ++ noted) (client_moves does moved)))
   does_keeps s' files' added (Receives_one {from = from} {bytes = bytes} {watch = watch} may later handled) takes_own now
       events take =
-      handles from bytes watch s' files' added handled takes_own (told_now programs old kept fresh k client found s files
-      noted moved is_stage s' files' (added ++ noted) (handling_moves handled moved) now) events take
+      handles from bytes watch s' files' added handled takes_own
+      (told_now kept fresh c s' files' (added ++ noted) (handling_moves handled moved) now) events take
   does_keeps s' files' added (Reads_clock progress {watch} later) takes_own now events take =
-      reads programs old kept fresh k client found s files noted moved is_stage progress watch added events
+      reads kept fresh c progress watch added events
   does_keeps s' files' added (Waits_until {event = event} {watch = watch} may which later) takes_own now events take =
-      waits programs old kept fresh k client found s files noted moved is_stage event watch added events
+      waits kept fresh c event watch added events
   does_keeps s' files' added (Times_out may) takes_own now events take =
-      elapses programs old kept fresh k client found s files noted moved is_stage s' added may events
+      elapses kept fresh c s' added may events
   does_keeps s' files' added (File_works work) takes_own now events take =
-      works programs old kept fresh k client found s files noted moved is_stage files' added work events
+      works kept fresh c files' added work events
   does_keeps s' files' added (Prints_line line) takes_own now events take =
-      prints programs old kept fresh k client found s files noted moved is_stage line added events
+      prints kept fresh c line added events

@@ -1,6 +1,6 @@
 -- What is known of a client's file, before a step and after it.
 use Rattle.std.proofs.Common.{◌≡◌, ℕ, Bool, true, false, List, [], ◌++◌, length, None, refl, sym, ap, ◌∙◌, subst}
-use Rattle.std.specs.Prelude.{is_some, if◌then◌else◌}
+use Rattle.std.specs.Prelude.{if◌then◌else◌}
 use Rattle.std.proofs.lemmas.Bool.{true≢false}
 use Rattle.tftp_file.specs.Block.{IsPrefixOf}
 use Rattle.tftp_file.specs.Sink.{Holding, SinkMeaning}
@@ -21,35 +21,24 @@ use Rattle.tftp_client.specs.Converses.{WorksOnFile}
 use Rattle.tftp_rules.specs.EndKept.{EndKept}
 use Rattle.tftp_rules.specs.KnownFiles.{known_source, known_sink}
 use Rattle.tftp_rules.specs.Machine.{Network}
-use Rattle.tftp_rules.specs.OpenEnds.{OpenEnd, files_of, holding_of, end_after}
+use Rattle.tftp_rules.specs.OpenEnds.{OpenEnd, files_of, holding_of, left_in, held_in, end_after}
 use Rattle.tftp_promises.specs.ClientRuns.{moved_in}
 use Rattle.tftp_promises.specs.Moved.{Moved, step_moves}
-use Rattle.tftp_promises.specs.Order.{Programs, requests_at}
-use Rattle.tftp_promises.specs.Programs.{ClientProgram}
+use Rattle.tftp_promises.specs.Order.{Programs, ClientOf}
 use Rattle.tftp_promises.proofs.GivenSteps.{gave_none, gave_still, step_gives}
-use Rattle.tftp_promises.proofs.Invariant.{HasFile}
+use Rattle.tftp_promises.proofs.Invariant.{HasFile, GaveSo, TookSo}
 use Rattle.tftp_promises.proofs.MovedSends.{source_moves}
 use Rattle.tftp_promises.proofs.MovedStores.{sink_moves}
 use Rattle.tftp_promises.proofs.Texts.{pad_length, pad_to}
 
 -- a step over the content of a client's file, and what is known of the file after it
 pub record StepsOver {S F D G K : Type 0} {stores : StoreMeaning S D} {sources : SourceMeaning F}
-    {inputs : SourceMeaning G} {outputs : SinkMeaning K} (programs : Programs stores sources inputs outputs)
-    (pad : ℕ) (client : ClientProgram inputs outputs (requests_at programs))
-    (x : OpenEnd) (from : Endpoint) (bytes : List ℕ) (turn : Turn) (files' : Files G K) (moved : Moved) : Type
-    0 where
+    {inputs : SourceMeaning G} {outputs : SinkMeaning K} (programs : Programs stores sources inputs outputs) (pad : ℕ)
+    (client : ClientOf programs) (x : OpenEnd) (from : Endpoint) (bytes : List ℕ) (turn : Turn) (files' : Files G K)
+    (moved : Moved) : Type 0 where
   pub content : Files (List ℕ) Holding
   pub steps : DatagramStep known_source known_sink from bytes x.state (files_of x) turn content
   pub has : HasFile programs pad client (end_after x turn content) files' moved
-
-pub left_is : (a b : List ℕ) → ◌≡◌ {A = Files (List ℕ) Holding} (Source a) (Source b) → a ≡ b
-left_is a b e = cc
-
-pub now_is : (a b : Holding) → ◌≡◌ {A = Files (List ℕ) Holding} (Sink a) (Sink b) → a ≡ b
-now_is a b e = cc
-
-pub sink_no_source : (a : Holding) (b : List ℕ) → ◌≡◌ {A = Files (List ℕ) Holding} (Sink a) (Source b) → ⊥
-sink_no_source a b e = cc
 
 module _ {G K : Type 0} (inputs : SourceMeaning G) (outputs : SinkMeaning K) where
   -- a step leaves a source or a sink
@@ -78,10 +67,35 @@ source_is x sender = ap (λ (b : Bool). if b then Source x.left else Sink (holdi
 pub sink_is : (x : OpenEnd) → is_sender x.state.role.side ≡ false → Sink (holding_of x) ≡ files_of x
 sink_is x receiver = ap (λ (b : Bool). if b then Source x.left else Sink (holding_of x)) (sym receiver)
 
+-- after a turn that leaves its file
+module _ (x : OpenEnd) (turn : Turn)
+    (still : outcome_of turn.position.phase ≡ None → outcome_of x.state.position.phase ≡ None) where
+  -- a receiver holds what it held
+  pub held_same : is_sender x.state.role.side ≡ false → holding_of (end_after x turn (files_of x)) ≡ holding_of x
+  held_same receiver = ap (λ (f : Files (List ℕ) Holding). held_in f (holding_of x)) (sym (sink_is x receiver))
+
+  -- what a sender gave, and what a receiver stored
+  pub gave_same : is_sender x.state.role.side ≡ true → (moved : Moved) → GaveSo x moved →
+      GaveSo (end_after x turn (files_of x)) moved
+  gave_same sender moved h = record {
+    prefix = h.prefix;
+    left = λ o. ap (λ (f : Files (List ℕ) Holding). moved.bytes ++ left_in f x.left) (sym (source_is x sender))
+        ∙ h.left (still o);
+  }
+
+  pub took_same : is_sender x.state.role.side ≡ false → (moved : Moved) → TookSo x moved →
+      TookSo (end_after x turn (files_of x)) moved
+  took_same receiver moved h =
+      let n = held_same receiver in
+      record {
+        stored = ap (λ (z : Holding). z.bytes) n ∙ h.stored;
+        committed = λ c. h.committed (ap (λ (z : Holding). z.committed) (sym n) ∙ c);
+        refuses = ap (λ (z : Holding). z.refuses) n ∙ h.refuses;
+      }
+
 module _ {S F D G K : Type 0} {stores : StoreMeaning S D} {sources : SourceMeaning F} {inputs : SourceMeaning G}
-    {outputs : SinkMeaning K}
-    (programs : Programs stores sources inputs outputs)
-    (client : ClientProgram inputs outputs (requests_at programs)) (x : OpenEnd) where
+    {outputs : SinkMeaning K} (programs : Programs stores sources inputs outputs) (client : ClientOf programs)
+    (x : OpenEnd) where
   abbrev Has : ℕ → OpenEnd → Files G K → Moved → Type 0
   Has pad y files moved = HasFile programs pad client y files moved
 
@@ -146,49 +160,23 @@ module _ {S F D G K : Type 0} {stores : StoreMeaning S D} {sources : SourceMeani
         (step_fits inputs outputs x.state.role.side from bytes x.state (Sink sink) turn files' step h.receiver)
 
   -- ---- the file of an end that makes no turn by it
-  same_by : (pad : ℕ) (turn : Turn) (files : Files G K) (moved : Moved) →
-      (is_some (outcome_of turn.position.phase) ≡ false → outcome_of x.state.position.phase ≡ None) →
-      Has pad x files moved →
-      (content : Files (List ℕ) Holding) → content ≡ files_of x → Has pad (end_after x turn content) files moved
-  same_by pad turn (Source source) moved still h (Source left) e =
-      let l = left_is left x.left (e ∙ sym (source_is x h.sender)) in
-      record {
-        sender = h.sender;
-        role = h.role;
-        text = h.text;
-        gave =
-            record {
-              prefix = h.gave.prefix;
-              left = λ o. ap (λ (t : List ℕ). moved.bytes
-                  ++ t) l ∙ h.gave.left (still (ap is_some o));
-            };
-        given =
-            record {
-              first = h.given.first;
-              is_first = h.given.is_first;
-              since = gave_still refl (λ o. still (ap is_some o)) h.given.since;
-            };
-      }
-  same_by pad turn (Sink sink) moved still h (Sink now) e =
-      let n = now_is now (holding_of x) (e ∙ sym (sink_is x h.receiver)) in
-      record {
-        receiver = h.receiver;
-        took = record {
-          stored = ap (λ (z : Holding). z.bytes) n ∙ h.took.stored;
-          committed = λ c. h.took.committed (ap (λ (z : Holding). z.committed) (sym n) ∙ c);
-          refuses = ap (λ (z : Holding). z.refuses) n ∙ h.took.refuses;
-        };
-      }
-  same_by pad turn (Source source) moved still h (Sink now) e =
-      absurd (sink_no_source now x.left (e ∙ sym (source_is x h.sender)))
-  same_by pad turn (Sink sink) moved still h (Source left) e =
-      absurd (sink_no_source (holding_of x) left (sym (e ∙ sym (sink_is x h.receiver))))
-
   pub file_same : (pad : ℕ) (turn : Turn) (files : Files G K) (moved : Moved) →
-      (is_some (outcome_of turn.position.phase) ≡ false → outcome_of x.state.position.phase ≡ None) →
-      Has pad x files moved →
+      (outcome_of turn.position.phase ≡ None → outcome_of x.state.position.phase ≡ None) → Has pad x files moved →
       Has pad (end_after x turn (files_of x)) files moved
-  file_same pad turn files moved still h = same_by pad turn files moved still h (files_of x) refl
+  file_same pad turn (Source source) moved still h = record {
+    sender = h.sender;
+    role = h.role;
+    text = h.text;
+    gave = gave_same x turn still h.sender moved h.gave;
+    given =
+        record {
+          first = h.given.first;
+          is_first = h.given.is_first;
+          since = gave_still refl still h.given.since;
+        };
+  }
+  file_same pad turn (Sink sink) moved still h =
+      record { receiver = h.receiver; took = took_same x turn still h.receiver moved h.took }
 
   -- its source gave no bytes
   none_given : (pad : ℕ) (source source' : G) (moved : Moved) → Has pad x (Source source) moved →

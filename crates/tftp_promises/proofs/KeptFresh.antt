@@ -21,9 +21,8 @@ use Rattle.tftp_rules.proofs.Indices.{slice_get-set_same, slice_get-set_other}
 use Rattle.tftp_promises.specs.ClientRuns.{ClientDoes, client_moves, moved_in}
 use Rattle.tftp_promises.specs.Moved.{Moved, or_before}
 use Rattle.tftp_promises.specs.Openings.{ArePortsFresh, does_move, moved_at, opened_at, our_ports, ours_by}
-use Rattle.tftp_promises.specs.Order.{Programs, requests_at}
+use Rattle.tftp_promises.specs.Order.{Programs, ClientOf}
 use Rattle.tftp_promises.specs.Ports.{AreDistinct}
-use Rattle.tftp_promises.specs.Programs.{ClientProgram}
 use Rattle.tftp_promises.specs.Snapshots.{Snapshot, ClientStage, Unasked, Has_asked, server_did, client_did, all_of}
 use Rattle.tftp_promises.proofs.RunPlaces.{placed_by, places}
 use Rattle.tftp_promises.proofs.Invariant.{IsFreshBy, IsToldAt}
@@ -66,9 +65,8 @@ module _ {S F D G K : Type 0} {stores : StoreMeaning S D} {sources : SourceMeani
     (programs : Programs stores sources inputs outputs) where
   -- before a step of the server
   told_before : (old : Snapshot programs) (new : LoopState S F D) (does : LoopStep stores sources old.state new)
-      (added : List SocketEvent) →
-      IsFreshBy programs (server_did programs old does added) → (a : Endpoint) → Contains (places programs old.run) a →
-      IsToldAt programs old a
+      (added : List SocketEvent) → IsFreshBy (server_did old does added) → (a : Endpoint) →
+      Contains (places programs old.run) a → IsToldAt old a
   told_before old new does added h a c =
       let t = h.told a (Contains-append_right (placed_by programs old.run does) (places programs old.run) a c) in
       let none = opens_none programs old.run does a (not_again programs old does added h a c) in
@@ -84,7 +82,7 @@ module _ {S F D G K : Type 0} {stores : StoreMeaning S D} {sources : SourceMeani
 
   pub fresh_before_server : (old : Snapshot programs) (new : LoopState S F D) (does : LoopStep stores sources old.state new)
       (added : List SocketEvent) →
-      IsFreshBy programs (server_did programs old does added) → IsFreshBy programs old
+      IsFreshBy (server_did old does added) → IsFreshBy old
   fresh_before_server old new does added h = record {
     server =
         distinct_after programs.port (ours_by programs does) (our_ports programs old.run) h.server;
@@ -100,7 +98,7 @@ module _ {S F D G K : Type 0} {stores : StoreMeaning S D} {sources : SourceMeani
   }
 
   abbrev Client : Type 0
-  Client = ClientProgram inputs outputs (requests_at programs)
+  Client = ClientOf programs
 
   -- what a client had moved before a step of it begins what it has moved
   abbrev pub HadMoved : Snapshot programs → ℕ → ClientStage G K → Type 0
@@ -112,7 +110,7 @@ module _ {S F D G K : Type 0} {stores : StoreMeaning S D} {sources : SourceMeani
 
   -- before a step of a client
   pub fresh_before_client : (old : Snapshot programs) (k : ℕ) (stage : ClientStage G K) → HadMoved old k stage →
-      IsFreshBy programs (client_did programs old k stage) → IsFreshBy programs old
+      IsFreshBy (client_did old k stage) → IsFreshBy old
   fresh_before_client old k stage had h = record {
     server = h.server;
     below = h.below;
@@ -171,7 +169,7 @@ module _ {S F D G K : Type 0} {stores : StoreMeaning S D} {sources : SourceMeani
   last_moved client s files noted moved e = cc
 
   -- where the traces arrive
-  pub fresh_at_last : ArePortsFresh programs → IsFreshBy programs (all_of programs)
+  pub fresh_at_last : ArePortsFresh programs → IsFreshBy (all_of programs)
   fresh_at_last fresh = record {
     server = fresh.server;
     below = λ port i. below_above programs port i;

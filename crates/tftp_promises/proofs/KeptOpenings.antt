@@ -50,11 +50,10 @@ use Rattle.tftp_promises.proofs.Places.{strange_if}
 use Rattle.tftp_promises.proofs.ServerStays.{stored_after}
 
 module _ {S F D G K : Type 0} {stores : StoreMeaning S D} {sources : SourceMeaning F} {inputs : SourceMeaning G}
-    {outputs : SinkMeaning K}
-    (programs : Programs stores sources inputs outputs) {pad : ℕ} (old : Snapshot programs)
-    (kept : IsKept programs pad old) {new : LoopState S F D} (answers : AnswersRequest stores sources old.state new)
+    {outputs : SinkMeaning K} {programs : Programs stores sources inputs outputs} {pad : ℕ} {old : Snapshot programs}
+    (kept : IsKept pad old) {new : LoopState S F D} (answers : AnswersRequest stores sources old.state new)
     (added : List SocketEvent) (noted : new.events ≡ added ++ old.state.events)
-    (fresh : IsFreshBy programs (server_did programs old (Request_answered answers) added)) where
+    (fresh : IsFreshBy (server_did old (Request_answered answers) added)) where
   abbrev server : ServerState S F D
   server = old.state.server
 
@@ -62,7 +61,7 @@ module _ {S F D G K : Type 0} {stores : StoreMeaning S D} {sources : SourceMeani
   does = Request_answered answers
 
   abbrev now : Snapshot programs
-  now = server_did programs old does added
+  now = server_did old does added
 
   -- the new port, and its place
   abbrev tid : ℕ
@@ -81,8 +80,7 @@ module _ {S F D G K : Type 0} {stores : StoreMeaning S D} {sources : SourceMeani
   module _ (transfer : TransferState F D) (store : S) (is : answers.steps.came ≡ A_transfer transfer store) where
     opens_port : option_to_list answers.left.opened.tid ≡ tid ∷ []
     opens_port =
-        ap (λ (l : Left S F D). option_to_list l.opened.tid)
-        (left_is programs old kept answers (A_transfer transfer store) is)
+        ap (λ (l : Left S F D). option_to_list l.opened.tid) (left_is kept answers (A_transfer transfer store) is)
 
     placed : placed_by programs old.run does ≡ a ∷ []
     placed = ap (map (place programs count answers.from)) opens_port
@@ -130,7 +128,7 @@ module _ {S F D G K : Type 0} {stores : StoreMeaning S D} {sources : SourceMeani
     at_server = place_at_server programs now fresh a its_place
 
     state_is : new ≡ after_request old.state answers.from (left_by (A_transfer transfer store) server answers.from tid)
-    state_is = new_is programs old kept answers (A_transfer transfer store) is
+    state_is = new_is kept answers (A_transfer transfer store) is
 
     held_is : new.server.held ≡ with_new tid transfer server.held
     held_is = ap (λ (s : LoopState S F D). s.server.held) state_is
@@ -138,12 +136,11 @@ module _ {S F D G K : Type 0} {stores : StoreMeaning S D} {sources : SourceMeani
     pub store_is : new.server.store ≡ store
     store_is = ap (λ (s : LoopState S F D). s.server.store) state_is
 
-    module _ (x : OpenEnd) (address : x.address ≡ a)
-        (peer : peer_of x.state.position.phase ≡ Some answers.from) (state : x.state ≡ transfer.end)
-        (path : x.path ≡ transfer.path) (request : x.request ≡ transfer.request)
+    module _ (x : OpenEnd) (address : x.address ≡ a) (peer : peer_of x.state.position.phase ≡ Some answers.from)
+        (state : x.state ≡ transfer.end) (path : x.path ≡ transfer.path) (request : x.request ≡ transfer.request)
         (named : IsNamed transfer.path transfer.request) (still : outcome_of x.state.position.phase ≡ None)
         (opens : EndOpens (joined programs) kept.shown.0 kept.views kept.messages answers.from x)
-        (has : HasStored programs pad now x transfer.files) where
+        (has : HasStored pad now x transfer.files) where
       abbrev said_now : List Message
       said_now = message a answers.from (said opens.packet) ∷ []
 
@@ -185,8 +182,7 @@ module _ {S F D G K : Type 0} {stores : StoreMeaning S D} {sources : SourceMeani
             peer = answers.from;
             is_peer = peer;
             strange = strange;
-            last_sent_to = subst (λ (to : Endpoint). IsStranger stores sources inputs outputs programs to)
-                (sym opens.last_sent_to) strange;
+            last_sent_to = subst (λ (to : Endpoint). IsStranger programs to) (sym opens.last_sent_to) strange;
           })
 
       seat : (a ≡ endpoint programs.ip tid) ⊎ IsStrangers programs x.state
@@ -194,14 +190,13 @@ module _ {S F D G K : Type 0} {stores : StoreMeaning S D} {sources : SourceMeani
 
       first_by : (a ≡ endpoint programs.ip tid) ⊎ IsStrangers programs x.state →
           IsThere messages (endpoint programs.ip tid) answers.from x.state.position.last_sent
-          ⊎ IsStranger stores sources inputs outputs programs answers.from
+          ⊎ IsStranger programs answers.from
       first_by (inl here) =
           inl (subst (λ (e : Endpoint). IsThere messages e answers.from x.state.position.last_sent) here says_first)
       first_by (inr s) =
-          inr (subst (λ (to : Endpoint). IsStranger stores sources inputs outputs programs to) opens.last_sent_to
-          s.last_sent_to)
+          inr (subst (λ (to : Endpoint). IsStranger programs to) opens.last_sent_to s.last_sent_to)
 
-      own : TransferKept programs pad views messages now tid transfer a
+      own : TransferKept pad views messages now tid transfer a
       own = record {
         end = x;
         address = address;
@@ -230,13 +225,11 @@ module _ {S F D G K : Type 0} {stores : StoreMeaning S D} {sources : SourceMeani
           none_answered programs old.run answers b
           (λ d. place_is_new b c (sym (only_one a b (subst (λ (ps : List Endpoint). Contains ps b) placed d))))
 
-      other : (port : ℕ) (t : TransferState F D) (b : Endpoint) → HasTransferBy programs old port t b →
-          TransferKept programs pad views messages now port t b
+      other : (port : ℕ) (t : TransferState F D) (b : Endpoint) → HasTransferBy old port t b →
+          TransferKept pad views messages now port t b
       other port t b was =
           let h = kept.transfers port t b was in
-          same_transfer programs h
-          (viewed_before (joined programs) kept.views kept.messages said_now (open_view x) h.end h.viewed)
-          (stored_after programs pad old does added h.end
+          same_transfer h (viewed_before said_now (open_view x) h.viewed) (stored_after pad old does added h.end
           (subst (λ (e : Endpoint). MovesNone programs old.run does e) (sym h.address)
           (beside b (kept.server.opened port t b was))) t.files h.has)
 
@@ -258,25 +251,25 @@ module _ {S F D G K : Type 0} {stores : StoreMeaning S D} {sources : SourceMeani
       known_place port t h = kept.server.opened port t (place_at programs port old.run) (inl (h.1, refl))
 
       new_own : (port : ℕ) (t : TransferState F D) (b : Endpoint) → IsNew port t → b ≡ a →
-          TransferKept programs pad views messages now port t b
+          TransferKept pad views messages now port t b
       new_own port t b h here =
-          subst (λ (e : Endpoint). TransferKept programs pad views messages now port t e) (sym here)
-          (subst (λ (n : ℕ). TransferKept programs pad views messages now n t a) (sym h.0)
-          (subst (λ (u : TransferState F D). TransferKept programs pad views messages now tid u a) h.1 own))
+          subst (λ (e : Endpoint). TransferKept pad views messages now port t e) (sym here)
+          (subst (λ (n : ℕ). TransferKept pad views messages now n t a) (sym h.0)
+          (subst (λ (u : TransferState F D). TransferKept pad views messages now tid u a) h.1 own))
 
-      all_transfers : (port : ℕ) (t : TransferState F D) (b : Endpoint) → HasTransferBy programs now port t b →
-          TransferKept programs pad views messages now port t b
+      all_transfers : (port : ℕ) (t : TransferState F D) (b : Endpoint) → HasTransferBy now port t b →
+          TransferKept pad views messages now port t b
       all_transfers port t b (inl found) = elim (found_now port t found.0) [
         | inl this ↦ new_own port t b this (found.1 ∙ new_place_at port t this)
         | inr was ↦ other port t b (inl (was.1, found.1 ∙ place_still port was.0))
       ]
       all_transfers port t b (inr closed) =
-          other port t b (inr (closed_earlier programs old kept answers added port t b closed))
+          other port t b (inr (closed_earlier kept answers added port t b closed))
 
       opened_still : (b : Endpoint) → Contains opened b → Contains (places programs now.run) b
       opened_still b c = Contains-append_right (placed_by programs old.run does) opened b c
 
-      all_opened : (port : ℕ) (t : TransferState F D) (b : Endpoint) → HasTransferBy programs now port t b →
+      all_opened : (port : ℕ) (t : TransferState F D) (b : Endpoint) → HasTransferBy now port t b →
           Contains (places programs now.run) b
       all_opened port t b (inl found) = elim (found_now port t found.0) [
         | inl this ↦
@@ -285,8 +278,7 @@ module _ {S F D G K : Type 0} {stores : StoreMeaning S D} {sources : SourceMeani
         | inr was ↦ opened_still b (kept.server.opened port t b (inl (was.1, found.1 ∙ place_still port was.0)))
       ]
       all_opened port t b (inr closed) =
-          opened_still b (kept.server.opened port t b
-          (inr (closed_earlier programs old kept answers added port t b closed)))
+          opened_still b (kept.server.opened port t b (inr (closed_earlier kept answers added port t b closed)))
 
       -- no two are at one place
       new_apart : (p q : ℕ) (t u : TransferState F D) → IsNew p t → WasHeld q u →
@@ -311,13 +303,13 @@ module _ {S F D G K : Type 0} {stores : StoreMeaning S D} {sources : SourceMeani
       still_gone : (p q : ℕ) (t u : TransferState F D) (b : Endpoint) → HasClosed programs now.run p t b →
           at q new.server.held ≡ Some u → b ≢ place_at programs q now.run
       still_gone p q t u b closed e same =
-          let was = closed_earlier programs old kept answers added p t b closed in
+          let was = closed_earlier kept answers added p t b closed in
           elim (found_now q u e) [
             | inl this ↦ place_is_new b (kept.server.opened p t b (inr was)) (same ∙ new_place_at q u this)
             | inr had ↦ kept.server.gone p q t u b was had.1 (same ∙ place_still q had.0)
           ]
 
-      server_kept : ServerKept programs messages now
+      server_kept : ServerKept messages now
       server_kept = record {
         requests = ap (λ (s : LoopState S F D). s.requests) state_is ∙ kept.server.requests;
         config = ap (λ (s : LoopState S F D). s.server.config) state_is ∙ kept.server.config;
@@ -330,14 +322,13 @@ module _ {S F D G K : Type 0} {stores : StoreMeaning S D} {sources : SourceMeani
         seats = all_seats;
         gone = still_gone;
         gone_once =
-            λ p q t u b c d. kept.server.gone_once p q t u b
-            (closed_earlier programs old kept answers added p t b c)
-            (closed_earlier programs old kept answers added q u b d);
+            λ p q t u b c d. kept.server.gone_once p q t u b (closed_earlier kept answers added p t b c)
+            (closed_earlier kept answers added q u b d);
         opened = all_opened;
       }
 
-      still_there : (port : ℕ) (t : TransferState F D) (b : Endpoint) → HasTransferBy programs old port t b →
-          HasTransferBy programs now port t b
+      still_there : (port : ℕ) (t : TransferState F D) (b : Endpoint) → HasTransferBy old port t b →
+          HasTransferBy now port t b
       still_there port t b (inl found) =
           let n = free_port port t found.0 in
           inl (
@@ -347,10 +338,10 @@ module _ {S F D G K : Type 0} {stores : StoreMeaning S D} {sources : SourceMeani
           )
       still_there port t b (inr closed) = inr (inr closed)
 
-      there_now : HasTransferBy programs now tid transfer a
+      there_now : HasTransferBy now tid transfer a
       there_now = inl (ap (at tid) held_is ∙ lookup-insert_same numbers tid transfer server.held, sym place_now)
 
-      turns : ServerTurns programs old kept now added
+      turns : ServerTurns kept now added
       turns = record {
         views = views;
         said_now = said_now;
@@ -359,17 +350,16 @@ module _ {S F D G K : Type 0} {stores : StoreMeaning S D} {sources : SourceMeani
             (kept.messages ++ message e answers.from (said opens.packet) ∷ [])) address
             (kept.shown.0 ++ opens.shown.0, opens.shown.2);
         sends =
-            one_sent programs old kept answers messages tid
+            one_sent kept answers messages tid
             (record { to = answers.from; bytes = x.state.position.last_sent }) added one (first_by seat);
         server = server_kept;
         clients =
-            λ k client found z here v. viewed_before (joined programs) kept.views kept.messages said_now (open_view x) z
-            v;
+            λ k client found z here v. viewed_before said_now (open_view x) v;
         transfers = all_transfers;
         only = λ view among. elim (among_push kept.views (open_view x) view among) [
           | inl was ↦ inl was
           | inr this ↦
-              inr (subst (λ (e : Endpoint). IsOfTransfer programs now e)
+              inr (subst (λ (e : Endpoint). IsOfTransfer now e)
               (sym (ap (λ (v : EndView). v.address) this ∙ address))
               (record { port = tid; transfer = transfer; is_transfer = there_now }))
         ];
@@ -381,5 +371,5 @@ module _ {S F D G K : Type 0} {stores : StoreMeaning S D} {sources : SourceMeani
             };
       }
 
-      pub opening_keeps : IsKept programs pad now
-      opening_keeps = server_keeps programs old kept does added turns
+      pub opening_keeps : IsKept pad now
+      opening_keeps = server_keeps kept does added turns

@@ -20,7 +20,7 @@ use Rattle.tftp_rules.proofs.Entries.{lookup-set_other, lookup-set_same, numbers
 use Rattle.tftp_rules.proofs.Indices.{slice_get-set_same}
 use Rattle.tftp_rules.proofs.UnblamedEnds.{IsUnblamed}
 use Rattle.tftp_promises.specs.Openings.{HasClosed, place_at}
-use Rattle.tftp_promises.specs.Order.{Programs, IsStranger, requests_at}
+use Rattle.tftp_promises.specs.Order.{Programs, IsStranger}
 use Rattle.tftp_promises.specs.Programs.{endpoint}
 use Rattle.tftp_promises.specs.Network.{joined}
 use Rattle.tftp_promises.specs.Snapshots.{Snapshot, server_did}
@@ -36,18 +36,16 @@ use Rattle.tftp_promises.proofs.NewPlaces.{client_apart}
 use Rattle.tftp_promises.proofs.ServerStays.{ServerStays, stored_after, closed_before, opened_still}
 
 module _ {S F D G K : Type 0} {stores : StoreMeaning S D} {sources : SourceMeaning F} {inputs : SourceMeaning G}
-    {outputs : SinkMeaning K}
-    (programs : Programs stores sources inputs outputs) {pad : ℕ} where
+    {outputs : SinkMeaning K} {programs : Programs stores sources inputs outputs} {pad : ℕ} where
   -- what a step at the port did to the transfer there
-  pub record PortTurns (old : Snapshot programs) (kept : IsKept programs pad old) {new : LoopState S F D}
+  pub record PortTurns {old : Snapshot programs} (kept : IsKept pad old) {new : LoopState S F D}
       (does : LoopStep stores sources old.state new) (added : List SocketEvent)
       (port : ℕ) (transfer : TransferState F D) (found : at port old.state.server.held ≡ Some transfer) : Type 0 where
     pub next : TransferState F D
     pub held : new.server.held ≡ with_next port next old.state.server.held
     pub said_now : List Message
     pub sends : (own : ℕ) (to : Endpoint) (bytes : List ℕ) → Contains added (Sent own to bytes) →
-        IsThere (kept.messages ++ said_now) (endpoint programs.ip own) to bytes
-        ⊎ IsStranger stores sources inputs outputs programs to
+        IsThere (kept.messages ++ said_now) (endpoint programs.ip own) to bytes ⊎ IsStranger programs to
     -- its end
     pub end : OpenEnd
     pub address : end.address ≡ place_at programs port old.run
@@ -65,16 +63,15 @@ module _ {S F D G K : Type 0} {stores : StoreMeaning S D} {sources : SourceMeani
     pub last_sent : IsThere (kept.messages ++ said_now) end.address end.state.position.last_sent_to
         end.state.position.last_sent
     pub unblamed : IsUnblamed (joined programs) (SendsText programs pad) (kept.messages ++ said_now) end.state
-    pub has : HasStored programs pad (server_did programs old does added) end next.files
+    pub has : HasStored pad (server_did old does added) end next.files
 
-  module _ (old : Snapshot programs) (kept : IsKept programs pad old) (fresh : IsFreshBy programs old)
-      {new : LoopState S F D} (does : LoopStep stores sources old.state new) (stays : ServerStays programs old kept does)
-      (added : List SocketEvent) (port : ℕ) (transfer : TransferState F D)
-      (found : at port old.state.server.held ≡ Some transfer)
-      (turns : PortTurns old kept does added port transfer found) (none : (a : Endpoint) →
-      place_at programs port old.run ≢ a → MovesNone programs old.run does a) where
+  module _ {old : Snapshot programs} (kept : IsKept pad old) (fresh : IsFreshBy old) {new : LoopState S F D}
+      (does : LoopStep stores sources old.state new) (stays : ServerStays kept does) (added : List SocketEvent)
+      (port : ℕ) (transfer : TransferState F D) (found : at port old.state.server.held ≡ Some transfer)
+      (turns : PortTurns kept does added port transfer found)
+      (none : (a : Endpoint) → place_at programs port old.run ≢ a → MovesNone programs old.run does a) where
     abbrev now : Snapshot programs
-    now = server_did programs old does added
+    now = server_did old does added
 
     abbrev messages : List Message
     messages = kept.messages ++ turns.said_now
@@ -114,10 +111,10 @@ module _ {S F D G K : Type 0} {stores : StoreMeaning S D} {sources : SourceMeani
         IsViewed (joined programs) (SendsText programs pad) kept.views kept.messages z →
         IsViewed (joined programs) (SendsText programs pad) views messages z
     beside z apart h =
-        viewed_beside (joined programs) kept.views kept.messages turns.said_now index (open_view was)
+        viewed_beside turns.said_now index (open_view was)
         (open_view turns.end) z viewed (λ same. apart (sym was_there ∙ same)) h
 
-    own : TransferKept programs pad views messages now port turns.next place
+    own : TransferKept pad views messages now port turns.next place
     own = record {
       end = turns.end;
       address = turns.address;
@@ -140,20 +137,19 @@ module _ {S F D G K : Type 0} {stores : StoreMeaning S D} {sources : SourceMeani
       has = turns.has;
     }
 
-    other : (q : ℕ) (t : TransferState F D) (a : Endpoint) → place ≢ a → HasTransferBy programs old q t a →
-        TransferKept programs pad views messages now q t a
+    other : (q : ℕ) (t : TransferState F D) (a : Endpoint) → place ≢ a → HasTransferBy old q t a →
+        TransferKept pad views messages now q t a
     other q t a n is =
         let h = kept.transfers q t a is in
-        same_transfer programs h (beside h.end (λ same. n (same ∙ h.address)) h.viewed)
-        (stored_after programs pad old does added h.end
+        same_transfer h (beside h.end (λ same. n (same ∙ h.address)) h.viewed) (stored_after pad old does added h.end
         (none h.end.address (λ same. n (same ∙ h.address))) t.files h.has)
 
     -- which transfer it is
     abbrev IsThis : ℕ → TransferState F D → Endpoint → Type 0
     IsThis q t a = (q ≡ port) × (t ≡ turns.next) × (a ≡ place)
 
-    found_cases : (q : ℕ) (t : TransferState F D) (a : Endpoint) → HasTransferBy programs now q t a →
-        IsThis q t a ⊎ ((place ≢ a) × HasTransferBy programs old q t a)
+    found_cases : (q : ℕ) (t : TransferState F D) (a : Endpoint) → HasTransferBy now q t a →
+        IsThis q t a ⊎ ((place ≢ a) × HasTransferBy old q t a)
     found_cases q t a (inl e) =
         let where_it_was : a ≡ place_at programs q old.run = e.1 ∙ stays.seats q in
         elim (at-with_next_cases port q transfer turns.next t old.state.server.held found
@@ -162,23 +158,22 @@ module _ {S F D G K : Type 0} {stores : StoreMeaning S D} {sources : SourceMeani
           | inr h ↦ inr (other_place q t a h.0 (h.1, where_it_was), inl (h.1, where_it_was))
         ]
     found_cases q t a (inr closed) =
-        let c = closed_before programs old kept does stays added q t a closed in inr (gone_place q t a c, inr c)
+        let c = closed_before kept does stays added q t a closed in inr (gone_place q t a c, inr c)
 
-    is_own : (q : ℕ) (t : TransferState F D) (a : Endpoint) → IsThis q t a →
-        TransferKept programs pad views messages now q t a
+    is_own : (q : ℕ) (t : TransferState F D) (a : Endpoint) → IsThis q t a → TransferKept pad views messages now q t a
     is_own q t a h =
-        subst (λ (b : Endpoint). TransferKept programs pad views messages now q t b) (sym h.2)
-        (subst (λ (p : ℕ). TransferKept programs pad views messages now p t place) (sym h.0)
-        (subst (λ (u : TransferState F D). TransferKept programs pad views messages now port u place) (sym h.1) own))
+        subst (λ (b : Endpoint). TransferKept pad views messages now q t b) (sym h.2)
+        (subst (λ (p : ℕ). TransferKept pad views messages now p t place) (sym h.0)
+        (subst (λ (u : TransferState F D). TransferKept pad views messages now port u place) (sym h.1) own))
 
-    all_transfers : (q : ℕ) (t : TransferState F D) (a : Endpoint) → HasTransferBy programs now q t a →
-        TransferKept programs pad views messages now q t a
+    all_transfers : (q : ℕ) (t : TransferState F D) (a : Endpoint) → HasTransferBy now q t a →
+        TransferKept pad views messages now q t a
     all_transfers q t a is = elim (found_cases q t a is) [
       | inl h ↦ is_own q t a h
       | inr h ↦ other q t a h.0 h.1
     ]
 
-    all_opened : (q : ℕ) (t : TransferState F D) (a : Endpoint) → HasTransferBy programs now q t a →
+    all_opened : (q : ℕ) (t : TransferState F D) (a : Endpoint) → HasTransferBy now q t a →
         Contains (places programs old.run) a
     all_opened q t a is = elim (found_cases q t a is) [
       | inl h ↦
@@ -197,13 +192,12 @@ module _ {S F D G K : Type 0} {stores : StoreMeaning S D} {sources : SourceMeani
           | inr h ↦ (t, h.1)
         ]
 
-    server_kept : ServerKept programs messages now
+    server_kept : ServerKept messages now
     server_kept = record {
       requests = stays.requests ∙ kept.server.requests;
       config = stays.config ∙ kept.server.config;
       pending =
-          λ from bytes e. arrived_still kept.messages turns.said_now from (requests_at programs)
-          bytes (stays.pending from bytes e);
+          λ from bytes e. arrived_still kept.messages turns.said_now (stays.pending from bytes e);
       once =
           subst (λ (held : List (ℕ × TransferState F D)). AreKeyedOnce held) (sym turns.held)
           (once-with_next port turns.next old.state.server.held kept.server.once);
@@ -213,20 +207,18 @@ module _ {S F D G K : Type 0} {stores : StoreMeaning S D} {sources : SourceMeani
           kept.server.seats p q h.0 k.0 h.1 k.1 (sym (stays.seats p) ∙ (same ∙ stays.seats q));
       gone = λ p q t u a closed e same.
           let h = held_before q u e in
-          kept.server.gone p q t h.0 a (closed_before programs old kept does stays added p t a closed) h.1
-          (same ∙ stays.seats q);
+          kept.server.gone p q t h.0 a (closed_before kept does stays added p t a closed) h.1 (same ∙ stays.seats q);
       gone_once =
-          λ p q t u a c d. kept.server.gone_once p q t u a (closed_before programs old kept does stays added p t a c)
-          (closed_before programs old kept does stays added q u a d);
-      opened = λ q t a is. opened_still programs old kept does stays added a (all_opened q t a is);
+          λ p q t u a c d. kept.server.gone_once p q t u a (closed_before kept does stays added p t a c)
+          (closed_before kept does stays added q u a d);
+      opened = λ q t a is. opened_still kept does stays added a (all_opened q t a is);
     }
 
-    this_one : (a : Endpoint) → a ≡ place → IsOfTransfer programs now a
+    this_one : (a : Endpoint) → a ≡ place → IsOfTransfer now a
     this_one a here =
         record { port = port; transfer = turns.next; is_transfer = inl (found_now, here ∙ sym (stays.seats port)) }
 
-    were_by : (a : Endpoint) (q : ℕ) (t : TransferState F D) → HasTransferBy programs old q t a →
-        IsOfTransfer programs now a
+    were_by : (a : Endpoint) (q : ℕ) (t : TransferState F D) → HasTransferBy old q t a → IsOfTransfer now a
     were_by a q t (inl e) = elim (cases_eq q port) [
       | inl same ↦ this_one a (e.1 ∙ ap (λ (p : ℕ). place_at programs p old.run) same)
       | inr n ↦
@@ -242,16 +234,16 @@ module _ {S F D G K : Type 0} {stores : StoreMeaning S D} {sources : SourceMeani
     ]
     were_by a q t (inr closed) = record { port = q; transfer = t; is_transfer = inr (inr closed) }
 
-    were : (a : Endpoint) → IsOfTransfer programs old a → IsOfTransfer programs now a
+    were : (a : Endpoint) → IsOfTransfer old a → IsOfTransfer now a
     were a h = were_by a h.port h.transfer h.is_transfer
 
-    only : (view : EndView) → IsAmong views view → IsAmong kept.views view ⊎ IsOfTransfer programs now view.address
+    only : (view : EndView) → IsAmong views view → IsAmong kept.views view ⊎ IsOfTransfer now view.address
     only view among = elim (among_set kept.views index (open_view turns.end) view among) [
       | inl o ↦ inl o
       | inr e ↦ inr (this_one view.address (ap (λ (v : EndView). v.address) e ∙ turns.address))
     ]
 
-    port_turns : ServerTurns programs old kept now added
+    port_turns : ServerTurns kept now added
     port_turns = record {
       views = views;
       said_now = turns.said_now;
@@ -266,5 +258,5 @@ module _ {S F D G K : Type 0} {stores : StoreMeaning S D} {sources : SourceMeani
       were = were;
     }
 
-    pub port_keeps : IsKept programs pad now
-    port_keeps = server_keeps programs old kept does added port_turns
+    pub port_keeps : IsKept pad now
+    port_keeps = server_keeps kept does added port_turns

@@ -35,10 +35,8 @@ use Rattle.tftp_promises.proofs.MovedSteps.{MovesNone, answer_places_none, none_
 use Rattle.tftp_promises.proofs.ServerStays.{ServerStays}
 
 module _ {S F D G K : Type 0} {stores : StoreMeaning S D} {sources : SourceMeaning F} {inputs : SourceMeaning G}
-    {outputs : SinkMeaning K}
-    (programs : Programs stores sources inputs outputs) {pad : ℕ} (old : Snapshot programs)
-    (kept : IsKept programs pad old) {new : LoopState S F D}
-    (answers : AnswersRequest stores sources old.state new) where
+    {outputs : SinkMeaning K} {programs : Programs stores sources inputs outputs} {pad : ℕ} {old : Snapshot programs}
+    (kept : IsKept pad old) {new : LoopState S F D} (answers : AnswersRequest stores sources old.state new) where
   abbrev server : ServerState S F D
   server = old.state.server
 
@@ -57,14 +55,13 @@ module _ {S F D G K : Type 0} {stores : StoreMeaning S D} {sources : SourceMeani
 
   -- a request removes no transfer
   pub closed_earlier : (added : List SocketEvent) (port : ℕ) (transfer : TransferState F D) (a : Endpoint) →
-      HasClosed programs (server_did programs old does added).run port transfer a →
-      HasClosed programs old.run port transfer a
+      HasClosed programs (server_did old does added).run port transfer a → HasClosed programs old.run port transfer a
   closed_earlier added port transfer a (inl removes) = absurd removes.0
   closed_earlier added port transfer a (inr closed) = closed
 
   -- one datagram was sent
   abbrev pub SentOf : List Message → Endpoint → Endpoint → List ℕ → Type 0
-  SentOf messages from to bytes = IsThere messages from to bytes ⊎ IsStranger stores sources inputs outputs programs to
+  SentOf messages from to bytes = IsThere messages from to bytes ⊎ IsStranger programs to
 
   pub one_sent : (messages : List Message) (own : ℕ) (reply : Reply) (added : List SocketEvent) →
       Sent own reply.to reply.bytes ∷ [] ≡ added →
@@ -81,7 +78,7 @@ module _ {S F D G K : Type 0} {stores : StoreMeaning S D} {sources : SourceMeani
 
   -- if no transfer opens, all else is as it was
   stays_so : option_to_list answers.left.opened.tid ≡ [] → new.requests ≡ old.state.requests →
-      new.server.config ≡ server.config → new.pending ≡ None → ServerStays programs old kept does
+      new.server.config ≡ server.config → new.pending ≡ None → ServerStays kept does
   stays_so opens requests config pending = record {
     opens = ap (map (place programs (length (opened_ports old.run)) answers.from)) opens;
     seats = λ port. answer_places_none programs old.run answers port opens;
@@ -99,7 +96,7 @@ module _ {S F D G K : Type 0} {stores : StoreMeaning S D} {sources : SourceMeani
 
   -- a datagram that is ignored
   pub silent_keeps : (added : List SocketEvent) → new.events ≡ added ++ old.state.events → answers.steps.came ≡ Nothing →
-      IsKept programs pad (server_did programs old does added)
+      IsKept pad (server_did old does added)
   silent_keeps added noted is =
       let e = new_is Nothing is in
       let none : [] ≡ added =
@@ -108,13 +105,13 @@ module _ {S F D G K : Type 0} {stores : StoreMeaning S D} {sources : SourceMeani
       stays_so (ap (λ (l : Left S F D). option_to_list l.opened.tid) (left_is Nothing is))
       (ap (λ (s : LoopState S F D). s.requests) e) (ap (λ (s : LoopState S F D). s.server.config) e)
       (ap (λ (s : LoopState S F D). s.pending) e) in
-      still_keeps programs old kept does stays (moves_none stays.opens) (ap (λ (s : LoopState S F D). s.server.held) e)
+      still_keeps kept does stays (moves_none stays.opens) (ap (λ (s : LoopState S F D). s.server.held) e)
       added (subst IsSilent none none_silent)
 
   -- one that is answered by an ERROR
   pub refusal_keeps : (added : List SocketEvent) → new.events ≡ added ++ old.state.events →
       IsRefused stores sources server answers.from answers.bytes answers.steps.came →
-      IsKept programs pad (server_did programs old does added)
+      IsKept pad (server_did old does added)
   refusal_keeps added noted r =
       let e = new_is (Error_reply r.reply r.store) r.is in
       let own = old.state.requests in
@@ -136,6 +133,6 @@ module _ {S F D G K : Type 0} {stores : StoreMeaning S D} {sources : SourceMeani
       (ap (λ (s : LoopState S F D). s.requests) e) (ap (λ (s : LoopState S F D). s.server.config) e)
       (ap (λ (s : LoopState S F D). s.pending) e) in
       let shown = says_error (joined programs) kept.shown.0 kept.views kept.messages kept.shown.1 a from in
-      says_keeps programs old kept does stays (moves_none stays.opens) (ap (λ (s : LoopState S F D). s.server.held) e)
+      says_keeps kept does stays (moves_none stays.opens) (ap (λ (s : LoopState S F D). s.server.held) e)
       added (m ∷ []) (kept.shown.0 ++ shown.0, shown.2)
       (one_sent (kept.messages ++ m ∷ []) own (record { to = from; bytes = bytes }) added one (inl there))

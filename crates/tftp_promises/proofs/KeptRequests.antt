@@ -52,16 +52,15 @@ use Rattle.tftp_promises.proofs.Texts.{begins_padded, pad_length}
 use Rattle.tftp_promises.proofs.Unanswered.{none_answers}
 
 module _ {S F D G K : Type 0} {stores : StoreMeaning S D} {sources : SourceMeaning F} {inputs : SourceMeaning G}
-    {outputs : SinkMeaning K}
-    (programs : Programs stores sources inputs outputs) {pad : ℕ} (old : Snapshot programs)
-    (kept : IsKept programs pad old) {new : LoopState S F D} (answers : AnswersRequest stores sources old.state new)
+    {outputs : SinkMeaning K} {programs : Programs stores sources inputs outputs} {pad : ℕ} {old : Snapshot programs}
+    (kept : IsKept pad old) {new : LoopState S F D} (answers : AnswersRequest stores sources old.state new)
     (added : List SocketEvent) (noted : new.events ≡ added ++ old.state.events)
-    (fresh : IsFreshBy programs (server_did programs old (Request_answered answers) added)) where
+    (fresh : IsFreshBy (server_did old (Request_answered answers) added)) where
   abbrev server : ServerState S F D
   server = old.state.server
 
   abbrev now : Snapshot programs
-  now = server_did programs old (Request_answered answers) added
+  now = server_did old (Request_answered answers) added
 
   -- the place of a transfer that opens
   abbrev a : Endpoint
@@ -84,7 +83,7 @@ module _ {S F D G K : Type 0} {stores : StoreMeaning S D} {sources : SourceMeani
             (come packet spells);
         spells = spells;
         unanswered =
-            none_answers programs old kept answers.from packet answers.steps.repeated answers.steps.decoded
+            none_answers kept answers.from packet answers.steps.repeated answers.steps.decoded
             answers.steps.repeats asked.packet asked.new;
       }
 
@@ -121,36 +120,34 @@ module _ {S F D G K : Type 0} {stores : StoreMeaning S D} {sources : SourceMeani
     send_text : (file text : List ℕ) → length text ≡ o.measured →
         serving_read o.agreed answers.from r.mode o.measured server.config.retries o.piece ≡ sending o.agreed
         answers.from r.mode text server.config.retries →
-        HasStored programs pad now (new_sender a answers.bytes o.agreed answers.from r.mode path file text
-        server.config.retries) (Source o.rest) → IsKept programs pad now
+        HasStored pad now (new_sender a answers.bytes o.agreed answers.from r.mode path file text
+        server.config.retries) (Source o.rest) → IsKept pad now
     send_text file text long end has =
         let x = new_sender a answers.bytes o.agreed answers.from r.mode path file text server.config.retries in
         let fits : Fits text (size o.agreed) = subst (λ (n : ℕ). n < 65535 * size o.agreed) (sym long) o.fits in
-        opening_keeps programs old kept answers added noted fresh sent server.store o.is
-        x refl
+        opening_keeps kept answers added noted fresh sent server.store o.is x refl
         (read_peer o.agreed answers.from r.mode text server.config.retries) (sym end) refl refl
         (named false path mode options asked) (read_still o.agreed answers.from r.mode text server.config.retries)
         (opens_to_send (joined programs) kept.shown.0 kept.views kept.messages a answers.from answers.bytes r path file
         text o.agreed server.config.retries kept.shown.1
-        (at_server programs old kept answers added noted fresh sent server.store o.is)
-        (none_there programs old kept answers added noted fresh sent server.store o.is)
-        (newly false path mode options asked) o.granted fits)
-        has
+        (at_server kept answers added noted fresh sent server.store o.is)
+        (none_there kept answers added noted fresh sent server.store o.is)
+        (newly false path mode options asked) o.granted fits) has
 
     its_opening : opened_at programs a now.run ≡ Some sent
     its_opening =
         ap (λ (z : Option (TransferState F D)). or_before z (opened_at programs a old.run))
-        (came_here programs old kept answers added noted fresh sent server.store o.is)
+        (came_here kept answers added noted fresh sent server.store o.is)
 
     its_moved : moved_at programs a now.run ≡ first_moved sent.end
     its_moved =
         ap (λ (z : Option (TransferState F D)). opening_moves z (moved_at programs a old.run))
-        (came_here programs old kept answers added noted fresh sent server.store o.is)
+        (came_here kept answers added noted fresh sent server.store o.is)
 
-    sending_keeps : IsKept programs pad now
+    sending_keeps : IsKept pad now
     sending_keeps =
         let text = place_text programs pad a in
-        let told = fresh.told a (its_place programs old kept answers added noted fresh sent server.store o.is) in
+        let told = fresh.told a (its_place kept answers added noted fresh sent server.store o.is) in
         let long : length_of (opened_at programs a programs.server.run) ≡ o.measured =
         ap length_of (sym told.opened) ∙ (ap length_of its_opening ∙ read_length o.agreed answers.from r.mode o.measured
         server.config.retries o.piece) in
@@ -170,7 +167,7 @@ module _ {S F D G K : Type 0} {stores : StoreMeaning S D} {sources : SourceMeani
         let opened = subst (λ (m : Mode). IsOpenedBy stores sources server answers.from answers.bytes
         path m answers.steps.came o.opening)
         (sym (read_mode o.agreed answers.from r.mode text server.config.retries)) o.opened in
-        let given : IsGiven programs now x o.rest = record {
+        let given : IsGiven programs now.run x o.rest = record {
           opening = o.opening;
           first = inl (refl, opened.0, opened.1, opened.2);
           long =
@@ -208,30 +205,29 @@ module _ {S F D G K : Type 0} {stores : StoreMeaning S D} {sources : SourceMeani
     abbrev receiver : OpenEnd
     receiver = new_receiver a answers.bytes o.agreed answers.from asked.request.mode path server.config.retries
 
-    store_has : HasStored programs pad now receiver (Sink o.draft) → IsKept programs pad now
+    store_has : HasStored pad now receiver (Sink o.draft) → IsKept pad now
     store_has has =
-        opening_keeps programs old kept answers added noted fresh stored_by o.store o.is
+        opening_keeps kept answers added noted fresh stored_by o.store o.is
         receiver refl (write_peer o.agreed answers.from asked.request.mode server.config.retries) refl refl refl
         (named true path mode options asked)
         (write_still o.agreed answers.from asked.request.mode server.config.retries)
         (opens_to_store (joined programs) kept.shown.0 kept.views kept.messages a answers.from answers.bytes
         asked.request path o.agreed server.config.retries kept.shown.1
-        (at_server programs old kept answers added noted fresh stored_by o.store o.is)
-        (none_there programs old kept answers added noted fresh stored_by o.store o.is)
-        (newly true path mode options asked) o.granted)
-        has
+        (at_server kept answers added noted fresh stored_by o.store o.is)
+        (none_there kept answers added noted fresh stored_by o.store o.is)
+        (newly true path mode options asked) o.granted) has
 
-    storing_keeps : IsKept programs pad now
+    storing_keeps : IsKept pad now
     storing_keeps =
         let moved : moved_at programs a now.run ≡ first_moved stored_by.end =
         ap (λ (z : Option (TransferState F D)). opening_moves z (moved_at programs a old.run))
-        (came_here programs old kept answers added noted fresh stored_by o.store o.is) in
+        (came_here kept answers added noted fresh stored_by o.store o.is) in
         let none : (first_moved stored_by.end).bytes ≡ [] =
         write_moves_none o.agreed answers.from asked.request.mode server.config.retries in
         let begun = subst (λ (m : Mode). IsBegunBy stores sources server answers.from answers.bytes
         path m answers.steps.came o.draft)
         (sym (write_mode o.agreed answers.from asked.request.mode server.config.retries)) o.begun in
-        let taken : IsTaken programs now receiver o.draft = record {
+        let taken : IsTaken programs now.run receiver o.draft = record {
           first = o.draft;
           began =
               inl (refl, ap (λ (c : Config). c.overwrite) kept.server.config, begun.0, begun.1, begun.2);
@@ -248,7 +244,7 @@ module _ {S F D G K : Type 0} {stores : StoreMeaning S D} {sources : SourceMeani
             opening = stored_by;
             opened =
                 ap (λ (z : Option (TransferState F D)). or_before z (opened_at programs a old.run))
-                (came_here programs old kept answers added noted fresh stored_by o.store o.is);
+                (came_here kept answers added noted fresh stored_by o.store o.is);
             path = refl;
             role = refl;
           };
@@ -259,9 +255,9 @@ module _ {S F D G K : Type 0} {stores : StoreMeaning S D} {sources : SourceMeani
         })
 
   -- ---- the answer
-  kept_by : PortAnswers stores sources server answers.from answers.bytes answers.steps.decoded answers.steps.repeated answers.steps.came → IsKept programs pad now
-  kept_by (Silent is) = silent_keeps programs old kept answers added noted is
-  kept_by (Says_error r) = refusal_keeps programs old kept answers added noted r
+  kept_by : PortAnswers stores sources server answers.from answers.bytes answers.steps.decoded answers.steps.repeated answers.steps.came → IsKept pad now
+  kept_by (Silent is) = silent_keeps kept answers added noted is
+  kept_by (Says_error r) = refusal_keeps kept answers added noted r
   kept_by (Begins_to_send path mode options asked opens) =
       sending_keeps path mode options asked
       (subst (λ (m : Mode). OpensToSend stores sources server answers.from answers.bytes path m
@@ -275,7 +271,7 @@ module _ {S F D G K : Type 0} {stores : StoreMeaning S D} {sources : SourceMeani
   max_block = subst (λ (c : Config). IsBlockSize c.limits.max_block) (sym kept.server.config) programs.server.max_block
 
   -- each answer to a request keeps the invariant
-  pub request_keeps : IsKept programs pad now
+  pub request_keeps : IsKept pad now
   request_keeps =
       kept_by (port_answers stores sources server answers.from answers.bytes max_block answers.tid answers.left
       answers.steps)

@@ -1,5 +1,5 @@
 -- The invariant holds of every joint run, if the steps of the server keep it.
-use Rattle.std.proofs.Common.{ℕ, ◌≡◌, List, ◌++◌}
+use Rattle.std.proofs.Common.{ℕ, ◌≡◌, List, ◌++◌, refl}
 use Rattle.tftp_file.specs.Sink.{SinkMeaning}
 use Rattle.tftp_file.specs.Source.{SourceMeaning}
 use Rattle.tftp_store.specs.Store.{StoreMeaning}
@@ -10,6 +10,7 @@ use Rattle.tftp_promises.specs.Joined.{AreJoined}
 use Rattle.tftp_promises.specs.Joint.{CanTake, Joint, All_begin, Server_does, Client_asks, Client_does}
 use Rattle.tftp_promises.specs.Joint.{TracesAreJoint}
 use Rattle.tftp_promises.specs.Order.{Noted, Programs}
+use Rattle.tftp_promises.specs.Programs.{client_at}
 use Rattle.tftp_promises.specs.Snapshots.{Snapshot, just_asked, Has_asked, server_did, all_of}
 use Rattle.tftp_promises.proofs.Invariant.{IsKept, IsFreshBy}
 use Rattle.tftp_promises.proofs.KeptAsks.{asks_keeps}
@@ -24,15 +25,12 @@ module _ {S F D G K : Type 0} {stores : StoreMeaning S D} {sources : SourceMeani
   abbrev pub ServerStepsKeep : (programs : Programs stores sources inputs outputs) → ℕ → Type 0
   ServerStepsKeep programs pad =
       (old : Snapshot programs) (new : LoopState S F D) (does : LoopStep stores sources old.state new)
-      (added : List SocketEvent) → IsKept programs pad old →
-      IsFreshBy programs (server_did programs old does added) → new.events ≡ added ++ old.state.events →
-      CanTake programs old programs.ip added →
-      IsKept programs pad (server_did programs old does added)
+      (added : List SocketEvent) → IsKept pad old → IsFreshBy (server_did old does added) →
+      new.events ≡ added ++ old.state.events → CanTake old programs.ip added → IsKept pad (server_did old does added)
 
   module _ (programs : Programs stores sources inputs outputs) (pad : ℕ)
       (server_keeps : ServerStepsKeep programs pad) where
-    pub joint_kept : (snapshot : Snapshot programs) → Joint programs snapshot → IsFreshBy programs snapshot →
-        IsKept programs pad snapshot
+    pub joint_kept : (snapshot : Snapshot programs) → Joint snapshot → IsFreshBy snapshot → IsKept pad snapshot
     joint_kept snapshot All_begin fresh = kept_at_first programs pad
     joint_kept snapshot (Server_does {old} {new} joint does added events take) fresh =
         server_keeps old new does added (joint_kept old joint (fresh_before_server programs old new does added fresh))
@@ -41,24 +39,32 @@ module _ {S F D G K : Type 0} {stores : StoreMeaning S D} {sources : SourceMeani
         let before =
         fresh_before_client programs old k (just_asked client)
         (unasked_had programs old k (just_asked client) unasked) fresh in
-        asks_keeps programs pad old (joint_kept old joint before) before k client found unasked
+        asks_keeps (joint_kept old joint before) before k client found unasked
     joint_kept snapshot (Client_does {old} {s} {s'} {files} {files'} {noted} {moved} joint k client found is_stage does
         own added events take) fresh =
         let had = asked_had programs old k client s s' files files' noted moved is_stage does added in
         let before =
         fresh_before_client programs old k (Has_asked s' files' (added ++ noted) (client_moves does moved)) had
         fresh in
-        does_keeps programs old (joint_kept old joint before) before k client found s files noted moved is_stage s'
+        does_keeps (joint_kept old joint before) before {a = client_at client} (record {
+          k = k;
+          client = client;
+          found = found;
+          s = s;
+          files = files;
+          noted = noted;
+          moved = moved;
+          is_stage = is_stage;
+          address = refl;
+        }) s'
         files' added does own fresh events take
 
 -- the invariant holds where the traces arrive
 pub kept_at_last : {S F D G K : Type 0} (stores : StoreMeaning S D) (sources : SourceMeaning F)
-    (inputs : SourceMeaning G) (outputs : SinkMeaning K) →
-    TracesAreJoint stores sources inputs outputs →
+    (inputs : SourceMeaning G) (outputs : SinkMeaning K) → TracesAreJoint stores sources inputs outputs →
     ((programs : Programs stores sources inputs outputs) (pad : ℕ) → ServerStepsKeep programs pad) →
-    (programs : Programs stores sources inputs outputs) (order : List Noted) →
-    AreJoined stores sources inputs outputs programs order → (pad : ℕ) →
-    IsKept programs pad (all_of programs)
+    (programs : Programs stores sources inputs outputs) (order : List Noted) → AreJoined programs order → (pad : ℕ) →
+    IsKept pad (all_of programs)
 kept_at_last stores sources inputs outputs joint keeps programs order joins pad =
     joint_kept programs pad (keeps programs pad) (all_of programs) (joint programs order joins)
     (fresh_at_last programs joins.fresh)

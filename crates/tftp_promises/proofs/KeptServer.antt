@@ -15,8 +15,8 @@ use Rattle.tftp_rules.specs.OpenEnds.{OpenEnd}
 use Rattle.tftp_rules.specs.Shows.{EndView, IsShown}
 use Rattle.tftp_rules.specs.ViewSafety.{IsAmong}
 use Rattle.tftp_promises.specs.Joint.{WasSentBefore}
-use Rattle.tftp_promises.specs.Order.{Programs, IsStranger, requests_at}
-use Rattle.tftp_promises.specs.Programs.{endpoint, ClientProgram, client_at}
+use Rattle.tftp_promises.specs.Order.{Programs, IsStranger, ClientOf}
+use Rattle.tftp_promises.specs.Programs.{endpoint, client_at}
 use Rattle.tftp_promises.specs.Network.{joined}
 use Rattle.tftp_promises.specs.Snapshots.{Snapshot, ClientStage, Unasked, Has_asked, server_did}
 use Rattle.tftp_promises.proofs.Invariant.{IsThere, IsViewed, HasTransferBy, StageKept, TransferKept, ServerKept}
@@ -24,65 +24,48 @@ use Rattle.tftp_promises.proofs.Invariant.{IsOfClient, IsOfTransfer, IsKept, Sen
 use Rattle.tftp_promises.proofs.KeptViews.{sent_still, there_still}
 
 module _ {S F D G K : Type 0} {stores : StoreMeaning S D} {sources : SourceMeaning F} {inputs : SourceMeaning G}
-    {outputs : SinkMeaning K}
-    (programs : Programs stores sources inputs outputs) {pad : ℕ} where
+    {outputs : SinkMeaning K} {programs : Programs stores sources inputs outputs} {pad : ℕ} where
   -- what a step of the server did to the ends and the messages
-  pub record ServerTurns (old : Snapshot programs) (kept : IsKept programs pad old) (now : Snapshot programs)
+  pub record ServerTurns {old : Snapshot programs} (kept : IsKept pad old) (now : Snapshot programs)
       (added : List SocketEvent) : Type 0 where
     pub views : List EndView
     pub said_now : List Message
     pub shown : IsShown (joined programs) views (kept.messages ++ said_now)
     pub sends : (port : ℕ) (to : Endpoint) (bytes : List ℕ) → Contains added (Sent port to bytes) →
-        IsThere (kept.messages ++ said_now) (endpoint programs.ip port) to bytes
-        ⊎ IsStranger stores sources inputs outputs programs to
-    pub server : ServerKept programs (kept.messages ++ said_now) now
+        IsThere (kept.messages ++ said_now) (endpoint programs.ip port) to bytes ⊎ IsStranger programs to
+    pub server : ServerKept (kept.messages ++ said_now) now
     -- the end of a client stays viewed
-    pub clients : (k : ℕ) (client : ClientProgram inputs outputs (requests_at programs)) →
-        slice_get programs.clients k ≡ Some client →
-        (z : OpenEnd) → z.address ≡ client_at inputs outputs (requests_at programs) client →
-        IsViewed (joined programs) (SendsText programs pad) kept.views kept.messages z →
+    pub clients : (k : ℕ) (client : ClientOf programs) → slice_get programs.clients k ≡ Some client → (z : OpenEnd) →
+        z.address ≡ client_at client → IsViewed (joined programs) (SendsText programs pad) kept.views kept.messages z →
         IsViewed (joined programs) (SendsText programs pad) views (kept.messages ++ said_now) z
-    pub transfers : (port : ℕ) (transfer : TransferState F D) (a : Endpoint) →
-        HasTransferBy programs now port transfer a →
-        TransferKept programs pad views (kept.messages ++ said_now) now port transfer a
-    pub only : (view : EndView) → IsAmong views view → IsAmong kept.views view ⊎ IsOfTransfer programs now view.address
-    pub were : (a : Endpoint) → IsOfTransfer programs old a → IsOfTransfer programs now a
+    pub transfers : (port : ℕ) (transfer : TransferState F D) (a : Endpoint) → HasTransferBy now port transfer a →
+        TransferKept pad views (kept.messages ++ said_now) now port transfer a
+    pub only : (view : EndView) → IsAmong views view → IsAmong kept.views view ⊎ IsOfTransfer now view.address
+    pub were : (a : Endpoint) → IsOfTransfer old a → IsOfTransfer now a
 
-  module _ (old : Snapshot programs) (kept : IsKept programs pad old) {new : LoopState S F D}
+  module _ {old : Snapshot programs} (kept : IsKept pad old) {new : LoopState S F D}
       (does : LoopStep stores sources old.state new) (added : List SocketEvent)
-      (turns : ServerTurns old kept (server_did programs old does added) added) where
+      (turns : ServerTurns kept (server_did old does added) added) where
     abbrev messages : List Message
     messages = kept.messages ++ turns.said_now
 
     abbrev now : Snapshot programs
-    now = server_did programs old does added
+    now = server_did old does added
 
     abbrev Arrives : Endpoint → Endpoint → List ℕ → Type 0
-    Arrives from to bytes = IsThere messages from to bytes ⊎ IsStranger stores sources inputs outputs programs to
+    Arrives from to bytes = IsThere messages from to bytes ⊎ IsStranger programs to
 
-    before : (from to : Endpoint) (bytes : List ℕ) → WasSentBefore programs old from to bytes → Arrives from to bytes
-    before from to bytes h = sent_still programs kept.messages turns.said_now from to bytes (kept.sent from to bytes h)
+    before : (from to : Endpoint) (bytes : List ℕ) → WasSentBefore old from to bytes → Arrives from to bytes
+    before from to bytes h = sent_still programs kept.messages turns.said_now (kept.sent from to bytes h)
 
-    all_sent : (from to : Endpoint) (bytes : List ℕ) → WasSentBefore programs now from to bytes → Arrives from to bytes
+    all_sent : (from to : Endpoint) (bytes : List ℕ) → WasSentBefore now from to bytes → Arrives from to bytes
     all_sent from to bytes (inl h) = elim (Contains-append_cases added old.noted (Sent h.port to bytes) h.sent) [
       | inl c ↦ subst (λ (a : Endpoint). Arrives a to bytes) (sym h.at) (turns.sends h.port to bytes c)
       | inr c ↦ before from to bytes (inl (record { port = h.port; at = h.at; sent = c }))
     ]
-    all_sent from to bytes (inr h) =
-        before from to bytes (inr
-        (record {
-          k = h.k;
-          client = h.client;
-          is_client = h.is_client;
-          stage = h.stage;
-          is_stage = h.is_stage;
-          port = h.port;
-          at = h.at;
-          sent = h.sent;
-        }))
+    all_sent from to bytes (inr h) = before from to bytes (inr h)
 
-    all_clients : (k : ℕ) (client : ClientProgram inputs outputs (requests_at programs))
-        (stage : ClientStage G K) →
+    all_clients : (k : ℕ) (client : ClientOf programs) (stage : ClientStage G K) →
         slice_get programs.clients k ≡ Some client → StageKept programs pad kept.views kept.messages client stage →
         StageKept programs pad turns.views messages client stage
     all_clients k client Unasked found h = tt
@@ -93,37 +76,21 @@ module _ {S F D G K : Type 0} {stores : StoreMeaning S D} {sources : SourceMeani
       side = h.side;
       viewed = turns.clients k client found h.end h.address h.viewed;
       asks =
-          there_still kept.messages turns.said_now
-          (client_at inputs outputs (requests_at programs) client)
-          (requests_at programs) client.first.position.last_sent h.asks;
+          there_still kept.messages turns.said_now h.asks;
       has = h.has;
     }
 
-    asked_still : (a : Endpoint) → IsOfClient programs old a → IsOfClient programs now a
-    asked_still a h =
-        record {
-          k = h.k;
-          client = h.client;
-          found = h.found;
-          s = h.s;
-          files = h.files;
-          noted = h.noted;
-          moved = h.moved;
-          is_stage = h.is_stage;
-          address = h.address;
-        }
-
     all_views : (view : EndView) → IsAmong turns.views view →
-        IsOfClient programs now view.address ⊎ IsOfTransfer programs now view.address
+        IsOfClient programs now.clients view.address ⊎ IsOfTransfer now view.address
     all_views view among = elim (turns.only view among) [
       | inl o ↦ elim (kept.only view o) [
-        | inl h ↦ inl (asked_still view.address h)
+        | inl h ↦ inl h
         | inr h ↦ inr (turns.were view.address h)
       ]
       | inr h ↦ inr h
     ]
 
-    pub server_keeps : IsKept programs pad now
+    pub server_keeps : IsKept pad now
     server_keeps = record {
       views = turns.views;
       messages = messages;

@@ -57,14 +57,12 @@ module _ {S F D G K : Type 0} {stores : StoreMeaning S D} {sources : SourceMeani
   abbrev pub AnswersKeep : Type 0
   AnswersKeep =
       (old : Snapshot programs) (new : LoopState S F D) (answers : AnswersRequest stores sources old.state new)
-      (added : List SocketEvent) → IsKept programs pad old →
-      IsFreshBy programs (server_did programs old (Request_answered answers) added) →
-      new.events ≡ added ++ old.state.events → CanTake programs old programs.ip added →
-      IsKept programs pad (server_did programs old (Request_answered answers) added)
+      (added : List SocketEvent) → IsKept pad old → IsFreshBy (server_did old (Request_answered answers) added) →
+      new.events ≡ added ++ old.state.events → CanTake old programs.ip added →
+      IsKept pad (server_did old (Request_answered answers) added)
 
-  module _ (old : Snapshot programs) (new : LoopState S F D) (kept : IsKept programs pad old) (added : List SocketEvent)
-      (events : new.events ≡ added ++ old.state.events)
-      (take : CanTake programs old programs.ip added) where
+  module _ (old : Snapshot programs) (new : LoopState S F D) (kept : IsKept pad old) (added : List SocketEvent)
+      (events : new.events ≡ added ++ old.state.events) (take : CanTake old programs.ip added) where
     -- the events of a step
     added_is : (noted : List SocketEvent) → new.events ≡ noted ++ old.state.events → noted ≡ added
     added_is noted e = added_by 0 None noted old.state.events added (sym e ∙ events)
@@ -74,11 +72,10 @@ module _ {S F D G K : Type 0} {stores : StoreMeaning S D} {sources : SourceMeani
 
     -- ---- a request is received
     request_came : (h : ReceivesRequest stores sources old.state new) →
-        WasSentBefore programs old h.from (requests_at programs) h.bytes
-        ⊎ MayCome stores sources inputs outputs programs h.from h.bytes
+        WasSentBefore old h.from (requests_at programs) h.bytes ⊎ MayCome programs h.from h.bytes
     request_came h =
-        subst (λ (port : ℕ). WasSentBefore programs old h.from (endpoint programs.ip port) h.bytes
-        ⊎ MayCome stores sources inputs outputs programs h.from h.bytes) kept.server.requests
+        subst (λ (port : ℕ). WasSentBefore old h.from (endpoint programs.ip port) h.bytes
+        ⊎ MayCome programs h.from h.bytes) kept.server.requests
         (take old.state.requests h.from h.bytes
         (subst (λ (es : List SocketEvent). Contains es (Received old.state.requests h.from h.bytes))
         (added_is (Received old.state.requests h.from h.bytes ∷ []) (ap (λ (s : LoopState S F D). s.events) h.is))
@@ -97,9 +94,9 @@ module _ {S F D G K : Type 0} {stores : StoreMeaning S D} {sources : SourceMeani
       server_same : new.server ≡ old.state.server
       server_same = ap (λ (s : LoopState S F D). s.server) h.is
 
-      receiving_keeps : IsKept programs pad (server_did programs old (Request_received h) added)
+      receiving_keeps : IsKept pad (server_did old (Request_received h) added)
       receiving_keeps =
-          still_keeps programs old kept (Request_received h) (record {
+          still_keeps kept (Request_received h) (record {
             opens = refl;
             seats = λ port. refl;
             removes = λ port transfer r. r;
@@ -113,17 +110,17 @@ module _ {S F D G K : Type 0} {stores : StoreMeaning S D} {sources : SourceMeani
 
     -- ---- the server is as it was, and no datagram more is pending
     same_keeps : (does : LoopStep stores sources old.state new) → placed_by programs old.run does ≡ [] →
-        ((port : ℕ) → place_at programs port (server_did programs old does []).run ≡ place_at programs port old.run) →
+        ((port : ℕ) → place_at programs port (server_did old does []).run ≡ place_at programs port old.run) →
         ((port : ℕ) (transfer : TransferState F D) → Removes does port transfer → ⊥) →
         ((a : Endpoint) → MovesNone programs old.run does a) → {left : LoopState S F D} → new ≡ left →
         left.requests ≡ old.state.requests → left.server ≡ old.state.server →
         ((from : Endpoint) (bytes : List ℕ) → left.pending ≡ Some (from, bytes) →
         old.state.pending ≡ Some (from, bytes)) →
         (noted : List SocketEvent) → left.events ≡ noted ++ old.state.events → AllByRecursion IsUnsent noted →
-        IsKept programs pad (server_did programs old does added)
+        IsKept pad (server_did old does added)
     same_keeps does opens seats removes none is requests server pending noted e unsent =
         let server_same : new.server ≡ old.state.server = ap (λ (s : LoopState S F D). s.server) is ∙ server in
-        still_keeps programs old kept does (record {
+        still_keeps kept does (record {
           opens = opens;
           seats = seats;
           removes = removes;
@@ -136,8 +133,7 @@ module _ {S F D G K : Type 0} {stores : StoreMeaning S D} {sources : SourceMeani
         (silent_by noted (ap (λ (s : LoopState S F D). s.events) is ∙ e) (unsent_silent noted unsent))
 
     -- ---- a wait
-    waiting_keeps : (h : Waits stores sources old.state new) →
-        IsKept programs pad (server_did programs old (Waited h) added)
+    waiting_keeps : (h : Waits stores sources old.state new) → IsKept pad (server_did old (Waited h) added)
     waiting_keeps h =
         same_keeps (Waited h) refl (λ port. refl) (λ port transfer r. r)
         (λ a. record { opens = refl; moves = λ moved. refl }) h.is refl refl (λ from bytes e. e)
@@ -145,58 +141,53 @@ module _ {S F D G K : Type 0} {stores : StoreMeaning S D} {sources : SourceMeani
 
     -- ---- a receive at the request port without a datagram
     finding_keeps : (h : FindsNoRequest stores sources old.state new) →
-        IsKept programs pad (server_did programs old (No_request_found h) added)
+        IsKept pad (server_did old (No_request_found h) added)
     finding_keeps h =
         same_keeps (No_request_found h) refl (λ port. refl) (λ port transfer r. r)
         (λ a. record { opens = refl; moves = λ moved. refl }) h.is refl refl (λ from bytes e. e)
         (Quiet (Empty old.state.requests) ∷ []) refl (tt, tt)
 
     failing_keeps : (h : FailsToReceiveRequest stores sources old.state new) →
-        IsKept programs pad (server_did programs old (Request_not_received h) added)
+        IsKept pad (server_did old (Request_not_received h) added)
     failing_keeps h =
         same_keeps (Request_not_received h) refl (λ port. refl) (λ port transfer r. r)
         (λ a. record { opens = refl; moves = λ moved. refl }) h.is refl refl (λ from bytes e. e)
         (Quiet (Failed old.state.requests) ∷ []) refl (tt, tt)
 
     -- ---- a note of a request
-    noting_keeps : (h : NotesRequest stores sources old.state new) →
-        IsKept programs pad (server_did programs old (Request_noted h) added)
+    noting_keeps : (h : NotesRequest stores sources old.state new) → IsKept pad (server_did old (Request_noted h) added)
     noting_keeps h =
         same_keeps (Request_noted h) refl (λ port. refl) (λ port transfer r. r)
         (λ a. record { opens = refl; moves = λ moved. refl }) h.is refl refl (λ from bytes e. e)
         (Quiet (note_event h.note) ∷ []) refl (tt, tt)
 
     -- ---- a request is lost
-    losing_keeps : (h : LosesRequest stores sources old.state new) →
-        IsKept programs pad (server_did programs old (Request_lost h) added)
+    losing_keeps : (h : LosesRequest stores sources old.state new) → IsKept pad (server_did old (Request_lost h) added)
     losing_keeps h =
         same_keeps (Request_lost h) refl (λ port. refl) (λ port transfer r. r)
         (λ a. record { opens = refl; moves = λ moved. refl }) h.is refl refl
         (λ from bytes e. absurd (let f : None ≡ Some (from, bytes) = e in cc)) [] refl tt
 
     -- ---- the clock is read
-    clock_keeps : (h : ReadsClock stores sources old.state new) →
-        IsKept programs pad (server_did programs old (Clock_read h) added)
+    clock_keeps : (h : ReadsClock stores sources old.state new) → IsKept pad (server_did old (Clock_read h) added)
     clock_keeps h =
         same_keeps (Clock_read h) refl (λ port. refl) (λ port transfer r. r)
         (λ a. record { opens = refl; moves = λ moved. refl }) h.is refl refl (λ from bytes e. e)
         (Watched h.watch ∷ []) refl (tt, tt)
 
     -- ---- a drain begins
-    draining_keeps : (h : BeginsDrain stores sources old.state new) →
-        IsKept programs pad (server_did programs old (Drain_begun h) added)
+    draining_keeps : (h : BeginsDrain stores sources old.state new) → IsKept pad (server_did old (Drain_begun h) added)
     draining_keeps h =
         same_keeps (Drain_begun h) refl (λ port. refl) (λ port transfer r. r)
         (λ a. record { opens = refl; moves = λ moved. refl }) h.is refl refl (λ from bytes e. e)
         (Quiet Drain_signalled ∷ []) refl (tt, tt)
 
     -- ---- the store is set
-    store_keeps : (h : SetsStore stores sources old.state new) →
-        IsKept programs pad (server_did programs old (Store_set h) added)
+    store_keeps : (h : SetsStore stores sources old.state new) → IsKept pad (server_did old (Store_set h) added)
     store_keeps h =
         let server_now : new.server ≡ record old.state.server { store = h.store } =
         ap (λ (s : LoopState S F D). s.server) h.is in
-        still_keeps programs old kept (Store_set h) (record {
+        still_keeps kept (Store_set h) (record {
           opens = refl;
           seats = λ port. refl;
           removes = λ port transfer r. r;
@@ -209,8 +200,8 @@ module _ {S F D G K : Type 0} {stores : StoreMeaning S D} {sources : SourceMeani
 
     -- ---- at the port of a transfer
     module _ (serves : ServesPort stores sources old.state new)
-        (fresh_now : IsFreshBy programs (server_did programs old (At_port serves) added)) where
-      old_fresh : IsFreshBy programs old
+        (fresh_now : IsFreshBy (server_did old (At_port serves) added)) where
+      old_fresh : IsFreshBy old
       old_fresh = fresh_before_server programs old new (At_port serves) added fresh_now
 
       -- nothing moves at a step that is no datagram
@@ -234,51 +225,47 @@ module _ {S F D G K : Type 0} {stores : StoreMeaning S D} {sources : SourceMeani
       Handles = ReceivesAndHandles stores sources old.state.now (port_state old.state serves.timer) serves.next
 
       abbrev Keeps : Type 0
-      Keeps = IsKept programs pad (server_did programs old (At_port serves) added)
+      Keeps = IsKept pad (server_did old (At_port serves) added)
 
       here_keeps : (h : Handles) → serves.does ≡ A_datagram h →
-          WasSentBefore programs old h.from (endpoint programs.ip port) h.bytes
-          ⊎ MayCome stores sources inputs outputs programs h.from h.bytes →
+          WasSentBefore old h.from (endpoint programs.ip port) h.bytes ⊎ MayCome programs h.from h.bytes →
           place ≡ endpoint programs.ip port → Keeps
       here_keeps h is came here =
           let known =
           kept.server.opened port h.handles.takes.transfer place (inl (h.handles.takes.found, refl)) in
           let there = sym (ap (joined programs).host_of here) ∙ at_server programs old old_fresh place known in
           let a =
-          arrives programs old kept h.from (endpoint programs.ip port) h.bytes
+          arrives kept h.from (endpoint programs.ip port) h.bytes
           (stranger_no_port programs (endpoint programs.ip port) there) came in
-          datagram_keeps programs old a.now old_fresh serves added events h is fresh_now
+          datagram_keeps a.now old_fresh serves added events h is fresh_now
           (subst (λ (e : Endpoint). HasArrived a.now.messages h.from e h.bytes) (sym here) a.come) a.spelled (inl here)
 
-      strange_keeps : (h : Handles) → serves.does ≡ A_datagram h →
-          IsStranger stores sources inputs outputs programs h.from → Keeps
+      strange_keeps : (h : Handles) → serves.does ≡ A_datagram h → IsStranger programs h.from → Keeps
       strange_keeps h is strange =
-          let a = strays_in programs old kept h.from place h.bytes strange in
-          datagram_keeps programs old a.now old_fresh serves added events h is fresh_now a.come a.spelled (inr strange)
+          let a = strays_in kept h.from place h.bytes strange in
+          datagram_keeps a.now old_fresh serves added events h is fresh_now a.come a.spelled (inr strange)
 
       ours_keeps : (h : Handles) → serves.does ≡ A_datagram h →
-          WasSentBefore programs old h.from (endpoint programs.ip port) h.bytes
-          ⊎ MayCome stores sources inputs outputs programs h.from h.bytes →
-          is_ours programs h.from ≡ true → (now : IsKept programs pad old) →
+          WasSentBefore old h.from (endpoint programs.ip port) h.bytes
+          ⊎ MayCome programs h.from h.bytes →
+          is_ours programs h.from ≡ true → (now : IsKept pad old) →
           IsThere now.messages (endpoint programs.ip port) h.from (error_bytes UnknownTransferId) →
           (place ≡ endpoint programs.ip port) ⊎ IsStrangers programs
           (now.transfers port h.handles.takes.transfer place (inl (h.handles.takes.found, refl))).end.state → Keeps
       ours_keeps h is came ours now there (inl here) = here_keeps h is came here
       ours_keeps h is came ours now there (inr s) =
-          wrong_keeps programs old now old_fresh serves added events h is fresh_now s ours there
+          wrong_keeps now old_fresh serves added events h is fresh_now s ours there
 
       ours_answered : (h : Handles) → serves.does ≡ A_datagram h →
-          WasSentBefore programs old h.from (endpoint programs.ip port) h.bytes
-          ⊎ MayCome stores sources inputs outputs programs h.from h.bytes →
+          WasSentBefore old h.from (endpoint programs.ip port) h.bytes ⊎ MayCome programs h.from h.bytes →
           is_ours programs h.from ≡ true → Keeps
       ours_answered h is came ours =
-          let a = errs programs old kept (endpoint programs.ip port) h.from UnknownTransferId in
+          let a = errs kept (endpoint programs.ip port) h.from UnknownTransferId in
           ours_keeps h is came ours a.now a.there (a.now.transfers port h.handles.takes.transfer place
           (inl (h.handles.takes.found, refl))).seat
 
       by_seat : (h : Handles) → serves.does ≡ A_datagram h →
-          WasSentBefore programs old h.from (endpoint programs.ip port) h.bytes
-          ⊎ MayCome stores sources inputs outputs programs h.from h.bytes →
+          WasSentBefore old h.from (endpoint programs.ip port) h.bytes ⊎ MayCome programs h.from h.bytes →
           {e : EndState} → (place ≡ endpoint programs.ip port) ⊎ IsStrangers programs e → Keeps
       by_seat h is came (inl here) = here_keeps h is came here
       by_seat h is came (inr s) = elim (cases_Bool (is_ours programs h.from)) [
@@ -287,37 +274,35 @@ module _ {S F D G K : Type 0} {stores : StoreMeaning S D} {sources : SourceMeani
       ]
 
       by_case : (does : PortStep stores sources old.state.now (port_state old.state serves.timer) serves.next) →
-          serves.does ≡ does → IsKept programs pad (server_did programs old (At_port serves) added)
+          serves.does ≡ does → IsKept pad (server_did old (At_port serves) added)
       by_case (A_datagram h) is =
           let came =
-          received_there programs old kept serves added events h.handles.takes.takes.turn.reply
+          received_there kept serves added events h.handles.takes.takes.turn.reply
           (Received port h.from h.bytes ∷ []) h.handles.events port h.from h.bytes
           (Contains-push [] (Received port h.from h.bytes)) take in
           by_seat h is came (kept.transfers port h.handles.takes.transfer place
           (inl (h.handles.takes.found, refl))).seat
       by_case (A_lost_datagram h) is =
-          lost_keeps programs old kept old_fresh serves added events (quiet (A_lost_datagram h) is (λ moved. refl))
+          lost_keeps kept old_fresh serves added events (quiet (A_lost_datagram h) is (λ moved. refl))
           h.from h.bytes h.loses h.events
       by_case (A_timeout h) is =
-          timeout_keeps programs old kept old_fresh serves added events (quiet (A_timeout h) is (λ moved. refl)) h.step
-          h.times_out
+          timeout_keeps kept old_fresh serves added events (quiet (A_timeout h) is (λ moved. refl)) h.step h.times_out
       by_case (Nothing_found h) is =
-          missed_keeps programs old kept old_fresh serves added events (quiet (Nothing_found h) is (λ moved. refl))
+          missed_keeps kept old_fresh serves added events (quiet (Nothing_found h) is (λ moved. refl))
           (Quiet (Empty serves.timer.port)) tt h.server h.events
       by_case (A_late_datagram h) is =
-          missed_keeps programs old kept old_fresh serves added events (quiet (A_late_datagram h) is (λ moved. refl))
+          missed_keeps kept old_fresh serves added events (quiet (A_late_datagram h) is (λ moved. refl))
           (Received serves.timer.port h.from h.bytes) tt h.server h.events
       by_case (A_failed_receive h) is =
-          missed_keeps programs old kept old_fresh serves added events (quiet (A_failed_receive h) is (λ moved. refl))
+          missed_keeps kept old_fresh serves added events (quiet (A_failed_receive h) is (λ moved. refl))
           (Quiet (Failed serves.timer.port)) tt h.server h.events
       by_case (A_missed_timeout h) is =
-          missed_keeps programs old kept old_fresh serves added events (quiet (A_missed_timeout h) is (λ moved. refl))
+          missed_keeps kept old_fresh serves added events (quiet (A_missed_timeout h) is (λ moved. refl))
           (Elapsed serves.timer.port old.state.now) tt h.server h.events
       by_case (Work h) is =
-          work_keeps programs old kept old_fresh serves added events (quiet (Work h) is (λ moved. refl)) h.works
-          h.events
+          work_keeps kept old_fresh serves added events (quiet (Work h) is (λ moved. refl)) h.works h.events
 
-      port_keeps : IsKept programs pad (server_did programs old (At_port serves) added)
+      port_keeps : IsKept pad (server_did old (At_port serves) added)
       port_keeps = by_case serves.does refl
 
   -- each step of the server
@@ -328,8 +313,7 @@ module _ {S F D G K : Type 0} {stores : StoreMeaning S D} {sources : SourceMeani
       port_keeps old new kept added events take serves fresh
   serves_keep answers_keep old new (Request_received h) added kept fresh events take =
       let a =
-      arrives programs old kept h.from (requests_at programs) h.bytes
-      (stranger_no_port programs (requests_at programs)
+      arrives kept h.from (requests_at programs) h.bytes (stranger_no_port programs (requests_at programs)
       (at_port programs programs.port (λ k client found. fresh.apart k programs.port client found
       (first_in programs.port (our_ports programs old.run)))
       (fresh.others programs.port (first_in programs.port (our_ports programs old.run)))))
@@ -350,7 +334,7 @@ module _ {S F D G K : Type 0} {stores : StoreMeaning S D} {sources : SourceMeani
   serves_keep answers_keep old new (Store_set h) added kept fresh events take =
       store_keeps old new kept added events take h
   serves_keep answers_keep old new (Transfer_closed h) added kept fresh events take =
-      closing_keeps programs old kept h added (silent_by old new kept added events take (Printed _ ∷ [])
+      closing_keeps kept h added (silent_by old new kept added events take (Printed _ ∷ [])
       (ap (λ (s : LoopState S F D). s.events) h.is) (printed_silent _))
   serves_keep answers_keep old new (Drain_begun h) added kept fresh events take =
       draining_keeps old new kept added events take h

@@ -28,8 +28,8 @@ module _ {S F D G K : Type 0} {stores : StoreMeaning S D} {sources : SourceMeani
     {outputs : SinkMeaning K}
     (programs : Programs stores sources inputs outputs) where
   -- nothing was sent
-  nothing_sent : (from to : Endpoint) (bytes : List ℕ) → WasSentBefore programs (nothing_done programs) from to bytes →
-      IsThere [] from to bytes ⊎ IsStranger stores sources inputs outputs programs to
+  nothing_sent : (from to : Endpoint) (bytes : List ℕ) → WasSentBefore (nothing_done programs) from to bytes →
+      IsThere [] from to bytes ⊎ IsStranger programs to
   nothing_sent from to bytes (inl h) = absurd (nothing_in (Sent h.port to bytes) h.sent)
   nothing_sent from to bytes (inr h) =
       absurd (nothing_in (Sent h.port to bytes)
@@ -42,11 +42,11 @@ module _ {S F D G K : Type 0} {stores : StoreMeaning S D} {sources : SourceMeani
   nothing_held port transfer e = let f : None ≡ Some transfer = ap (at port) (sym programs.server.empty) ∙ e in cc
 
   no_transfer : (port : ℕ) (transfer : TransferState F D) (a : Endpoint) →
-      HasTransferBy programs (nothing_done programs) port transfer a → ⊥
+      HasTransferBy (nothing_done programs) port transfer a → ⊥
   no_transfer port transfer a (inl e) = nothing_held port transfer e.0
   no_transfer port transfer a (inr closed) = closed
 
-  pub kept_at_first : (pad : ℕ) → IsKept programs pad (nothing_done programs)
+  pub kept_at_first : (pad : ℕ) → IsKept pad (nothing_done programs)
   kept_at_first pad = record {
     views = [];
     messages = [];

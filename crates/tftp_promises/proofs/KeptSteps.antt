@@ -13,7 +13,7 @@ module _ {S F D G K : Type 0} {stores : StoreMeaning S D} {sources : SourceMeani
     (programs : Programs stores sources inputs outputs) (pad : ℕ) where
   -- a request that the server answers
   pub answers_keep : AnswersKeep programs pad
-  answers_keep old new answers added kept fresh events take = request_keeps programs old kept answers added events fresh
+  answers_keep old new answers added kept fresh events take = request_keeps kept answers added events fresh
 
   -- each step
   pub server_steps_keep : ServerStepsKeep programs pad

@@ -12,7 +12,7 @@ use Rattle.tftp_sockets.specs.Trace.SocketEvent.{Sent}
 use Rattle.tftp_loop.specs.Steps.{LoopState, LoopStep}
 use Rattle.tftp_rules.specs.Machine.{Endpoint, Message}
 use Rattle.tftp_rules.specs.Shows.{IsShown}
-use Rattle.tftp_promises.specs.Order.{Programs, IsStranger, requests_at}
+use Rattle.tftp_promises.specs.Order.{Programs, IsStranger}
 use Rattle.tftp_promises.specs.Programs.{endpoint}
 use Rattle.tftp_promises.specs.Network.{joined}
 use Rattle.tftp_promises.specs.Snapshots.{Snapshot, server_did}
@@ -25,71 +25,67 @@ use Rattle.tftp_promises.proofs.MovedSteps.{MovesNone}
 use Rattle.tftp_promises.proofs.ServerStays.{ServerStays, stored_after, closed_before, opened_still}
 
 module _ {S F D G K : Type 0} {stores : StoreMeaning S D} {sources : SourceMeaning F} {inputs : SourceMeaning G}
-    {outputs : SinkMeaning K}
-    (programs : Programs stores sources inputs outputs) {pad : ℕ} (old : Snapshot programs)
-    (kept : IsKept programs pad old) {new : LoopState S F D} (does : LoopStep stores sources old.state new)
-    (stays : ServerStays programs old kept does) (none : (a : Endpoint) → MovesNone programs old.run does a)
+    {outputs : SinkMeaning K} {programs : Programs stores sources inputs outputs} {pad : ℕ} {old : Snapshot programs}
+    (kept : IsKept pad old) {new : LoopState S F D} (does : LoopStep stores sources old.state new)
+    (stays : ServerStays kept does) (none : (a : Endpoint) → MovesNone programs old.run does a)
     (held : new.server.held ≡ old.state.server.held) (added : List SocketEvent) where
   abbrev now : Snapshot programs
-  now = server_did programs old does added
+  now = server_did old does added
 
-  held_before : (port : ℕ) (transfer : TransferState F D) (a : Endpoint) → HasTransferBy programs now port transfer a →
-      HasTransferBy programs old port transfer a
+  held_before : (port : ℕ) (transfer : TransferState F D) (a : Endpoint) → HasTransferBy now port transfer a →
+      HasTransferBy old port transfer a
   held_before port transfer a (inl e) = inl (ap (at port) (sym held) ∙ e.0, e.1 ∙ stays.seats port)
   held_before port transfer a (inr closed) =
-      inr (closed_before programs old kept does stays added port transfer a closed)
+      inr (closed_before kept does stays added port transfer a closed)
 
-  held_after : (port : ℕ) (transfer : TransferState F D) (a : Endpoint) → HasTransferBy programs old port transfer a →
-      HasTransferBy programs now port transfer a
+  held_after : (port : ℕ) (transfer : TransferState F D) (a : Endpoint) → HasTransferBy old port transfer a →
+      HasTransferBy now port transfer a
   held_after port transfer a (inl e) = inl (ap (at port) held ∙ e.0, e.1 ∙ sym (stays.seats port))
   held_after port transfer a (inr closed) = inr (inr closed)
 
   -- what it sends is shown
   module _ (said_now : List Message) (shown : IsShown (joined programs) kept.views (kept.messages ++ said_now))
       (sends : (port : ℕ) (to : Endpoint) (bytes : List ℕ) → Contains added (Sent port to bytes) →
-      IsThere (kept.messages ++ said_now) (endpoint programs.ip port) to bytes ⊎ IsStranger stores sources inputs
-      outputs programs to) where
+      IsThere (kept.messages ++ said_now) (endpoint programs.ip port) to bytes ⊎ IsStranger programs to) where
     abbrev messages : List Message
     messages = kept.messages ++ said_now
 
     all_transfers : (port : ℕ) (transfer : TransferState F D) (a : Endpoint) →
-        HasTransferBy programs now port transfer a → TransferKept programs pad kept.views messages now port transfer a
+        HasTransferBy now port transfer a → TransferKept pad kept.views messages now port transfer a
     all_transfers port transfer a is =
         let h = kept.transfers port transfer a (held_before port transfer a is) in
-        same_transfer programs h (viewed_still (joined programs) kept.views kept.messages said_now h.end h.viewed)
-        (stored_after programs pad old does added h.end (none h.end.address) transfer.files h.has)
+        same_transfer h (viewed_still said_now h.viewed)
+        (stored_after pad old does added h.end (none h.end.address) transfer.files h.has)
 
-    server_kept : ServerKept programs messages now
+    server_kept : ServerKept messages now
     server_kept = record {
       requests = stays.requests ∙ kept.server.requests;
       config = stays.config ∙ kept.server.config;
       pending =
-          λ from bytes e. arrived_still kept.messages said_now from (requests_at programs) bytes
-          (stays.pending from bytes e);
+          λ from bytes e. arrived_still kept.messages said_now (stays.pending from bytes e);
       once = subst (λ (hs : List (ℕ × TransferState F D)). AreKeyedOnce hs) (sym held) kept.server.once;
       seats =
           λ p q t u e f same. kept.server.seats p q t u (ap (at p) (sym held) ∙ e) (ap (at q) (sym held) ∙ f)
           (sym (stays.seats p) ∙ (same ∙ stays.seats q));
       gone =
           λ p q t u a closed e same. kept.server.gone p q t u a
-          (closed_before programs old kept does stays added p t a closed) (ap (at q) (sym held) ∙ e)
-          (same ∙ stays.seats q);
+          (closed_before kept does stays added p t a closed) (ap (at q) (sym held) ∙ e) (same ∙ stays.seats q);
       gone_once =
-          λ p q t u a c d. kept.server.gone_once p q t u a (closed_before programs old kept does stays added p t a c)
-          (closed_before programs old kept does stays added q u a d);
+          λ p q t u a c d. kept.server.gone_once p q t u a (closed_before kept does stays added p t a c)
+          (closed_before kept does stays added q u a d);
       opened =
-          λ port transfer a is. opened_still programs old kept does stays added a
+          λ port transfer a is. opened_still kept does stays added a
           (kept.server.opened port transfer a (held_before port transfer a is));
     }
 
-    turns : ServerTurns programs old kept now added
+    turns : ServerTurns kept now added
     turns = record {
       views = kept.views;
       said_now = said_now;
       shown = shown;
       sends = sends;
       server = server_kept;
-      clients = λ k client found z at_client h. viewed_still (joined programs) kept.views kept.messages said_now z h;
+      clients = λ k client found z at_client h. viewed_still said_now h;
       transfers = all_transfers;
       only = λ view among. inl among;
       were =
@@ -100,11 +96,11 @@ module _ {S F D G K : Type 0} {stores : StoreMeaning S D} {sources : SourceMeani
           };
     }
 
-    pub says_keeps : IsKept programs pad now
-    says_keeps = server_keeps programs old kept does added turns
+    pub says_keeps : IsKept pad now
+    says_keeps = server_keeps kept does added turns
 
   -- it sends nothing
-  pub still_keeps : IsSilent added → IsKept programs pad now
+  pub still_keeps : IsSilent added → IsKept pad now
   still_keeps silent =
       says_keeps [] (subst (λ (ms : List Message). IsShown (joined programs) kept.views ms)
       (sym (append-nil kept.messages)) kept.shown) (λ port to bytes c. absurd (silent port to bytes c))

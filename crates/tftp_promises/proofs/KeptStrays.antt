@@ -24,8 +24,7 @@ use Rattle.tftp_rules.proofs.Actions.{says_error, strays}
 use Rattle.tftp_rules.proofs.EndMoves.{valid_error}
 use Rattle.tftp_rules.proofs.SaidLemmas.{spells_own}
 use Rattle.tftp_promises.specs.Joint.{WasSentBefore}
-use Rattle.tftp_promises.specs.Order.{Programs, IsError, IsStranger, MayCome, requests_at}
-use Rattle.tftp_promises.specs.Programs.{ClientProgram, client_at}
+use Rattle.tftp_promises.specs.Order.{Programs, IsError, IsStranger, MayCome, ClientOf}
 use Rattle.tftp_promises.specs.Network.{joined}
 use Rattle.tftp_promises.specs.Snapshots.{Snapshot, ClientStage, Unasked, Has_asked}
 use Rattle.tftp_promises.proofs.Invariant.{HasArrived, IsThere, IsKept, StageKept, TransferKept}
@@ -34,11 +33,10 @@ use Rattle.tftp_promises.proofs.KeptViews.{arrived_still, sent_still, there_says
 use Rattle.tftp_promises.proofs.Places.{strangers_elsewhere}
 
 module _ {S F D G K : Type 0} {stores : StoreMeaning S D} {sources : SourceMeaning F} {inputs : SourceMeaning G}
-    {outputs : SinkMeaning K}
-    (programs : Programs stores sources inputs outputs) {pad : ℕ} (snapshot : Snapshot programs)
-    (kept : IsKept programs pad snapshot) where
+    {outputs : SinkMeaning K} {programs : Programs stores sources inputs outputs} {pad : ℕ}
+    {snapshot : Snapshot programs} (kept : IsKept pad snapshot) where
   abbrev Client : Type 0
-  Client = ClientProgram inputs outputs (requests_at programs)
+  Client = ClientOf programs
 
   -- a message more changes no end
   module _ (more : List Message) where
@@ -51,35 +49,31 @@ module _ {S F D G K : Type 0} {stores : StoreMeaning S D} {sources : SourceMeani
       address = h.address;
       state = h.state;
       side = h.side;
-      viewed = viewed_still (joined programs) kept.views kept.messages more h.end h.viewed;
+      viewed = viewed_still more h.viewed;
       asks =
-          there_still kept.messages more
-          (client_at inputs outputs (requests_at programs) client)
-          (requests_at programs) client.first.position.last_sent h.asks;
+          there_still kept.messages more h.asks;
       has = h.has;
     }
 
     transfer_still : (port : ℕ) (transfer : TransferState F D) (a : Endpoint) →
-        TransferKept programs pad kept.views kept.messages snapshot port transfer a →
-        TransferKept programs pad kept.views (kept.messages ++ more) snapshot port transfer a
+        TransferKept pad kept.views kept.messages snapshot port transfer a →
+        TransferKept pad kept.views (kept.messages ++ more) snapshot port transfer a
     transfer_still port transfer a h =
-        same_transfer programs h (viewed_still (joined programs) kept.views kept.messages more h.end h.viewed) h.has
+        same_transfer h (viewed_still more h.viewed) h.has
 
   -- one that may be said at any time
-  said_kept : (m : Message) → IsShown (joined programs) kept.views (kept.messages ++ m ∷ []) →
-      IsKept programs pad snapshot
+  said_kept : (m : Message) → IsShown (joined programs) kept.views (kept.messages ++ m ∷ []) → IsKept pad snapshot
   said_kept m shown =
       record {
         views = kept.views;
         messages = kept.messages ++ m ∷ [];
         shown = shown;
-        sent = λ a b bs sent. sent_still programs kept.messages (m ∷ []) a b bs (kept.sent a b bs sent);
+        sent = λ a b bs sent. sent_still programs kept.messages (m ∷ []) (kept.sent a b bs sent);
         server = record {
           requests = kept.server.requests;
           config = kept.server.config;
           pending =
-              λ a bs e. arrived_still kept.messages (m ∷ []) a (requests_at programs) bs
-              (kept.server.pending a bs e);
+              λ a bs e. arrived_still kept.messages (m ∷ []) (kept.server.pending a bs e);
           once = kept.server.once;
           seats = kept.server.seats;
           gone = kept.server.gone;
@@ -92,8 +86,7 @@ module _ {S F D G K : Type 0} {stores : StoreMeaning S D} {sources : SourceMeani
       }
 
   -- a stranger's datagram
-  stray_kept : (from to : Endpoint) (bytes : List ℕ) → IsStranger stores sources inputs outputs programs from →
-      IsKept programs pad snapshot
+  stray_kept : (from to : Endpoint) (bytes : List ℕ) → IsStranger programs from → IsKept pad snapshot
   stray_kept from to bytes stranger =
       let m : Message = message from to (said (packet_in bytes)) in
       let now =
@@ -110,13 +103,12 @@ module _ {S F D G K : Type 0} {stores : StoreMeaning S D} {sources : SourceMeani
 
   -- the invariant, with what has arrived
   pub record Arrived (from to : Endpoint) (bytes : List ℕ) : Type 0 where
-    pub now : IsKept programs pad snapshot
+    pub now : IsKept pad snapshot
     pub come : HasArrived now.messages from to bytes
     -- and it spells a packet, if it is no stranger's
     pub spelled : (joined programs).host_of from ≢ Elsewhere → (p : WirePacket) × Spells p bytes
 
-  pub strays_in : (from to : Endpoint) (bytes : List ℕ) → IsStranger stores sources inputs outputs programs from →
-      Arrived from to bytes
+  pub strays_in : (from to : Endpoint) (bytes : List ℕ) → IsStranger programs from → Arrived from to bytes
   unfolding stray_kept said_kept
   strays_in from to bytes stranger =
       record {
@@ -134,7 +126,7 @@ module _ {S F D G K : Type 0} {stores : StoreMeaning S D} {sources : SourceMeani
       (sym (spelled_is_found (Error error.0 error.1) bytes error.2) ∙ spelled_is_found p bytes spells)
       (Contains-push kept.messages (message from to Says_an_error))
 
-  error_kept : (from to : Endpoint) → IsKept programs pad snapshot
+  error_kept : (from to : Endpoint) → IsKept pad snapshot
   error_kept from to =
       let shown = says_error (joined programs) kept.shown.0 kept.views kept.messages kept.shown.1 from to in
       said_kept (message from to Says_an_error) (kept.shown.0 ++ shown.0, shown.2)
@@ -149,9 +141,8 @@ module _ {S F D G K : Type 0} {stores : StoreMeaning S D} {sources : SourceMeani
       }
 
   -- what a program receives
-  pub arrives : (from to : Endpoint) (bytes : List ℕ) → (IsStranger stores sources inputs outputs programs to → ⊥) →
-      WasSentBefore programs snapshot from to bytes ⊎ MayCome stores sources inputs outputs programs from bytes →
-      Arrived from to bytes
+  pub arrives : (from to : Endpoint) (bytes : List ℕ) → (IsStranger programs to → ⊥) →
+      WasSentBefore snapshot from to bytes ⊎ MayCome programs from bytes → Arrived from to bytes
   arrives from to bytes ours (inl sent) = elim (kept.sent from to bytes sent) [
     | inl there ↦ record {
       now = kept;
@@ -165,7 +156,7 @@ module _ {S F D G K : Type 0} {stores : StoreMeaning S D} {sources : SourceMeani
 
   -- and so may one of ours
   pub record SaysError (from to : Endpoint) (reply : ErrorReply) : Type 0 where
-    pub now : IsKept programs pad snapshot
+    pub now : IsKept pad snapshot
     pub there : IsThere now.messages from to (error_bytes reply)
 
   pub errs : (from to : Endpoint) (reply : ErrorReply) → SaysError from to reply

@@ -1,13 +1,12 @@
 -- A turn of a client's end keeps the invariant, and so does a step that leaves the end as it was.
 use Rattle.std.proofs.Common.{◌≡◌, ℕ, List, [], ◌++◌, set, Option, Some, refl, sym, ap, ◌∙◌, subst, inl, inr}
-use Rattle.std.specs.Prelude.{◌⊎◌, slice_get}
+use Rattle.std.specs.Prelude.{◌⊎◌}
 use Rattle.std.specs.List.{Contains}
 use Rattle.std.proofs.lemmas.List.{append-nil}
 use Rattle.std.proofs.lemmas.List.Elements.{Contains-append_cases, Contains-push}
 use Rattle.tftp_file.specs.Sink.{Holding, SinkMeaning}
 use Rattle.tftp_file.specs.Source.{SourceMeaning}
 use Rattle.tftp_file.specs.declared.files.Files.{Files}
-use Rattle.tftp_file.specs.declared.files.Files.TheVariants.{Source, Sink}
 use Rattle.tftp_ends.specs.End.{EndState, is_client}
 use Rattle.tftp_ends.specs.Step.{Turn, Reply, after_turn}
 use Rattle.tftp_store.specs.Store.{StoreMeaning}
@@ -16,7 +15,7 @@ use Rattle.tftp_sockets.specs.Trace.SocketEvent.{Sent}
 use Rattle.tftp_client.specs.Converses.{State}
 use Rattle.tftp_rules.specs.EndShown.{Goes, Replies, Newest}
 use Rattle.tftp_rules.specs.Machine.{Endpoint, Message}
-use Rattle.tftp_rules.specs.OpenEnds.{OpenEnd, with_files, in_state, end_after, open_view}
+use Rattle.tftp_rules.specs.OpenEnds.{OpenEnd, end_after, open_view}
 use Rattle.tftp_rules.specs.Rules.{message}
 use Rattle.tftp_rules.specs.Said.{said}
 use Rattle.tftp_rules.specs.Shows.{EndView, IsShown}
@@ -24,20 +23,15 @@ use Rattle.tftp_rules.proofs.Indices.{slice_get-set_same}
 use Rattle.tftp_rules.proofs.UnblamedEnds.{IsUnblamed, unblamed_still}
 use Rattle.tftp_promises.specs.Joint.{WasSentBefore}
 use Rattle.tftp_promises.specs.Moved.{Moved}
-use Rattle.tftp_promises.specs.Order.{Programs, requests_at}
-use Rattle.tftp_promises.specs.Programs.{endpoint, ClientProgram, client_at}
+use Rattle.tftp_promises.specs.Order.{Programs}
+use Rattle.tftp_promises.specs.Programs.{endpoint, client_at}
 use Rattle.tftp_promises.specs.Network.{joined}
 use Rattle.tftp_promises.specs.Snapshots.{Snapshot, Has_asked, client_did}
 use Rattle.tftp_promises.proofs.Invariant.{IsThere, HasFile, IsViewed, ClientKept, IsKept, IsFreshBy, SendsText}
+use Rattle.tftp_promises.proofs.Invariant.{IsOfClient}
 use Rattle.tftp_promises.proofs.KeptClients.{ClientTurns, client_keeps}
 use Rattle.tftp_promises.proofs.KeptEvents.{SendsOnly, IsSilent}
 use Rattle.tftp_promises.proofs.KeptViews.{there_still, viewed_beside, viewed_still, among_set}
-
--- what an end is after a turn does not depend on its files
-pub after_files : (x : OpenEnd) (held : Files (List ℕ) Holding) →
-    ((with_files x held).address ≡ x.address) × ((with_files x held).state ≡ x.state)
-after_files x (Source left) = (refl, refl)
-after_files x (Sink holding) = (refl, refl)
 
 -- an answer is there
 pub reply_there : (messages said_now : List Message) (from : Endpoint) (reply : Option Reply) (to : Endpoint)
@@ -60,28 +54,25 @@ pub newest_there : (messages said_now : List Message) (x y : OpenEnd) (turn : Tu
 newest_there messages said_now x y turn r (inl e) old =
     subst (λ (to : Endpoint). IsThere (messages ++ said_now) x.address to y.state.position.last_sent) (sym e.0)
     (subst (λ (b : List ℕ). IsThere (messages ++ said_now) x.address x.state.position.last_sent_to b) (sym e.1)
-    (there_still messages said_now x.address x.state.position.last_sent_to x.state.position.last_sent old))
+    (there_still messages said_now old))
 newest_there messages said_now x y turn r (inr e) old =
     reply_there messages said_now x.address turn.reply y.state.position.last_sent_to y.state.position.last_sent r e
 
 module _ {S F D G K : Type 0} {stores : StoreMeaning S D} {sources : SourceMeaning F} {inputs : SourceMeaning G}
-    {outputs : SinkMeaning K}
-    (programs : Programs stores sources inputs outputs) {pad : ℕ} (old : Snapshot programs)
-    (kept : IsKept programs pad old) (fresh : IsFreshBy programs old)
-    (k : ℕ) (client : ClientProgram inputs outputs (requests_at programs))
-    (found : slice_get programs.clients k ≡ Some client)
-    (s : State) (files : Files G K) (noted : List SocketEvent) (moved : Moved)
-    (is_stage : slice_get old.clients k ≡ Some (Has_asked s files noted moved)) where
+    {outputs : SinkMeaning K} {programs : Programs stores sources inputs outputs} {pad : ℕ} {old : Snapshot programs}
+    (kept : IsKept pad old) (fresh : IsFreshBy old) {a : Endpoint} (c : IsOfClient programs old.clients a) where
+  open c use {k, client, found, s, files, noted, moved, is_stage}
+
   -- the end before the step
   pub own : ClientKept programs pad kept.views kept.messages client s files moved
   own = kept.clients k client (Has_asked s files noted moved) found is_stage
 
   abbrev here : Endpoint
-  here = client_at inputs outputs (requests_at programs) client
+  here = client_at client
 
   -- what was noted before
   noted_before : (port : ℕ) (to : Endpoint) (bytes : List ℕ) → Contains noted (Sent port to bytes) →
-      WasSentBefore programs old (endpoint client.ip port) to bytes
+      WasSentBefore old (endpoint client.ip port) to bytes
   noted_before port to bytes sent =
       inr (record {
         k = k;
@@ -109,7 +100,7 @@ module _ {S F D G K : Type 0} {stores : StoreMeaning S D} {sources : SourceMeani
     messages = kept.messages ++ goes.said_now
 
     address : y.address ≡ here
-    address = (after_files (in_state (after_turn own.end.state turn) own.end) held).0 ∙ own.address
+    address = own.address
 
     its_view : IsViewed (joined programs) (SendsText programs pad) (set kept.views own.viewed.index (open_view y))
         messages y
@@ -118,33 +109,24 @@ module _ {S F D G K : Type 0} {stores : StoreMeaning S D} {sources : SourceMeani
       index = own.viewed.index;
       viewed = slice_get-set_same kept.views own.viewed.index (open_view y) (open_view own.end) own.viewed.viewed;
       last_sent =
-          subst (λ (a : Endpoint). IsThere messages a y.state.position.last_sent_to y.state.position.last_sent)
-          (own.address ∙ sym address)
-          (newest_there kept.messages goes.said_now own.end y turn goes.replies goes.last_sent own.viewed.last_sent);
-      unblamed =
-          unblamed_still (joined programs) kept.messages goes.said_now y.state
-          (subst (λ (e : EndState). IsUnblamed (joined programs) (SendsText programs pad) kept.messages e)
-          (sym (after_files (in_state (after_turn own.end.state turn) own.end) held).1) unblamed);
+          newest_there kept.messages goes.said_now own.end y turn goes.replies goes.last_sent own.viewed.last_sent;
+      unblamed = unblamed_still (joined programs) kept.messages goes.said_now y.state unblamed;
     }
 
     its_end : ClientKept programs pad (set kept.views own.viewed.index (open_view y)) messages client s' files' moved'
     its_end = record {
       end = y;
       address = address;
-      state =
-          (after_files (in_state (after_turn own.end.state turn) own.end) held).1
-          ∙ (ap (λ (e : EndState). after_turn e turn) own.state ∙ sym state);
+      state = ap (λ (e : EndState). after_turn e turn) own.state ∙ sym state;
       side = ap is_client goes.side ∙ own.side;
       viewed = its_view;
       asks =
-          there_still kept.messages goes.said_now here (requests_at programs)
-          client.first.position.last_sent own.asks;
+          there_still kept.messages goes.said_now own.asks;
       has = has;
     }
 
     its_notes : (port : ℕ) (to : Endpoint) (bytes : List ℕ) → Contains (added ++ noted) (Sent port to bytes) →
-        WasSentBefore programs old (endpoint client.ip port) to bytes ⊎ IsThere messages (endpoint client.ip port) to
-        bytes
+        WasSentBefore old (endpoint client.ip port) to bytes ⊎ IsThere messages (endpoint client.ip port) to bytes
     its_notes port to bytes c = elim (Contains-append_cases added noted (Sent port to bytes) c) [
       | inl now ↦
           let h = sends port to bytes now in
@@ -154,15 +136,14 @@ module _ {S F D G K : Type 0} {stores : StoreMeaning S D} {sources : SourceMeani
       | inr before ↦ inl (noted_before port to bytes before)
     ]
 
-    turned : ClientTurns programs old kept k client s' files' (added ++ noted) moved'
+    turned : ClientTurns kept k client s' files' (added ++ noted) moved'
     turned = record {
       views = set kept.views own.viewed.index (open_view y);
       said_now = goes.said_now;
       shown = (kept.shown.0 ++ goes.shown.0, goes.shown.2);
       others =
-          λ z apart v. viewed_beside (joined programs) kept.views kept.messages goes.said_now own.viewed.index
-          (open_view own.end) (open_view y) z own.viewed.viewed
-          (λ same. apart (sym own.address ∙ same)) v;
+          λ z apart v. viewed_beside goes.said_now own.viewed.index
+          (open_view own.end) (open_view y) z own.viewed.viewed (λ same. apart (sym own.address ∙ same)) v;
       own = its_end;
       notes = its_notes;
       only = λ view among. elim (among_set kept.views own.viewed.index (open_view y) view among) [
@@ -171,31 +152,30 @@ module _ {S F D G K : Type 0} {stores : StoreMeaning S D} {sources : SourceMeani
       ];
     }
 
-    pub turn_keeps : IsKept programs pad (client_did programs old k (Has_asked s' files' (added ++ noted) moved'))
+    pub turn_keeps : IsKept pad (client_did old k (Has_asked s' files' (added ++ noted) moved'))
     turn_keeps =
-        client_keeps programs old kept fresh k client found (Has_asked s files noted moved) is_stage s' files'
+        client_keeps kept fresh k client found (Has_asked s files noted moved) is_stage s' files'
         (added ++ noted) moved' turned
 
   -- the end as it was
   module _ (s' : State) (state : s'.end ≡ s.end) (files' : Files G K) (moved' : Moved)
       (has : HasFile programs pad client own.end files' moved') (added : List SocketEvent) (silent : IsSilent added) where
-    stays : ClientTurns programs old kept k client s' files' (added ++ noted) moved'
+    stays : ClientTurns kept k client s' files' (added ++ noted) moved'
     stays = record {
       views = kept.views;
       said_now = [];
       shown =
           subst (λ (ms : List Message). IsShown (joined programs) kept.views ms) (sym (append-nil kept.messages))
           kept.shown;
-      others = λ z apart v. viewed_still (joined programs) kept.views kept.messages [] z v;
+      others = λ z apart v. viewed_still [] v;
       own = record {
         end = own.end;
         address = own.address;
         state = own.state ∙ sym state;
         side = own.side;
-        viewed = viewed_still (joined programs) kept.views kept.messages [] own.end own.viewed;
+        viewed = viewed_still [] own.viewed;
         asks =
-            there_still kept.messages [] here (requests_at programs)
-            client.first.position.last_sent own.asks;
+            there_still kept.messages [] own.asks;
         has = has;
       };
       notes = λ port to bytes c. elim (Contains-append_cases added noted (Sent port to bytes) c) [
@@ -205,7 +185,7 @@ module _ {S F D G K : Type 0} {stores : StoreMeaning S D} {sources : SourceMeani
       only = λ view among. inl among;
     }
 
-    pub stays_keeps : IsKept programs pad (client_did programs old k (Has_asked s' files' (added ++ noted) moved'))
+    pub stays_keeps : IsKept pad (client_did old k (Has_asked s' files' (added ++ noted) moved'))
     stays_keeps =
-        client_keeps programs old kept fresh k client found (Has_asked s files noted moved) is_stage s' files'
+        client_keeps kept fresh k client found (Has_asked s files noted moved) is_stage s' files'
         (added ++ noted) moved' stays

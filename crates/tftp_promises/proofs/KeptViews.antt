@@ -24,25 +24,25 @@ use Rattle.tftp_promises.specs.Order.{Programs, IsStranger}
 use Rattle.tftp_promises.proofs.Invariant.{IsThere, HasArrived, IsViewed}
 
 -- what was said is there still
-pub there_still : (messages more : List Message) (from to : Endpoint) (bytes : List ℕ) →
+pub there_still : (messages more : List Message) {from to : Endpoint} {bytes : List ℕ} →
     IsThere messages from to bytes → IsThere (messages ++ more) from to bytes
-there_still messages more from to bytes h =
+there_still messages more {from} {to} h =
     (h.0, h.1, Contains-append_left messages more (message from to (said h.0)) h.2)
 
-pub arrived_still : (messages more : List Message) (from to : Endpoint) (bytes : List ℕ) →
+pub arrived_still : (messages more : List Message) {from to : Endpoint} {bytes : List ℕ} →
     HasArrived messages from to bytes → HasArrived (messages ++ more) from to bytes
-arrived_still messages more from to bytes h p spells =
+arrived_still messages more {from} {to} h p spells =
     Contains-append_left messages more (message from to (said p)) (h p spells)
 
 -- so is what was sent there, unless it is for a stranger
 module _ {S F D G K : Type 0} {stores : StoreMeaning S D} {sources : SourceMeaning F} {inputs : SourceMeaning G}
     {outputs : SinkMeaning K}
     (programs : Programs stores sources inputs outputs) where
-  pub sent_still : (messages more : List Message) (from to : Endpoint) (bytes : List ℕ) →
-      IsThere messages from to bytes ⊎ IsStranger stores sources inputs outputs programs to →
-      IsThere (messages ++ more) from to bytes ⊎ IsStranger stores sources inputs outputs programs to
-  sent_still messages more from to bytes (inl h) = inl (there_still messages more from to bytes h)
-  sent_still messages more from to bytes (inr h) = inr h
+  pub sent_still : (messages more : List Message) {from to : Endpoint} {bytes : List ℕ} →
+      IsThere messages from to bytes ⊎ IsStranger programs to →
+      IsThere (messages ++ more) from to bytes ⊎ IsStranger programs to
+  sent_still messages more (inl h) = inl (there_still messages more h)
+  sent_still messages more (inr h) = inr h
 
 -- the message of a datagram says what its bytes spell
 pub there_says : (messages : List Message) (from to : Endpoint) (bytes : List ℕ) → IsThere messages from to bytes →
@@ -55,16 +55,15 @@ module _ (network : Network) where
   pub views_apart : (views : List EndView) (messages : List Message) → IsShown network views messages → AreApart views
   views_apart views messages s = s.1.1.apart
 
-module _ (network : Network) {IsText : Endpoint → Mode → Type 0} where
+module _ {network : Network} {IsText : Endpoint → Mode → Type 0} {views : List EndView} {messages : List Message} where
   -- the view at the endpoint of an end is its own
-  pub view_there : (views : List EndView) (messages : List Message) (x : OpenEnd) (view : EndView) →
-      IsShown network views messages → IsViewed network IsText views messages x →
-      IsAmong views view → view.address ≡ x.address → view ≡ open_view x
-  view_there views messages x view shown h among same =
+  pub view_there : {x : OpenEnd} {view : EndView} → IsShown network views messages →
+      IsViewed network IsText views messages x → IsAmong views view → view.address ≡ x.address → view ≡ open_view x
+  view_there {x} {view} shown h among same =
       let k = views_apart network views messages shown among.0 h.index view (open_view x) among.1 h.viewed same in
       same_Some view (open_view x) (sym among.1 ∙ (ap (slice_get views) k ∙ h.viewed))
 
-  module _ (views : List EndView) (messages said_now : List Message) where
+  module _ (said_now : List Message) where
     -- another end has turned
     pub viewed_beside : (k : ℕ) (e f : EndView) (z : OpenEnd) → slice_get views k ≡ Some e → e.address ≢ z.address →
         IsViewed network IsText views messages z → IsViewed network IsText (set views k f) (messages ++ said_now) z
@@ -76,32 +75,29 @@ module _ (network : Network) {IsText : Endpoint → Mode → Type 0} where
           (λ same. apart (ap (λ (v : EndView). v.address)
           (same_Some e (open_view z) (sym at ∙ (ap (slice_get views) (sym same) ∙ h.viewed)))))
           ∙ h.viewed;
-      last_sent =
-          there_still messages said_now z.address z.state.position.last_sent_to z.state.position.last_sent h.last_sent;
+      last_sent = there_still messages said_now h.last_sent;
       unblamed = unblamed_still network messages said_now z.state h.unblamed;
     }
 
     -- one more has opened
-    pub viewed_before : (f : EndView) (z : OpenEnd) → IsViewed network IsText views messages z →
+    pub viewed_before : (f : EndView) {z : OpenEnd} → IsViewed network IsText views messages z →
         IsViewed network IsText (views ++ f ∷ []) (messages ++ said_now) z
-    viewed_before f z h = record {
+    viewed_before f {z} h = record {
       kept = h.kept;
       index = h.index;
       viewed = slice_get-push_old views h.index f (open_view z) h.viewed;
-      last_sent =
-          there_still messages said_now z.address z.state.position.last_sent_to z.state.position.last_sent h.last_sent;
+      last_sent = there_still messages said_now h.last_sent;
       unblamed = unblamed_still network messages said_now z.state h.unblamed;
     }
 
     -- more was said
-    pub viewed_still : (z : OpenEnd) → IsViewed network IsText views messages z →
+    pub viewed_still : {z : OpenEnd} → IsViewed network IsText views messages z →
         IsViewed network IsText views (messages ++ said_now) z
-    viewed_still z h = record {
+    viewed_still {z} h = record {
       kept = h.kept;
       index = h.index;
       viewed = h.viewed;
-      last_sent =
-          there_still messages said_now z.address z.state.position.last_sent_to z.state.position.last_sent h.last_sent;
+      last_sent = there_still messages said_now h.last_sent;
       unblamed = unblamed_still network messages said_now z.state h.unblamed;
     }
 

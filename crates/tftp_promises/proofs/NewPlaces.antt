@@ -19,7 +19,7 @@ use Rattle.tftp_loop.specs.Steps.{Request_not_received, Request_noted, Request_a
 use Rattle.tftp_loop.specs.Steps.{Store_set, Drain_begun, Transfer_closed, AnswersRequest}
 use Rattle.tftp_rules.specs.Machine.{At_server, Endpoint}
 use Rattle.tftp_promises.specs.Openings.{above, is_ours, our_ports, ours_by, place, total}
-use Rattle.tftp_promises.specs.Order.{Programs, requests_at}
+use Rattle.tftp_promises.specs.Order.{Programs, ClientOf}
 use Rattle.tftp_promises.specs.Ports.{AreDistinct, opened_by, opened_ports}
 use Rattle.tftp_promises.specs.Programs.{endpoint, client_at, ClientProgram}
 use Rattle.tftp_promises.specs.Network.{joined}
@@ -157,16 +157,15 @@ module _ {S F D G K : Type 0} {stores : StoreMeaning S D} {sources : SourceMeani
       ]
 
   abbrev Client : Type 0
-  Client = ClientProgram inputs outputs (requests_at programs)
+  Client = ClientOf programs
 
   port_of : (a b : Endpoint) → a ≡ b → a.port ≡ b.port
   port_of a b e = ap (λ (z : Endpoint). z.port) e
 
   -- no client is at such a place, which is at the server
-  module _ (snapshot : Snapshot programs) (fresh : IsFreshBy programs snapshot) (a : Endpoint)
+  module _ (snapshot : Snapshot programs) (fresh : IsFreshBy snapshot) (a : Endpoint)
       (known : Contains (places programs snapshot.run) a) where
-    pub client_apart : (k : ℕ) (client : Client) → slice_get programs.clients k ≡ Some client →
-        client_at inputs outputs (requests_at programs) client ≢ a
+    pub client_apart : (k : ℕ) (client : Client) → slice_get programs.clients k ≡ Some client → client_at client ≢ a
     client_apart k client found same = elim (place_cases snapshot.run a known) [
       | inl h ↦
           fresh.apart k h.port client found (Contains-append_right (programs.port ∷ [])
@@ -174,8 +173,7 @@ module _ {S F D G K : Type 0} {stores : StoreMeaning S D} {sources : SourceMeani
       | inr h ↦
           let most = client_most programs.clients k client found in
           let at : client.port ≡ above programs + h.number =
-          port_of (client_at inputs outputs (requests_at programs) client)
-          (endpoint programs.ip (above programs + h.number)) (same ∙ h.is) in
+          port_of (client_at client) (endpoint programs.ip (above programs + h.number)) (same ∙ h.is) in
           omega (arith, most, at)
     ]
 
@@ -197,7 +195,7 @@ module _ {S F D G K : Type 0} {stores : StoreMeaning S D} {sources : SourceMeani
   -- a transfer opens where none was before
   module _ (old : Snapshot programs) {new : LoopState S F D} (answers : AnswersRequest stores sources old.state new)
       (opens : option_to_list answers.left.opened.tid ≡ answers.tid ∷ []) (added : List SocketEvent)
-      (fresh : IsFreshBy programs (server_did programs old (Request_answered answers) added)) where
+      (fresh : IsFreshBy (server_did old (Request_answered answers) added)) where
     abbrev tid : ℕ
     tid = answers.tid
 
@@ -205,7 +203,7 @@ module _ {S F D G K : Type 0} {stores : StoreMeaning S D} {sources : SourceMeani
     count = length (opened_ports old.run)
 
     abbrev now : Snapshot programs
-    now = server_did programs old (Request_answered answers) added
+    now = server_did old (Request_answered answers) added
 
     -- one of a client
     ports_are : is_ours programs answers.from ≡ true → our_ports programs now.run ≡ tid ∷ our_ports programs old.run
@@ -289,9 +287,8 @@ module _ {S F D G K : Type 0} {stores : StoreMeaning S D} {sources : SourceMeani
   -- a place where a transfer was is not taken again
   module _ (old : Snapshot programs) {new : LoopState S F D} where
     answered_again : (answers : AnswersRequest stores sources old.state new) (added : List SocketEvent) →
-        IsFreshBy programs (server_did programs old (Request_answered answers) added) → (a : Endpoint) →
-        Contains (places programs old.run) a →
-        (o : Option ℕ) → answers.left.opened.tid ≡ o →
+        IsFreshBy (server_did old (Request_answered answers) added) → (a : Endpoint) →
+        Contains (places programs old.run) a → (o : Option ℕ) → answers.left.opened.tid ≡ o →
         Contains (map (place programs (length (opened_ports old.run)) answers.from) (option_to_list o)) a → ⊥
     answered_again answers added fresh a c None is now = nothing_in a now
     answered_again answers added fresh a c (Some tid) is now =
@@ -301,8 +298,7 @@ module _ {S F D G K : Type 0} {stores : StoreMeaning S D} {sources : SourceMeani
         ∙ ap (place programs (length (opened_ports old.run)) answers.from) own)
 
     pub not_again : (does : LoopStep stores sources old.state new) (added : List SocketEvent) →
-        IsFreshBy programs (server_did programs old does added) → (a : Endpoint) →
-        Contains (places programs old.run) a →
+        IsFreshBy (server_did old does added) → (a : Endpoint) → Contains (places programs old.run) a →
         Contains (placed_by programs old.run does) a → ⊥
     not_again (Waited h) added fresh a c now = nothing_in a now
     not_again (At_port serves) added fresh a c now = nothing_in a now

@@ -156,7 +156,7 @@ module _ {S F D G K : Type 0} {stores : StoreMeaning S D} {sources : SourceMeani
   abbrev request : SocketEvent
   request = Sent client.port client.first.position.last_sent_to client.first.position.last_sent
 
-  order_is : IsOrder stores sources inputs outputs both heard
+  order_is : IsOrder both heard
   order_is = order_both several all i server k client at_i found over.among
 
   -- ---- the ports
@@ -188,7 +188,7 @@ module _ {S F D G K : Type 0} {stores : StoreMeaning S D} {sources : SourceMeani
   only (suc q) x e = absurd (let f : None ≡ Some x = e in cc)
 
   abbrev at_of : OneClient several → Endpoint
-  at_of x = client_at inputs outputs (endpoint several.ip several.port) x
+  at_of x = client_at x
 
   back : (port : ℕ) → Contains (several.port ∷ our_ports less server.run) port →
       Contains (several.port ∷ our_ports both server.run) port
@@ -218,7 +218,7 @@ module _ {S F D G K : Type 0} {stores : StoreMeaning S D} {sources : SourceMeani
             (sym sent_to)),
       )
 
-  order_less : IsOrder stores sources inputs outputs less (first_only heard)
+  order_less : IsOrder less (first_only heard)
   order_less = record {
     server = server_all request heard ∙ order_is.server;
     clients = λ q x e.
@@ -235,22 +235,19 @@ module _ {S F D G K : Type 0} {stores : StoreMeaning S D} {sources : SourceMeani
           no_more (y ∷ more) e = cc
 
   -- ---- the network
-  strange_less : (a : Endpoint) → IsStranger stores sources inputs outputs both a →
-      IsStranger stores sources inputs outputs less a
+  strange_less : (a : Endpoint) → IsStranger both a → IsStranger less a
   strange_less a h = record {
     server = h.server;
     clients = λ q x e same. h.clients 0 client refl (ap at_of (sym (only q x e).1) ∙ same);
   }
 
-  nevertheless : (from : Endpoint) (bytes : List ℕ) → MayCome stores sources inputs outputs both from bytes →
-      MayCome stores sources inputs outputs less from bytes
+  nevertheless : (from : Endpoint) (bytes : List ℕ) → MayCome both from bytes → MayCome less from bytes
   nevertheless from bytes (inl strange) = inl (strange_less from strange)
   nevertheless from bytes (inr error) = inr error
 
   abbrev Comes : List Noted → Endpoint → Endpoint → List ℕ → Type 0
   Comes order from to bytes =
-      WasSent stores sources inputs outputs less (first_only order) from to bytes
-      ⊎ MayCome stores sources inputs outputs less from bytes
+      WasSent less (first_only order) from to bytes ⊎ MayCome less from bytes
 
   -- what the server receives of the client is its request, or an ERROR
   module _ (order : List Noted) (within : (e : Noted) → Contains order e → Contains heard e)
@@ -302,7 +299,7 @@ module _ {S F D G K : Type 0} {stores : StoreMeaning S D} {sources : SourceMeani
               (noted_in 0 (Sent port to bytes) order sent));
         })
 
-    came : (p port : ℕ) → IsAtOf (ips stores sources inputs outputs both) p port from →
+    came : (p port : ℕ) → IsAtOf (ips both) p port from →
         Contains order (p, Sent port to bytes) → Comes order from to bytes
     came zero port at sent =
         by_server port (at.2 ∙ ap (λ (a : List ℕ). endpoint a port) (sym (same_Some several.ip at.0 at.1))) sent
@@ -312,8 +309,7 @@ module _ {S F D G K : Type 0} {stores : StoreMeaning S D} {sources : SourceMeani
 
   comes : (p : ℕ) → p ≢ 1 → (e : SocketEvent) (order : List Noted) →
       ((x : Noted) → Contains ((p, e) ∷ order) x → Contains heard x) → Begins request (events_of 1 order) →
-      CanCome stores sources inputs outputs both p e order →
-      CanCome stores sources inputs outputs less p e (first_only order)
+      CanCome both p e order → CanCome less p e (first_only order)
   comes zero n (Received q from bytes) order within starts h =
       let to_is : h.0 ≡ endpoint several.ip q =
       h.1.2 ∙ ap (λ (a : List ℕ). endpoint a q) (sym (same_Some several.ip h.1.0 h.1.1)) in
@@ -340,11 +336,11 @@ module _ {S F D G K : Type 0} {stores : StoreMeaning S D} {sources : SourceMeani
   comes p n (Quiet event) order within starts h = tt
 
   abbrev Honest : List Noted → Type 0
-  Honest order = IsHonest stores sources inputs outputs less order
+  Honest order = IsHonest less order
 
   honest_by : (member : Bool) (events : List SocketEvent) (e : Noted) (order : List Noted) → (e.0 == 1) ≡ member →
       events_of 1 order ≡ events → ((x : Noted) → Contains (e ∷ order) x → Contains heard x) →
-      Begins request (events_of 1 (e ∷ order)) → CanCome stores sources inputs outputs both e.0 e.1 order →
+      Begins request (events_of 1 (e ∷ order)) → CanCome both e.0 e.1 order →
       Honest (first_only order) → Honest (by_member member events e (first_only order))
   honest_by true [] e order is none within begins h rest =
       let own : e.1 ∷ events_of 1 order ≡ events_of 1 (e ∷ order) =
@@ -352,7 +348,7 @@ module _ {S F D G K : Type 0} {stores : StoreMeaning S D} {sources : SourceMeani
       let same : e.1 ≡ request =
       begins_here request e.1 (subst (λ (es : List SocketEvent). Begins request es)
       (sym own ∙ ap (λ (es : List SocketEvent). e.1 ∷ es) none) begins) in
-      (subst (λ (x : SocketEvent). CanCome stores sources inputs outputs less e.0 x (first_only order)) (sym same) tt, rest)
+      (subst (λ (x : SocketEvent). CanCome less e.0 x (first_only order)) (sym same) tt, rest)
   honest_by true (y ∷ events) e order is some within begins h rest = rest
   honest_by false events e order is some within begins h rest = (
     comes e.0 (λ one. true≢false (sym (eq-eqb e.0 1 one) ∙ is)) e.1 order within
@@ -361,15 +357,14 @@ module _ {S F D G K : Type 0} {stores : StoreMeaning S D} {sources : SourceMeani
   )
 
   honest_first : (order : List Noted) → ((x : Noted) → Contains order x → Contains heard x) →
-      Begins request (events_of 1 order) → IsHonest stores sources inputs outputs both order →
-      Honest (first_only order)
+      Begins request (events_of 1 order) → IsHonest both order → Honest (first_only order)
   honest_first [] within begins h = tt
   honest_first (e ∷ order) within begins h =
       honest_by (e.0 == 1) (events_of 1 order) e order refl refl within begins h.0
       (honest_first order (λ x c. within x (later_in e order x c)) (begins_by request (e.0 == 1) e order refl begins)
       h.1)
 
-  joined_less : AreJoined stores sources inputs outputs less (first_only heard)
+  joined_less : AreJoined less (first_only heard)
   joined_less = record {
     is_order = order_less;
     honest =

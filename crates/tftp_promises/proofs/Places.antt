@@ -15,7 +15,7 @@ use Rattle.tftp_rules.specs.Machine.{Endpoint, Host, At_server, At_client, Elsew
 use Rattle.tftp_rules.proofs.Endpoints.{same_ip, same_self, same_other}
 use Rattle.tftp_promises.specs.Hosts.{ClientsAreThere, ServerIsThere, StrangersAreElsewhere}
 use Rattle.tftp_promises.specs.Openings.{is_ours}
-use Rattle.tftp_promises.specs.Order.{Programs, IsStranger, requests_at}
+use Rattle.tftp_promises.specs.Order.{Programs, IsStranger, ClientOf}
 use Rattle.tftp_promises.specs.Programs.{endpoint, ClientProgram, client_at, has_client, has_port}
 use Rattle.tftp_promises.specs.Programs.{is_at_server}
 use Rattle.tftp_promises.specs.Network.{joined}
@@ -77,33 +77,32 @@ from_not false e = refl
 
 module _ {G K : Type 0} {inputs : SourceMeaning G} {outputs : SinkMeaning K} {to : Endpoint} where
   has_own : (clients : List (ClientProgram inputs outputs to)) (k : ℕ) (client : ClientProgram inputs outputs to) →
-      slice_get clients k ≡ Some client →
-      has_client inputs outputs to clients (client_at inputs outputs to client) ≡ true
+      slice_get clients k ≡ Some client → has_client clients (client_at client) ≡ true
   has_own [] k client e = absurd (let f : None ≡ Some client = e in cc)
   has_own (x ∷ clients) zero client e =
       let same : x ≡ client = (let f : Some x ≡ Some client = e in cc) in
-      subst (λ (z : ClientProgram inputs outputs to). has_client inputs outputs to (x ∷ clients)
-      (client_at inputs outputs to z) ≡ true) same
-      (cond-true (is_same (client_at inputs outputs to x) (client_at inputs outputs to x)) true
-      (has_client inputs outputs to clients (client_at inputs outputs to x))
-      (same_self (client_at inputs outputs to x)))
+      subst (λ (z : ClientProgram inputs outputs to). has_client (x ∷ clients)
+      (client_at z) ≡ true) same
+      (cond-true (is_same (client_at x) (client_at x)) true
+      (has_client clients (client_at x))
+      (same_self (client_at x)))
   has_own (x ∷ clients) (suc k) client e =
-      either_way (is_same (client_at inputs outputs to client) (client_at inputs outputs to x))
-      (has_client inputs outputs to clients (client_at inputs outputs to client)) (has_own clients k client e)
+      either_way (is_same (client_at client) (client_at x))
+      (has_client clients (client_at client)) (has_own clients k client e)
 
   has_none : (clients : List (ClientProgram inputs outputs to)) (a : Endpoint) →
       ((k : ℕ) (client : ClientProgram inputs outputs to) → slice_get clients k ≡ Some client →
-      client_at inputs outputs to client ≢ a) → has_client inputs outputs to clients a ≡ false
+      client_at client ≢ a) → has_client clients a ≡ false
   has_none [] a none = refl
   has_none (x ∷ clients) a none =
-      cond-false (is_same a (client_at inputs outputs to x)) true (has_client inputs outputs to clients a)
-      (same_other a (client_at inputs outputs to x) (λ e. none zero x refl (sym e)))
+      cond-false (is_same a (client_at x)) true (has_client clients a)
+      (same_other a (client_at x) (λ e. none zero x refl (sym e)))
       ∙ has_none clients a (λ k client i. none (suc k) client i)
 
 module _ {S F D G K : Type 0} {stores : StoreMeaning S D} {sources : SourceMeaning F} {inputs : SourceMeaning G}
     {outputs : SinkMeaning K} (programs : Programs stores sources inputs outputs) where
   abbrev has : Endpoint → Bool
-  has a = has_client inputs outputs (requests_at programs) programs.clients a
+  has a = has_client programs.clients a
 
   abbrev near : Endpoint → Bool
   near a = is_at_server programs.ip programs.others a
@@ -117,14 +116,14 @@ module _ {S F D G K : Type 0} {stores : StoreMeaning S D} {sources : SourceMeani
 
   pub clients_there : ClientsAreThere programs
   clients_there k client i =
-      let a = client_at inputs outputs (requests_at programs) client in
+      let a = client_at client in
       ap (λ (b : Bool). at_of b (near a)) (has_own programs.clients k client i)
 
   -- a port of the server's address that no client and no other server has is at the server
   pub at_port : (port : ℕ) →
-      ((k : ℕ) (client : ClientProgram inputs outputs (requests_at programs)) →
+      ((k : ℕ) (client : ClientOf programs) →
       slice_get programs.clients k ≡ Some client →
-      client_at inputs outputs (requests_at programs) client ≢ endpoint programs.ip port) →
+      client_at client ≢ endpoint programs.ip port) →
       (Contains programs.others port → ⊥) → (joined programs).host_of (endpoint programs.ip port) ≡ At_server
   at_port port none own =
       ap (λ (b : Bool). at_of b (near (endpoint programs.ip port)))
@@ -140,8 +139,7 @@ module _ {S F D G K : Type 0} {stores : StoreMeaning S D} {sources : SourceMeani
       (joined programs).host_of a ≢ Elsewhere
   near_server a same own e = at_address (has a) (ap (at_of (has a)) (sym (near_by a same own)) ∙ e)
 
-  elsewhere_strange : (a : Endpoint) → (joined programs).host_of a ≡ Elsewhere →
-      IsStranger stores sources inputs outputs programs a
+  elsewhere_strange : (a : Endpoint) → (joined programs).host_of a ≡ Elsewhere → IsStranger programs a
   elsewhere_strange a e = record {
     server = λ same. elim (cases_Bool (has_port programs.others a.port)) [
       | inl other ↦ port_in programs.others a.port other
@@ -163,8 +161,7 @@ module _ {S F D G K : Type 0} {stores : StoreMeaning S D} {sources : SourceMeani
       ∙ from_not (has_port programs.others a.port)
       (&&-right (is_same_ip a.ip programs.ip) (not (has_port programs.others a.port)) e)))
 
-  strange_elsewhere : (a : Endpoint) → IsStranger stores sources inputs outputs programs a →
-      (joined programs).host_of a ≡ Elsewhere
+  strange_elsewhere : (a : Endpoint) → IsStranger programs a → (joined programs).host_of a ≡ Elsewhere
   strange_elsewhere a h =
       ap (λ (b : Bool). at_of b (near a)) (has_none programs.clients a (λ k client found. h.clients k client found))
       ∙ ap (at_of false) (far_by a h.server)
@@ -173,22 +170,18 @@ module _ {S F D G K : Type 0} {stores : StoreMeaning S D} {sources : SourceMeani
   strangers_elsewhere a = (elsewhere_strange a, strange_elsewhere a)
 
   -- an endpoint that is not ours is a stranger's, and no other is
-  pub strange_if : (a : Endpoint) → is_ours programs a ≡ false → IsStranger stores sources inputs outputs programs a
+  pub strange_if : (a : Endpoint) → is_ours programs a ≡ false → IsStranger programs a
   strange_if a e = elsewhere_strange a (elsewhere_by (has a) (near a) e)
 
-  pub not_ours : (a : Endpoint) → IsStranger stores sources inputs outputs programs a → is_ours programs a ≡ false
+  pub not_ours : (a : Endpoint) → IsStranger programs a → is_ours programs a ≡ false
   not_ours a h = neither_by (has a) (near a) (strange_elsewhere a h)
 
   -- no stranger is at a client's endpoint, or at the server
-  pub stranger_no_client : (a : Endpoint) (k : ℕ)
-      (client : ClientProgram inputs outputs (requests_at programs)) →
-      slice_get programs.clients k ≡ Some client →
-      a ≡ client_at inputs outputs (requests_at programs) client →
-      IsStranger stores sources inputs outputs programs a → ⊥
+  pub stranger_no_client : (a : Endpoint) (k : ℕ) (client : ClientOf programs) →
+      slice_get programs.clients k ≡ Some client → a ≡ client_at client → IsStranger programs a → ⊥
   stranger_no_client a k client found same h = h.clients k client found (sym same)
 
-  pub stranger_no_port : (a : Endpoint) → (joined programs).host_of a ≡ At_server →
-      IsStranger stores sources inputs outputs programs a → ⊥
+  pub stranger_no_port : (a : Endpoint) → (joined programs).host_of a ≡ At_server → IsStranger programs a → ⊥
   stranger_no_port a there h = elsewhere_no_server (strange_elsewhere a h) there where
     elsewhere_no_server : {h : Host} → h ≡ Elsewhere → h ≡ At_server → ⊥
     elsewhere_no_server e f = cc

@@ -22,7 +22,7 @@ use Rattle.tftp_ends.specs.Files.{AreSame}
 use Rattle.tftp_ends.specs.Step.{Reply, Turn, Acts, DatagramStep, after_turn, error_bytes, with_position}
 use Rattle.tftp_store.specs.Store.{StoreMeaning}
 use Rattle.tftp_store.specs.declared.store.Opening.{Opening}
-use Rattle.tftp_server.specs.Draft.{files_in, drafting_sink}
+use Rattle.tftp_server.specs.Draft.{Drafting, files_in, drafting_sink}
 use Rattle.tftp_server.specs.State.{ServerState, with_next}
 use Rattle.tftp_server.specs.Steps.{StepIn, TakesDatagramLent}
 use Rattle.tftp_server.specs.declared.config.Config.{Config}
@@ -33,7 +33,7 @@ use Rattle.tftp_loop.specs.Steps.{ReceivesAndHandles, port_state}
 use Rattle.tftp_rules.specs.EndShown.{Stands, IsOpenAt, Goes}
 use Rattle.tftp_rules.specs.KnownFiles.{known_source, known_sink}
 use Rattle.tftp_rules.specs.Machine.{Endpoint, Elsewhere}
-use Rattle.tftp_rules.specs.OpenEnds.{OpenEnd, files_of, in_state, end_after, open_view, peer_of}
+use Rattle.tftp_rules.specs.OpenEnds.{OpenEnd, files_of, end_after, open_view, peer_of}
 use Rattle.tftp_rules.proofs.EndTurns.{datagram_goes}
 use Rattle.tftp_rules.proofs.UnblamedEnds.{IsUnblamed}
 use Rattle.tftp_promises.specs.Drafts.{HadStore, StoreBegan}
@@ -52,7 +52,7 @@ use Rattle.tftp_promises.proofs.DraftsTake.{took_longer}
 use Rattle.tftp_promises.proofs.MovedFiles.{GivenSo, GotSo, MovesOver, TakenSo, files_move}
 use Rattle.tftp_promises.proofs.MovedSteps.{moves_here, none_at_port, none_beside}
 use Rattle.tftp_promises.proofs.Places.{not_ours}
-use Rattle.tftp_promises.proofs.PortEnds.{after_rest, has_peer, same_in}
+use Rattle.tftp_promises.proofs.PortEnds.{has_peer, same_in}
 use Rattle.tftp_promises.proofs.PortSteps.{no_outcome, datagram_silent, server_is, stays_by, sends_only}
 use Rattle.tftp_promises.proofs.ServerStays.{stored_after}
 use Rattle.tftp_promises.proofs.WrongPeers.{datagram_stays, stays_strangers, wrong_peer, wrong_replies}
@@ -61,14 +61,12 @@ use Rattle.tftp_promises.proofs.Texts.{pad_to}
 use Rattle.tftp_promises.proofs.UnblamedTurns.{apart_from_requests, turn_unblamed}
 
 module _ {S F D G K : Type 0} {stores : StoreMeaning S D} {sources : SourceMeaning F} {inputs : SourceMeaning G}
-    {outputs : SinkMeaning K}
-    (programs : Programs stores sources inputs outputs) {pad : ℕ} (old : Snapshot programs)
-    (kept : IsKept programs pad old) (fresh : IsFreshBy programs old)
-    {new : LoopState S F D} (serves : ServesPort stores sources old.state new) (added : List SocketEvent)
+    {outputs : SinkMeaning K} {programs : Programs stores sources inputs outputs} {pad : ℕ} {old : Snapshot programs}
+    (kept : IsKept pad old) (fresh : IsFreshBy old) {new : LoopState S F D}
+    (serves : ServesPort stores sources old.state new) (added : List SocketEvent)
     (events : new.events ≡ added ++ old.state.events)
     (h : ReceivesAndHandles stores sources old.state.now (port_state old.state serves.timer) serves.next)
-    (is : serves.does ≡ A_datagram h)
-    (fresh_now : IsFreshBy programs (server_did programs old (At_port serves) added)) where
+    (is : serves.does ≡ A_datagram h) (fresh_now : IsFreshBy (server_did old (At_port serves) added)) where
   abbrev port : ℕ
   port = serves.timer.port
 
@@ -77,7 +75,7 @@ module _ {S F D G K : Type 0} {stores : StoreMeaning S D} {sources : SourceMeani
   place = place_at programs port old.run
 
   abbrev now : Snapshot programs
-  now = server_did programs old (At_port serves) added
+  now = server_did old (At_port serves) added
 
   abbrev from : Endpoint
   from = h.from
@@ -96,7 +94,7 @@ module _ {S F D G K : Type 0} {stores : StoreMeaning S D} {sources : SourceMeani
   abbrev turn : Turn
   turn = taken.takes.turn
 
-  abbrev was : TransferKept programs pad kept.views kept.messages old port taken.transfer place
+  abbrev was : TransferKept pad kept.views kept.messages old port taken.transfer place
   was = kept.transfers port taken.transfer place (inl (taken.found, refl))
 
   abbrev x : OpenEnd
@@ -106,10 +104,10 @@ module _ {S F D G K : Type 0} {stores : StoreMeaning S D} {sources : SourceMeani
   received = Received port from bytes ∷ []
 
   held : new.server.held ≡ with_next port taken.next old.state.server.held
-  held = ap (λ (s : ServerState S F D). s.held) (server_is programs old kept serves added events) ∙ taken.held
+  held = ap (λ (s : ServerState S F D). s.held) (server_is kept serves added events) ∙ taken.held
 
   store_is : new.server.store ≡ serves.next.server.store
-  store_is = ap (λ (s : ServerState S F D). s.store) (server_is programs old kept serves added events)
+  store_is = ap (λ (s : ServerState S F D). s.store) (server_is kept serves added events)
 
   replace_is : old.state.server.config.overwrite ≡ programs.server.start.server.config.overwrite
   replace_is = ap (λ (c : Config). c.overwrite) kept.server.config
@@ -118,11 +116,17 @@ module _ {S F D G K : Type 0} {stores : StoreMeaning S D} {sources : SourceMeani
   stands : Stands (joined programs) kept.shown.0 kept.views kept.messages was.viewed.index (open_view x)
   stands = record { shown = kept.shown.1; viewed = was.viewed.viewed }
 
+  -- its files before, and after
+  abbrev files_before : Files F (Drafting S D)
+  files_before =
+      files_in old.state.server.store taken.transfer.path old.state.server.config.overwrite taken.transfer.files
+
+  abbrev files_after : Files F (Drafting S D)
+  files_after = files_in serves.next.server.store taken.next.path old.state.server.config.overwrite taken.next.files
+
   abbrev step_x : EndState → Type 0
   step_x e =
-      StepIn stores sources from bytes e
-      (files_in old.state.server.store taken.transfer.path old.state.server.config.overwrite taken.transfer.files) turn
-      (files_in serves.next.server.store taken.next.path old.state.server.config.overwrite taken.next.files)
+      StepIn stores sources from bytes e files_before turn files_after
 
   its_step : step_x x.state
   its_step = subst step_x (sym was.state) taken.takes.steps
@@ -132,34 +136,25 @@ module _ {S F D G K : Type 0} {stores : StoreMeaning S D} {sources : SourceMeani
 
   -- it stands at its port, or aside
   abbrev Seated : OpenEnd → Type 0
-  Seated y = IsSeated programs old kept (At_port serves) added port taken.transfer taken.found turn y
+  Seated y = IsSeated kept (At_port serves) added port taken.transfer taken.found turn y
 
   -- the invariant, if the end turned so, and these files were left
-  then_keeps : (becomes : Becomes programs old kept (At_port serves) added port taken.transfer
-      taken.found x turn taken.next) → Seated becomes.end → IsKept programs pad now
+  then_keeps : (becomes : Becomes kept (At_port serves) added port taken.transfer
+      taken.found x turn taken.next) → Seated becomes.end → IsKept pad now
   then_keeps becomes seated =
-      turn_keeps programs old kept (At_port serves) added port taken.transfer taken.found fresh
-      (stays_by programs old kept serves added events answers.config) x was.address was.side was.viewed.last_sent turn taken.next held becomes
-      (sends_only programs old kept serves added events turn.reply received answers.events
+      turn_keeps kept (At_port serves) added port taken.transfer taken.found fresh
+      (stays_by kept serves added events answers.config) x was.address was.side was.viewed.last_sent turn taken.next
+      held becomes (sends_only kept serves added events turn.reply received answers.events
       (datagram_silent port from bytes)) seated (λ a n. none_beside programs old.run serves a n)
 
   -- ---- an end that stays as it is
   acts_quiet : (e : EndState) (step : step_x e) (response : Response) →
       datagram_action e from bytes step.decoded ≡ Respond response → (moved : Moved) →
-      step_moves sources (drafting_sink stores) from bytes e
-      (files_in old.state.server.store taken.transfer.path old.state.server.config.overwrite taken.transfer.files)
-      turn
-      (files_in serves.next.server.store taken.next.path old.state.server.config.overwrite taken.next.files) step moved
-      ≡ moved
+      step_moves sources (drafting_sink stores) from bytes e files_before turn files_after step moved ≡ moved
   acts_quiet e step response says moved =
-      let Files_before =
-      files_in old.state.server.store taken.transfer.path old.state.server.config.overwrite taken.transfer.files in
-      let Files_after =
-      files_in serves.next.server.store taken.next.path old.state.server.config.overwrite taken.next.files in
       let Quiet : Action → Type 0 = λ (action : Action).
-      (acts : Acts sources (drafting_sink stores) action from bytes e Files_before turn Files_after) →
-      acts_move sources (drafting_sink stores) action from bytes e Files_before turn Files_after acts moved ≡ moved
-      in
+      (acts : Acts sources (drafting_sink stores) action from bytes e files_before turn files_after) →
+      acts_move sources (drafting_sink stores) action from bytes e files_before turn files_after acts moved ≡ moved in
       subst Quiet (sym says) (λ acts. refl) step.acts
 
   -- how it answers
@@ -180,15 +175,11 @@ module _ {S F D G K : Type 0} {stores : StoreMeaning S D} {sources : SourceMeani
         ap (λ (d : PortStep stores sources old.state.now (port_state old.state serves.timer) serves.next). port_moves d
         moved) is ∙ acts_quiet taken.transfer.end taken.takes.steps answer.response says moved
 
-    rests_keeps : IsKept programs pad now
+    rests_keeps : IsKept pad now
     rests_keeps =
         let answer = answered its_step.decoded in
         let A : Action → Type 0 = λ (action : Action).
-        Acts sources (drafting_sink stores) action from bytes x.state
-        (files_in old.state.server.store taken.transfer.path old.state.server.config.overwrite taken.transfer.files)
-        turn
-        (files_in serves.next.server.store taken.next.path old.state.server.config.overwrite taken.next.files)
-        in
+        Acts sources (drafting_sink stores) action from bytes x.state files_before turn files_after in
         let acts : A (Respond answer.response) = subst A answer.is its_step.acts in
         let same =
         same_in old.state.server.store serves.next.server.store taken.transfer.path taken.next.path
@@ -209,24 +200,21 @@ module _ {S F D G K : Type 0} {stores : StoreMeaning S D} {sources : SourceMeani
           request_stays = taken.takes.request;
           unblamed = was.viewed.unblamed;
           has =
-              subst (λ (f : Files F D). HasStored programs pad now x f) (sym same.1)
-              (stored_after programs pad old (At_port serves) added x
+              subst (λ (f : Files F D). HasStored pad now x f) (sym same.1)
+              (stored_after pad old (At_port serves) added x
               (none_at_port programs old.run serves quiet x.address) taken.transfer.files was.has);
         }) (seated state)
 
   -- a stranger's transfer answers one that is ours by an ERROR, which is there already
   pub wrong_keeps : IsStrangers programs x.state → is_ours programs from ≡ true →
-      IsThere kept.messages (endpoint programs.ip port) from (error_bytes UnknownTransferId) →
-      IsKept programs pad now
+      IsThere kept.messages (endpoint programs.ip port) from (error_bytes UnknownTransferId) → IsKept pad now
   wrong_keeps s ours there =
       let n : s.peer ≢ from =
       λ same. true≢false (sym ours ∙ (ap (is_ours programs) (sym same) ∙ not_ours programs s.peer s.strange)) in
       let wrong = wrong_peer x.state from bytes its_step.decoded s.peer s.is_peer n in
       let acts = subst (λ (action : Action).
       Acts sources (drafting_sink stores) action from bytes x.state
-      (files_in old.state.server.store taken.transfer.path old.state.server.config.overwrite taken.transfer.files)
-      turn
-      (files_in serves.next.server.store taken.next.path old.state.server.config.overwrite taken.next.files)) wrong
+      files_before turn files_after) wrong
       its_step.acts in
       rests_keeps (λ decoded. wrong_datagram_goes (joined programs) kept.shown.0 kept.views kept.messages
       was.viewed.index x stands was.viewed.kept s.peer s.is_peer from n bytes decoded)
@@ -241,15 +229,14 @@ module _ {S F D G K : Type 0} {stores : StoreMeaning S D} {sources : SourceMeani
   -- ---- the datagram has arrived at its place, and it is for a transfer at its port, or a stranger's
   module _ (arrived : HasArrived kept.messages from place bytes)
       (spelled : (joined programs).host_of from ≢ Elsewhere → (p : WirePacket) × Spells p bytes)
-      (near : (place ≡ endpoint programs.ip port)
-      ⊎ IsStranger stores sources inputs outputs programs from) where
+      (near : (place ≡ endpoint programs.ip port) ⊎ IsStranger programs from) where
     come : HasArrived kept.messages from x.address bytes
     come = subst (λ (a : Endpoint). HasArrived kept.messages from a bytes) (sym was.address) arrived
 
     -- where it stands then
     seated_by : (y : OpenEnd) → y.state ≡ after_turn x.state turn →
         (place ≡ endpoint programs.ip port) ⊎ IsStrangers programs x.state →
-        (place ≡ endpoint programs.ip port) ⊎ IsStranger stores sources inputs outputs programs from → Seated y
+        (place ≡ endpoint programs.ip port) ⊎ IsStranger programs from → Seated y
     seated_by y is_y seat (inl here) = inl here
     seated_by y is_y (inl here) (inr strange) = inl here
     seated_by y is_y (inr s) (inr strange) =
@@ -261,7 +248,7 @@ module _ {S F D G K : Type 0} {stores : StoreMeaning S D} {sources : SourceMeani
               subst (λ (e : EndState). IsStrangers programs e) (sym is_y)
               (stays_strangers programs from x.state turn strange s stays);
           replies =
-              λ reply says. inl (subst (λ (a : Endpoint). IsStranger stores sources inputs outputs programs a)
+              λ reply says. inl (subst (λ (a : Endpoint). IsStranger programs a)
               (sym (stays.replies reply says)) strange);
         })
 
@@ -298,28 +285,23 @@ module _ {S F D G K : Type 0} {stores : StoreMeaning S D} {sources : SourceMeani
     becomes : (content : Files (List ℕ) Holding) →
         Goes (joined programs) kept.shown.0 kept.views kept.messages was.viewed.index x turn (end_after x turn content) →
         IsUnblamed (joined programs) (SendsText programs pad) kept.messages (after_turn x.state turn) →
-        HasStored programs pad now (end_after x turn content) taken.next.files →
-        Becomes programs old kept (At_port serves) added port taken.transfer taken.found x turn taken.next
-    becomes content goes unblamed has =
-        let rest = after_rest (in_state (after_turn x.state turn) x) content in
-        record {
-          end = end_after x turn content;
-          goes = goes;
-          address = rest.0;
-          state = rest.1 ∙ next_state;
-          path = rest.2 ∙ (was.path ∙ sym taken.takes.path);
-          request = rest.3 ∙ (was.request ∙ sym taken.takes.request);
-          path_stays = taken.takes.path;
-          request_stays = taken.takes.request;
-          unblamed =
-              subst (λ (e : EndState). IsUnblamed (joined programs) (SendsText programs pad) kept.messages e)
-              (sym rest.1) unblamed;
-          has = has;
-        }
+        HasStored pad now (end_after x turn content) taken.next.files →
+        Becomes kept (At_port serves) added port taken.transfer taken.found x turn taken.next
+    becomes content goes unblamed has = record {
+      end = end_after x turn content;
+      goes = goes;
+      address = refl;
+      state = next_state;
+      path = was.path ∙ sym taken.takes.path;
+      request = was.request ∙ sym taken.takes.request;
+      path_stays = taken.takes.path;
+      request_stays = taken.takes.request;
+      unblamed = unblamed;
+      has = has;
+    }
 
     seated_after : (content : Files (List ℕ) Holding) → Seated (end_after x turn content)
-    seated_after content =
-        seated (end_after x turn content) (after_rest (in_state (after_turn x.state turn) x) content).1
+    seated_after content = seated (end_after x turn content) refl
 
     -- what has moved
     abbrev before : Moved
@@ -327,19 +309,10 @@ module _ {S F D G K : Type 0} {stores : StoreMeaning S D} {sources : SourceMeani
 
     abbrev after_by : (e : EndState) → step_x e → Moved
     after_by e step =
-        step_moves sources (drafting_sink stores) from bytes e
-        (files_in old.state.server.store taken.transfer.path old.state.server.config.overwrite taken.transfer.files)
-        turn
-        (files_in serves.next.server.store taken.next.path old.state.server.config.overwrite taken.next.files) step
-        before
+        step_moves sources (drafting_sink stores) from bytes e files_before turn files_after step before
 
     abbrev moved_then : Moved
-    moved_then =
-        step_moves sources (drafting_sink stores) from bytes taken.transfer.end
-        (files_in old.state.server.store taken.transfer.path old.state.server.config.overwrite taken.transfer.files)
-        turn
-        (files_in serves.next.server.store taken.next.path old.state.server.config.overwrite taken.next.files)
-        taken.takes.steps before
+    moved_then = after_by taken.transfer.end taken.takes.steps
 
     moved_now : moved_at programs place now.run ≡ moved_then
     moved_now =
@@ -370,7 +343,7 @@ module _ {S F D G K : Type 0} {stores : StoreMeaning S D} {sources : SourceMeani
     abbrev Got : Files F D → OpenEnd → Moved → Type 0
     Got files y moved = GotSo stores sources Began Drafted Been its_path replaces files y moved
 
-    got_before : (files : Files F D) → HasStored programs pad old x files → Got files x before
+    got_before : (files : Files F D) → HasStored pad old x files → Got files x before
     got_before (Source source) has = (
       has.sender,
       subst (λ (a : Endpoint). GaveSo x (moved_at programs a old.run)) x_place has.gave,
@@ -401,19 +374,19 @@ module _ {S F D G K : Type 0} {stores : StoreMeaning S D} {sources : SourceMeani
       },
     )
 
-    opened_then : (files : Files F D) → HasStored programs pad old x files → IsOpened programs old x
+    opened_then : (files : Files F D) → HasStored pad old x files → IsOpened programs old.run x
     opened_then (Source source) has = has.opened
     opened_then (Sink draft) has = has.opened
 
-    text_is : (files : Files F D) → HasStored programs pad old x files →
+    text_is : (files : Files F D) → HasStored pad old x files →
         is_sender x.state.role.side ≡ true → x.text ≡ place_text programs pad place
     text_is (Source source) has sender = has.text ∙ ap (place_text programs pad) x_place
     text_is (Sink draft) has sender = absurd (true≢false (sym sender ∙ has.receiver))
 
-    told : IsToldAt programs now place
+    told : IsToldAt now place
     told = fresh_now.told place (kept.server.opened port taken.transfer place (inl (taken.found, refl)))
 
-    long : (files : Files F D) → HasStored programs pad old x files →
+    long : (files : Files F D) → HasStored pad old x files →
         length_of (opened_at programs place programs.server.run) ≡ x.state.role.length
     long files has =
         let h = opened_then files has in
@@ -421,11 +394,9 @@ module _ {S F D G K : Type 0} {stores : StoreMeaning S D} {sources : SourceMeani
         ∙ ap (λ (r : Role). r.length) h.role
 
     -- the end after the step, whatever its file holds then
-    opened_after : (content : Files (List ℕ) Holding) → IsOpened programs old x →
-        IsOpened programs now (end_after x turn content)
-    opened_after (Source left) was =
-        record { opening = was.opening; opened = was.opened; path = was.path; role = was.role }
-    opened_after (Sink holding) was =
+    opened_after : (content : Files (List ℕ) Holding) → IsOpened programs old.run x →
+        IsOpened programs now.run (end_after x turn content)
+    opened_after content was =
         record { opening = was.opening; opened = was.opened; path = was.path; role = was.role }
 
     moved_after : (So : OpenEnd → Moved → Type 0) (content : Files (List ℕ) Holding) →
@@ -435,100 +406,58 @@ module _ {S F D G K : Type 0} {stores : StoreMeaning S D} {sources : SourceMeani
         (subst (So (end_after x turn content)) (sym moved_now) so)
 
     -- what its source gave then
-    given_left : (source : F) (left : List ℕ) →
-        GivenSo stores sources Began Drafted Been its_path replaces source (end_after x turn (Source left)) moved_then →
-        IsGiven programs now (end_after x turn (Source left)) source
-    given_left source left h = record {
+    given_then : (source : F) (content : Files (List ℕ) Holding) →
+        GivenSo stores sources Began Drafted Been its_path replaces source (end_after x turn content) moved_then →
+        IsGiven programs now.run (end_after x turn content) source
+    given_then source content h = record {
       opening = h.opening;
       first = inr h.first;
       long = h.long;
       since =
-          moved_after (λ (y : OpenEnd) (m : Moved). GaveSince sources h.opening.source y.state m.bytes source)
-          (Source left) h.since;
-    }
-
-    given_held : (source : F) (holding : Holding) →
-        GivenSo stores sources Began Drafted Been its_path replaces source (end_after x turn (Sink holding)) moved_then →
-        IsGiven programs now (end_after x turn (Sink holding)) source
-    given_held source holding h = record {
-      opening = h.opening;
-      first = inr h.first;
-      long = h.long;
-      since =
-          moved_after (λ (y : OpenEnd) (m : Moved). GaveSince sources h.opening.source y.state m.bytes source)
-          (Sink holding) h.since;
+          moved_after (λ (y : OpenEnd) (m : Moved). GaveSince sources h.opening.source y.state m.bytes source) content
+          h.since;
     }
 
     -- and what its draft took
-    taken_held : (draft : D) (holding : Holding) →
-        TakenSo stores sources Began Drafted Been its_path replaces draft (end_after x turn (Sink holding)) moved_then →
-        IsTaken programs now (end_after x turn (Sink holding)) draft
-    taken_held draft holding h = record {
+    taken_then : (draft : D) (content : Files (List ℕ) Holding) →
+        TakenSo stores sources Began Drafted Been its_path replaces draft (end_after x turn content) moved_then →
+        IsTaken programs now.run (end_after x turn content) draft
+    taken_then draft content h = record {
       first = h.first;
       began =
           inr (subst (λ (r : Bool). StoreBegan old.run x.path x.request x.state.role.mode r h.first) replace_is h.began);
       since =
           moved_after (λ (y : OpenEnd) (m : Moved). TookBy stores Been x.path
-          programs.server.start.server.config.overwrite h.first y m.bytes draft) (Sink holding)
-          (subst (λ (r : Bool). TookBy stores Been x.path r h.first (end_after x turn (Sink holding)) moved_then.bytes
+          programs.server.start.server.config.overwrite h.first y m.bytes draft) content
+          (subst (λ (r : Bool). TookBy stores Been x.path r h.first (end_after x turn content) moved_then.bytes
           draft) replace_is
-          (subst (λ (p : List ℕ). TookBy stores Been p replaces h.first (end_after x turn (Sink holding))
-          moved_then.bytes draft) (sym was.path) h.since));
-    }
-
-    taken_left : (draft : D) (left : List ℕ) →
-        TakenSo stores sources Began Drafted Been its_path replaces draft (end_after x turn (Source left)) moved_then →
-        IsTaken programs now (end_after x turn (Source left)) draft
-    taken_left draft left h = record {
-      first = h.first;
-      began =
-          inr (subst (λ (r : Bool). StoreBegan old.run x.path x.request x.state.role.mode r h.first) replace_is h.began);
-      since =
-          moved_after (λ (y : OpenEnd) (m : Moved). TookBy stores Been x.path
-          programs.server.start.server.config.overwrite h.first y m.bytes draft) (Source left)
-          (subst (λ (r : Bool). TookBy stores Been x.path r h.first (end_after x turn (Source left)) moved_then.bytes
-          draft) replace_is
-          (subst (λ (p : List ℕ). TookBy stores Been p replaces h.first (end_after x turn (Source left))
+          (subst (λ (p : List ℕ). TookBy stores Been p replaces h.first (end_after x turn content)
           moved_then.bytes draft) (sym was.path) h.since));
     }
 
     got_has : (files files' : Files F D) → AreSame (λ (a b : F). ⊤) (λ (a b : D). ⊤) files files' →
-        HasStored programs pad old x files → (content : Files (List ℕ) Holding) →
-        Got files' (end_after x turn content) moved_then →
-        HasStored programs pad now (end_after x turn content) files'
-    got_has (Source source) (Source source') kind has (Source left) got = record {
+        HasStored pad old x files → (content : Files (List ℕ) Holding) →
+        Got files' (end_after x turn content) moved_then → HasStored pad now (end_after x turn content) files'
+    got_has (Source source) (Source source') kind has content got = record {
       sender = has.sender;
-      opened = opened_after (Source left) has.opened;
+      opened = opened_after content has.opened;
       text = has.text;
-      gave = moved_after GaveSo (Source left) got.1;
-      given = given_left source' left got.2;
+      gave = moved_after GaveSo content got.1;
+      given = given_then source' content got.2;
     }
-    got_has (Sink draft) (Sink draft') kind has (Sink holding) got = record {
+    got_has (Sink draft) (Sink draft') kind has content got = record {
       receiver = has.receiver;
-      opened = opened_after (Sink holding) has.opened;
-      took = moved_after TookSo (Sink holding) got.1;
-      taken = taken_held draft' holding got.2;
-    }
-    got_has (Source source) (Source source') kind has (Sink holding) got = record {
-      sender = has.sender;
-      opened = opened_after (Sink holding) has.opened;
-      text = has.text;
-      gave = moved_after GaveSo (Sink holding) got.1;
-      given = given_held source' holding got.2;
-    }
-    got_has (Sink draft) (Sink draft') kind has (Source left) got = record {
-      receiver = has.receiver;
-      opened = opened_after (Source left) has.opened;
-      took = moved_after TookSo (Source left) got.1;
-      taken = taken_left draft' left got.2;
+      opened = opened_after content has.opened;
+      took = moved_after TookSo content got.1;
+      taken = taken_then draft' content got.2;
     }
     got_has (Source source) (Sink draft') kind has content got = absurd kind
     got_has (Sink draft) (Source source') kind has content got = absurd kind
 
-    open_keeps : is_some (outcome_of x.state.position.phase) ≡ false → IsKept programs pad now
+    open_keeps : is_some (outcome_of x.state.position.phase) ≡ false → IsKept pad now
     unfolding becomes
     open_keeps o =
-        let has : HasStored programs pad old x taken.transfer.files = was.has in
+        let has : HasStored pad old x taken.transfer.files = was.has in
         let all : List ℕ = (moved_at programs place programs.server.run).bytes in
         let text : is_sender x.state.role.side ≡ true → x.text ≡ pad_to pad x.state.role.length all =
         λ sender. text_is taken.transfer.files has sender ∙ ap (λ (n : ℕ). pad_to pad n all)
@@ -549,23 +478,22 @@ module _ {S F D G K : Type 0} {stores : StoreMeaning S D} {sources : SourceMeani
         let over = subst Over was.state at_x taken.takes.steps begins in
         let goes = goes_over x over.content refl (open_now o) (peered o) over.steps in
         let unblamed =
-        turn_unblamed programs old kept fresh x was.viewed (no_outcome (outcome_of x.state.position.phase) o)
-        (λ same. apart_from_requests programs old kept fresh place
+        turn_unblamed kept fresh x was.viewed (no_outcome (outcome_of x.state.position.phase) o)
+        (λ same. apart_from_requests kept fresh place
         (kept.server.opened port taken.transfer place (inl (taken.found, refl))) (sym was.address ∙ same))
         from bytes come spelled (λ no_peer near_port p spells answer. absurd (peered o no_peer)) turn over.content
         over.steps in
-        then_keeps
-        (becomes over.content goes unblamed
+        then_keeps (becomes over.content goes unblamed
         (got_has taken.transfer.files taken.next.files taken.takes.kind has over.content over.got))
         (seated_after over.content)
 
     -- a closed one
-    closed_keeps : is_some (outcome_of x.state.position.phase) ≡ true → IsKept programs pad now
+    closed_keeps : is_some (outcome_of x.state.position.phase) ≡ true → IsKept pad now
     closed_keeps c =
         rests_keeps (λ decoded. closed_datagram_goes (joined programs) kept.shown.0 kept.views kept.messages
         was.viewed.index x stands was.viewed.kept c from bytes decoded) (λ state. seated x state)
 
-    pub datagram_keeps : IsKept programs pad now
+    pub datagram_keeps : IsKept pad now
     datagram_keeps = elim (cases_Bool (is_some (outcome_of x.state.position.phase))) [
       | inl c ↦ closed_keeps c
       | inr o ↦ open_keeps o

@@ -1,8 +1,7 @@
--- An end at a port: what a turn leaves of it, its peer, and its files over one store.
-use Rattle.std.proofs.Common.{◌≡◌, ℕ, Bool, false, List, Some, None, refl, sym, ap, ◌∙◌}
+-- An end at a port: its peer, and its files over one store.
+use Rattle.std.proofs.Common.{◌≡◌, ℕ, Bool, false, List, Some, None, sym, ap, ◌∙◌}
 use Rattle.std.specs.Prelude.{is_some, ⊤}
 use Rattle.std.proofs.lemmas.Bool.{true≢false}
-use Rattle.tftp_file.specs.Sink.{Holding}
 use Rattle.tftp_file.specs.declared.files.Files.{Files}
 use Rattle.tftp_file.specs.declared.files.Files.TheVariants.{Source, Sink}
 use Rattle.tftp_ends.specs.declared.phase.Phase.{Phase}
@@ -12,14 +11,7 @@ use Rattle.tftp_ends.specs.Files.{AreSame}
 use Rattle.tftp_server.specs.Draft.{Drafting, files_in, KeepsStore}
 use Rattle.tftp_rules.specs.EndKept.{PhaseKept}
 use Rattle.tftp_rules.specs.Machine.{Network}
-use Rattle.tftp_rules.specs.OpenEnds.{OpenEnd, with_files, peer_of}
-
--- what an end is after a turn does not depend on its files
-pub after_rest : (x : OpenEnd) (held : Files (List ℕ) Holding) →
-    ((with_files x held).address ≡ x.address) × ((with_files x held).state ≡ x.state)
-    × ((with_files x held).path ≡ x.path) × ((with_files x held).request ≡ x.request)
-after_rest x (Source left) = (refl, refl, refl, refl)
-after_rest x (Sink holding) = (refl, refl, refl, refl)
+use Rattle.tftp_rules.specs.OpenEnds.{OpenEnd, peer_of}
 
 module _ (network : Network) where
   -- an open end of the server has a peer

@@ -32,15 +32,14 @@ datagram_silent own from bytes port to b c =
     let f : Received own from bytes ≡ Sent port to b = only_one (Received own from bytes) (Sent port to b) c in cc
 
 module _ {S F D G K : Type 0} {stores : StoreMeaning S D} {sources : SourceMeaning F} {inputs : SourceMeaning G}
-    {outputs : SinkMeaning K}
-    (programs : Programs stores sources inputs outputs) {pad : ℕ} (old : Snapshot programs)
-    (kept : IsKept programs pad old) {new : LoopState S F D} (serves : ServesPort stores sources old.state new)
+    {outputs : SinkMeaning K} {programs : Programs stores sources inputs outputs} {pad : ℕ} {old : Snapshot programs}
+    (kept : IsKept pad old) {new : LoopState S F D} (serves : ServesPort stores sources old.state new)
     (added : List SocketEvent) (events : new.events ≡ added ++ old.state.events) where
   -- the server after it
   pub server_is : new.server ≡ serves.next.server
   server_is = ap (λ (s : LoopState S F D). s.server) serves.is
 
-  pub stays_by : serves.next.server.config ≡ old.state.server.config → ServerStays programs old kept (At_port serves)
+  pub stays_by : serves.next.server.config ≡ old.state.server.config → ServerStays kept (At_port serves)
   stays_by config = record {
     opens = refl;
     seats = λ port. refl;
@@ -68,9 +67,8 @@ module _ {S F D G K : Type 0} {stores : StoreMeaning S D} {sources : SourceMeani
 
     -- what was received was sent there, or may come nevertheless
     pub received_there : (port : ℕ) (from : Endpoint) (bytes : List ℕ) → Contains noted (Received port from bytes) →
-        CanTake programs old programs.ip added →
-        WasSentBefore programs old from (endpoint programs.ip port) bytes ⊎ MayCome stores sources inputs
-        outputs programs from bytes
+        CanTake old programs.ip added →
+        WasSentBefore old from (endpoint programs.ip port) bytes ⊎ MayCome programs from bytes
     received_there port from bytes c take =
         take port from bytes (subst (λ (es : List SocketEvent). Contains es (Received port from bytes)) added_is
         (answered_has serves.timer.port reply noted (Received port from bytes) c))

@@ -23,10 +23,10 @@ use Rattle.tftp_sockets.specs.Trace.SocketEvent.{Elapsed}
 use Rattle.tftp_loop.specs.Steps.{LoopState, ServesPort, At_port, AnswersTimeout}
 use Rattle.tftp_rules.specs.EndShown.{Stands, Goes}
 use Rattle.tftp_rules.specs.Machine.{Endpoint}
-use Rattle.tftp_rules.specs.OpenEnds.{OpenEnd, files_of, holding_of, in_state, end_after, open_view}
+use Rattle.tftp_rules.specs.OpenEnds.{OpenEnd, files_of, end_after, open_view}
 use Rattle.tftp_rules.proofs.EndTurns.{timeout_goes}
 use Rattle.tftp_rules.proofs.PhaseMoves.{if_acts}
-use Rattle.tftp_rules.proofs.UnblamedEnds.{IsUnblamed, timeout_unblamed}
+use Rattle.tftp_rules.proofs.UnblamedEnds.{timeout_unblamed}
 use Rattle.tftp_promises.specs.Openings.{moved_at, place_at}
 use Rattle.tftp_promises.specs.Order.{Programs, IsStranger}
 use Rattle.tftp_promises.specs.Programs.{endpoint}
@@ -36,11 +36,10 @@ use Rattle.tftp_promises.proofs.ClosedEnds.{closed_timeout_goes}
 use Rattle.tftp_promises.proofs.DraftsTake.{took_still}
 use Rattle.tftp_promises.proofs.GivenSteps.{gave_still}
 use Rattle.tftp_promises.proofs.Invariant.{HasStored, IsOpened, TransferKept, IsKept, IsFreshBy}
-use Rattle.tftp_promises.proofs.Invariant.{IsStrangers, SendsText}
+use Rattle.tftp_promises.proofs.Invariant.{IsStrangers}
 use Rattle.tftp_promises.proofs.KeptEvents.{SendsOnly, elapsed_silent}
-use Rattle.tftp_promises.proofs.KeptFiles.{left_is, now_is, sink_is, sink_no_source, source_is}
+use Rattle.tftp_promises.proofs.KeptFiles.{gave_same, held_same, took_same}
 use Rattle.tftp_promises.proofs.MovedSteps.{MovesNone}
-use Rattle.tftp_promises.proofs.PortEnds.{after_rest}
 use Rattle.tftp_promises.proofs.PortSteps.{no_outcome, server_is, stays_by, sends_only}
 use Rattle.tftp_promises.proofs.ServerStays.{stored_after}
 use Rattle.tftp_promises.proofs.WrongPeers.{stays_strangers, timeout_stays}
@@ -68,12 +67,11 @@ open_before e o = elim (cases_Bool (is_some (outcome_of e.position.phase))) [
 ]
 
 module _ {S F D G K : Type 0} {stores : StoreMeaning S D} {sources : SourceMeaning F} {inputs : SourceMeaning G}
-    {outputs : SinkMeaning K}
-    (programs : Programs stores sources inputs outputs) {pad : ℕ} (old : Snapshot programs)
-    (kept : IsKept programs pad old) (fresh : IsFreshBy programs old)
-    {new : LoopState S F D} (serves : ServesPort stores sources old.state new) (added : List SocketEvent)
-    (events : new.events ≡ added ++ old.state.events) (none : (a : Endpoint) →
-    MovesNone programs old.run (At_port serves) a) where
+    {outputs : SinkMeaning K} {programs : Programs stores sources inputs outputs} {pad : ℕ} {old : Snapshot programs}
+    (kept : IsKept pad old) (fresh : IsFreshBy old) {new : LoopState S F D}
+    (serves : ServesPort stores sources old.state new) (added : List SocketEvent)
+    (events : new.events ≡ added ++ old.state.events)
+    (none : (a : Endpoint) → MovesNone programs old.run (At_port serves) a) where
   abbrev port : ℕ
   port = serves.timer.port
 
@@ -82,14 +80,14 @@ module _ {S F D G K : Type 0} {stores : StoreMeaning S D} {sources : SourceMeani
   place = place_at programs port old.run
 
   abbrev now : Snapshot programs
-  now = server_did programs old (At_port serves) added
+  now = server_did old (At_port serves) added
 
   module _ (step : Step) (answers : AnswersTimeout port old.state.server serves.next.server
       (Elapsed port old.state.now ∷ old.state.events) serves.next.events step) where
     abbrev timed : TimesOutLent port old.state.server.held serves.next.server.held step answers.outgoing
     timed = answers.times_out
 
-    abbrev was : TransferKept programs pad kept.views kept.messages old port timed.transfer place
+    abbrev was : TransferKept pad kept.views kept.messages old port timed.transfer place
     was = kept.transfers port timed.transfer place (inl (timed.found, refl))
 
     abbrev x : OpenEnd
@@ -108,84 +106,58 @@ module _ {S F D G K : Type 0} {stores : StoreMeaning S D} {sources : SourceMeani
     elapsed = Elapsed port old.state.now ∷ []
 
     held : new.server.held ≡ with_next port next old.state.server.held
-    held = ap (λ (s : ServerState S F D). s.held) (server_is programs old kept serves added events) ∙ timed.held
+    held = ap (λ (s : ServerState S F D). s.held) (server_is kept serves added events) ∙ timed.held
 
-    opened_now : (content : Files (List ℕ) Holding) → IsOpened programs now x →
-        IsOpened programs now (end_after x turn content)
-    opened_now (Source left) was =
-        record { opening = was.opening; opened = was.opened; path = was.path; role = was.role }
-    opened_now (Sink holding) was =
-        record { opening = was.opening; opened = was.opened; path = was.path; role = was.role }
+    opened_now : IsOpened programs now.run x → IsOpened programs now.run y
+    opened_now was = record { opening = was.opening; opened = was.opened; path = was.path; role = was.role }
 
     -- so is the file: what a timeout leaves is what was there
-    has_left : (w : ℕ) (files : Files F D) → HasStored programs w now x files →
-        (content : Files (List ℕ) Holding) → content ≡ files_of x →
-        (outcome_of turn.position.phase ≡ None → outcome_of x.state.position.phase ≡ None) →
-        HasStored programs w now (end_after x turn content) files
-    has_left pad (Source source) h (Source left) e still =
-        let l = left_is left x.left (e ∙ sym (source_is x h.sender)) in
-        record {
-          sender = h.sender;
-          opened = opened_now (Source left) h.opened;
-          text = h.text;
-          gave =
-              record {
-                prefix = h.gave.prefix;
-                left = λ o. ap (λ (t : List ℕ). (moved_at programs x.address now.run).bytes ++ t) l
-                    ∙ h.gave.left (still o);
-              };
-          given =
-              record {
-                opening = h.given.opening;
-                first = h.given.first;
-                long = h.given.long;
-                since = gave_still refl still h.given.since;
-              };
-        }
-    has_left pad (Sink draft) h (Sink held) e still =
-        let n = now_is held (holding_of x) (e ∙ sym (sink_is x h.receiver)) in
-        record {
-          receiver = h.receiver;
-          opened = opened_now (Sink held) h.opened;
-          took = record {
-            stored = ap (λ (z : Holding). z.bytes) n ∙ h.took.stored;
-            committed = λ c. h.took.committed (ap (λ (z : Holding). z.committed) (sym n) ∙ c);
-            refuses = ap (λ (z : Holding). z.refuses) n ∙ h.took.refuses;
+    has_left : (files : Files F D) → HasStored pad now x files → HasStored pad now y files
+    has_left (Source source) h = record {
+      sender = h.sender;
+      opened = opened_now h.opened;
+      text = h.text;
+      gave = gave_same x turn (open_before x.state) h.sender (moved_at programs x.address now.run) h.gave;
+      given =
+          record {
+            opening = h.given.opening;
+            first = h.given.first;
+            long = h.given.long;
+            since = gave_still refl (open_before x.state) h.given.since;
           };
-          taken = record {
-            first = h.taken.first;
-            began = h.taken.began;
-            since = took_still (ap (λ (z : Holding). z.committed) n) still h.taken.since;
-          };
-        }
-    has_left pad (Source source) h (Sink held) e still =
-        absurd (sink_no_source held x.left (e ∙ sym (source_is x h.sender)))
-    has_left pad (Sink draft) h (Source left) e still =
-        absurd (sink_no_source (holding_of x) left (sym (e ∙ sym (sink_is x h.receiver))))
+    }
+    has_left (Sink draft) h = record {
+      receiver = h.receiver;
+      opened = opened_now h.opened;
+      took = took_same x turn (open_before x.state) h.receiver (moved_at programs x.address now.run) h.took;
+      taken = record {
+        first = h.taken.first;
+        began = h.taken.began;
+        since =
+            took_still (ap (λ (z : Holding). z.committed) (held_same x turn (open_before x.state) h.receiver))
+            (open_before x.state) h.taken.since;
+      };
+    }
 
-    has : HasStored programs pad now y timed.transfer.files
+    has : HasStored pad now y timed.transfer.files
     has =
-        has_left pad timed.transfer.files (stored_after programs pad old (At_port serves) added x (none x.address)
-        timed.transfer.files was.has) (files_of x) refl (open_before x.state)
+        has_left timed.transfer.files (stored_after pad old (At_port serves) added x (none x.address)
+        timed.transfer.files was.has)
 
     becomes : Goes (joined programs) kept.shown.0 kept.views kept.messages was.viewed.index x turn y →
-        Becomes programs old kept (At_port serves) added port timed.transfer timed.found x turn next
-    becomes goes =
-        let rest = after_rest (in_state (after_turn x.state turn) x) (files_of x) in
-        record {
-          end = y;
-          goes = goes;
-          address = rest.0;
-          state = rest.1 ∙ (ap (λ (e : EndState). after_turn e (timeout_turn e)) was.state ∙ sym timed.carries.state);
-          path = rest.2 ∙ was.path;
-          request = rest.3 ∙ was.request;
-          path_stays = refl;
-          request_stays = refl;
-          unblamed =
-              subst (λ (e : EndState). IsUnblamed (joined programs) (SendsText programs pad) kept.messages e)
-              (sym rest.1) (timeout_unblamed (joined programs) kept.messages x.state was.viewed.unblamed);
-          has = has;
-        }
+        Becomes kept (At_port serves) added port timed.transfer timed.found x turn next
+    becomes goes = record {
+      end = y;
+      goes = goes;
+      address = refl;
+      state = ap (λ (e : EndState). after_turn e (timeout_turn e)) was.state ∙ sym timed.carries.state;
+      path = was.path;
+      request = was.request;
+      path_stays = refl;
+      request_stays = refl;
+      unblamed = timeout_unblamed (joined programs) kept.messages x.state was.viewed.unblamed;
+      has = has;
+    }
 
     stands : Stands (joined programs) kept.shown.0 kept.views kept.messages was.viewed.index (open_view x)
     stands = record { shown = kept.shown.1; viewed = was.viewed.viewed }
@@ -203,29 +175,26 @@ module _ {S F D G K : Type 0} {stores : StoreMeaning S D} {sources : SourceMeani
     only_reply : SendsOnly port turn.reply added
     only_reply =
         subst (λ (e : EndState). SendsOnly port (timeout_turn e).reply added) (sym was.state)
-        (sends_only programs old kept serves added events (timeout_turn timed.transfer.end).reply elapsed answers.events
+        (sends_only kept serves added events (timeout_turn timed.transfer.end).reply elapsed answers.events
         (elapsed_silent port old.state.now))
 
     -- where it stands then
     seated : (place ≡ endpoint programs.ip port) ⊎ IsStrangers programs x.state →
-        IsSeated programs old kept (At_port serves) added port timed.transfer timed.found turn y
+        IsSeated kept (At_port serves) added port timed.transfer timed.found turn y
     seated (inl here) = inl here
     seated (inr s) =
         let stays = timeout_stays x.state in
         inr (record {
-          strangers =
-              subst (λ (e : EndState). IsStrangers programs e)
-              (sym (after_rest (in_state (after_turn x.state turn) x) (files_of x)).1)
-              (stays_strangers programs x.state.position.last_sent_to x.state turn s.last_sent_to s stays);
+          strangers = stays_strangers programs x.state.position.last_sent_to x.state turn s.last_sent_to s stays;
           replies =
-              λ reply says. inl (subst (λ (a : Endpoint). IsStranger stores sources inputs outputs programs a)
+              λ reply says. inl (subst (λ (a : Endpoint). IsStranger programs a)
               (sym (stays.replies reply says)) s.last_sent_to);
         })
 
-    pub timeout_keeps : IsKept programs pad now
+    pub timeout_keeps : IsKept pad now
     unfolding becomes
     timeout_keeps =
-        turn_keeps programs old kept (At_port serves) added port timed.transfer timed.found fresh
-        (stays_by programs old kept serves added events (ap (λ (s : ServerState S F D). s.config) answers.rest))
+        turn_keeps kept (At_port serves) added port timed.transfer timed.found fresh
+        (stays_by kept serves added events (ap (λ (s : ServerState S F D). s.config) answers.rest))
         x was.address was.side was.viewed.last_sent turn next held (becomes its_turn) only_reply (seated was.seat)
         (λ a n. none a)

@@ -38,23 +38,22 @@ use Rattle.tftp_promises.proofs.PortSteps.{datagram_silent, server_is, stays_by,
 use Rattle.tftp_promises.proofs.ServerStays.{ServerStays, stored_after}
 
 module _ {S F D G K : Type 0} {stores : StoreMeaning S D} {sources : SourceMeaning F} {inputs : SourceMeaning G}
-    {outputs : SinkMeaning K}
-    (programs : Programs stores sources inputs outputs) {pad : ℕ} (old : Snapshot programs)
-    (kept : IsKept programs pad old) (fresh : IsFreshBy programs old) where
+    {outputs : SinkMeaning K} {programs : Programs stores sources inputs outputs} {pad : ℕ} {old : Snapshot programs}
+    (kept : IsKept pad old) (fresh : IsFreshBy old) where
   -- the end of a held transfer
   abbrev its_end : (port : ℕ) (transfer : TransferState F D) → at port old.state.server.held ≡ Some transfer →
-      TransferKept programs pad kept.views kept.messages old port transfer (place_at programs port old.run)
+      TransferKept pad kept.views kept.messages old port transfer (place_at programs port old.run)
   its_end port transfer found = kept.transfers port transfer (place_at programs port old.run) (inl (found, refl))
 
   -- the end of a held transfer as it was
   module _ {new : LoopState S F D} (does : LoopStep stores sources old.state new)
-      (stays : ServerStays programs old kept does) (added : List SocketEvent) (silent : IsSilent added)
+      (stays : ServerStays kept does) (added : List SocketEvent) (silent : IsSilent added)
       (port : ℕ) (transfer next : TransferState F D) (found : at port old.state.server.held ≡ Some transfer)
       (held : new.server.held ≡ with_next port next old.state.server.held)
       (end : next.end ≡ transfer.end) (path : next.path ≡ transfer.path) (request : next.request ≡ transfer.request)
-      (has : HasStored programs pad (server_did programs old does added) (its_end port transfer found).end next.files)
+      (has : HasStored pad (server_did old does added) (its_end port transfer found).end next.files)
       (none : (a : Endpoint) → MovesNone programs old.run does a) where
-    abbrev was : TransferKept programs pad kept.views kept.messages old port transfer (place_at programs port old.run)
+    abbrev was : TransferKept pad kept.views kept.messages old port transfer (place_at programs port old.run)
     was = its_end port transfer found
 
     shown : IsShown (joined programs) (set kept.views was.viewed.index (open_view was.end)) (kept.messages ++ [])
@@ -64,7 +63,7 @@ module _ {S F D G K : Type 0} {stores : StoreMeaning S D} {sources : SourceMeani
         (subst (λ (vs : List EndView). IsShown (joined programs) vs kept.messages)
         (sym (set_same kept.views was.viewed.index (open_view was.end) was.viewed.viewed)) kept.shown)
 
-    turns : PortTurns programs old kept does added port transfer found
+    turns : PortTurns kept does added port transfer found
     turns = record {
       next = next;
       held = held;
@@ -82,14 +81,13 @@ module _ {S F D G K : Type 0} {stores : StoreMeaning S D} {sources : SourceMeani
       shown = shown;
       is_kept = was.viewed.kept;
       last_sent =
-          there_still kept.messages [] was.end.address was.end.state.position.last_sent_to
-          was.end.state.position.last_sent was.viewed.last_sent;
+          there_still kept.messages [] was.viewed.last_sent;
       unblamed = unblamed_still (joined programs) kept.messages [] was.end.state was.viewed.unblamed;
       has = has;
     }
 
-    pub as_it_was : IsKept programs pad (server_did programs old does added)
-    as_it_was = port_keeps programs old kept fresh does stays added port transfer found turns (λ a n. none a)
+    pub as_it_was : IsKept pad (server_did old does added)
+    as_it_was = port_keeps kept fresh does stays added port transfer found turns (λ a n. none a)
 
   -- ---- the steps
   module _ {new : LoopState S F D} (serves : ServesPort stores sources old.state new) (added : List SocketEvent)
@@ -99,25 +97,25 @@ module _ {S F D G K : Type 0} {stores : StoreMeaning S D} {sources : SourceMeani
     port = serves.timer.port
 
     abbrev now : Snapshot programs
-    now = server_did programs old (At_port serves) added
+    now = server_did old (At_port serves) added
 
     -- the server is the same
-    pub same_server : serves.next.server ≡ old.state.server → IsSilent added → IsKept programs pad now
+    pub same_server : serves.next.server ≡ old.state.server → IsSilent added → IsKept pad now
     same_server same silent =
-        let all : new.server ≡ old.state.server = server_is programs old kept serves added events ∙ same in
-        still_keeps programs old kept (At_port serves)
-        (stays_by programs old kept serves added events (ap (λ (s : ServerState S F D). s.config) same)) none (ap (λ (s : ServerState S F D). s.held) all) added silent
+        let all : new.server ≡ old.state.server = server_is kept serves added events ∙ same in
+        still_keeps kept (At_port serves)
+        (stays_by kept serves added events (ap (λ (s : ServerState S F D). s.config) same)) none
+        (ap (λ (s : ServerState S F D). s.held) all) added silent
 
     -- the end of its transfer is the same
     same_end : (transfer next : TransferState F D) (found : at port old.state.server.held ≡ Some transfer) →
         serves.next.server.held ≡ with_next port next old.state.server.held →
         next.end ≡ transfer.end → next.path ≡ transfer.path → next.request ≡ transfer.request →
         serves.next.server.config ≡ old.state.server.config → IsSilent added →
-        HasStored programs pad now (its_end port transfer found).end next.files → IsKept programs pad now
+        HasStored pad now (its_end port transfer found).end next.files → IsKept pad now
     same_end transfer next found held end path request config silent left =
-        as_it_was (At_port serves) (stays_by programs old kept serves added events config) added silent port transfer next found
-        (ap (λ (s : ServerState S F D). s.held) (server_is programs old kept serves added events) ∙ held) end path
-        request left none
+        as_it_was (At_port serves) (stays_by kept serves added events config) added silent port transfer next found
+        (ap (λ (s : ServerState S F D). s.held) (server_is kept serves added events) ∙ held) end path request left none
 
     -- a source gave no bytes, and a draft took none
     abbrev MovedNone : Files F D → Files F D → Type 0
@@ -125,7 +123,7 @@ module _ {S F D G K : Type 0} {stores : StoreMeaning S D} {sources : SourceMeani
         AreSame (λ (a b : F). sources.gives a [] b) (λ (a b : D). (b ≡ a) ⊎ stores.writes_behind a b) files files'
 
     same_kind : (x : OpenEnd) (files files' : Files F D) → MovedNone files files' →
-        HasStored programs pad now x files → HasStored programs pad now x files'
+        HasStored pad now x files → HasStored pad now x files'
     same_kind x (Source source) (Source source') none h = record {
       sender = h.sender;
       opened = h.opened;
@@ -150,12 +148,11 @@ module _ {S F D G K : Type 0} {stores : StoreMeaning S D} {sources : SourceMeani
 
     -- what is known of its file then
     run_left : (transfer next : TransferState F D) (found : at port old.state.server.held ≡ Some transfer) →
-        MovedNone transfer.files next.files →
-        HasStored programs pad now (its_end port transfer found).end next.files
+        MovedNone transfer.files next.files → HasStored pad now (its_end port transfer found).end next.files
     run_left transfer next found kind =
         let h = its_end port transfer found in
         same_kind h.end transfer.files next.files kind
-        (stored_after programs pad old (At_port serves) added h.end (none h.end.address) transfer.files h.has)
+        (stored_after pad old (At_port serves) added h.end (none h.end.address) transfer.files h.has)
 
     -- the files of a transfer that was not handled, or that worked, are of one kind, and no bytes moved
     same_draft : (a b : D) → ◌≡◌ {A = Files F D} (Sink a) (Sink b) → a ≡ b
@@ -181,15 +178,14 @@ module _ {S F D G K : Type 0} {stores : StoreMeaning S D} {sources : SourceMeani
     -- a datagram is lost
     pub lost_keeps : (from : Endpoint) (bytes : List ℕ) →
         LosesDatagram stores sources port from bytes old.state.server serves.next.server →
-        serves.next.events ≡ Received port from bytes ∷ old.state.events → IsKept programs pad now
+        serves.next.events ≡ Received port from bytes ∷ old.state.events → IsKept pad now
     lost_keeps from bytes loses noted = by_held (at port old.state.server.held) refl loses.keeps where
       silent : IsSilent added
       silent =
-          silent_by programs old kept serves added events (Received port from bytes ∷ []) noted
-          (datagram_silent port from bytes)
+          silent_by kept serves added events (Received port from bytes ∷ []) noted (datagram_silent port from bytes)
 
       by_held : (o : Option (TransferState F D)) → at port old.state.server.held ≡ o →
-          KeepsHeld stores sources port o old.state.server serves.next.server → IsKept programs pad now
+          KeepsHeld stores sources port o old.state.server serves.next.server → IsKept pad now
       by_held None e same = same_server same silent
       by_held (Some transfer) e keeps =
           same_end transfer keeps.0 e keeps.2 keeps.1.end keeps.1.path keeps.1.request loses.config silent
@@ -199,20 +195,19 @@ module _ {S F D G K : Type 0} {stores : StoreMeaning S D} {sources : SourceMeani
 
     -- a receive finds nothing or fails, or a timeout finds no open transfer
     pub missed_keeps : (e : SocketEvent) → IsUnsent e → serves.next.server ≡ old.state.server →
-        serves.next.events ≡ e ∷ old.state.events → IsKept programs pad now
+        serves.next.events ≡ e ∷ old.state.events → IsKept pad now
     missed_keeps e unsent same noted =
-        same_server same (silent_by programs old kept serves added events (e ∷ []) noted
-        (unsent_silent (e ∷ []) (unsent, tt)))
+        same_server same (silent_by kept serves added events (e ∷ []) noted (unsent_silent (e ∷ []) (unsent, tt)))
 
     -- the file does its work
     pub work_keeps : WorksAtPort stores sources port old.state.server serves.next.server →
-        serves.next.events ≡ old.state.events → IsKept programs pad now
+        serves.next.events ≡ old.state.events → IsKept pad now
     work_keeps works noted = by_held (at port old.state.server.held) refl works.works where
       silent : IsSilent added
-      silent = silent_by programs old kept serves added events [] noted none_silent
+      silent = silent_by kept serves added events [] noted none_silent
 
       by_held : (o : Option (TransferState F D)) → at port old.state.server.held ≡ o →
-          WorksAt stores sources port o old.state.server serves.next.server → IsKept programs pad now
+          WorksAt stores sources port o old.state.server serves.next.server → IsKept pad now
       by_held None e same = same_server same silent
       by_held (Some transfer) e h =
           same_end transfer h.0 e h.2 (ap (λ (t : TransferState F D). t.end) h.1.rest)

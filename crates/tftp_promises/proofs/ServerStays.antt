@@ -25,14 +25,12 @@ use Rattle.tftp_promises.proofs.Invariant.{IsKept, IsTaken, TookBy}
 use Rattle.tftp_promises.proofs.MovedSteps.{MovesNone}
 
 module _ {S F D G K : Type 0} {stores : StoreMeaning S D} {sources : SourceMeaning F} {inputs : SourceMeaning G}
-    {outputs : SinkMeaning K}
-    (programs : Programs stores sources inputs outputs) {pad : ℕ} where
-  pub record ServerStays (old : Snapshot programs) (kept : IsKept programs pad old) {new : LoopState S F D}
+    {outputs : SinkMeaning K} {programs : Programs stores sources inputs outputs} {pad : ℕ} where
+  pub record ServerStays {old : Snapshot programs} (kept : IsKept pad old) {new : LoopState S F D}
       (does : LoopStep stores sources old.state new) : Type 0 where
     -- it opens no transfer, and each is where it was
     pub opens : placed_by programs old.run does ≡ []
-    pub seats : (port : ℕ) → place_at programs port (server_did programs old does []).run ≡ place_at programs port
-        old.run
+    pub seats : (port : ℕ) → place_at programs port (server_did old does []).run ≡ place_at programs port old.run
     pub removes : (port : ℕ) (transfer : TransferState F D) → Removes does port transfer → ⊥
     pub requests : new.requests ≡ old.state.requests
     pub config : new.server.config ≡ old.state.server.config
@@ -41,12 +39,11 @@ module _ {S F D G K : Type 0} {stores : StoreMeaning S D} {sources : SourceMeani
         HasArrived kept.messages from (requests_at programs) bytes
 
 module _ {S F D G K : Type 0} {stores : StoreMeaning S D} {sources : SourceMeaning F} {inputs : SourceMeaning G}
-    {outputs : SinkMeaning K}
-    (programs : Programs stores sources inputs outputs) where
+    {outputs : SinkMeaning K} {programs : Programs stores sources inputs outputs} where
   -- the same transfer stands at a place where nothing moves
   opened_after : (old : Snapshot programs) {new : LoopState S F D} (does : LoopStep stores sources old.state new)
       (added : List SocketEvent) (x : OpenEnd) → MovesNone programs old.run does x.address →
-      IsOpened programs old x → IsOpened programs (server_did programs old does added) x
+      IsOpened programs old.run x → IsOpened programs (server_did old does added).run x
   opened_after old does added x none h = record {
     opening = h.opening;
     opened =
@@ -58,13 +55,13 @@ module _ {S F D G K : Type 0} {stores : StoreMeaning S D} {sources : SourceMeani
 
   moved_after : (old : Snapshot programs) {new : LoopState S F D} (does : LoopStep stores sources old.state new)
       (added : List SocketEvent) (x : OpenEnd) → MovesNone programs old.run does x.address →
-      moved_at programs x.address old.run ≡ moved_at programs x.address (server_did programs old does added).run
+      moved_at programs x.address old.run ≡ moved_at programs x.address (server_did old does added).run
   moved_after old does added x none = sym (none.moves (moved_at programs x.address old.run))
 
   -- what its source gave is the same
   given_after : (old : Snapshot programs) {new : LoopState S F D} (does : LoopStep stores sources old.state new)
       (added : List SocketEvent) (x : OpenEnd) → MovesNone programs old.run does x.address → (source : F) →
-      IsGiven programs old x source → IsGiven programs (server_did programs old does added) x source
+      IsGiven programs old.run x source → IsGiven programs (server_did old does added).run x source
   given_after old does added x none source h = record {
     opening = h.opening;
     first = inr h.first;
@@ -77,12 +74,12 @@ module _ {S F D G K : Type 0} {stores : StoreMeaning S D} {sources : SourceMeani
   -- and so is what its draft took
   taken_after : (old : Snapshot programs) {new : LoopState S F D} (does : LoopStep stores sources old.state new)
       (added : List SocketEvent) (x : OpenEnd) → MovesNone programs old.run does x.address → (draft : D) →
-      IsTaken programs old x draft → IsTaken programs (server_did programs old does added) x draft
+      IsTaken programs old.run x draft → IsTaken programs (server_did old does added).run x draft
   taken_after old does added x none draft h = record {
     first = h.first;
     began = inr h.began;
     since =
-        subst (λ (m : Moved). TookBy stores (HadStore (server_did programs old does added).run) x.path
+        subst (λ (m : Moved). TookBy stores (HadStore (server_did old does added).run) x.path
         programs.server.start.server.config.overwrite h.first x m.bytes draft) (moved_after old does added x none)
         (took_longer (λ store been. inr been) h.since);
   }
@@ -90,7 +87,7 @@ module _ {S F D G K : Type 0} {stores : StoreMeaning S D} {sources : SourceMeani
   -- what is known of a transfer's file stays known
   pub stored_after : (pad : ℕ) (old : Snapshot programs) {new : LoopState S F D}
       (does : LoopStep stores sources old.state new) (added : List SocketEvent) → (x : OpenEnd) → MovesNone programs old.run does x.address → (files : Files F D) →
-      HasStored programs pad old x files → HasStored programs pad (server_did programs old does added) x files
+      HasStored pad old x files → HasStored pad (server_did old does added) x files
   stored_after pad old does added x none (Source source) h =
       record {
         sender = h.sender;
@@ -108,18 +105,16 @@ module _ {S F D G K : Type 0} {stores : StoreMeaning S D} {sources : SourceMeani
       }
 
 module _ {S F D G K : Type 0} {stores : StoreMeaning S D} {sources : SourceMeaning F} {inputs : SourceMeaning G}
-    {outputs : SinkMeaning K}
-    (programs : Programs stores sources inputs outputs) {pad : ℕ} where
-  module _ (old : Snapshot programs) (kept : IsKept programs pad old) {new : LoopState S F D}
-      (does : LoopStep stores sources old.state new) (stays : ServerStays programs old kept does) (added : List SocketEvent) where
+    {outputs : SinkMeaning K} {programs : Programs stores sources inputs outputs} {pad : ℕ} where
+  module _ {old : Snapshot programs} (kept : IsKept pad old) {new : LoopState S F D}
+      (does : LoopStep stores sources old.state new) (stays : ServerStays kept does) (added : List SocketEvent) where
     -- no transfer more was removed
     pub closed_before : (port : ℕ) (transfer : TransferState F D) (a : Endpoint) →
-        HasClosed programs (server_did programs old does added).run port transfer a →
-        HasClosed programs old.run port transfer a
+        HasClosed programs (server_did old does added).run port transfer a → HasClosed programs old.run port transfer a
     closed_before port transfer a (inl removes) = absurd (stays.removes port transfer removes.0)
     closed_before port transfer a (inr closed) = closed
 
     -- each place is one still
     pub opened_still : (a : Endpoint) → Contains (places programs old.run) a →
-        Contains (places programs (server_did programs old does added).run) a
+        Contains (places programs (server_did old does added).run) a
     opened_still a c = subst (λ (ps : List Endpoint). Contains (ps ++ places programs old.run) a) (sym stays.opens) c

@@ -30,16 +30,15 @@ use Rattle.tftp_promises.proofs.MovedSteps.{MovesNone}
 use Rattle.tftp_promises.proofs.ServerStays.{ServerStays}
 
 module _ {S F D G K : Type 0} {stores : StoreMeaning S D} {sources : SourceMeaning F} {inputs : SourceMeaning G}
-    {outputs : SinkMeaning K}
-    (programs : Programs stores sources inputs outputs) {pad : ℕ} (old : Snapshot programs)
-    (kept : IsKept programs pad old) {new : LoopState S F D} (does : LoopStep stores sources old.state new)
-    (added : List SocketEvent)
-    (port : ℕ) (transfer : TransferState F D) (found : at port old.state.server.held ≡ Some transfer) where
+    {outputs : SinkMeaning K} {programs : Programs stores sources inputs outputs} {pad : ℕ} {old : Snapshot programs}
+    (kept : IsKept pad old) {new : LoopState S F D} (does : LoopStep stores sources old.state new)
+    (added : List SocketEvent) (port : ℕ) (transfer : TransferState F D)
+    (found : at port old.state.server.held ≡ Some transfer) where
   -- its place, and the end before
   abbrev place : Endpoint
   place = place_at programs port old.run
 
-  abbrev was : TransferKept programs pad kept.views kept.messages old port transfer place
+  abbrev was : TransferKept pad kept.views kept.messages old port transfer place
   was = kept.transfers port transfer place (inl (found, refl))
 
   -- the end x and its transfer after a turn
@@ -53,21 +52,20 @@ module _ {S F D G K : Type 0} {stores : StoreMeaning S D} {sources : SourceMeani
     pub path_stays : next.path ≡ transfer.path
     pub request_stays : next.request ≡ transfer.request
     pub unblamed : IsUnblamed (joined programs) (SendsText programs pad) kept.messages end.state
-    pub has : HasStored programs pad (server_did programs old does added) end next.files
+    pub has : HasStored pad (server_did old does added) end next.files
 
   -- the turn of a stranger's transfer: it is one still, and what it answers is for a stranger, or is there from its
   -- port
   pub record Aside (turn : Turn) (y : OpenEnd) : Type 0 where
     pub strangers : IsStrangers programs y.state
     pub replies : (reply : Reply) → turn.reply ≡ Some reply →
-        IsStranger stores sources inputs outputs programs reply.to ⊎ IsThere kept.messages
-        (endpoint programs.ip port) reply.to reply.bytes
+        IsStranger programs reply.to ⊎ IsThere kept.messages (endpoint programs.ip port) reply.to reply.bytes
 
   -- it stands at its port, or aside
   abbrev pub IsSeated : Turn → OpenEnd → Type 0
   IsSeated turn y = (place ≡ endpoint programs.ip port) ⊎ Aside turn y
 
-  module _ (fresh : IsFreshBy programs old) (stays : ServerStays programs old kept does) (x : OpenEnd)
+  module _ (fresh : IsFreshBy old) (stays : ServerStays kept does) (x : OpenEnd)
       (address : x.address ≡ place) (side : is_client x.state.role.side ≡ false)
       (last_sent : IsThere kept.messages x.address x.state.position.last_sent_to x.state.position.last_sent)
       (turn : Turn) (next : TransferState F D) (held : new.server.held ≡ with_next port next old.state.server.held)
@@ -75,8 +73,7 @@ module _ {S F D G K : Type 0} {stores : StoreMeaning S D} {sources : SourceMeani
       (seated : IsSeated turn becomes.end) (none : (a : Endpoint) → place ≢ a → MovesNone programs old.run does a) where
     abbrev SentBy : ℕ → Endpoint → List ℕ → Type 0
     SentBy own to bytes =
-        IsThere (kept.messages ++ becomes.goes.said_now) (endpoint programs.ip own) to bytes
-        ⊎ IsStranger stores sources inputs outputs programs to
+        IsThere (kept.messages ++ becomes.goes.said_now) (endpoint programs.ip own) to bytes ⊎ IsStranger programs to
 
     sent_by : (to : Endpoint) (bytes : List ℕ) → turn.reply ≡ Some (record { to = to; bytes = bytes }) →
         IsSeated turn becomes.end → SentBy port to bytes
@@ -88,7 +85,7 @@ module _ {S F D G K : Type 0} {stores : StoreMeaning S D} {sources : SourceMeani
     sent_by to bytes says (inr aside) = elim (aside.replies (record { to = to; bytes = bytes }) says) [
       | inl strange ↦ inr strange
       | inr there ↦
-          inl (there_still kept.messages becomes.goes.said_now (endpoint programs.ip port) to bytes there)
+          inl (there_still kept.messages becomes.goes.said_now there)
     ]
 
     sent_now : (own : ℕ) (to : Endpoint) (bytes : List ℕ) → Contains added (Sent own to bytes) → SentBy own to bytes
@@ -100,7 +97,7 @@ module _ {S F D G K : Type 0} {stores : StoreMeaning S D} {sources : SourceMeani
     seat_now (inl here) = inl here
     seat_now (inr aside) = inr aside.strangers
 
-    turns : PortTurns programs old kept does added port transfer found
+    turns : PortTurns kept does added port transfer found
     turns = record {
       next = next;
       held = held;
@@ -127,5 +124,5 @@ module _ {S F D G K : Type 0} {stores : StoreMeaning S D} {sources : SourceMeani
       has = becomes.has;
     }
 
-    pub turn_keeps : IsKept programs pad (server_did programs old does added)
-    turn_keeps = port_keeps programs old kept fresh does stays added port transfer found turns none
+    pub turn_keeps : IsKept pad (server_did old does added)
+    turn_keeps = port_keeps kept fresh does stays added port transfer found turns none

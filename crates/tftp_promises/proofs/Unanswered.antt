@@ -28,7 +28,6 @@ use Rattle.tftp_rules.specs.ViewSafety.{IsAmong}
 use Rattle.tftp_promises.specs.Openings.{HasClosed}
 use Rattle.tftp_promises.specs.Order.{Programs}
 use Rattle.tftp_promises.specs.Ports.{Removes}
-use Rattle.tftp_promises.specs.Network.{joined}
 use Rattle.tftp_promises.specs.Snapshots.{Snapshot, Has_asked}
 use Rattle.tftp_promises.proofs.Invariant.{HasTransferBy, IsKept}
 use Rattle.tftp_promises.proofs.KeptViews.{view_there}
@@ -104,9 +103,8 @@ closed_over : (x : OpenEnd) → is_some (outcome_of x.state.position.phase) ≡ 
 closed_over x closed busy = true≢false (sym (over_in x.state.position.phase closed busy.1) ∙ busy.2)
 
 module _ {S F D G K : Type 0} {stores : StoreMeaning S D} {sources : SourceMeaning F} {inputs : SourceMeaning G}
-    {outputs : SinkMeaning K}
-    (programs : Programs stores sources inputs outputs) {pad : ℕ} (old : Snapshot programs)
-    (kept : IsKept programs pad old) (from : Endpoint) (packet : WirePacket) where
+    {outputs : SinkMeaning K} {programs : Programs stores sources inputs outputs} {pad : ℕ} {old : Snapshot programs}
+    (kept : IsKept pad old) (from : Endpoint) (packet : WirePacket) where
   -- a transfer that was removed had closed
   has_closed : {first last : LoopState S F D} (run : Run (LoopStep stores sources) first last) (port : ℕ)
       (t : TransferState F D) (b : Endpoint) → HasClosed programs run port t b → is_closed t ≡ true
@@ -133,7 +131,7 @@ module _ {S F D G K : Type 0} {stores : StoreMeaning S D} {sources : SourceMeani
   closed_answers_none x t state a closed =
       closed_over x (ap (λ (e : EndState). is_some (outcome_of e.position.phase)) state ∙ closed) a.serving
 
-  transfer_answers : (port : ℕ) (t : TransferState F D) (b : Endpoint) → HasTransferBy programs old port t b →
+  transfer_answers : (port : ℕ) (t : TransferState F D) (b : Endpoint) → HasTransferBy old port t b →
       (x : OpenEnd) → x.state ≡ t.end → x.request ≡ t.request → IsAnswering (open_view x) from packet →
       AnyRepeats from packet old.state.server.held
   transfer_answers port t b (inr removed) x state request a =
@@ -150,14 +148,12 @@ module _ {S F D G K : Type 0} {stores : StoreMeaning S D} {sources : SourceMeani
     | inl h ↦
         let c = kept.clients h.k h.client (Has_asked h.s h.files h.noted h.moved) h.found h.is_stage in
         let is =
-        view_there (joined programs) kept.views kept.messages c.end view kept.shown c.viewed among
-        (h.address ∙ sym c.address) in
+        view_there kept.shown c.viewed among (h.address ∙ sym c.address) in
         absurd (not_a_client c.end c.side (subst (λ (v : EndView). IsAnswering v from packet) is a))
     | inr h ↦
         let t = kept.transfers h.port h.transfer view.address h.is_transfer in
         let is =
-        view_there (joined programs) kept.views kept.messages t.end view kept.shown t.viewed among
-        (sym t.address) in
+        view_there kept.shown t.viewed among (sym t.address) in
         transfer_answers h.port h.transfer view.address h.is_transfer t.end t.state t.request
         (subst (λ (v : EndView). IsAnswering v from packet) is a)
   ]

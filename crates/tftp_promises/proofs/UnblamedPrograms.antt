@@ -28,8 +28,8 @@ use Rattle.tftp_promises.specs.Blamed.{BeginsFile, EachIsUnblamed, MayCloseAs, N
 use Rattle.tftp_promises.specs.ClientRuns.{moved_in}
 use Rattle.tftp_promises.specs.Network.{HasOpened, joined}
 use Rattle.tftp_promises.specs.Openings.{ArePortsFresh, moved_at, opened_at}
-use Rattle.tftp_promises.specs.Order.{Programs, requests_at}
-use Rattle.tftp_promises.specs.Programs.{ClientProgram, client_at}
+use Rattle.tftp_promises.specs.Order.{Programs, ClientOf}
+use Rattle.tftp_promises.specs.Programs.{client_at}
 use Rattle.tftp_promises.specs.Several.{number_of}
 use Rattle.tftp_promises.specs.Snapshots.{Has_asked, all_of}
 use Rattle.tftp_promises.proofs.ClientRoles.{run_role}
@@ -73,11 +73,10 @@ begun_text mode long bytes h =
     )
 
 module _ {S F D G K : Type 0} {stores : StoreMeaning S D} {sources : SourceMeaning F} {inputs : SourceMeaning G}
-    {outputs : SinkMeaning K}
-    (programs : Programs stores sources inputs outputs) (fresh : ArePortsFresh programs)
-    (kept : IsKept programs 0 (all_of programs)) where
+    {outputs : SinkMeaning K} (programs : Programs stores sources inputs outputs) (fresh : ArePortsFresh programs)
+    (kept : IsKept 0 (all_of programs)) where
   abbrev Client : Type 0
-  Client = ClientProgram inputs outputs (requests_at programs)
+  Client = ClientOf programs
 
   client_kept : (k : ℕ) (client : Client) → slice_get programs.clients k ≡ Some client →
       ClientKept programs 0 kept.views kept.messages client client.last client.files (moved_in client.runs)
@@ -98,15 +97,15 @@ module _ {S F D G K : Type 0} {stores : StoreMeaning S D} {sources : SourceMeani
       subst (λ (e : EndState). IsUnblamed (joined programs) (SendsText programs 0) kept.messages e)
       (h.state ∙ ap (λ (z : ProgramEnd). z.state) (sym of.4)) h.viewed.unblamed
 
-  opened_there : (x : OpenEnd) (files : Files F D) → HasStored programs 0 (all_of programs) x files →
-      IsOpened programs (all_of programs) x
+  opened_there : (x : OpenEnd) (files : Files F D) → HasStored 0 (all_of programs) x files →
+      IsOpened programs programs.server.run x
   opened_there x (Source source) has = has.opened
   opened_there x (Sink draft) has = has.opened
 
   -- ---- what an end gave is the text of a file, if it begins that of one
   client_sends : (mode : Mode) (k : ℕ) (client : Client) → slice_get programs.clients k ≡ Some client →
       BeginsFile mode client.last.end.role.length (moved_in client.runs).bytes →
-      SendsText programs 0 (client_at inputs outputs (requests_at programs) client) mode
+      SendsText programs 0 (client_at client) mode
   client_sends mode k client found begins =
       let bytes = (moved_in client.runs).bytes in
       let text = begun_text mode client.last.end.role.length bytes begins in

@@ -29,9 +29,9 @@ use Rattle.tftp_rules.proofs.UnblamedEnds.{IsUnblamed, datagram_unblamed}
 use Rattle.tftp_promises.specs.Moved.{Moved}
 use Rattle.tftp_promises.specs.Network.{joined}
 use Rattle.tftp_promises.specs.Openings.{above, opened_at}
-use Rattle.tftp_promises.specs.Order.{Programs, requests_at}
+use Rattle.tftp_promises.specs.Order.{Programs, requests_at, ClientOf}
 use Rattle.tftp_promises.specs.Ports.{AreDistinct}
-use Rattle.tftp_promises.specs.Programs.{client_at, ClientProgram}
+use Rattle.tftp_promises.specs.Programs.{client_at}
 use Rattle.tftp_promises.specs.Snapshots.{Snapshot, Has_asked}
 use Rattle.tftp_promises.proofs.Invariant.{ClientKept, HasArrived, HasFile, HasStored, IsFreshBy, IsKept, IsOfClient}
 use Rattle.tftp_promises.proofs.Invariant.{IsOfTransfer, IsOpened, IsViewed, SendsText, TransferKept, client_text, place_text}
@@ -48,11 +48,10 @@ first_apart first port ports distinct c same =
     omega (arith, one)
 
 module _ {S F D G K : Type 0} {stores : StoreMeaning S D} {sources : SourceMeaning F} {inputs : SourceMeaning G}
-    {outputs : SinkMeaning K}
-    (programs : Programs stores sources inputs outputs) {pad : ℕ} (snapshot : Snapshot programs)
-    (kept : IsKept programs pad snapshot) (fresh : IsFreshBy programs snapshot) where
+    {outputs : SinkMeaning K} {programs : Programs stores sources inputs outputs} {pad : ℕ}
+    {snapshot : Snapshot programs} (kept : IsKept pad snapshot) (fresh : IsFreshBy snapshot) where
   abbrev Client : Type 0
-  Client = ClientProgram inputs outputs (requests_at programs)
+  Client = ClientOf programs
 
   -- no transfer is at the request port
   pub apart_from_requests : (a : Endpoint) → Contains (places programs snapshot.run) a → a ≢ requests_at programs
@@ -75,8 +74,8 @@ module _ {S F D G K : Type 0} {stores : StoreMeaning S D} {sources : SourceMeani
   client_sends client (Source source) x moved has sends = has.text
   client_sends client (Sink sink) x moved has sends = absurd (true≢false (sym sends ∙ has.receiver))
 
-  transfer_sends : (x : OpenEnd) (files : Files F D) → HasStored programs pad snapshot x files →
-      is_sender x.state.role.side ≡ true → (x.text ≡ place_text programs pad x.address) × IsOpened programs snapshot x
+  transfer_sends : (x : OpenEnd) (files : Files F D) → HasStored pad snapshot x files →
+      is_sender x.state.role.side ≡ true → (x.text ≡ place_text programs pad x.address) × IsOpened programs snapshot.run x
   transfer_sends x (Source source) has sends = (has.text, has.opened)
   transfer_sends x (Sink sink) has sends = absurd (true≢false (sym sends ∙ has.receiver))
 
@@ -96,24 +95,24 @@ module _ {S F D G K : Type 0} {stores : StoreMeaning S D} {sources : SourceMeani
         wire_text mode text.file ≡ (ends from).text
     same_text x viewed at has =
         let is : view ≡ open_view x =
-        view_there (joined programs) kept.views kept.messages x view kept.shown viewed among (here ∙ at) in
+        view_there kept.shown viewed among (here ∙ at) in
         let x_sends : is_sender x.state.role.side ≡ true = ap (λ (v : EndView). v.sender) (sym is) ∙ view_sends in
         has x_sends
         ∙ (sym (text_if (is_sender x.state.role.side) x.text (received_text x.state x.stored) x_sends)
         ∙ (ap (λ (v : EndView). v.text) (sym is)
         ∙ (sym (at_view.sent view_sends) ∙ ap (λ (a : Endpoint). (ends a).text) here)))
 
-    of_client : IsOfClient programs snapshot view.address → wire_text mode text.file ≡ (ends from).text
+    of_client : IsOfClient programs snapshot.clients view.address → wire_text mode text.file ≡ (ends from).text
     of_client h =
         let own : ClientKept programs pad kept.views kept.messages h.client h.s h.files h.moved =
         kept.clients h.k h.client (Has_asked h.s h.files h.noted h.moved) h.found h.is_stage in
-        let at : from ≡ client_at inputs outputs (requests_at programs) h.client = sym here ∙ h.address in
+        let at : from ≡ client_at h.client = sym here ∙ h.address in
         same_text own.end own.viewed (at ∙ sym own.address) (λ s.
         text.client h.k h.client h.found at ∙ sym (client_sends h.client h.files own.end h.moved own.has s))
 
-    of_transfer : IsOfTransfer programs snapshot view.address → wire_text mode text.file ≡ (ends from).text
+    of_transfer : IsOfTransfer snapshot view.address → wire_text mode text.file ≡ (ends from).text
     of_transfer h =
-        let own : TransferKept programs pad kept.views kept.messages snapshot h.port h.transfer view.address =
+        let own : TransferKept pad kept.views kept.messages snapshot h.port h.transfer view.address =
         kept.transfers h.port h.transfer view.address h.is_transfer in
         let at : from ≡ own.end.address = sym here ∙ sym own.address in
         let known = kept.server.opened h.port h.transfer view.address h.is_transfer in

@@ -317,16 +317,15 @@ wrong_replies sources sinks from e false bytes files turn files' acts reply says
 module _ {S F D G K : Type 0} {stores : StoreMeaning S D} {sources : SourceMeaning F} {inputs : SourceMeaning G}
     {outputs : SinkMeaning K}
     (programs : Programs stores sources inputs outputs) where
-  pub stays_strangers : (from : Endpoint) (e : EndState) (turn : Turn) →
-      IsStranger stores sources inputs outputs programs from → IsStrangers programs e → StaysBy from e turn →
-      IsStrangers programs (after_turn e turn)
+  pub stays_strangers : (from : Endpoint) (e : EndState) (turn : Turn) → IsStranger programs from →
+      IsStrangers programs e → StaysBy from e turn → IsStrangers programs (after_turn e turn)
   stays_strangers from e turn strange h s = record {
     peer = h.peer;
     is_peer = s.peer_is ∙ h.is_peer;
     strange = h.strange;
     last_sent_to = elim s.last_is [
       | inl same ↦
-          subst (λ (a : Endpoint). IsStranger stores sources inputs outputs programs a) (sym same) h.last_sent_to
-      | inr here ↦ subst (λ (a : Endpoint). IsStranger stores sources inputs outputs programs a) (sym here) strange
+          subst (λ (a : Endpoint). IsStranger programs a) (sym same) h.last_sent_to
+      | inr here ↦ subst (λ (a : Endpoint). IsStranger programs a) (sym here) strange
     ];
   }

@@ -36,7 +36,7 @@ module _ {S F D G K : Type 0} {stores : StoreMeaning S D} {sources : SourceMeani
     (several : Several stores sources inputs outputs) where
   -- the endpoint of a client
   abbrev pub there : OneClient several → Endpoint
-  there client = client_at inputs outputs (endpoint several.ip several.port) client
+  there client = client_at client
 
   -- the network of the server at this index and this client
   abbrev pub alone : ℕ → OneServer several → OneClient several
@@ -58,7 +58,7 @@ module _ {S F D G K : Type 0} {stores : StoreMeaning S D} {sources : SourceMeani
     pub honest : AreHonest several order
     -- the other clients are strangers to them
     pub others : (j : ℕ) (x : OneClient several) → slice_get several.clients j ≡ Some x → j ≢ k →
-        IsStranger stores sources inputs outputs (alone i server client) (there x)
+        IsStranger (alone i server client) (there x)
     -- no two of the client's transfers at this server have one port, and the client is at none of
     -- them
     pub fresh : ArePortsFresh (alone i server client)
@@ -124,12 +124,11 @@ module _ {S F D G K : Type 0} (stores : StoreMeaning S D) (sources : SourceMeani
   -- a server and each client that it serves so are joined
   abbrev pub EachIsJoined : Type 0
   EachIsJoined =
-      (several : Several stores sources inputs outputs) (order : List Noted)
-      (i : ℕ) (server : OneServer several) (k : ℕ) (client : OneClient several)
+      (several : Several stores sources inputs outputs) (order : List Noted) (i : ℕ)
+      (server : OneServer several) (k : ℕ) (client : OneClient several)
       → slice_get several.servers i ≡ Some server → slice_get several.clients k ≡ Some client
       → IsServed several order i server k client
-      → AreJoined stores sources inputs outputs (alone several i server client)
-      (heard_with i (number_of several k) order)
+      → AreJoined (alone several i server client) (heard_with i (number_of several k) order)
 
   -- and keep the promises, over any files
   abbrev pub EachKeepsAnyFiles : Type 0

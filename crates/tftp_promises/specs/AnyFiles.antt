@@ -20,8 +20,8 @@ use Rattle.tftp_promises.specs.Drafts.{HadStore, StoreBegan, TookSince}
 use Rattle.tftp_promises.specs.Given.{GaveSince, StoreOpened}
 use Rattle.tftp_promises.specs.Moved.{Moved}
 use Rattle.tftp_promises.specs.Openings.{moved_at, opened_at}
-use Rattle.tftp_promises.specs.Order.{Programs, IsStranger, requests_at}
-use Rattle.tftp_promises.specs.Programs.{endpoint, ClientProgram, client_at, name_of}
+use Rattle.tftp_promises.specs.Order.{Programs, IsStranger, ClientOf}
+use Rattle.tftp_promises.specs.Programs.{endpoint, client_at, name_of}
 use Rattle.tftp_promises.specs.Programs.{packet_of}
 use Rattle.tftp_promises.specs.Network.{HasOpened}
 
@@ -62,11 +62,10 @@ module _ {S F D G K : Type 0} {stores : StoreMeaning S D} {sources : SourceMeani
     {inputs : SourceMeaning G} {outputs : SinkMeaning K}
     (programs : Programs stores sources inputs outputs) where
   -- the end of a client
-  abbrev pub client_end
-      : ClientProgram inputs outputs (requests_at programs) → ProgramEnd
+  abbrev pub client_end : ClientOf programs → ProgramEnd
   client_end client =
       record {
-        address = client_at inputs outputs (requests_at programs) client;
+        address = client_at client;
         state = client.last.end;
         moved = moved_in client.runs;
       }
@@ -83,27 +82,23 @@ module _ {S F D G K : Type 0} {stores : StoreMeaning S D} {sources : SourceMeani
   -- an end of the programs: that of a client, or of a transfer that the server holds or has closed
   abbrev pub IsEnd : ProgramEnd → Type 0
   IsEnd x =
-      ((k : ℕ) × (client : ClientProgram inputs outputs
-      (requests_at programs))
+      ((k : ℕ) × (client : ClientOf programs)
       × (slice_get programs.clients k ≡ Some client) × (x ≡ client_end client))
       ⊎ ((port : ℕ) × (transfer : TransferState F D) × (a : Endpoint)
       × HasOpened programs port transfer a × (x ≡ transfer_end transfer a))
 
   -- the endpoint is no stranger's
   abbrev pub IsOurs : Endpoint → Type 0
-  IsOurs a = IsStranger stores sources inputs outputs programs a → ⊥
+  IsOurs a = IsStranger programs a → ⊥
 
   -- a transfer of the server at this endpoint is the client's: it has the client as its peer, the
   -- datagram that opened it spells the client's request, and its path is that of the client's name
-  pub record ServesClient (p : Endpoint)
-      (client : ClientProgram inputs outputs (requests_at programs))
-      : Type 0 where
+  pub record ServesClient (p : Endpoint) (client : ClientOf programs) : Type 0 where
     pub port : ℕ
     pub transfer : TransferState F D
     pub opened : HasOpened programs port transfer p
     pub server : is_client transfer.end.role.side ≡ false
-    pub peer : peer_of (transfer_end transfer p)
-        ≡ Some (client_at inputs outputs (requests_at programs) client)
+    pub peer : peer_of (transfer_end transfer p) ≡ Some (client_at client)
     -- one of the two sends, and the other receives
     pub other : is_sender transfer.end.role.side ≡ not (is_sender client.last.end.role.side)
     pub asked : Spells (packet_of client.opens) transfer.request
@@ -143,8 +138,7 @@ module _ {S F D G K : Type 0} {stores : StoreMeaning S D} {sources : SourceMeani
         (moved_at programs a programs.server.run).bytes draft
 
   -- the source that a client began with has given since, call by call, what the client sent
-  pub record WasGivenBy (client : ClientProgram inputs outputs (requests_at programs))
-      : Type 0 where
+  pub record WasGivenBy (client : ClientOf programs) : Type 0 where
     pub first : G
     pub is_first : client.file ≡ Source first
     pub source : G
@@ -154,7 +148,7 @@ module _ {S F D G K : Type 0} {stores : StoreMeaning S D} {sources : SourceMeani
   -- the file of a client, once it is complete: what it was handed, as wire text, is all that the
   -- source gave, call by call, that the server's store opened for this client's request, under the
   -- path of the name that it asked for; and it is committed
-  pub record HasGot (client : ClientProgram inputs outputs (requests_at programs)) : Type 0 where
+  pub record HasGot (client : ClientOf programs) : Type 0 where
     pub peer : Endpoint
     pub serves : ServesClient peer client
     pub given : WasGiven serves.transfer peer
@@ -168,7 +162,7 @@ module _ {S F D G K : Type 0} {stores : StoreMeaning S D} {sources : SourceMeani
   -- the file of a client, once it has sent all of it: what the client's source gave is, as wire
   -- text, all that the draft took, call by call, that the server's store began for this client's
   -- request, under the path of its name; and a commit of that succeeded
-  pub record HasPut (client : ClientProgram inputs outputs (requests_at programs)) : Type 0 where
+  pub record HasPut (client : ClientOf programs) : Type 0 where
     pub peer : Endpoint
     pub serves : ServesClient peer client
     pub given : WasGivenBy client
@@ -189,10 +183,9 @@ module _ {S F D G K : Type 0} {stores : StoreMeaning S D} {sources : SourceMeani
     pub unique : (x y : ProgramEnd) → IsEnd x → IsEnd y → x.address ≡ y.address → x ≡ y
     -- the peer of a client is a transfer of the server, which is the client's: of the file that it
     -- asked for
-    pub served : (k : ℕ)
-        (client : ClientProgram inputs outputs (requests_at programs))
-        (p : Endpoint) → slice_get programs.clients k ≡ Some client →
-        peer_of (client_end client) ≡ Some p → ServesClient p client
+    pub served : (k : ℕ) (client : ClientOf programs) (p : Endpoint) →
+        slice_get programs.clients k ≡ Some client → peer_of (client_end client) ≡ Some p →
+        ServesClient p client
     -- a transfer is at its port, unless its peer is a stranger
     pub at_port : (port : ℕ) (transfer : TransferState F D) (a p : Endpoint) →
         HasOpened programs port transfer a → peer_of (transfer_end transfer a) ≡ Some p →
@@ -209,14 +202,13 @@ module _ {S F D G K : Type 0} {stores : StoreMeaning S D} {sources : SourceMeani
         HasOpened programs port transfer a → is_sender transfer.end.role.side ≡ false →
         WasTaken transfer a
     -- and what it sends all, once a client that received it is complete
-    pub got : (k : ℕ) (client : ClientProgram inputs outputs (requests_at programs)) →
+    pub got : (k : ℕ) (client : ClientOf programs) →
         slice_get programs.clients k ≡ Some client → is_sender client.first.role.side ≡ false →
         is_complete client.last.end.position.phase ≡ true → HasGot client
     -- what a client sends was given by its source
-    pub gave : (k : ℕ) (client : ClientProgram inputs outputs (requests_at programs)) →
-        slice_get programs.clients k ≡ Some client → is_sender client.first.role.side ≡ true →
-        WasGivenBy client
+    pub gave : (k : ℕ) (client : ClientOf programs) → slice_get programs.clients k ≡ Some client →
+        is_sender client.first.role.side ≡ true → WasGivenBy client
     -- and all of it, once the client is complete
-    pub put : (k : ℕ) (client : ClientProgram inputs outputs (requests_at programs)) →
+    pub put : (k : ℕ) (client : ClientOf programs) →
         slice_get programs.clients k ≡ Some client → is_sender client.first.role.side ≡ true →
         is_complete client.last.end.position.phase ≡ true → HasPut client

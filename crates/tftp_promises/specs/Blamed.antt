@@ -56,7 +56,7 @@ module _ {S F D G K : Type 0} (stores : StoreMeaning S D) (sources : SourceMeani
   abbrev pub ProgramsAreUnblamed : Type 0
   ProgramsAreUnblamed =
       (programs : Programs stores sources inputs outputs) (order : List Noted)
-      → AreJoined stores sources inputs outputs programs order → NoneIsBlamed programs
+      → AreJoined programs order → NoneIsBlamed programs
 
   -- of each of several servers and a client that takes its answer
   abbrev pub EachIsUnblamed : Type 0

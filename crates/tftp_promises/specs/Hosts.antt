@@ -6,8 +6,8 @@ use Rattle.tftp_file.specs.Source.{SourceMeaning}
 use Rattle.tftp_store.specs.Store.{StoreMeaning}
 use Rattle.tftp_rules.specs.Machine.{Endpoint, At_server, At_client, Elsewhere}
 use Rattle.tftp_promises.specs.Openings.{ArePortsFresh, server_ports}
-use Rattle.tftp_promises.specs.Order.{Programs, IsStranger, requests_at}
-use Rattle.tftp_promises.specs.Programs.{endpoint, ClientProgram, client_at}
+use Rattle.tftp_promises.specs.Order.{Programs, IsStranger, ClientOf}
+use Rattle.tftp_promises.specs.Programs.{endpoint, client_at}
 use Rattle.tftp_promises.specs.Network.{joined}
 
 module _ {S F D G K : Type 0} {stores : StoreMeaning S D} {sources : SourceMeaning F}
@@ -16,10 +16,8 @@ module _ {S F D G K : Type 0} {stores : StoreMeaning S D} {sources : SourceMeani
   -- each client is at a client's endpoint
   abbrev pub ClientsAreThere : Type 0
   ClientsAreThere =
-      (k : ℕ) (client : ClientProgram inputs outputs (requests_at programs))
-      → slice_get programs.clients k ≡ Some client
-      → (joined programs).host_of
-      (client_at inputs outputs (requests_at programs) client) ≡ At_client
+      (k : ℕ) (client : ClientOf programs) → slice_get programs.clients k ≡ Some client
+      → (joined programs).host_of (client_at client) ≡ At_client
 
   -- each port of the server that its clients know is at the server, if the ports are fresh
   abbrev pub ServerIsThere : Type 0
@@ -30,6 +28,4 @@ module _ {S F D G K : Type 0} {stores : StoreMeaning S D} {sources : SourceMeani
   -- only strangers are elsewhere, so that what is claimed of peers has no other exception
   abbrev pub StrangersAreElsewhere : Type 0
   StrangersAreElsewhere =
-      (a : Endpoint)
-      → ((joined programs).host_of a ≡ Elsewhere)
-      ↔ IsStranger stores sources inputs outputs programs a
+      (a : Endpoint) → ((joined programs).host_of a ≡ Elsewhere) ↔ IsStranger programs a

@@ -6,7 +6,7 @@ use Rattle.tftp_store.specs.Store.{StoreMeaning}
 use Rattle.tftp_rules.specs.Machine.{Endpoint, Network}
 use Rattle.tftp_server.specs.State.{TransferState, at}
 use Rattle.tftp_promises.specs.Openings.{HasClosed, place_at}
-use Rattle.tftp_promises.specs.Order.{Programs, requests_at}
+use Rattle.tftp_promises.specs.Order.{Programs}
 use Rattle.tftp_promises.specs.Programs.{arrived, network_of}
 
 module _ {S F D G K : Type 0} {stores : StoreMeaning S D} {sources : SourceMeaning F}
@@ -14,7 +14,7 @@ module _ {S F D G K : Type 0} {stores : StoreMeaning S D} {sources : SourceMeani
     (programs : Programs stores sources inputs outputs) where
   -- the network of the programs
   abbrev pub joined : Network
-  joined = network_of inputs outputs (requests_at programs) programs.others programs.clients
+  joined = network_of programs.others programs.clients
 
   -- the server holds the transfer, which is at this place, or has closed it
   abbrev pub HasOpened : ℕ → TransferState F D → Endpoint → Type 0

@@ -14,10 +14,9 @@ use Rattle.tftp_loop.specs.Run.Run.{Start, Then}
 use Rattle.tftp_loop.specs.Steps.{LoopState, LoopStep, At_port, Request_answered}
 use Rattle.tftp_promises.specs.Moved.{Moved, nothing_moved, came_if, opening_moves, or_before}
 use Rattle.tftp_promises.specs.Moved.{port_moves}
-use Rattle.tftp_promises.specs.Order.{Programs, requests_at}
+use Rattle.tftp_promises.specs.Order.{Programs, ClientOf}
 use Rattle.tftp_promises.specs.Ports.{AreDistinct, Removes, opened_ports}
 use Rattle.tftp_promises.specs.Programs.{endpoint, client_at, has_client, is_at_server}
-use Rattle.tftp_promises.specs.Programs.{ClientProgram}
 
 -- their sum, which none of them exceeds
 abbrev pub total : List ℕ → ℕ
@@ -35,8 +34,7 @@ module _ {S F D G K : Type 0} {stores : StoreMeaning S D} {sources : SourceMeani
   -- the endpoint of a client of the network, or one of the server; all others are strangers'
   abbrev pub is_ours : Endpoint → Bool
   is_ours a =
-      if has_client inputs outputs (requests_at programs) programs.clients a
-      then true else is_at_server programs.ip programs.others a
+      if has_client programs.clients a then true else is_at_server programs.ip programs.others a
 
   -- above all ports at the server's address and of its clients
   abbrev pub above : ℕ
@@ -125,16 +123,10 @@ module _ {S F D G K : Type 0} {stores : StoreMeaning S D} {sources : SourceMeani
   -- at one of them, nor another server
   pub record AreEndsApart (ports : List ℕ) : Type 0 where
     pub server : AreDistinct ports
-    pub clients : (j k : ℕ)
-        (x y : ClientProgram inputs outputs (requests_at programs)) →
-        slice_get programs.clients j ≡ Some x → slice_get programs.clients k ≡ Some y →
-        client_at inputs outputs (requests_at programs) x
-        ≡ client_at inputs outputs (requests_at programs) y → j ≡ k
-    pub apart : (k port : ℕ)
-        (x : ClientProgram inputs outputs (requests_at programs)) →
-        slice_get programs.clients k ≡ Some x → Contains ports port →
-        client_at inputs outputs (requests_at programs) x
-        ≢ endpoint programs.ip port
+    pub clients : (j k : ℕ) (x y : ClientOf programs) → slice_get programs.clients j ≡ Some x →
+        slice_get programs.clients k ≡ Some y → client_at x ≡ client_at y → j ≡ k
+    pub apart : (k port : ℕ) (x : ClientOf programs) → slice_get programs.clients k ≡ Some x →
+        Contains ports port → client_at x ≢ endpoint programs.ip port
     pub others : (port : ℕ) → Contains ports port → Contains programs.others port → ⊥
 
   -- the ports are fresh for the clients and their transfers; those of strangers may be any

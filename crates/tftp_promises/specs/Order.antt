@@ -34,7 +34,7 @@ module _ {G K : Type 0} {inputs : SourceMeaning G} {outputs : SinkMeaning K} {to
       (a : Endpoint) : Type 0 where
     pub server : a.ip ≡ ip → Contains others a.port
     pub clients : (k : ℕ) (client : ClientProgram inputs outputs to) →
-        slice_get all k ≡ Some client → client_at inputs outputs to client ≢ a
+        slice_get all k ≡ Some client → client_at client ≢ a
 
 -- programs at these addresses, and which endpoints are strangers'
 module _ (ips : List (List ℕ)) where
@@ -82,44 +82,46 @@ module _ {S F D G K : Type 0} (stores : StoreMeaning S D) (sources : SourceMeani
     pub others : List ℕ
     pub clients : List (ClientProgram inputs outputs (endpoint ip port))
 
-  module _ (programs : Programs) where
-    -- the order, the newest event first, has the events of each program in their own order
-    pub record IsOrder (order : List Noted) : Type 0 where
-      pub server : events_of 0 order ≡ programs.server.noted
-      pub clients : (k : ℕ)
-          (client : ClientProgram inputs outputs (endpoint programs.ip programs.port)) →
-          slice_get programs.clients k ≡ Some client →
-          events_of (suc k) order ≡ client.noted
+module _ {S F D G K : Type 0} {stores : StoreMeaning S D} {sources : SourceMeaning F}
+    {inputs : SourceMeaning G} {outputs : SinkMeaning K}
+    (programs : Programs stores sources inputs outputs) where
+  -- where the clients send their requests
+  abbrev pub requests_at : Endpoint
+  requests_at = endpoint programs.ip programs.port
 
-    -- the addresses of the programs
-    abbrev pub ips : List (List ℕ)
-    ips = programs.ip ∷ map (λ client. client.ip) programs.clients
+  -- a client of these programs
+  abbrev pub ClientOf : Type 0
+  ClientOf = ClientProgram inputs outputs requests_at
 
-    abbrev pub IsAt : ℕ → ℕ → Endpoint → Type 0
-    IsAt = IsAtOf ips
+  -- the order, the newest event first, has the events of each program in their own order
+  pub record IsOrder (order : List Noted) : Type 0 where
+    pub server : events_of 0 order ≡ programs.server.noted
+    pub clients : (k : ℕ) (client : ClientOf) → slice_get programs.clients k ≡ Some client →
+        events_of (suc k) order ≡ client.noted
 
-    abbrev pub WasSent : List Noted → Endpoint → Endpoint → List ℕ → Type 0
-    WasSent = WasSentOf ips
+  -- the addresses of the programs
+  abbrev pub ips : List (List ℕ)
+  ips = programs.ip ∷ map (λ client. client.ip) programs.clients
 
-    -- a stranger: an endpoint of another program, at another address than the server's, or at a
-    -- port there that another server has
-    abbrev pub IsStranger : Endpoint → Type 0
-    IsStranger = IsStrangerTo programs.ip programs.others programs.clients
+  abbrev pub IsAt : ℕ → ℕ → Endpoint → Type 0
+  IsAt = IsAtOf ips
 
-    -- what may come though no program sent it: a stranger's datagram, or an ERROR
-    abbrev pub MayCome : Endpoint → List ℕ → Type 0
-    MayCome from bytes = IsStranger from ⊎ IsError bytes
+  abbrev pub WasSent : List Noted → Endpoint → Endpoint → List ℕ → Type 0
+  WasSent = WasSentOf ips
 
-    -- what a program receives was sent to it before, or may come nevertheless
-    abbrev pub CanCome : ℕ → SocketEvent → List Noted → Type 0
-    CanCome = CanComeOf ips IsStranger
+  -- a stranger: an endpoint of another program, at another address than the server's, or at a
+  -- port there that another server has
+  abbrev pub IsStranger : Endpoint → Type 0
+  IsStranger = IsStrangerTo programs.ip programs.others programs.clients
 
-    -- an honest network
-    abbrev pub IsHonest : List Noted → Type 0
-    IsHonest = IsHonestOf ips IsStranger
+  -- what may come though no program sent it: a stranger's datagram, or an ERROR
+  abbrev pub MayCome : Endpoint → List ℕ → Type 0
+  MayCome from bytes = IsStranger from ⊎ IsError bytes
 
--- where the clients send their requests
-abbrev pub requests_at : {S F D G K : Type 0} {stores : StoreMeaning S D}
-    {sources : SourceMeaning F} {inputs : SourceMeaning G} {outputs : SinkMeaning K}
-    → Programs stores sources inputs outputs → Endpoint
-requests_at programs = endpoint programs.ip programs.port
+  -- what a program receives was sent to it before, or may come nevertheless
+  abbrev pub CanCome : ℕ → SocketEvent → List Noted → Type 0
+  CanCome = CanComeOf ips IsStranger
+
+  -- an honest network
+  abbrev pub IsHonest : List Noted → Type 0
+  IsHonest = IsHonestOf ips IsStranger

@@ -120,19 +120,20 @@ module _ {G K : Type 0} (inputs : SourceMeaning G) (outputs : SinkMeaning K) (to
     pub noted : List SocketEvent
     pub is_noted : last.events ≡ noted ++ before
 
-  -- its endpoint
-  abbrev pub client_at : ClientProgram → Endpoint
+module _ {G K : Type 0} {inputs : SourceMeaning G} {outputs : SinkMeaning K} {to : Endpoint} where
+  -- a client's endpoint
+  abbrev pub client_at : ClientProgram inputs outputs to → Endpoint
   client_at client = endpoint client.ip client.port
 
   -- whether it is the endpoint of a client
-  abbrev pub has_client : List ClientProgram → Endpoint → Bool
+  abbrev pub has_client : List (ClientProgram inputs outputs to) → Endpoint → Bool
   has_client [] a = false
   has_client (client ∷ clients) a =
       if is_same a (client_at client) then true else has_client clients a
 
   -- the network of these clients and their server: an endpoint at the server's address is at the
   -- server, unless it is a client's or another server's, and the rest are elsewhere
-  abbrev pub network_of : List ℕ → List ClientProgram → Network
+  abbrev pub network_of : List ℕ → List (ClientProgram inputs outputs to) → Network
   network_of others clients =
       record {
         host_of = λ a.

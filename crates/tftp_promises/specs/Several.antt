@@ -98,8 +98,7 @@ module _ {S F D G K : Type 0} {stores : StoreMeaning S D} {sources : SourceMeani
   -- the ports of a server that the client knows: that of its requests, and of its transfers there
   abbrev pub known_ports : OneServer → OneClient → List ℕ
   known_ports server client =
-      several.port
-      ∷ ports_for (client_at inputs outputs (endpoint several.ip several.port) client) server.run
+      several.port ∷ ports_for (client_at client) server.run
 
   -- the other ports from which the other servers sent
   abbrev pub other_ports : ℕ → OneServer → OneClient → List ℕ

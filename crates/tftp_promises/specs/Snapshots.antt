@@ -62,21 +62,6 @@ module _ {S F D G K : Type 0} {stores : StoreMeaning S D} {sources : SourceMeani
         clients = map (λ client. Unasked) programs.clients;
       }
 
-  -- the server has made this step, and noted these events
-  abbrev pub server_did : (old : Snapshot) {new : LoopState S F D}
-      → LoopStep stores sources old.state new → List SocketEvent → Snapshot
-  server_did old {new} does added =
-      record {
-        state = new;
-        run = Then old.run does;
-        noted = added ++ old.noted;
-        clients = old.clients;
-      }
-
-  -- the client at this index is there now
-  abbrev pub client_did : Snapshot → ℕ → ClientStage G K → Snapshot
-  client_did old k stage = record old { clients = slice_set old.clients k stage }
-
   -- all programs in their end states
   abbrev pub all_of : Snapshot
   all_of =
@@ -89,3 +74,21 @@ module _ {S F D G K : Type 0} {stores : StoreMeaning S D} {sources : SourceMeani
             (λ client. Has_asked client.last client.files client.noted
             (moved_in client.runs)) programs.clients;
       }
+
+module _ {S F D G K : Type 0} {stores : StoreMeaning S D} {sources : SourceMeaning F}
+    {inputs : SourceMeaning G} {outputs : SinkMeaning K}
+    {programs : Programs stores sources inputs outputs} where
+  -- the server has made this step, and noted these events
+  abbrev pub server_did : (old : Snapshot programs) {new : LoopState S F D}
+      → LoopStep stores sources old.state new → List SocketEvent → Snapshot programs
+  server_did old {new} does added =
+      record {
+        state = new;
+        run = Then old.run does;
+        noted = added ++ old.noted;
+        clients = old.clients;
+      }
+
+  -- the client at this index is there now
+  abbrev pub client_did : Snapshot programs → ℕ → ClientStage G K → Snapshot programs
+  client_did old k stage = record old { clients = slice_set old.clients k stage }

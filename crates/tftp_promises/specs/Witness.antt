@@ -110,8 +110,7 @@ exchange =
 -- file, the read has closed as complete, and two transfers had one port
 pub record HasExchanged
     (programs : Programs memory_meaning memory_source memory_source memory_sink) : Type 0 where
-  pub joined : AreJoined memory_meaning memory_source memory_source memory_sink programs
-      (reverse exchange)
+  pub joined : AreJoined programs (reverse exchange)
   pub reads : ClientProgram memory_source memory_sink
       (requests_at programs)
   pub is_reader : slice_get programs.clients 0 ≡ Some reads
@@ -158,8 +157,7 @@ put_exchange =
 -- these programs noted it; both ends are complete, and the server's store has the file
 pub record HasWritten
     (programs : Programs memory_meaning memory_source memory_source memory_sink) : Type 0 where
-  pub joined : AreJoined memory_meaning memory_source memory_source memory_sink programs
-      (reverse put_exchange)
+  pub joined : AreJoined programs (reverse put_exchange)
   pub writes : ClientProgram memory_source memory_sink (requests_at programs)
   pub is_writer : slice_get programs.clients 0 ≡ Some writes
   pub has_written : is_complete writes.last.end.position.phase ≡ true

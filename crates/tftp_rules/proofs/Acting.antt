@@ -1,4 +1,4 @@
--- Rules that act in sequence at one end, by the view of that end.
+-- Rules that act in sequence at one end, by the view of that end. For Actions and Refines.
 use Rattle.std.proofs.Common.{◌≡◌, ◌+◌, Bool, true, false, List, [], ◌∷◌, ◌++◌, append_assoc, sym, refl, ap, ◌∙◌, subst}
 use Rattle.std.proofs.Common.{inl, inr}
 use Rattle.std.specs.Prelude.{◌≢◌}

@@ -1,4 +1,5 @@
--- Each act of an end, each opening and each datagram is shown.
+-- Each act of an end, each opening and each datagram is shown. For six other files and the crates tftp_player and
+-- tftp_promises.
 use Rattle.std.proofs.Common.{◌≡◌, ℕ, ◌+◌, ◌<◌, ◌≤◌, Bool, true, false, List, [], ◌∷◌, ◌++◌, length, set, Some, None}
 use Rattle.std.proofs.Common.{sym, refl, ◌∙◌, subst, arith}
 use Rattle.std.specs.Prelude.{nat_lt, if◌then◌else◌}
@@ -30,6 +31,7 @@ reader_begins sender e = rw e refl
 writer_begins : (sender : Bool) → sender ≡ true → begins sender ≡ 1
 writer_begins sender e = rw e refl
 
+-- an open end shows itself
 pub match_self : (a : Endpoint) (asks : List ℕ) (x : Party) → x.is_open ≡ true → Matches (view_of a asks x) x
 match_self a asks x o = record {
   is_open = o;

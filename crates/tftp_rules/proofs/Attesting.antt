@@ -1,4 +1,4 @@
--- The datagram of a rule is true of its sender.
+-- The datagram of a rule is true of its sender. For Keeps, Moving and Opening.
 use Rattle.std.proofs.Common.{[], ◌∷◌, sym, subst}
 use Rattle.std.specs.Prelude.{◌≢◌}
 use Rattle.std.specs.List.{Contains}
@@ -8,6 +8,7 @@ use Rattle.tftp_rules.specs.Facts.{Attests}
 use Rattle.tftp_rules.proofs.Grows.{with_at}
 use Rattle.tftp_rules.proofs.Steps.{none_sent, one_sent}
 
+-- what is true of an end's datagram stays true where that end is put into the machine
 pub attested_at : (ends : Endpoint → Party) (a : Endpoint) (x : Party) (to : Endpoint) (k : Packet) → Attests x to k →
     Attests (with_end ends a x a) to k
 attested_at ends a x to k t = subst (λ (y : Party). Attests y to k) (sym (with_at ends a x)) t
@@ -21,6 +22,7 @@ module _ (network : Network) where
       one_sent (λ d. network.host_of d.from ≢ Elsewhere → Attests (with_end ends a x d.from) d.to d.packet)
       (message a to k) (λ _. attested_at ends a x to k t)
 
+  -- a rule that sends nothing sends nothing untrue
   pub attested_none : (ends : Endpoint → Party) (d : Message) → Contains [] d → network.host_of d.from ≢ Elsewhere →
       Attests (ends d.from) d.to d.packet
   attested_none ends = none_sent (λ d. network.host_of d.from ≢ Elsewhere → Attests (ends d.from) d.to d.packet)

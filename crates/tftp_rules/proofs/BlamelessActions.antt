@@ -1,7 +1,7 @@
 -- No action on a datagram blames a peer that is no stranger, which sent what is true.
 -- For the laws on blame of worlds (tftp_player) and of programs (tftp_promises).
 use Rattle.std.proofs.Common.{◌≡◌, ℕ, ◌+◌, ◌*◌, ◌<◌, ◌≤◌, Bool, true, false, not, List, [], ◌++◌, length, take, drop}
-use Rattle.std.proofs.Common.{Option, Some, None, Result, Ok, Err, refl, sym, ap, ◌∙◌, subst, arith, inl, inr}
+use Rattle.std.proofs.Common.{Option, Some, None, Result, Ok, Err, refl, sym, ap, ◌∙◌, subst, arith, inr}
 use Rattle.std.specs.Prelude.{◌≢◌, ◌==◌, ◌/◌, nat_lt, nat_le, is_none, ◌&&◌, if◌then◌else◌, option_map, slice_get}
 use Rattle.std.specs.List.{Contains}
 use Rattle.std.proofs.lemmas.Bool.{true≢false, eqb-true, ltb-false, le-ltb}
@@ -26,7 +26,7 @@ use Rattle.tftp_ends.specs.declared.outcome.Outcome.TheVariants as outcomes
 use Rattle.tftp_ends.specs.declared.phase.Phase.{Phase}
 use Rattle.tftp_ends.specs.declared.phase.Phase.TheVariants.{Waiting, Sending, Receiving, Dallying, Closed}
 use Rattle.tftp_ends.specs.declared.phase.Terms.{Terms}
-use Rattle.tftp_ends.specs.End.{is_sender, is_client, is_complete, number_of, outcome_of, size_of, terms_of}
+use Rattle.tftp_ends.specs.End.{is_sender, is_client, is_complete, number_of, size_of, terms_of}
 use Rattle.tftp_ends.specs.Action.{Decodes, is_wrong_peer, same_address, garbled_response, packet_action, datagram_action}
 use Rattle.tftp_ends.specs.Sender.{sender_action}
 use Rattle.tftp_ends.specs.Receiver.{receiver_action, next_action, dally_response}
@@ -36,7 +36,7 @@ use Rattle.tftp_ends.specs.Waiting.{refusal_action, default_terms, agreed_terms}
 use Rattle.tftp_rules.specs.EndKept.{EndKept, PhaseKept, IsFromServer}
 use Rattle.tftp_rules.specs.EndShown.{IsThere}
 use Rattle.tftp_rules.specs.Facts.{Attests, Holds}
-use Rattle.tftp_rules.specs.Machine.{Endpoint, At_server, Elsewhere, Machine, Message, Network, Party, start}
+use Rattle.tftp_rules.specs.Machine.{Endpoint, Elsewhere, Machine, Message, Network, Party, start}
 use Rattle.tftp_rules.specs.OpenEnds.{OpenEnd, goes_on, has_failed, open_view, received_text}
 use Rattle.tftp_rules.specs.Rules.{Rule, message, run}
 use Rattle.tftp_rules.specs.Said.{said}
@@ -50,7 +50,6 @@ use Rattle.tftp_rules.proofs.RulesGrow.{run_fit, start_fit, GoToPort, run_goes, 
 use Rattle.tftp_rules.proofs.Runs.{Holds-start, Holds-run}
 use Rattle.tftp_rules.proofs.SaidLemmas.{says_spelled}
 use Rattle.tftp_rules.proofs.SinkMoves.{text_else}
-use Rattle.tftp_rules.proofs.SourceMoves.{text_if}
 use Rattle.tftp_rules.proofs.Steps.{own_of, same_size, server_end}
 use Rattle.tftp_rules.proofs.StorableBlocks.{IsStorable, and_false, and_true, by_one, differs, from_not, not_false, storable}
 use Rattle.tftp_rules.proofs.StorableBlocks.{the_peer}

@@ -64,6 +64,7 @@ module _ (network : Network) (Blames : Endpoint → Outcome → Type 0) where
   no_terms o p e own b = absurd (let f : None ≡ Some p = e in cc)
 
   -- ---- no action of an end with these terms blames
+  -- a response closes the end by no outcome that blames
   abbrev pub FineResponse : Option Terms → Response → Type 0
   FineResponse known (Close outcome) = Allowed known outcome
   FineResponse known (Refuse terms reply outcome) = Allowed terms outcome
@@ -94,6 +95,7 @@ module _ (network : Network) (Blames : Endpoint → Outcome → Type 0) where
   says_either known false one two h k = k
 
   -- ---- nor does a turn
+  -- a position has no outcome that blames
   abbrev pub Blameless : Position → Type 0
   Blameless position = (o : Outcome) → outcome_of position.phase ≡ Some o → Allowed (terms_of position.phase) o
 

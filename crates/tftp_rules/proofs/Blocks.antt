@@ -1,10 +1,11 @@
--- The blocks of a text, in sequence.
+-- The blocks of a text, in sequence. For `texts_go_on`, four other files and the crate tftp_player.
 use Rattle.std.proofs.Common.{◌≡◌, ℕ, ◌+◌, ◌*◌, ◌-◌, ◌<◌, ◌≤◌, List, ◌++◌, length, take, drop, ap, ◌∙◌, arith}
 use Rattle.std.proofs.Math.Seq.{take-add}
 use Rattle.std.proofs.lemmas.List.{take-append-drop, length-take, length-drop, take_all}
 use Rattle.tftp_file.specs.Block.{block, block_count, IsPrefixOf}
 use Rattle.tftp_rules.specs.Texts.{BlocksGoOn, BlocksHaveLengths}
 
+-- the first elements of a list are a prefix of it
 pub prefix_by_take : (n : ℕ) (xs : List ℕ) → IsPrefixOf (take n xs) xs
 prefix_by_take n xs = (drop n xs, take-append-drop n xs)
 
@@ -15,6 +16,7 @@ take-block text n size =
     let f : (n + 1 - 1) * size ≡ n * size = ap (λ k. k * size) (let g : n + 1 - 1 ≡ n = omega arith in g) in
     rw (e, take-add (n * size) size text, f)
 
+-- each block has the length that its number and the text give it
 pub length-block : BlocksHaveLengths
 length-block text n size =
     let f : (n + 1 - 1) * size ≡ n * size = ap (λ k. k * size) (let g : n + 1 - 1 ≡ n = omega arith in g) in
@@ -27,6 +29,7 @@ last_block text n size h =
     let l = length-block text n size in
     take-block text n size ∙ take_all ((n + 1) * size) text (omega arith)
 
+-- if the next block is full, the text is as long as all blocks up to it
 pub full_block : (text : List ℕ) (n size : ℕ) → 0 < size → n * size ≤ length text →
     size ≤ length (block text size (n + 1)) → (n + 1) * size ≤ length text
 full_block text n size p r h =

@@ -1,4 +1,5 @@
--- The answers of an open end that touch no file: ERRORs, retransmissions, acknowledgements.
+-- The answers of an open end that touch no file: ERRORs, retransmissions, acknowledgements. For four other files and
+-- the crates tftp_player and tftp_promises.
 use Rattle.std.proofs.Common.{◌≡◌, ℕ, ◌-◌, Bool, true, false, List, [], ◌∷◌, ◌++◌, length, set, Option, Some, sym, refl}
 use Rattle.std.proofs.Common.{ap, ◌∙◌, subst, arith, inl}
 use Rattle.std.specs.Prelude.{◌==◌, if◌then◌else◌, not, nat_le, is_some}
@@ -110,6 +111,7 @@ pub error_says : (r : ErrorReply) (from to : Endpoint) →
     Replies from (Some (record { to = to; bytes = canonical (error_packet r) })) (message from to Error ∷ [])
 error_says r from to = (error_packet r, spells_own (error_packet r) (valid_error r), refl)
 
+-- an end that has no outcome has not failed
 pub open_live : (phase : Phase) → is_some (outcome_of phase) ≡ false → has_failed phase ≡ false
 open_live (Waiting asked limit) e = refl
 open_live (Sending terms number) e = refl
@@ -140,6 +142,7 @@ pub failed_view : (e : EndView) (t : List ℕ) (b : Bool) (p : Option Endpoint) 
     }
 failed_view e t b p size z = ap (λ (c : Bool). record e { peer = p; size = size; failed = not c; text = t }) (sym z)
 
+-- an end that goes on is neither complete nor failed
 pub going_live : (phase : Phase) → goes_on phase ≡ true → (is_complete phase ≡ false) × (has_failed phase ≡ false)
 going_live (Waiting asked limit) e = (refl, refl)
 going_live (Sending terms number) e = (refl, refl)
@@ -182,6 +185,7 @@ module _ (network : Network) where
   phase_armed (Dallying terms number dally) x refuses h = h
   phase_armed (Closed terms number complete outcome) x refuses h = tt
 
+  -- to set a receiver's next append to be refused leaves the end consistent
   pub end_armed : (x : OpenEnd) (refuses : Bool) → EndKept network x → EndKept network (record x { refuses = refuses })
   end_armed x refuses h =
       record {

@@ -1,4 +1,5 @@
--- A request opens an end of the server in any network, with its first datagram.
+-- A request opens an end of the server in any network, with its first datagram. For `a_request_opens_an_end` and the
+-- crates tftp_player and tftp_promises.
 use Rattle.std.proofs.Common.{◌≡◌, ℕ, ◌*◌, ◌≤◌, true, false, [], ◌∷◌, ◌++◌, drop, refl, sym, ap, subst, arith}
 use Rattle.std.proofs.lemmas.Bool.{true≢false}
 use Rattle.tftp_wire.specs.declared.mode.Mode.{Mode}
@@ -23,11 +24,13 @@ pub nothing_held : (mode : Mode) → HeldBackFits mode []
 nothing_held Octet = refl
 nothing_held Netascii = tt
 
+-- an empty file has an empty wire text
 pub no_text : (mode : Mode) → wire_text mode [] ++ [] ≡ []
 no_text Octet = refl
 no_text Netascii = refl
 
 module _ (network : Network) where
+  -- a read request opens an end that sends
   pub opens_to_send : ReadsOpen network
   opens_to_send first views messages a from bytes request path file text [] retries shown place new come granted fits =
       let one : 1 ≤ block_count text DEFAULT_BLOCK = omega arith in
@@ -90,6 +93,7 @@ module _ (network : Network) where
             (sym (own_oack agreed granted.values)) now;
       }
 
+  -- a write request opens an end that receives
   pub opens_to_store : WritesOpen network
   opens_to_store first views messages a from bytes request path [] retries shown place new come granted =
       record {

@@ -1,4 +1,5 @@
--- An open end with any datagram, and at a timeout.
+-- An open end with any datagram, and at a timeout. For `an_open_end_takes_its_turn` and the crates tftp_player and
+-- tftp_promises.
 use Rattle.std.proofs.Common.{◌≡◌, ℕ, Bool, true, false, List, [], Option, Some, refl, subst, inl, arith}
 use Rattle.std.specs.Prelude.{◌==◌, ◌&&◌, if◌then◌else◌, is_none, is_some}
 use Rattle.std.proofs.lemmas.Bool.{true≢false}

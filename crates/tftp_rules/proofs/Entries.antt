@@ -1,4 +1,5 @@
--- What a look-up finds among the entries of a map after one was added, replaced or removed.
+-- What a look-up finds among the entries of a map after one was added, replaced or removed. For the crates
+-- tftp_player and tftp_promises.
 use Rattle.std.proofs.Common.{◌≡◌, ◌≢◌, Bool, true, false, List, [], ◌∷◌, cond, Some, refl, sym, ap, ◌∙◌}
 use Rattle.std.specs.Prelude.{is_some}
 use Rattle.std.specs.BTreeMap.{insert_entry, is_at}
@@ -19,9 +20,11 @@ pub record AreKeys {K : Type 0} (R : K → K → Ordering) : Type 0 where
   pub total : IsTotalOrder R
   pub exact : CmpEqualImpliesEq R
 
+-- numbers can be the keys of a map
 pub numbers : AreKeys nat_cmp
 numbers = record { total = nat_cmp_total; exact = exact_unsigned }
 
+-- texts can be the keys of a map
 pub texts : AreKeys (slice_cmp nat_cmp)
 texts = record { total = nat_list_cmp_total; exact = exact_bytes }
 
@@ -30,9 +33,11 @@ module _ {K : Type 0} {R : K → K → Ordering} (keys : AreKeys R) where
   pub at_same : (k q : K) → q ≡ k → is_at (R k) q ≡ true
   at_same k q e = ap (is_at (R k)) e ∙ (eq_by_cmp_equiv keys.total).refl k
 
+  -- a key that the order finds at another is that key
   pub same_at : (k q : K) → is_at (R k) q ≡ true → q ≡ k
   same_at k q h = sym (tells_apart keys.exact k q h)
 
+  -- the order finds no other key at a key
   pub at_other : (k q : K) → q ≢ k → is_at (R k) q ≡ false
   at_other k q n = by (is_at (R k) q) refl where
     by : (b : Bool) → is_at (R k) q ≡ b → is_at (R k) q ≡ false

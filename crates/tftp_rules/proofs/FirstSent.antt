@@ -1,4 +1,5 @@
--- The first datagram of a server's end, and what its source has left then.
+-- The first datagram of a server's end, and what its source has left then. For EndOpenings and the crate
+-- tftp_promises.
 use Rattle.std.proofs.Common.{◌≡◌, ℕ, ◌*◌, ◌^◌, ◌<◌, List, [], ◌∷◌, length, take, drop, min, Option, Some, Ok, refl}
 use Rattle.std.proofs.Common.{ap, ◌∙◌, subst, arith, ◌-◌}
 use Rattle.std.specs.Prelude.{◌≢◌}
@@ -83,6 +84,7 @@ pub read_first_valid : (agreed : List Known) (text : List ℕ) → AreGranted ag
 read_first_valid [] text g = valid_first text
 read_first_valid (k ∷ agreed) text g = g.oack (λ e. cc)
 
+-- the first datagram of a server's receiver, an ACK 0 or an OACK, is a valid packet
 pub write_first_valid : (agreed : List Known) → AreGranted agreed → IsValid (first_of_write agreed)
 write_first_valid [] g = let l : 0 < 2 ^ 16 = omega arith in l
 write_first_valid (k ∷ agreed) g = g.oack (λ e. cc)
@@ -93,6 +95,7 @@ pub read_first_is : (agreed : List Known) (peer : Endpoint) (mode : Mode) (text 
 read_first_is [] peer mode text retries = refl
 read_first_is (k ∷ agreed) peer mode text retries = refl
 
+-- its last datagram as it opens is the spelling of that packet
 pub write_first_is : (agreed : List Known) (peer : Endpoint) (mode : Mode) (retries : ℕ) →
     (serving_write agreed peer mode retries).position.last_sent ≡ canonical (first_of_write agreed)
 write_first_is [] peer mode retries = refl

@@ -1,4 +1,5 @@
--- The options that a server's end agrees to: its block size, and that its OACK is a packet.
+-- The options that a server's end agrees to: its block size, and that its OACK is a packet. For
+-- `a_request_opens_an_end` and the crates tftp_player and tftp_promises.
 use Rattle.std.proofs.Common.{◌≡◌, ℕ, suc, ◌^◌, ◌<◌, ◌≤◌, List, [], ◌∷◌, length, Ok, sym, refl, subst, arith}
 use Rattle.std.specs.Prelude.{◌≢◌}
 use Rattle.std.specs.List.{AllByRecursion}

@@ -1,4 +1,5 @@
--- An open end of the machine continues: what does not change, and what its datagrams imply stays true.
+-- An open end of the machine continues: what does not change, and what its datagrams imply stays true. For twelve
+-- other files and the crate tftp_player.
 use Rattle.std.proofs.Common.{◌≡◌, ◌≤◌, true, not, List, ◌++◌, Some, sym, refl, ap, ◌∙◌, subst, arith, inl, inr}
 use Rattle.std.specs.Prelude.{◌≢◌}
 use Rattle.std.specs.List.{Contains}
@@ -23,6 +24,7 @@ pub record Grows (x y : Party) : Type 0 where
   pub complete : x.complete ≡ true → y.complete ≡ true
   pub text : x.sender ≡ true → y.text ≡ x.text
 
+-- an open end that does not change goes on
 pub Grows-same : (x : Party) → x.is_open ≡ true → Grows x x
 Grows-same x o =
     record {
@@ -39,9 +41,11 @@ Grows-same x o =
       text = λ s. refl;
     }
 
+-- the end that was put at an endpoint is there
 pub with_at : (ends : Endpoint → Party) (a : Endpoint) (x : Party) → with_end ends a x a ≡ x
 with_at ends a x = cond-true (is_same a a) x (ends a) (same_self a)
 
+-- every other endpoint keeps its end
 pub with_other : (ends : Endpoint → Party) (a : Endpoint) (x : Party) (q : Endpoint) → q ≢ a →
     with_end ends a x q ≡ ends q
 with_other ends a x q n = cond-false (is_same q a) x (ends q) (same_other q a n)
@@ -50,6 +54,7 @@ with_other ends a x q n = cond-false (is_same q a) x (ends q) (same_other q a n)
 pub record AllGrow (ends new : Endpoint → Party) : Type 0 where
   pub grows : (q : Endpoint) → (ends q).is_open ≡ true → Grows (ends q) (new q)
 
+-- if one end goes on and no other changes, all go on
 pub AllGrow-with : (ends : Endpoint → Party) (a : Endpoint) (x : Party) → ((ends a).is_open ≡ true → Grows (ends a) x) →
     AllGrow ends (with_end ends a x)
 AllGrow-with ends a x g = record {
@@ -61,6 +66,7 @@ AllGrow-with ends a x g = record {
   ];
 }
 
+-- what an end's datagram implies stays true as the end goes on
 pub Attests-grows : (x y : Party) → (x.is_open ≡ true → Grows x y) → (to : Endpoint) (k : Packet) → Attests x to k →
     Attests y to k
 Attests-grows x y f to (Request write request) h = let g = f h.is_open in
@@ -98,6 +104,7 @@ Attests-grows x y f to (Oack size) h = let g = f h.is_open in
     }
 Attests-grows x y f to Error h = tt
 
+-- a server's end that serves a client still does as it goes on
 pub IsServing-grows : (a : Endpoint) (x y z : Party) → Grows y z → IsServing a x y → IsServing a x z
 IsServing-grows a x y z g h =
     record {
@@ -110,6 +117,7 @@ IsServing-grows a x y z g h =
       request = g.request ∙ h.request;
     }
 
+-- a client that asked an end has still asked it as the client goes on
 pub HasAsked-grows : (x y z : Party) → Grows y z → HasAsked x y → HasAsked x z
 HasAsked-grows x y z g h =
     record {
@@ -120,6 +128,7 @@ HasAsked-grows x y z g h =
       request = g.request ∙ h.request;
     }
 
+-- what a receiver has is still the beginning of its sender's text as the sender goes on
 pub HasReceived-grows : (x y z : Party) → Grows y z → y.sender ≡ true → HasReceived x y → HasReceived x z
 HasReceived-grows x y z g s h = let e = g.text s in
     record { prefix = rw e h.prefix; whole = rw e h.whole; so_far = rw e h.so_far; room = rw e h.room }
@@ -132,6 +141,7 @@ pub record HasPeer (x y : Party) : Type 0 where
   pub sender : y.sender ≡ not x.sender
 
 module _ (network : Network) where
+  -- the peer of a consistent end is an end of the other host that has it for its peer
   pub peer_of : (ends : Endpoint → Party) (a : Endpoint) (x : Party) → IsSoundParty network ends a x → (p : Endpoint) →
       x.peer ≡ Some p → network.host_of p ≢ Elsewhere → HasPeer x (ends p)
   peer_of ends a x h p e o = elim (cases_Bool x.client) [
@@ -143,6 +153,7 @@ module _ (network : Network) where
         h.asked c p e o in record { is_open = s.is_open; client = rw c s.client; mode = s.mode; sender = s.sender }
   ]
 
+  -- a consistent end stays so while all ends go on
   pub IsSound-grows : (ends new : Endpoint → Party) → AllGrow ends new → (a : Endpoint) (x : Party) →
       IsSoundParty network ends a x → IsSoundParty network new a x
   IsSound-grows ends new g a x h = record {

@@ -1,4 +1,5 @@
--- From wire text to the bytes of a file: a prefix on the wire is a prefix of the file.
+-- From wire text to the bytes of a file: a prefix on the wire is a prefix of the file. For NextBlocks and the crates
+-- tftp_player and tftp_promises.
 use Rattle.std.proofs.Common.{◌≡◌, ℕ, suc, zero, List, [], ◌∷◌, ◌++◌, sym, refl, ap, ◌∙◌, arith, inl, inr, append_assoc}
 use Rattle.std.proofs.Common.{length, replicate}
 use Rattle.std.specs.Prelude.{◌≢◌, ◌==◌, if◌then◌else◌}

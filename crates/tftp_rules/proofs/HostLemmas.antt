@@ -1,4 +1,4 @@
--- The host of an endpoint, by its address.
+-- The host of an endpoint, by its address. For `is_foreign` and the crate tftp_player.
 use Rattle.std.proofs.Common.{◌≡◌, Bool, true, false, sym, refl, ap, ◌∙◌}
 use Rattle.std.specs.Prelude.{◌&&◌, ◌↔◌, IsTrue, not, if◌then◌else◌}
 use Rattle.std.proofs.lemmas.Bool.{true≢false}
@@ -10,6 +10,7 @@ pub host_server : (a : Endpoint) → a.ip ≡ server_ip → host_of a ≡ At_ser
 unfolding host_of
 host_server a e = rw e refl
 
+-- an endpoint with the client's address is on the client's host
 pub host_client : (a : Endpoint) → a.ip ≡ client_ip → host_of a ≡ At_client
 unfolding host_of
 host_client a e = rw e refl

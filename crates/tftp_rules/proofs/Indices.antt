@@ -1,4 +1,5 @@
--- The element at an index of a list after a write or a push.
+-- The element at an index of a list after a write or a push. For Refines and the crates tftp_player and
+-- tftp_promises.
 use Rattle.std.proofs.Common.{◌≡◌, ℕ, List, [], ◌∷◌, ◌++◌, length, set, Some, None, refl, ap, arith, inl, inr, zero}
 use Rattle.std.proofs.Common.{suc}
 use Rattle.std.specs.Prelude.{◌≢◌, ◌⊎◌, slice_get}
@@ -15,12 +16,14 @@ slice_get-set_cases (x ∷ xs) (suc i) (suc j) a y e = elim (slice_get-set_cases
   | inr h ↦ inr (let m = h.0 in let n : suc j ≢ suc i = omega arith in n, h.1)
 ]
 
+-- the index that was written has the new element
 pub slice_get-set_same : {X : Type 0} (xs : List X) (i : ℕ) (a x : X) → slice_get xs i ≡ Some x →
     slice_get (set xs i a) i ≡ Some a
 slice_get-set_same [] i a x e = absurd (let f : None ≡ Some x = e in cc)
 slice_get-set_same (x ∷ xs) zero a z e = refl
 slice_get-set_same (x ∷ xs) (suc i) a z e = slice_get-set_same xs i a z e
 
+-- every other index has its element still
 pub slice_get-set_other : {X : Type 0} (xs : List X) (i j : ℕ) (a : X) → j ≢ i →
     slice_get (set xs i a) j ≡ slice_get xs j
 slice_get-set_other [] i j a n = refl
@@ -29,6 +32,7 @@ slice_get-set_other (x ∷ xs) zero (suc j) a n = refl
 slice_get-set_other (x ∷ xs) (suc i) zero a n = refl
 slice_get-set_other (x ∷ xs) (suc i) (suc j) a n = slice_get-set_other xs i j a (λ e. n (ap suc e))
 
+-- an element after a push was there, or is the one that was pushed
 pub slice_get-push_cases : {X : Type 0} (xs : List X) (j : ℕ) (a y : X) → slice_get (xs ++ a ∷ []) j ≡ Some y →
     (slice_get xs j ≡ Some y) ⊎ ((j ≡ length xs) × (y ≡ a))
 slice_get-push_cases [] zero a y e = inr (refl, let f : Some a ≡ Some y = e in cc)
@@ -39,12 +43,14 @@ slice_get-push_cases (x ∷ xs) (suc j) a y e = elim (slice_get-push_cases xs j 
   | inr h ↦ inr (ap suc h.0, h.1)
 ]
 
+-- an element that was there is there after a push
 pub slice_get-push_old : {X : Type 0} (xs : List X) (j : ℕ) (a y : X) → slice_get xs j ≡ Some y →
     slice_get (xs ++ a ∷ []) j ≡ Some y
 slice_get-push_old [] j a y e = absurd (let f : None ≡ Some y = e in cc)
 slice_get-push_old (x ∷ xs) zero a y e = e
 slice_get-push_old (x ∷ xs) (suc j) a y e = slice_get-push_old xs j a y e
 
+-- the pushed element is at the index that was the length
 pub slice_get-push_new : {X : Type 0} (xs : List X) (a : X) → slice_get (xs ++ a ∷ []) (length xs) ≡ Some a
 slice_get-push_new [] a = refl
 slice_get-push_new (x ∷ xs) a = slice_get-push_new xs a

@@ -1,4 +1,4 @@
--- Each rule of the machine preserves the invariant.
+-- Each rule of the machine preserves the invariant. For five other files.
 use Rattle.std.proofs.Common.{◌≡◌, ◌+◌, true, false, [], ◌∷◌, ◌++◌, length, Some, None, sym, refl, ◌∙◌, arith, inl, inr}
 use Rattle.std.specs.Prelude.{if◌then◌else◌, nat_lt}
 use Rattle.std.proofs.lemmas.Bool.{true≢false, cases_Bool}
@@ -15,6 +15,7 @@ use Rattle.tftp_rules.proofs.Opening.{asks, opens, accepting, takes, attested_fi
 use Rattle.tftp_rules.proofs.Moving.{received_more, received_failed, receives, sends, last_acked, fails, says}
 
 module _ (network : Network) where
+  -- a rule whose guard holds keeps the invariant
   pub keeps : (r : Rule) (m : Machine) → Holds network m → Guard network r m → Holds network (after network r m)
   keeps (Asks at write request text) m h g = asks network m h at write request text g
   keeps (Opens_plainly at peer true request text) m h g =

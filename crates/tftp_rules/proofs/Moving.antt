@@ -1,4 +1,4 @@
--- A receiver that stores a block, a sender that sends the next one, an end that fails.
+-- A receiver that stores a block, a sender that sends the next one, an end that fails. For Keeps.
 use Rattle.std.proofs.Common.{◌≡◌, ℕ, ◌+◌, ◌*◌, ◌<◌, ◌≤◌, true, false, List, [], ◌∷◌, ◌++◌, length, take, Some, None}
 use Rattle.std.proofs.Common.{sym, refl, ◌∙◌, subst, arith, inl, inr, rules}
 use Rattle.std.specs.Prelude.{◌≢◌, nat_lt}
@@ -18,9 +18,11 @@ pub more_text : (x y : Party) (piece : List ℕ) → GoesOn x y piece →
     x.text ++ piece ≡ take ((x.number + 1) * x.size) y.text
 more_text x y piece q = rw (q.so_far, q.bytes) (take-block y.text x.number x.size)
 
+-- a receiver that appends its peer's next block has a beginning of its peer's text
 pub more_prefix : (x y : Party) (piece : List ℕ) → GoesOn x y piece → IsPrefixOf (x.text ++ piece) y.text
 more_prefix x y piece q = rw (more_text x y piece q) (prefix_by_take ((x.number + 1) * x.size) y.text)
 
+-- and so it has received one block more
 pub received_more : (x y : Party) (piece : List ℕ) → GoesOn x y piece →
     HasReceived (record x { number = x.number + 1; complete = nat_lt (length piece) x.size; text = x.text ++ piece }) y
 received_more x y piece q = record {
@@ -32,6 +34,7 @@ received_more x y piece q = record {
       full_block y.text x.number x.size q.positive q.room (rw q.bytes at full);
 }
 
+-- if it fails at that block, what it stored is still a beginning of that text
 pub received_failed : (x y : Party) (piece : List ℕ) → x.complete ≡ false → GoesOn x y piece →
     HasReceived (record x { failed = true; text = x.text ++ piece }) y
 received_failed x y piece n q = record {

@@ -63,16 +63,20 @@ piece_readable Netascii file stored held piece rest last e none =
 
 -- ---- how long a block is
 module _ (text : List ℕ) (size : ℕ) (positive : 0 < size) (fits : Fits text size) where
+  -- the blocks of a text that fits are numbered by 16 bits
   pub numbered : block_count text size ≤ 65535
   numbered = let d : length text / size < 65535 =
       (div-lt_iff_lt-mul {k = size} {x = length text} {y = 65535} positive).1 fits in omega (arith, d)
 
+  -- every block before the last is full
   pub block_full : (n : ℕ) → n + 1 < block_count text size → length (block text size (n + 1)) ≡ size
   block_full n l = others_full text size positive (n + 1) (omega arith) l
 
+  -- the last block is shorter than the others
   pub block_last : (n : ℕ) → n + 1 ≡ block_count text size → length (block text size (n + 1)) < size
   block_last n e = subst (λ (k : ℕ). length (block text size k) < size) (sym e) (last_short text size positive)
 
+  -- no block is longer than the block size
   pub block_within : (n : ℕ) → n + 1 ≤ block_count text size → length (block text size (n + 1)) ≤ size
   block_within n l = let e = length-block text n size in omega (arith, e)
 

@@ -1,4 +1,4 @@
--- A client's request, the opening of a server's end, and a client that accepts its peer.
+-- A client's request, the opening of a server's end, and a client that accepts its peer. For Keeps and RecordedKept.
 use Rattle.std.proofs.Common.{◌≡◌, ℕ, ◌<◌, Bool, true, false, not, List, [], ◌∷◌, ◌++◌, Some, None, sym, refl, ap, ◌∙◌}
 use Rattle.std.proofs.Common.{subst, arith}
 use Rattle.std.specs.Prelude.{◌≢◌, if◌then◌else◌}
@@ -41,6 +41,7 @@ abbrev pub accepting : Party → Endpoint → ℕ → ℕ → Bool → Party
 accepting x peer size number failed = record x { peer = Some peer; size = size; number = number; failed = failed }
 
 module _ (network : Network) where
+  -- a client's request keeps the invariant
   pub asks : (m : Machine) → Holds network m → (at : Endpoint) (write : Bool) (request : WireRequest) (text : List ℕ) →
       Guard network (Asks at write request text) m → Holds network (after network (Asks at write request text) m)
   asks m h at write request text g =
@@ -63,6 +64,7 @@ module _ (network : Network) where
       (attested_one network m.party at x network.request_port (Request write request)
       (record { is_open = refl; client = refl; sender = refl; mode = refl; request = refl }))
 
+  -- the opening of a server's end, with options or plain, keeps the invariant
   pub opens : (m : Machine) → Holds network m →
       (at peer : Endpoint) (write plain : Bool) (request : WireRequest) (text : List ℕ) (size number : ℕ) →
       (m.party at).is_open ≡ false → network.host_of at ≡ At_server →

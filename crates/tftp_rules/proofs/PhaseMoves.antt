@@ -1,4 +1,5 @@
--- An end by its phase: a sender, a receiver, one that dallies.
+-- An end by its phase: a sender, a receiver, one that dallies. For EndTurns, WaitingMoves and the crates tftp_player
+-- and tftp_promises.
 use Rattle.std.proofs.Common.{◌≡◌, ℕ, ◌+◌, ◌/◌, ◌<◌, ◌≤◌, Bool, true, false, List, [], ◌∷◌, ◌++◌, length, set, Option}
 use Rattle.std.proofs.Common.{Some, None, sym, refl, ap, ◌∙◌, subst, arith}
 use Rattle.std.specs.Prelude.{◌==◌, ◌&&◌, if◌then◌else◌, not, nat_lt, is_some}
@@ -50,17 +51,21 @@ pub if_acts : {A : Type 0} (P : A → Type 0) (b : Bool) (r s : A) → (b ≡ tr
 if_acts P true r s f g = f refl
 if_acts P false r s f g = g refl
 
+-- the parts of a true conjunction are true
 pub both_true : (a b : Bool) → (a && b) ≡ true → (a ≡ true) × (b ≡ true)
 both_true true b e = (refl, e)
 both_true false b e = absurd (true≢false (sym e))
 
+-- what is not false is true
 pub not_false : (b : Bool) → not b ≡ false → b ≡ true
 not_false true e = refl
 not_false false e = absurd (true≢false e)
 
+-- endpoints of the same address by the test of an end have one address
 pub same_ips : (a b : Endpoint) → same_address a b ≡ true → a.ip ≡ b.ip
 same_ips a b e = same_text a.ip b.ip (sym e)
 
+-- endpoints that are the same by the test of an end are one
 pub same_endpoints : (a b : Endpoint) → same_endpoint a b ≡ true → a ≡ b
 same_endpoints a b e =
     let h = both_true (same_address a b) (a.port == b.port) e in

@@ -1,6 +1,6 @@
 -- An end of the server was opened without options exactly if the first of its datagrams is no OACK.
 -- For BlamelessActions, and for the laws on blame of worlds (tftp_player) and of programs (tftp_promises).
-use Rattle.std.proofs.Common.{◌≡◌, ℕ, ◌≤◌, Bool, true, false, List, [], ◌∷◌, ◌++◌, Option, Some, None, refl, sym, ap, ◌∙◌}
+use Rattle.std.proofs.Common.{◌≡◌, ◌≤◌, Bool, true, false, List, [], ◌∷◌, ◌++◌, Option, Some, None, refl, sym, ap, ◌∙◌}
 use Rattle.std.proofs.Common.{subst, arith, inl, inr}
 use Rattle.std.specs.Prelude.{◌≢◌, if◌then◌else◌}
 use Rattle.std.specs.List.{Contains}
@@ -20,7 +20,7 @@ use Rattle.tftp_rules.proofs.ActionCases.{IsPlainAnswer}
 use Rattle.tftp_rules.proofs.Endpoints.{cases_same, same_other, same_self}
 use Rattle.tftp_rules.proofs.Grows.{with_at, with_other}
 use Rattle.tftp_rules.proofs.Keeps.{keeps}
-use Rattle.tftp_rules.proofs.Steps.{own_of, own_server, server_end}
+use Rattle.tftp_rules.proofs.Steps.{own_server, server_end}
 
 -- whether a datagram of a server's end says that it was opened without options, or with some
 abbrev pub opens_as : Packet → Option Bool
@@ -114,6 +114,7 @@ module _ (network : Network) where
       ]) rest
 
   -- ---- so it is of all ends of the server
+  -- the first datagram of each end says how it was opened
   abbrev pub AreOpenedAs : List Message → (Endpoint → Party) → Type 0
   AreOpenedAs sent ends =
       (a : Endpoint) → (ends a).is_open ≡ true → (ends a).client ≡ false → opened_as a sent ≡ Some (ends a).plain
@@ -189,6 +190,7 @@ module _ (network : Network) where
   start_opens a o c = absurd (true≢false (sym o))
 
 -- ---- a client that took no OACK has a peer that was opened without options
+-- without an OACK an end's peer was opened without options
 abbrev pub HasPlainPeer : (Endpoint → Party) → Terms → Type 0
 HasPlainPeer ends t = t.by_oack ≡ false → ((ends t.peer).is_open ≡ true) × ((ends t.peer).plain ≡ true)
 

@@ -1,4 +1,4 @@
--- Each rule of the machine preserves the record of the datagrams sent.
+-- Each rule of the machine preserves the record of the datagrams sent. For `every_run_is_safe` and Refines.
 use Rattle.std.proofs.Common.{◌≡◌, ℕ, ◌+◌, Bool, true, false, not, List, [], ◌∷◌, ◌++◌, length, Some, None, sym, refl}
 use Rattle.std.proofs.Common.{ap, ◌∙◌, subst, arith, inl, inr}
 use Rattle.std.specs.Prelude.{◌≢◌, if◌then◌else◌, nat_lt}
@@ -173,6 +173,7 @@ module _ (network : Network) where
       })
       first
 
+  -- one rule keeps the record
   pub recorded_keeps : (r : Rule) (m : Machine) → Holds network m → AreRecorded network m → Guard network r m →
       AreRecorded network (after network r m)
   recorded_keeps (Asks at write request text) m h r g =
@@ -276,12 +277,14 @@ module _ (network : Network) where
       (subst (λ (k : Packet). Contains m.sent (message old.from old.to k)) z g))
   recorded_keeps (Strays stray) m h r g = says m h r stray (λ z own. absurd (own g))
 
+  -- and so does a legal run
   pub recorded_run : (rules : List Rule) (m : Machine) → Holds network m → AreRecorded network m →
       IsLegal network rules m → AreRecorded network (run network rules m)
   recorded_run [] m h r g = r
   recorded_run (x ∷ rules) m h r g =
       recorded_run rules (after network x m) (keeps network x m h g.0) (recorded_keeps x m h r g.0) g.2
 
+  -- at the start nothing was sent, and all of it is recorded
   pub recorded_start : AreRecorded network start
   recorded_start = record {
     ends = λ a o. absurd (true≢false (sym o));

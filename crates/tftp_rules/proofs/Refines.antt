@@ -1,4 +1,5 @@
--- What is shown stays shown after a step, an opening or a datagram.
+-- What is shown stays shown after a step, an opening or a datagram. For four functions, Actions, ViewSafe and the
+-- crates tftp_player and tftp_promises.
 use Rattle.std.proofs.Common.{◌≡◌, ℕ, Bool, true, false, List, [], ◌∷◌, ◌++◌, length, set, Some, None, sym, refl, ap}
 use Rattle.std.proofs.Common.{◌∙◌, subst, arith, inl, inr}
 use Rattle.std.specs.Prelude.{◌≢◌, ◌≤◌, ◌⊎◌, not, slice_get}
@@ -181,6 +182,7 @@ forgotten e (inl busy) over = over busy
 forgotten e (inr shown) over = shown.1 refl
 
 module _ (network : Network) where
+  -- no ends and no datagrams are shown by the empty run
   pub shown_start : IsShown network [] []
   shown_start = (
     [],
@@ -232,6 +234,7 @@ module _ (network : Network) where
   shown_within few most first views messages fits shown =
       (shown.0, (let l = shown.1 in omega (arith, l, fits)), shown.2)
 
+  -- an end that acts by some rules in turn stays shown
   pub shown_acts : (first : List Rule) (views : List EndView) (messages : List Message) (k : ℕ) (e f : EndView)
       (rs : List Rule) → IsShownAt network first views messages → slice_get views k ≡ Some e → e.failed ≡ false →
       ActInTurn network rs e.address messages (party_of e) → f.address ≡ e.address → f.request ≡ e.request →
@@ -354,6 +357,7 @@ module _ (network : Network) where
   opens_alike (Opens_with at peer write request text size) o x = (refl, refl)
   opens_alike r o x = absurd o
 
+  -- an end that opens by a rule is shown
   pub shown_opens : (first : List Rule) (views : List EndView) (messages : List Message) (f : EndView) (r : Rule) →
       IsShownAt network first views messages → OpensEnd r → MayAct network r messages nobody →
       f.address ≡ actor r → NoneAt views f.address → Matches f (party_after r nobody) →
@@ -421,6 +425,7 @@ module _ (network : Network) where
   speaks_alike (Strays stray) o x = (refl, refl)
   speaks_alike r o x = absurd o
 
+  -- a datagram that changes no end is shown
   pub shown_speaks : (first : List Rule) (views : List EndView) (messages : List Message) (r : Rule) →
       IsShownAt network first views messages → Speaks r → MayAct network r messages nobody →
       IsShownWithin network 1 first views (messages ++ packets network r nobody)

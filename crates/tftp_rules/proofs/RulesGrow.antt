@@ -118,6 +118,7 @@ module _ (network : Network) where
   }
 
   -- ---- requests are sent to the request port alone
+  -- the packet is a request
   abbrev pub IsRequest : Packet → Type 0
   IsRequest (Request write request) = Unit {0}
   IsRequest (Data n bytes) = ⊥
@@ -184,6 +185,7 @@ module _ (network : Network) where
   start_goes = none_go
 
   -- ---- the blocks of a sender that has begun can be numbered
+  -- a sender whose first block could not be read has failed
   abbrev pub FitsOnce : Party → Type 0
   FitsOnce x = x.sender ≡ true → (p : Endpoint) → x.peer ≡ Some p → (x.failed ≡ false) ⊎ (1 ≤ x.number) →
       Fits x.text x.size

@@ -1,4 +1,5 @@
--- Every run of the machine preserves the invariant, and the invariant implies that it is safe.
+-- Every run of the machine preserves the invariant, and the invariant implies that it is safe. For
+-- `every_run_is_safe`, four other files and the crate tftp_player.
 use Rattle.std.proofs.Common.{◌≡◌, true, false, List, [], ◌∷◌, ◌++◌, Option, Some, None, sym, refl, ◌∙◌}
 use Rattle.std.specs.Prelude.{◌≢◌}
 use Rattle.std.proofs.lemmas.Bool.{true≢false}
@@ -12,12 +13,14 @@ use Rattle.tftp_rules.proofs.Steps.{none_sent, own_server, same_size}
 use Rattle.tftp_rules.proofs.Keeps.{keeps}
 
 module _ (network : Network) where
+  -- the invariant holds at the start
   pub Holds-start : Holds network start
   Holds-start = record {
     ends = λ a o. absurd (true≢false (sym o));
     attested = none_sent (λ d. network.host_of d.from ≢ Elsewhere → Attests (start.party d.from) d.to d.packet);
   }
 
+  -- a legal run keeps the invariant
   pub Holds-run : (rules : List Rule) (m : Machine) → Holds network m → IsLegal network rules m →
       Holds network (run network rules m)
   Holds-run [] m h g = h
@@ -28,6 +31,7 @@ module _ (network : Network) where
   run_then [] qs m = refl
   run_then (r ∷ rs) qs m = run_then rs qs (after network r m)
 
+  -- one legal run after another is a legal run
   pub legal_then : (rs qs : List Rule) (m : Machine) → IsLegal network rs m → IsLegal network qs (run network rs m) →
       IsLegal network (rs ++ qs) m
   legal_then [] qs m g h = h
@@ -47,6 +51,7 @@ module _ (network : Network) where
       let p = peer_of network m.party x (m.party x) (h.ends x o) y e own in
       record { is_end = p.is_open; address = refl; sends = rw s at p.sender; mode = p.mode }
 
+  -- a machine with the invariant is safe
   pub IsSafeMachine-holds : (m : Machine) → Holds network m → IsSafeMachine network m
   IsSafeMachine-holds m h = record {
     same_size = λ x y o p e f. same_size network m h x y (o, p, e, f);

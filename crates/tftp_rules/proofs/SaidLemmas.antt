@@ -1,4 +1,5 @@
--- What the bytes of a datagram say: one packet at most, and a valid packet what it spells.
+-- What the bytes of a datagram say: one packet at most, and a valid packet what it spells. For eight other files and
+-- the crates tftp_player and tftp_promises.
 use Rattle.std.proofs.Common.{◌≡◌, ℕ, ◌^◌, ◌<◌, Bool, true, false, cond, List, [], ◌∷◌, ◌++◌, Option, Some, None}
 use Rattle.std.proofs.Common.{Result, Ok, Err, decimal, sym, refl, ap, ◌∙◌, subst, arith, drop, nat_le, ◌==◌}
 use Rattle.std.specs.Prelude.{option_to_list, ◌&&◌}
@@ -147,6 +148,7 @@ each_stated asked kind mode limit (o ∷ options) ks e =
     ap (λ (v : Option Known). option_to_list v ++ stated_options options) (sym one)
     ∙ (ap (λ (rest : List Known). option_to_list j.0 ++ rest) others ∙ sym j.4)
 
+-- options that are agreed were not refused as repeated
 pub negotiated_each : (b : Bool) (r : Result (List Known) Refusal) (ks : List Known) → cond b (Err Repeated) r ≡ Ok ks →
     r ≡ Ok ks
 negotiated_each true r ks e = cc

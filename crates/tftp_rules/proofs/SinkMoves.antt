@@ -1,4 +1,5 @@
--- A receiver whose sink stores a block or commits.
+-- A receiver whose sink stores a block or commits. For BlamelessActions, PhaseMoves, WaitingMoves and the crate
+-- tftp_player.
 use Rattle.std.proofs.Common.{◌≡◌, ℕ, ◌^◌, ◌<◌, Bool, true, false, List, [], ◌∷◌, ◌++◌, length, set, Some, Result, Ok}
 use Rattle.std.proofs.Common.{Err, sym, refl, ap, ◌∙◌, subst, inl, inr, append_assoc}
 use Rattle.std.specs.Prelude.{◌&&◌, if◌then◌else◌, not, nat_lt}
@@ -69,6 +70,7 @@ took_prefix before after bytes fault h =
       | inr f ↦ f
     ])
 
+-- an append that may be armed to fail appends the block, or fails and leaves the file
 pub took_armed : (armed : Bool) (before after : Holding) (bytes : List ℕ) (answer : Result Done StoreFault) →
     UnlessArmed armed before (Some after) answer (AppendsFreely before (Some after) bytes answer) →
     Took before after bytes answer
@@ -108,6 +110,7 @@ pub data Kept_all (before after : Holding) (answer : Result Done StoreFault) : T
   Not_yet : (fault : StoreFault) → (answer ≡ Err fault) → (after.bytes ≡ before.bytes) →
       (after.committed ≡ before.committed) → Kept_all before after answer
 
+-- a commit that may be armed to fail commits, or fails and leaves the file
 pub kept_by : (armed : Bool) (before after : Holding) (answer : Result Done StoreFault) →
     UnlessArmed armed before (Some after) answer (CommitsFreely before (Some after) answer) →
     Kept_all before after answer
@@ -127,10 +130,12 @@ pub same_bytes : {before after : Holding} {answer : Result Done StoreFault} → 
 same_bytes (For_good ok same done) = same
 same_bytes (Not_yet fault err same still) = same
 
+-- after a commit that succeeds the file is committed
 pub now_committed : {before after : Holding} (done : Done) → Kept_all before after (Ok done) → after.committed ≡ true
 now_committed done (For_good ok same committed) = committed
 now_committed done (Not_yet fault err same still) = absurd (let e : Ok done ≡ Err fault = err in cc)
 
+-- after one that fails it is as before
 pub still_committed : {before after : Holding} (fault : StoreFault) → Kept_all before after (Err fault) →
     after.committed ≡ before.committed
 still_committed fault (For_good ok same committed) = absurd (let e : Err fault ≡ Ok tt = ok in cc)
@@ -171,11 +176,13 @@ goes_on_with Octet held piece more after h d =
     ∙ (sym d.0 ∙ (sym (append-nil more) ∙ ap (λ (z : List ℕ). more ++ z) (sym (d.1 ∙ h))))
 goes_on_with Netascii held piece more after h d = d.1
 
+-- what netascii holds back of a block stays at most a CR
 pub held_fits : (mode : Mode) (held piece more after : List ℕ) → HeldBackFits mode held →
     Decoded mode held piece more after → HeldBackFits mode after
 held_fits Octet held piece more after h d = d.1 ∙ h
 held_fits Netascii held piece more after h d = tt
 
+-- the other branch of a choice
 pub text_else : (b : Bool) (f r : List ℕ) → b ≡ false → (if b then f else r) ≡ r
 text_else true f r e = absurd (true≢false e)
 text_else false f r e = refl

@@ -1,4 +1,5 @@
--- A sender whose source gives the next block.
+-- A sender whose source gives the next block. For BlamelessTurns, PhaseMoves, WaitingMoves and the crates tftp_player
+-- and tftp_promises.
 use Rattle.std.proofs.Common.{◌≡◌, ℕ, ◌+◌, ◌*◌, ◌-◌, ◌/◌, ◌^◌, ◌<◌, ◌≤◌, Bool, true, false, List, [], ◌∷◌, ◌++◌, length}
 use Rattle.std.proofs.Common.{set, take, drop, min, Some, Result, Ok, Err, sym, refl, ap, ◌∙◌, subst, arith, inl, inr}
 use Rattle.std.specs.Prelude.{◌≢◌, ◌⊎◌, if◌then◌else◌}
@@ -141,6 +142,7 @@ number_fits text size n p f l =
     let d : length text / size < 65535 = (div-lt_iff_lt-mul {k = size} {x = length text} {y = 65535} p).1 f in
     omega arith
 
+-- the DATA of the next block of a text that fits is a valid packet
 pub valid_data : (text : List ℕ) (size n : ℕ) → 0 < size → size ≤ MAX_BLOCK → Fits text size →
     n + 1 ≤ block_count text size → IsValid (Data (n + 1) (block text size (n + 1)))
 valid_data text size n p small f l =

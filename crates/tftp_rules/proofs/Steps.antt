@@ -1,4 +1,5 @@
--- Small facts on rules: whose datagram one is, and the hosts.
+-- Small facts on rules: whose datagram one is, and the hosts. For 13 other files and the crates tftp_player and
+-- tftp_promises.
 use Rattle.std.proofs.Common.{◌≡◌, ℕ, ◌+◌, ◌*◌, ◌<◌, ◌≤◌, Bool, true, false, not, List, [], ◌∷◌, length, take, Some}
 use Rattle.std.proofs.Common.{None, sym, refl, ap, ◌∙◌, subst, arith, inl, inr}
 use Rattle.std.specs.Prelude.{◌≢◌}
@@ -12,16 +13,20 @@ use Rattle.tftp_rules.specs.Facts.{home, HasReceived, IsSoundParty, Holds}
 use Rattle.tftp_rules.specs.MachineSafety.{Established}
 use Rattle.tftp_rules.proofs.Grows.{peer_of}
 
+-- twice negated is the same
 pub not-not : (b : Bool) → not (not b) ≡ b
 not-not true = refl
 not-not false = refl
 
+-- two opposite values are opposite both ways
 pub flip : (b c : Bool) → b ≡ not c → c ≡ not b
 flip b c e = rw e (sym (not-not c))
 
+-- of no datagrams each has any property
 pub none_sent : (P : Message → Type 0) (d : Message) → Contains [] d → P d
 none_sent P d c = absurd (let h : c.0 < 0 = c.1 in omega arith)
 
+-- if one datagram has a property, each of a list of it alone has it
 pub one_sent : (P : Message → Type 0) (a : Message) → P a → (d : Message) → Contains (a ∷ []) d → P d
 one_sent P a p d c =
     let z : c.0 ≡ 0 = let h : c.0 < 1 = c.1 in omega arith in
@@ -39,6 +44,7 @@ pub record Moves (x y : Party) : Type 0 where
   pub peer : y.peer ≡ x.peer
   pub size : y.size ≡ x.size
 
+-- an end without blocks has received a beginning of any text
 pub received_nothing : (x y : Party) → x.text ≡ [] → x.number ≡ 0 → x.complete ≡ false → HasReceived x y
 received_nothing x y t n d = record {
   prefix = (y.text, rw t refl);
@@ -55,9 +61,11 @@ pub record GoesOn (x y : Party) (piece : List ℕ) : Type 0 where
   pub positive : 0 < x.size
 
 module _ (network : Network) where
+  -- a client's host is not elsewhere
   pub own_client : (a : Endpoint) → network.host_of a ≡ At_client → network.host_of a ≢ Elsewhere
   own_client a h e = let k : At_client ≡ Elsewhere = sym h ∙ e in cc
 
+  -- the server's host is not elsewhere
   pub own_server : (a : Endpoint) → network.host_of a ≡ At_server → network.host_of a ≢ Elsewhere
   own_server a h e = let k : At_server ≡ Elsewhere = sym h ∙ e in cc
 
@@ -69,6 +77,7 @@ module _ (network : Network) where
   home_client a true h s = let k : At_client ≡ At_server = sym h ∙ s in cc
   home_client a false h s = refl
 
+  -- an open end is on one of the two hosts
   pub own_of : (m : Machine) → Holds network m → (a : Endpoint) → (m.party a).is_open ≡ true →
       network.host_of a ≢ Elsewhere
   own_of m h a o = home_own a (m.party a).client (h.ends a o).at_home
@@ -88,6 +97,7 @@ module _ (network : Network) where
         (((h.ends y e.1).serving d x e.3).1.size)
   ]
 
+  -- an end that moves is consistent if its peer and its blocks are as the phase says
   pub IsSound-moves : (ends : Endpoint → Party) (a : Endpoint) (x y : Party) → Moves x y →
       IsSoundParty network ends a x →
       (y.peer ≡ None → (y.number ≡ 0) × (y.complete ≡ false) × (y.sender ≡ false → y.text ≡ [])) →
@@ -131,6 +141,7 @@ module _ (network : Network) where
     ended = d;
   }
 
+  -- a DATA of its peer with the next number carries the next block of its peer's text
   pub next_block : (m : Machine) → Holds network m → (at peer : Endpoint) (bytes : List ℕ) →
       IsNext m.sent (m.party at) at peer bytes → network.host_of peer ≢ Elsewhere →
       GoesOn (m.party at) (m.party peer) bytes

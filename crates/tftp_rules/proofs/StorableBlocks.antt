@@ -18,6 +18,7 @@ use Rattle.tftp_rules.proofs.Endpoints.{endpoint_from}
 use Rattle.tftp_rules.proofs.NextBlocks.{less, piece_readable, block_within, never_long, last_rest}
 
 -- ---- small facts
+-- the parts of a true conjunction are true
 pub and_true : (a b : Bool) → (a && b) ≡ true → (a ≡ true) × (b ≡ true)
 and_true true b e = (refl, e)
 and_true false b e = absurd (true≢false (sym e))

@@ -1,4 +1,5 @@
--- The wire text of what a receiver has stored, after more was stored.
+-- The wire text of what a receiver has stored, after more was stored. For NextBlocks, SinkMoves and the crate
+-- tftp_player.
 use Rattle.std.proofs.Common.{◌≡◌, ℕ, List, ◌++◌, sym, refl, ap, ◌∙◌, append_assoc}
 use Rattle.std.proofs.lemmas.List.Concat.{flat_map-append}
 use Rattle.tftp_wire.specs.declared.mode.Mode.{Mode}
@@ -6,6 +7,7 @@ use Rattle.tftp_wire.specs.declared.mode.Mode.TheVariants.{Octet, Netascii}
 use Rattle.tftp_file.specs.Block.{IsPrefixOf}
 use Rattle.tftp_file.specs.Netascii.{wire_byte, wire_text}
 
+-- the wire text of two parts is that of the first and then that of the second
 pub wire_text-append : (mode : Mode) (xs ys : List ℕ) →
     wire_text mode (xs ++ ys) ≡ wire_text mode xs ++ wire_text mode ys
 wire_text-append Octet xs ys = refl

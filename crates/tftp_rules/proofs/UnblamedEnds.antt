@@ -28,7 +28,7 @@ use Rattle.tftp_rules.specs.EndKept.{EndKept, PhaseKept, IsAnswer, IsFromServer}
 use Rattle.tftp_rules.specs.EndShown.{IsThere}
 use Rattle.tftp_rules.specs.Facts.{Attests, Holds}
 use Rattle.tftp_rules.specs.KnownFiles.{known_source, known_sink}
-use Rattle.tftp_rules.specs.Machine.{Endpoint, At_server, Elsewhere, Machine, Message, Network, Party, start}
+use Rattle.tftp_rules.specs.Machine.{Endpoint, Elsewhere, Machine, Message, Network, Party, start}
 use Rattle.tftp_rules.specs.OpenEnds.{OpenEnd, files_of, open_view}
 use Rattle.tftp_rules.specs.Rules.{Rule, message, run}
 use Rattle.tftp_rules.specs.Said.{said}

@@ -1,4 +1,5 @@
--- Ends that are shown are safe, as the machine is.
+-- Ends that are shown are safe, as the machine is. For `texts_go_on`, `what_is_shown_is_safe` and the crates
+-- tftp_player and tftp_promises.
 use Rattle.std.proofs.Common.{◌≡◌, ℕ, true, not, List, [], ◌∷◌, ◌++◌, Some, sym, refl, ap, ◌∙◌, subst, inl, inr}
 use Rattle.std.proofs.Common.{append_assoc}
 use Rattle.std.specs.List.{Contains}
@@ -15,6 +16,7 @@ use Rattle.tftp_rules.proofs.Steps.{own_server}
 use Rattle.tftp_rules.proofs.Refines.{shown_by}
 use Rattle.tftp_rules.proofs.Runs.{IsSafeMachine-holds}
 
+-- a beginning of a beginning is a beginning
 pub IsPrefixOf-trans : PrefixesJoin
 IsPrefixOf-trans xs ys zs a b =
     (a.0 ++ b.0, sym (append_assoc xs a.0 b.0) ∙ (ap (λ (us : List ℕ). us ++ b.0) a.1 ∙ b.1))
@@ -39,6 +41,7 @@ found views messages m s p o =
     (y, record { among = (old.0, old.2); address = old.3; matches = matches })
 
 module _ (network : Network) where
+  -- of ends that are shown no two have one endpoint
   pub shown_apart : (views : List EndView) (messages : List Message) → IsShown network views messages → AreApart views
   shown_apart views messages shown = (shown_by network views messages shown).3.apart
 
@@ -64,6 +67,7 @@ module _ (network : Network) where
         sym b.peer,
       )
 
+  -- ends that are shown are safe
   pub shown_safe : (views : List EndView) (messages : List Message) → IsShown network views messages →
       IsSafeViews network views
   shown_safe views messages shown =

@@ -1,4 +1,4 @@
--- A waiting client with its first answer.
+-- A waiting client with its first answer. For EndTurns and the crate tftp_player.
 use Rattle.std.proofs.Common.{◌≡◌, ℕ, ◌*◌, ◌<◌, ◌≤◌, true, false, List, [], ◌∷◌, ◌++◌, length, set, drop, Option, Some}
 use Rattle.std.proofs.Common.{None, Result, Ok, Err, sym, refl, ap, ◌∙◌, subst, arith, inl, inr, append_assoc}
 use Rattle.std.specs.Prelude.{◌==◌, ◌&&◌, if◌then◌else◌, nat_lt, nat_le}

@@ -42,11 +42,25 @@ holding_of x = record { bytes = x.stored; committed = x.committed; refuses = x.r
 abbrev pub files_of : OpenEnd → Files (List ℕ) Holding
 files_of x = if is_sender x.state.role.side then Source x.left else Sink (holding_of x)
 
--- the end, with these bytes left of its source or held by its sink
+-- what these files have left of a source, or of another source's bytes
+abbrev pub left_in : Files (List ℕ) Holding → List ℕ → List ℕ
+left_in (Source left) other = left
+left_in (Sink holding) other = other
+
+-- what their sink holds, or another
+abbrev pub held_in : Files (List ℕ) Holding → Holding → Holding
+held_in (Source left) other = other
+held_in (Sink holding) other = holding
+
+-- the end, with these bytes left of its source or held by its sink; the rest is as it was
 abbrev pub with_files : OpenEnd → Files (List ℕ) Holding → OpenEnd
-with_files x (Source left) = record x { left = left }
-with_files x (Sink holding) =
-    record x { stored = holding.bytes; committed = holding.committed; refuses = holding.refuses }
+with_files x files =
+    record x {
+      left = left_in files x.left;
+      stored = (held_in files (holding_of x)).bytes;
+      committed = (held_in files (holding_of x)).committed;
+      refuses = (held_in files (holding_of x)).refuses;
+    }
 
 -- the end in another state
 abbrev pub in_state : EndState → OpenEnd → OpenEnd
