@@ -25,8 +25,7 @@ use Rattle.tftp_promises.specs.ClientRuns.{moved_in}
 use Rattle.tftp_promises.specs.Drafts.{StoreBegan}
 use Rattle.tftp_promises.specs.Given.{StoreOpened}
 use Rattle.tftp_promises.specs.Openings.{moved_at}
-use Rattle.tftp_promises.specs.Order.{Programs, requests_at}
-use Rattle.tftp_promises.specs.Programs.{ClientProgram}
+use Rattle.tftp_promises.specs.Order.{Programs, ClientOf}
 use Rattle.tftp_promises.specs.Several.{Several, OneServer}
 use Rattle.tftp_words.specs.EndToEnd.{FileDone, GotFile, PutFile, WordsMoveFiles}
 use Rattle.tftp_words.specs.OverSeveral.{FileDoneThere, SeveralMoveFiles}
@@ -50,7 +49,7 @@ module _ {S F D G K : Type 0} {stores : StoreMeaning S D} {sources : SourceMeani
     {outputs : SinkMeaning K}
     (programs : Programs stores sources inputs outputs) (keeps : KeepAnyFiles programs) where
   abbrev Program : Type 0
-  Program = ClientProgram inputs outputs (requests_at programs)
+  Program = ClientOf programs
 
   -- a program of the network that received the file of a job
   module _ (job : Job) (count : ℕ) (moved : Moved) (reads_it : side_of job.kind ≡ ClientRead) (k : ℕ) (program : Program)

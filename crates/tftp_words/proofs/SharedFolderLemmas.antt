@@ -339,7 +339,7 @@ module _ (lock : List ℕ) where
         left = q_left;
       })
 
-module _ {order : List FolderCall} {target : List ℕ} {i j : ℕ} {may_replace replaces : Bool} (agree : AnswersAgree order) (keep : AllKeepLock (lock_of target) order)
+module _ {order : List FolderCall} {target : List ℕ} {i j : ℕ} {may_replace replaces : Bool} (agree : AnswersAgree order)
     (first : IsNamed order target i may_replace) (second : IsNamed order target j replaces) (between : List FolderCall)
     (newer : first.newer ≡ second.newer ++ (j, second.call) ∷ between)
     (older : second.older ≡ between ++ (i, first.call) ∷ first.older) where
@@ -354,8 +354,8 @@ module _ {order : List FolderCall} {target : List ℕ} {i j : ℕ} {may_replace 
       (agree_after second.newer (j, second.call) second.older
       (subst (λ (l : List FolderCall). AnswersAgree l) second.at agree)).0
 
-  older_keep : AllKeepLock (lock_of target) second.older
-  older_keep =
+  older_keep : AllKeepLock (lock_of target) order → AllKeepLock (lock_of target) second.older
+  older_keep keep =
       all_keep_after (lock_of target) ((j, second.call) ∷ []) second.older
       (all_keep_after (lock_of target) second.newer ((j, second.call) ∷ second.older)
       (subst (λ (l : List FolderCall). AllKeepLock (lock_of target) l) second.at keep))
@@ -397,23 +397,24 @@ module _ {order : List FolderCall} {target : List ℕ} {i j : ℕ} {may_replace 
         (agree_after between (i, first.call) first.older
         (subst (λ (l : List FolderCall). AnswersAgree l) older older_agree)).1
 
-    first_keep : AllKeepLock (lock_of target) first.older
-    first_keep =
+    first_keep : AllKeepLock (lock_of target) order → AllKeepLock (lock_of target) first.older
+    first_keep keep =
         all_keep_after (lock_of target) ((i, first.call) ∷ []) first.older
         (all_keep_after (lock_of target) between ((i, first.call) ∷ first.older)
-        (subst (λ (l : List FolderCall). AllKeepLock (lock_of target) l) older older_keep))
+        (subst (λ (l : List FolderCall). AllKeepLock (lock_of target) l) older (older_keep keep)))
 
-    -- while the second held the lock, the first got the name without it
+    -- while the second held the lock, the first got the name without it, if all keep to the lock
     by_whom : (look : DiskEvent) (before : List DiskEvent)
         → calls_by j first.older ≡ look ∷ (Made (lock_of target) (Ok tt) ∷ before)
         → LeavesPath (lock_of target) look → i ≢ j
-        → (may : Bool) → may_replace ≡ may → IsLinkTo target first.call ⊎ (may_replace ≡ true)
-    by_whom look before own leaves other true may = inr may
-    by_whom look before own leaves other false may = elim (first.free may) [
+        → (may : Bool) → may_replace ≡ may → AllKeepLock (lock_of target) order
+        → IsLinkTo target first.call ⊎ (may_replace ≡ true)
+    by_whom look before own leaves other true may keep = inr may
+    by_whom look before own leaves other false may keep = elim (first.free may) [
       | inl link ↦ inl link
       | inr (before', error, none, looked) ↦
           absurd (made_once (lock_of target) first.older i j (Looked target (Err error) ∷ []) before'
-          (look ∷ []) before first_agree first_keep looked (tt, tt) own (leaves, tt) other)
+          (look ∷ []) before first_agree (first_keep keep) looked (tt, tt) own (leaves, tt) other)
     ]
 
     overlaps : IsFreeLocked target (calls_by j second.older) → Overlaps first second between
@@ -465,12 +466,12 @@ module _ {order : List FolderCall} {target : List ℕ} {i j : ℕ} {may_replace 
   }
 
 pub one_has_it : OneHasTheName
-one_has_it order target i j may_replace replaces agree keep first second =
+one_has_it order target i j may_replace replaces agree first second =
     elim (places (i, first.call) (j, second.call) first.newer first.older second.newer second.older
     (sym first.at ∙ second.at)) [
       | One same rest ↦ inl (ap (λ (c : FolderCall). c.0) same, rest)
-      | Before b is more ↦ inr (inl (later agree keep first second b is more))
-      | After b is more ↦ inr (inr (later agree keep second first b is more))
+      | Before b is more ↦ inr (inl (later agree first second b is more))
+      | After b is more ↦ inr (inr (later agree second first b is more))
     ]
 
 -- ---- what the calls up to a change, and up to a rename, have to do with all calls

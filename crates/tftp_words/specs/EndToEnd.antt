@@ -22,8 +22,8 @@ use Rattle.tftp_promises.specs.ClientRuns.{moved_in}
 use Rattle.tftp_promises.specs.Drafts.{HadStore, StoreBegan, WasCommitted}
 use Rattle.tftp_promises.specs.Given.{StoreOpened}
 use Rattle.tftp_promises.specs.Openings.{ArePortsFresh}
-use Rattle.tftp_promises.specs.Order.{IsHonest, IsOrder, Noted, Programs, requests_at}
-use Rattle.tftp_promises.specs.Programs.{ClientProgram, endpoint}
+use Rattle.tftp_promises.specs.Order.{IsHonest, IsOrder, Noted, Programs, ClientOf}
+use Rattle.tftp_promises.specs.Programs.{endpoint}
 use Rattle.tftp_words.specs.Ran.{AllAsk, AreRan, ClientRan, Job, ServerRan, port_of}
 
 module _ {G K : Type 0} (inputs : SourceMeaning G) (outputs : SinkMeaning K)
@@ -50,7 +50,7 @@ module _ {S F D G K : Type 0} {stores : StoreMeaning S D} {sources : SourceMeani
     pub counted : count ≡ length bytes
     -- a program of the network got them
     pub k : ℕ
-    pub program : ClientProgram inputs outputs (requests_at programs)
+    pub program : ClientOf programs
     pub found : slice_get programs.clients k ≡ Some program
     pub moved : (moved_in program.runs).bytes ≡ bytes
     pub got : HasGot programs program
@@ -71,7 +71,7 @@ module _ {S F D G K : Type 0} {stores : StoreMeaning S D} {sources : SourceMeani
     pub counted : job.mode ≡ Octet → count ≡ length text
     -- a program of the network put it
     pub k : ℕ
-    pub program : ClientProgram inputs outputs (requests_at programs)
+    pub program : ClientOf programs
     pub found : slice_get programs.clients k ≡ Some program
     pub moved : (moved_in program.runs).bytes ≡ text
     pub put : HasPut programs program
@@ -113,6 +113,6 @@ WordsMoveFiles log stores sources inputs outputs =
     (server : ServerRan log stores sources) (port : ℕ) (clients : List (ClientRan inputs outputs))
     → port_of server ≡ Some port → AllAsk (endpoint server.ip port) clients
     → (programs : Programs stores sources inputs outputs) × AreRan server port clients programs
-    × ((order : List Noted) → IsOrder stores sources inputs outputs programs order
-    → IsHonest stores sources inputs outputs programs order → ArePortsFresh programs
+    × ((order : List Noted) → IsOrder programs order
+    → IsHonest programs order → ArePortsFresh programs
     → KeepAnyFiles programs × AllByRecursion (HasDone programs) clients)

@@ -93,6 +93,6 @@ module _ {S D F U I : Type 0} {logs : looks.Ghosts D} {writes : write.Ghosts F}
       → port_of server ≡ Some port → AllAsk (endpoint server.ip port) (map ran_of clients)
       → (programs : Programs stores sources inputs outputs)
       × AreRan server port (map ran_of clients) programs
-      × ((order : List Noted) → IsOrder stores sources inputs outputs programs order
-      → IsHonest stores sources inputs outputs programs order → ArePortsFresh programs
+      × ((order : List Noted) → IsOrder programs order
+      → IsHonest programs order → ArePortsFresh programs
       → KeepAnyFiles programs × AllByRecursion (ReachesDisk looked programs) clients)

@@ -79,6 +79,6 @@ module _ {L K : Type 0} (inputs : SourceMeaning (DiskSource L)) (outputs : SinkM
       → port_of server ≡ Some port → AllAsk (endpoint server.ip port) (map run_of clients)
       → (programs : Programs stores sources inputs outputs)
       × AreRan server port (map run_of clients) programs
-      × ((order : List Noted) → IsOrder stores sources inputs outputs programs order
-      → IsHonest stores sources inputs outputs programs order → ArePortsFresh programs
+      × ((order : List Noted) → IsOrder programs order
+      → IsHonest programs order → ArePortsFresh programs
       → KeepAnyFiles programs × AllByRecursion (LeavesDisk log programs) clients)

@@ -121,13 +121,14 @@ PutsAreNamed =
 module _ {order : List FolderCall} {target : List ℕ} {i j : ℕ} {may_replace replaces : Bool}
     (first : IsNamed order target i may_replace) (second : IsNamed order target j replaces) where
   -- the second file was renamed to the name after the first got it, and was looked at before that:
-  -- its program asked nothing between. The first got it without the lock: by a link, or since its
-  -- program may replace files
+  -- its program asked nothing between. If all keep the name's lock, the first got it without that: by
+  -- a link, or since its program may replace files
   pub record Overlaps (between : List FolderCall) : Type 0 where
     pub other : i ≢ j
     pub renamed : IsLinkTo target second.call → ⊥
     pub nothing : calls_by j between ≡ []
-    pub unlocked : IsLinkTo target first.call ⊎ (may_replace ≡ true)
+    pub unlocked : AllKeepLock (lock_of target) order
+        → IsLinkTo target first.call ⊎ (may_replace ≡ true)
 
   -- the second file got the name later
   pub record IsLater : Type 0 where
@@ -136,15 +137,15 @@ module _ {order : List FolderCall} {target : List ℕ} {i j : ℕ} {may_replace 
     -- so the first does not have it at the end
     pub lost : AllLeaveIt target first.newer → ⊥
     -- if the second may replace no file, a call between took the name from the first; unless the
-    -- system refused it a hard link, and the first got the name without the lock meanwhile
+    -- system refused it a hard link, and the first got the name meanwhile
     pub taken : replaces ≡ false → AllLeaveIt target between → Overlaps between
 
--- of two files that got one name, in an order with whose calls the answers agree, and whose programs
--- keep its lock: they are one, or one got it later, and that one alone can have it at the end
+-- of two files that got one name, in an order with whose calls the answers agree: they are one, or one
+-- got it later, and that one alone can have it at the end
 abbrev pub OneHasTheName : Type 0
 OneHasTheName =
     (order : List FolderCall) (target : List ℕ) (i j : ℕ) (may_replace replaces : Bool)
-    → AnswersAgree order → AllKeepLock (lock_of target) order
+    → AnswersAgree order
     → (first : IsNamed order target i may_replace)
     → (second : IsNamed order target j replaces)
     → ((i ≡ j) × (first.older ≡ second.older)) ⊎ IsLater first second ⊎ IsLater second first

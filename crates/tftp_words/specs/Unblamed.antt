@@ -25,8 +25,8 @@ NoCommandIsBlamed log stores sources inputs outputs =
     (server : ServerRan log stores sources) (port : ℕ) (clients : List (ClientRan inputs outputs))
     → port_of server ≡ Some port → AllAsk (endpoint server.ip port) clients
     → (programs : Programs stores sources inputs outputs) × AreRan server port clients programs
-    × ((order : List Noted) → IsOrder stores sources inputs outputs programs order
-    → IsHonest stores sources inputs outputs programs order → ArePortsFresh programs
+    × ((order : List Noted) → IsOrder programs order
+    → IsHonest programs order → ArePortsFresh programs
     → NoneIsBlamed programs)
 
 -- the same of runs of several `tftpd` at one address and request port: of each of them and each

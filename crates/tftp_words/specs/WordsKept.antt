@@ -23,8 +23,8 @@ WordsKeepAnyFiles log stores sources inputs outputs =
     (server : ServerRan log stores sources) (port : ℕ) (clients : List (ClientRan inputs outputs))
     → port_of server ≡ Some port → AllAsk (endpoint server.ip port) clients
     → (programs : Programs stores sources inputs outputs) × AreRan server port clients programs
-    × ((order : List Noted) → IsOrder stores sources inputs outputs programs order
-    → IsHonest stores sources inputs outputs programs order → ArePortsFresh programs
+    × ((order : List Noted) → IsOrder programs order
+    → IsHonest programs order → ArePortsFresh programs
     → KeepAnyFiles programs)
 
 -- runs of several `tftpd` at one address whose request ports were bound to one port, and runs of

@@ -130,11 +130,11 @@ pub fn puts_of_several_go_from_disk_to_disk<D: Disk, F: Read, K: Sink>()
 /// Of a folder that several servers share, by the calls of all on its files in one order, with which
 /// the system's answers agree: a put that is stored got its name by one of these calls, and the file
 /// that got it has just the bytes that were put. Of two that got one name, one got it later, and that
-/// one alone can have it, if each program removes the lock of the name only where it made it, as a
-/// store does (`locks_are_removed_by_their_makers` of `tftp_folder`). If the later may replace no
-/// file, as without `--overwrite`, a call between had taken the name from the first. The one
-/// exception is that the system refused it a hard link, and the other got the name without the lock:
-/// by a hard link, or by a rename of a server with `--overwrite`.
+/// one alone can have it. If the later may replace no file, as without `--overwrite`, a call between
+/// had taken the name from the first. The one exception is that the system refused it a hard link,
+/// and the other got the name meanwhile. If each program removes the lock of the name only where it
+/// made it, as a store does (`locks_are_removed_by_their_makers` of `tftp_folder`), the other got it
+/// without the lock then: by a hard link, or by a rename of a server with `--overwrite`.
 pub fn one_put_has_the_name()
     ensures named { PutsAreNamed }
     ensures files { PutsNameTheirFiles }
