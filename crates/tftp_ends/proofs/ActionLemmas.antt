@@ -1,4 +1,4 @@
--- What holds of the action of an end for a packet.
+-- What holds of the action of an end for a packet. For `End::datagram_action` and RowLemmas.
 use Rattle.std.proofs.Common.{◌≡◌, ◌<◌, ◌∙◌, ℕ, Bool, true, false, List, [], length, drop, Option, Some, None, Result}
 use Rattle.std.proofs.Common.{Ok, Err, refl, sym, ap, subst, ◌≤◌, arith}
 use Rattle.std.proofs.lemmas.Bool.{lt-ltb, eqb-true}

@@ -1,4 +1,4 @@
--- The datagram that a call lends or appends is that of its step.
+-- The datagram that a call lends or appends is that of its step. For `End::handle_timeout` and `End::on_timeout`.
 use Rattle.std.proofs.Common.{◌≡◌, ℕ, List, ◌++◌, Option, refl, ap, ◌∙◌}
 use Rattle.tftp_ends.specs.declared.endpoint.Endpoint.{Endpoint}
 use Rattle.tftp_ends.specs.declared.outgoing.Outgoing.{Outgoing}

@@ -1,4 +1,4 @@
--- An OACK is no longer than a request may be.
+-- An OACK is no longer than a request may be. For `oack`.
 use Rattle.std.proofs.Common.{◌≡◌, ◌*◌, ◌≤◌, ℕ, List, length, ap, arith, suc}
 use Rattle.tftp_wire.specs.declared.limits.TheConstants.{MAX_REQUEST}
 use Rattle.tftp_wire.specs.Options.{options_bytes}

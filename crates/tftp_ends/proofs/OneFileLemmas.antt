@@ -1,4 +1,5 @@
--- What a call over the one file of an end ensures, as a call over its files has it.
+-- What a call over the one file of an end ensures, as a call over its files has it. For `End::handle_datagram` and
+-- `End::on_datagram`.
 use Rattle.std.proofs.Common.{◌≡◌, ℕ, List, Result, Ok, Err, IfOk}
 use Rattle.tftp_file.specs.Source.{SourceMeaning}
 use Rattle.tftp_file.specs.Sink.{SinkMeaning}

@@ -1,4 +1,4 @@
--- The result of a fill, without the bytes that were in the buffer before it.
+-- The result of a fill, without the bytes that were in the buffer before it. For `read_data`.
 use Rattle.std.proofs.Common.{◌≡◌, ◌≢◌, ℕ, false, List, [], ◌++◌, length, take, drop, Option, Some, None, Result, Ok, Err}
 use Rattle.std.proofs.Common.{refl, sym, ap, subst, ◌∙◌}
 use Rattle.std.proofs.Math.Seq.{drop-append_seam}

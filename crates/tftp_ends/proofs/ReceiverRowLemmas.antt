@@ -1,4 +1,4 @@
--- The receiver's table.
+-- The receiver's table. For `receiver_rows` and WaitingRowLemmas.
 use Rattle.std.proofs.Common.{◌≡◌, ◌≢◌, ◌<◌, ℕ, Bool, true, false, List, length, Some, refl, ap, arith}
 use Rattle.std.proofs.lemmas.Bool.{eq-eqb, ne_eqb, eqb-true, lt-ltb, le-ltb}
 use Rattle.std.specs.Prelude.{◌+◌, ◌==◌, ◌&&◌, ◌||◌, nat_lt, codes, if◌then◌else◌}
@@ -56,12 +56,14 @@ module _ {S K : Type 0} (sources : SourceMeaning S) (sinks : SinkMeaning K) wher
   abbrev Responded : (c : Handled sources sinks) → Response → Type 0
   Responded c response = DidSo c (Respond response)
 
+  -- in the dally the last DATA again is acknowledged again
   pub last_data_is_acked_again : LastDataIsAckedAgain sources sinks
   last_data_is_acked_again c terms n dally piece f says =
       acks_again c (Dallying terms n dally) f.stands
       (if_yes (Responded c) (n == n) ResendReply Ignore (eq-eqb n n refl)
       (dally_heard c terms n dally f (Data n piece) says))
 
+  -- every other packet is ignored there
   pub dally_ignores_others : DallyIgnoresOthers sources sinks
   dally_ignores_others c terms n dally (Read request) f says unexpected =
       does_nothing c (dally_heard c terms n dally f (Read request) says)
@@ -79,6 +81,7 @@ module _ {S K : Type 0} (sources : SourceMeaning S) (sinks : SinkMeaning K) wher
   dally_ignores_others c terms n dally (Oack options) f says unexpected =
       does_nothing c (dally_heard c terms n dally f (Oack options) says)
 
+  -- and so is what is no packet
   pub dally_ignores_malformed : DallyIgnoresMalformed sources sinks
   dally_ignores_malformed c terms n dally f none =
       does_nothing c (at_nothing c (Dallying terms n dally) (own_peer terms.peer c.from f.peer) f.stands none refl)
@@ -130,30 +133,35 @@ module _ {S K : Type 0} (sources : SourceMeaning S) (sinks : SinkMeaning K) wher
         if n + 1 == 65535 && (length piece == terms.size)
         then Respond (Refuse (Some terms) FileTooLarge outcomes.TooLarge) else store piece
 
+  -- the newest DATA again is acknowledged again
   pub newest_data_is_acked_again : NewestDataIsAckedAgain sources sinks
   newest_data_is_acked_again c terms n piece f says =
       acks_again c (Receiving terms n) f.stands
       (if_yes (DidSo c) (n == n) (Respond ResendReply) (others c terms n f n piece) (eq-eqb n n refl)
       (heard c terms n f (Data n piece) says))
 
+  -- an older one is ignored
   pub old_data_is_nothing : OldDataIsNothing sources sinks
   old_data_is_nothing c terms n m piece f says l =
       does_nothing c
       (if_yes (DidSo c) (nat_lt m n) (Respond Ignore) (later c terms n f m piece) (lt-ltb m n l)
       (not_newest c terms n f m piece says (λ e. omega (arith, l, e))))
 
+  -- one beyond the next is illegal
   pub early_data_is_illegal : EarlyDataIsIllegal sources sinks
   early_data_is_illegal c terms n m piece f says l =
       illegal c terms n f
       (if_no (DidSo c) (m == n + 1) (next c terms n f m piece) (illegal_action terms)
       (ne_eqb m (n + 1) (λ e. omega (arith, l, e))) (is_later c terms n f m piece says (omega (arith, l))))
 
+  -- and so is a block longer than agreed
   pub long_data_is_illegal : LongDataIsIllegal sources sinks
   long_data_is_illegal c terms n piece f says l =
       illegal c terms n f
       (if_yes (DidSo c) (nat_lt terms.size (length piece)) (illegal_action terms) (fitting c terms n f piece)
       (lt-ltb terms.size (length piece) l) (is_next c terms n f piece says))
 
+  -- after block 65535 no full block is taken
   pub blocks_run_out : BlocksRunOut sources sinks
   blocks_run_out c terms piece f says full =
       refuses c (Receiving terms 65534) (Some terms) FileTooLarge outcomes.TooLarge f.stands refl
@@ -162,6 +170,7 @@ module _ {S K : Type 0} (sources : SourceMeaning S) (sinks : SinkMeaning K) wher
       (if_no (DidSo c) (nat_lt terms.size (length piece)) (illegal_action terms) (fitting c terms 65534 f piece)
       (le-ltb terms.size (length piece) (omega (arith, full))) (is_next c terms 65534 f piece says)))
 
+  -- the next DATA is stored and acknowledged
   pub next_data_is_stored : NextDataIsStored sources sinks
   next_data_is_stored c terms n piece f says fits short =
       let step : (nat_lt n (n + 1) || false) ≡ true = ap (λ (b : Bool). b || false) (lt-ltb n (n + 1) (omega arith)) in
@@ -169,6 +178,7 @@ module _ {S K : Type 0} (sources : SourceMeaning S) (sinks : SinkMeaning K) wher
       next_row c (Receiving terms n) f.stands refl terms n refl step last c.e.position.held_back piece says fits
       (within (n + 1) terms.size piece short) (is_next c terms n f piece says)
 
+  -- an ERROR closes the receiver
   pub error_closes_receiver : ErrorClosesReceiver sources sinks
   error_closes_receiver c terms n code text f says =
       closes c (Receiving terms n) (outcomes.PeerError code) f.stands (heard c terms n f (Error code text) says)
@@ -180,16 +190,19 @@ module _ {S K : Type 0} (sources : SourceMeaning S) (sinks : SinkMeaning K) wher
       if_yes (DidSo c) (took_oack c.e terms) (if n == 0 then Respond ResendReply else Respond Ignore)
       (illegal_action terms) is (heard c terms n f (Oack options) says)
 
+  -- an OACK again before the first block is acknowledged again
   pub oack_is_acked_again : OackIsAckedAgain sources sinks
   oack_is_acked_again c terms options f says is =
       acks_again c (Receiving terms 0) f.stands (took c terms 0 f is options says)
 
+  -- a later one is ignored
   pub late_oack_is_nothing : LateOackIsNothing sources sinks
   late_oack_is_nothing c terms n options f says is l =
       does_nothing c
       (if_no (DidSo c) (n == 0) (Respond ResendReply) (Respond Ignore) (ne_eqb n 0 (λ e. omega (arith, l, e)))
       (took c terms n f is options says))
 
+  -- every other packet is illegal
   pub receiver_refuses_others : ReceiverRefusesOthers sources sinks
   receiver_refuses_others c terms n (Read request) f says unexpected =
       illegal c terms n f (heard c terms n f (Read request) says)
@@ -204,6 +217,7 @@ module _ {S K : Type 0} (sources : SourceMeaning S) (sinks : SinkMeaning K) wher
       (if_no (DidSo c) (took_oack c.e terms) (if n == 0 then Respond ResendReply else Respond Ignore)
       (illegal_action terms) unexpected (heard c terms n f (Oack options) says))
 
+  -- and so is what is no packet
   pub receiver_refuses_malformed : ReceiverRefusesMalformed sources sinks
   receiver_refuses_malformed c terms n f m =
       illegal c terms n f (at_malformed c (Receiving terms n) (own_peer terms.peer c.from f.peer) f.stands m)

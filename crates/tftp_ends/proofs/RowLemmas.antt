@@ -1,4 +1,4 @@
--- An end's step for a datagram, in the vocabulary of the tables.
+-- An end's step for a datagram, in the vocabulary of the tables. For four other files.
 use Rattle.std.proofs.Common.{◌≡◌, ◌≤◌, ℕ, Bool, true, false, List, [], ◌∷◌, length, Option, Some, None, Result, Ok}
 use Rattle.std.proofs.Common.{Err, refl, sym, ap, subst, ◌∙◌}
 use Rattle.std.proofs.lemmas.Bool.{true≢false, eq-eqb, le-ltb}
@@ -62,19 +62,23 @@ same_list : (xs : List ℕ) → pointwise nat_eq xs xs ≡ true
 same_list [] = refl
 same_list (x ∷ xs) = ap (λ (b : Bool). b && pointwise nat_eq xs xs) (eq-eqb x x refl) ∙ same_list xs
 
+-- an address is not that of another host
 pub own_address : (a b : Endpoint) → b.ip ≡ a.ip → not (same_address a b) ≡ false
 own_address a b e = ap (λ (ip : List ℕ). not (pointwise nat_eq a.ip ip)) e ∙ ap not (same_list a.ip)
 
+-- a peer is not another
 pub own_peer : (a b : Endpoint) → b ≡ a → not (same_endpoint a b) ≡ false
 own_peer a b e =
     ap (λ (p : Endpoint). not (same_endpoint a p)) e
     ∙ (ap (λ (x : Bool). not (x && (a.port == a.port))) (same_list a.ip) ∙ ap not (eq-eqb a.port a.port refl))
 
 -- ---- a test
+-- the branch of a choice whose test is true
 pub if_yes : {A : Type 0} (P : A → Type 0) (b : Bool) (x y : A) → b ≡ true → P (if b then x else y) → P x
 if_yes P true x y e h = h
 if_yes P false x y e h = absurd (true≢false (sym e))
 
+-- the branch of a choice whose test is false
 pub if_no : {A : Type 0} (P : A → Type 0) (b : Bool) (x y : A) → b ≡ false → P (if b then x else y) → P y
 if_no P true x y e h = absurd (true≢false e)
 if_no P false x y e h = h
@@ -131,6 +135,7 @@ module _ {S K : Type 0} {sources : SourceMeaning S} {sinks : SinkMeaning K} (c :
       own
       (did_at None phase (decoded_none c.bytes c.step.decoded none c.step.says) stands)
 
+  -- what is no packet, from the peer
   pub at_malformed : (phase : Phase) → is_wrong_peer (terms_of phase) c.e.position.last_sent_to c.from ≡ false →
       c.e.position.phase ≡ phase → IsMalformed c →
       DidSo (packet_action c.e c.from None phase)
@@ -156,6 +161,7 @@ module _ {S K : Type 0} {sources : SourceMeaning S} {sinks : SinkMeaning K} (c :
       (nothing_at phase own stands none))
 
   -- ---- without use of a file
+  -- an end that ignores a datagram
   pub does_nothing : DidSo (Respond Ignore) → DoesNothing c
   does_nothing h =
       record {
@@ -164,6 +170,7 @@ module _ {S K : Type 0} {sources : SourceMeaning S} {sinks : SinkMeaning K} (c :
         files = h.0.1;
       }
 
+  -- an end that closes without an answer
   pub closes : (phase : Phase) (outcome : Outcome) → c.e.position.phase ≡ phase → DidSo (Respond (Close outcome)) →
       ClosesInSilence c (terms_of phase) (number_of phase) (is_complete phase) outcome
   closes phase outcome stands h = record {
@@ -172,6 +179,7 @@ module _ {S K : Type 0} {sources : SourceMeaning S} {sinks : SinkMeaning K} (c :
     files = h.0.1;
   }
 
+  -- an end that completes without an answer
   pub completes : (phase : Phase) → c.e.position.phase ≡ phase → DidSo (Respond Complete) →
       ClosesInSilence c (terms_of phase) (number_of phase) true outcomes.Complete
   completes phase stands h = record {
@@ -180,6 +188,7 @@ module _ {S K : Type 0} {sources : SourceMeaning S} {sinks : SinkMeaning K} (c :
     files = h.0.1;
   }
 
+  -- an end that sends an ERROR and closes
   pub gives_up : (phase : Phase) (terms : Option Terms) (reply : ErrorReply) (outcome : Outcome) (e : EndState) →
       e.position.phase ≡ phase → is_complete phase ≡ false →
       c.turn ≡ response_turn (Refuse terms reply outcome) c.from e →
@@ -191,6 +200,7 @@ module _ {S K : Type 0} {sources : SourceMeaning S} {sinks : SinkMeaning K} (c :
         ∙ ap (λ (b : Bool). Closed terms (number_of phase) b outcome) incomplete);
   }
 
+  -- an end that refuses a datagram
   pub refuses : (phase : Phase) (terms : Option Terms) (reply : ErrorReply) (outcome : Outcome) →
       c.e.position.phase ≡ phase → is_complete phase ≡ false →
       DidSo (Respond (Refuse terms reply outcome)) →
@@ -198,6 +208,7 @@ module _ {S K : Type 0} {sources : SourceMeaning S} {sinks : SinkMeaning K} (c :
   refuses phase terms reply outcome stands incomplete h =
       record { gives_up = gives_up phase terms reply outcome c.e stands incomplete h.0.0; files = h.0.1 }
 
+  -- an end that acknowledges again
   pub acks_again : (phase : Phase) → c.e.position.phase ≡ phase → DidSo (Respond ResendReply) →
       AnswersAgain c (Ack (number_of phase))
   acks_again phase stands h =
@@ -214,6 +225,7 @@ module _ {S K : Type 0} {sources : SourceMeaning S} {sinks : SinkMeaning K} (c :
       }
 
   -- ---- a new datagram
+  -- an end that enters its next phase and sends a packet
   pub answers : (phase next : Phase) (packet : Packet) (e : EndState) → e.position.phase ≡ phase →
       e.role.retries ≡ c.e.role.retries → is_progress phase next ≡ true →
       c.turn ≡ sent_turn next c.from (canonical packet) e → AnswersBy c next packet

@@ -1,4 +1,4 @@
--- The bounds of a run of an end.
+-- The bounds of a run of an end. For `run_bounds`.
 use Rattle.std.proofs.Common.{◌≡◌, ℕ, ◌+◌, ◌*◌, ◌<◌, ◌≤◌, Bool, true, false, List, [], ◌∷◌, length, refl, sym, ap, ◌∙◌}
 use Rattle.std.proofs.Common.{subst, arith, inl, inr, mul-add}
 use Rattle.std.specs.Prelude.{◌==◌, ◌||◌, if◌then◌else◌, is_some}
@@ -28,6 +28,7 @@ use Rattle.tftp_ends.proofs.RunMoves.{waits_at_most, number_kept, refused_rises}
 use Rattle.tftp_ends.proofs.RunSteps.{datagram_moves}
 
 -- ---- the end after a timeout
+-- a timeout of an end
 pub record Waits (e : EndState) (turn : Turn) : Type 0 where
   pub kept : Kept e.role.side e.role.length turn.position.phase
   pub still : is_progress e.position.phase turn.position.phase ≡ false
@@ -101,6 +102,7 @@ timeout_at e (Dallying terms number Waited) o kept =
 timeout_at e (Closed terms number complete outcome) o kept = absurd (true≢false o)
 
 -- ---- the end after one step
+-- any step of an end
 pub record Steps (e : EndState) (event : EndEvent) (turn : Turn) : Type 0 where
   pub kept : Kept e.role.side e.role.length turn.position.phase
   pub rises : rank e.position.phase + count_if (is_progress e.position.phase turn.position.phase)
@@ -236,6 +238,7 @@ module _ {S K : Type 0} (sources : SourceMeaning S) (sinks : SinkMeaning K) wher
   rank_below side length (Dallying terms number dally) k = let n = k.0 in omega arith
   rank_below side length (Closed terms number complete outcome) k = omega arith
 
+  -- an end makes progress 65,536 times at most
   pub progress_bound : (e : EndState) (run : List Taken) → IsOpening e → IsRun sources sinks e run →
       progress_count e run ≤ 65536
   progress_bound e run o r =
@@ -244,6 +247,7 @@ module _ {S K : Type 0} (sources : SourceMeaning S) (sinks : SinkMeaning K) wher
       let top = rank_below f.role.side f.role.length f.position.phase b.kept in
       omega (arith, b.rises)
 
+  -- an open end had no more timeouts than its retries for each step of progress
   pub timeout_bound : (e : EndState) (run : List Taken) → IsOpening e → IsRun sources sinks e run →
       IsOpen (end_after_run e run) → timeout_count run ≤ e.role.retries * (progress_count e run + 1) + 1
   timeout_bound e run o r live =
@@ -255,6 +259,7 @@ module _ {S K : Type 0} (sources : SourceMeaning S) (sinks : SinkMeaning K) wher
       let one : e.role.retries * 1 ≡ e.role.retries = omega arith in
       omega (arith, b, p.fresh, p.all)
 
+  -- a sender sends a DATA for each step of progress and each timeout at most
   pub data_bound : (e : EndState) (run : List Taken) → IsOpening e → IsRun sources sinks e run →
       is_sender e.role.side ≡ true →
       count_if (opened_by_data e) + data_count run ≤ 1 + progress_count e run + timeout_count run
@@ -263,6 +268,7 @@ module _ {S K : Type 0} (sources : SourceMeaning S) (sinks : SinkMeaning K) wher
       let more = (after_run run e (opened e o).kept r).sends s in
       omega arith
 
+  -- an open sender answers each datagram that is progress
   pub answers : (e : EndState) (run : List Taken) → IsOpening e → IsRun sources sinks e run →
       IsOpen (end_after_run e run) → is_sender e.role.side ≡ true →
       AnswersByProgress sources sinks (end_after_run e run)

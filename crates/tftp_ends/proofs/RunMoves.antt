@@ -1,4 +1,5 @@
--- What every step of a run preserves, and the steps that change nothing, enter a phase or close the end.
+-- What every step of a run preserves, and the steps that change nothing, enter a phase or close the end. For
+-- RunLemmas and RunSteps.
 use Rattle.std.proofs.Common.{◌≡◌, ℕ, ◌+◌, ◌*◌, ◌<◌, ◌≤◌, Bool, true, false, List, length, Option, Some, None}
 use Rattle.std.proofs.Common.{refl, sym, ap, ◌∙◌, arith}
 use Rattle.std.specs.Prelude.{nat_lt, if◌then◌else◌, is_some}
@@ -59,10 +60,12 @@ pub if_either : {A : Type 0} (P : A → Type 0) (b : Bool) (r s : A) → (b ≡ 
 if_either P true r s f g = f refl
 if_either P false r s f g = g refl
 
+-- one step counts one at most
 pub one_at_most : (b : Bool) → count_if b ≤ 1
 one_at_most true = omega arith
 one_at_most false = omega arith
 
+-- no number is below itself
 pub not_below_itself : (n : ℕ) → nat_lt n n ≡ false
 not_below_itself n = le-ltb n n (omega arith)
 
@@ -93,6 +96,7 @@ stays e reply kept quiet =
     }
 
 -- ---- an end that closes
+-- a phase counts one at most
 pub waits_at_most : (p : Phase) → waits p ≤ 1
 waits_at_most (Waiting asked limit) = omega arith
 waits_at_most (Sending terms number) = omega arith
@@ -101,6 +105,7 @@ waits_at_most (Dallying terms number Fresh) = omega arith
 waits_at_most (Dallying terms number Waited) = omega arith
 waits_at_most (Closed terms number complete outcome) = omega arith
 
+-- a block has a number of 16 bits
 pub number_kept : (side : Side) (length : ℕ) (p : Phase) → Kept side length p → number_of p ≤ 65535
 number_kept side length (Waiting asked limit) k = omega arith
 number_kept side length (Sending terms number) k = k.0
@@ -152,6 +157,7 @@ goes_into e p sent to reply kept rises waiting quiet =
       sends = λ s d. (quiet s).1 d;
     }
 
+-- a step that closes the end preserves it
 pub closes : (e : EndState) (terms : Option Terms) (outcome : Outcome) (reply : Option Reply) → IsOpen e →
     Kept e.role.side e.role.length e.position.phase → is_oack reply ≡ false → is_data reply ≡ false →
     Moves e

@@ -1,4 +1,4 @@
--- The sender's table.
+-- The sender's table. For `sender_rows`.
 use Rattle.std.proofs.Common.{◌≡◌, ℕ, Bool, false, Some, refl, ap, arith}
 use Rattle.std.proofs.lemmas.Bool.{eq-eqb, ne_eqb, lt-ltb, le-ltb}
 use Rattle.std.specs.Prelude.{◌+◌, ◌==◌, ◌||◌, nat_lt, codes, if◌then◌else◌}
@@ -45,6 +45,7 @@ module _ {S K : Type 0} (sources : SourceMeaning S) (sinks : SinkMeaning K) wher
     illegal : DidSo c (illegal_action terms) → RefusesBy c (Some terms) n 4 (codes "illegal operation") outcomes.Illegal
     illegal h = refuses c (Sending terms n) (Some terms) IllegalOperation outcomes.Illegal f.stands refl h
 
+  -- the ACK of the newest block sends the next
   pub newest_ack_sends : NewestAckSends sources sinks
   newest_ack_sends c terms n f says l =
       sends c (Sending terms n) f.stands refl terms (n + 1)
@@ -52,34 +53,40 @@ module _ {S K : Type 0} (sources : SourceMeaning S) (sinks : SinkMeaning K) wher
       (if_yes (DidSo c) (nat_lt n (blocks_of c.e terms)) (Send terms (n + 1)) (Respond Complete)
       (lt-ltb n (blocks_of c.e terms) l) (newest c terms n f says))
 
+  -- that of the last block completes the sender
   pub last_ack_completes : LastAckCompletes sources sinks
   last_ack_completes c terms n f says is =
       completes c (Sending terms n) f.stands
       (if_no (DidSo c) (nat_lt n (blocks_of c.e terms)) (Send terms (n + 1)) (Respond Complete)
       (le-ltb n (blocks_of c.e terms) (omega (arith, is))) (newest c terms n f says))
 
+  -- an older one is ignored
   pub old_ack_is_nothing : OldAckIsNothing sources sinks
   old_ack_is_nothing c terms n m f says l =
       does_nothing c
       (if_yes (DidSo c) (nat_lt m n) (Respond Ignore) (illegal_action terms) (lt-ltb m n l)
       (not_newest c terms n f m says (ne_eqb m n (λ e. omega (arith, l, e)))))
 
+  -- one of a block that was not sent is illegal
   pub early_ack_is_illegal : EarlyAckIsIllegal sources sinks
   early_ack_is_illegal c terms n m f says l =
       illegal c terms n f
       (if_no (DidSo c) (nat_lt m n) (Respond Ignore) (illegal_action terms) (le-ltb m n (omega (arith, l)))
       (not_newest c terms n f m says (ne_eqb m n (λ e. omega (arith, l, e)))))
 
+  -- an ERROR closes the sender
   pub error_closes_sender : ErrorClosesSender sources sinks
   error_closes_sender c terms n code text f says =
       closes c (Sending terms n) (outcomes.PeerError code) f.stands (heard c terms n f (Error code text) says)
 
+  -- an OACK is ignored by a client that has accepted one
   pub oack_again_is_nothing : OackAgainIsNothing sources sinks
   oack_again_is_nothing c terms n options f says took =
       does_nothing c
       (if_yes (DidSo c) (took_oack c.e terms) (Respond Ignore) (illegal_action terms) took
       (heard c terms n f (Oack options) says))
 
+  -- every other packet is illegal
   pub sender_refuses_others : SenderRefusesOthers sources sinks
   sender_refuses_others c terms n (Read request) f says unexpected =
       illegal c terms n f (heard c terms n f (Read request) says)
@@ -94,6 +101,7 @@ module _ {S K : Type 0} (sources : SourceMeaning S) (sinks : SinkMeaning K) wher
       (if_no (DidSo c) (took_oack c.e terms) (Respond Ignore) (illegal_action terms) unexpected
       (heard c terms n f (Oack options) says))
 
+  -- and so is what is no packet
   pub sender_refuses_malformed : SenderRefusesMalformed sources sinks
   sender_refuses_malformed c terms n f m =
       illegal c terms n f (at_malformed c (Sending terms n) (own_peer terms.peer c.from f.peer) f.stands m)

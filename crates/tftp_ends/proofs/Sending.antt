@@ -1,4 +1,4 @@
--- A sender's step, from the result of its read.
+-- A sender's step, from the result of its read. For `End::act_as_sender` and `End::send_first`.
 use Rattle.std.proofs.Common.{◌≡◌, ℕ, Bool, true, false, List, Some, refl, sym, ap, subst, ◌∙◌}
 use Rattle.tftp_negotiate.specs.declared.limits.TheConstants.{DEFAULT_BLOCK}
 use Rattle.tftp_file.specs.Source.{SourceMeaning}

@@ -1,4 +1,4 @@
--- The rows that the tables of all ends share.
+-- The rows that the tables of all ends share. For `shared_rows`.
 use Rattle.std.proofs.Common.{◌≡◌, ℕ, Bool, true, false, List, Option, Some, None, refl, sym, ap, ◌∙◌, arith}
 use Rattle.std.proofs.lemmas.Bool.{true≢false, eqb-true, eq-eqb, ne_eqb}
 use Rattle.std.specs.Prelude.{◌==◌, ◌&&◌, not, is_none, codes, if◌then◌else◌}
@@ -66,11 +66,13 @@ module _ {S K : Type 0} (sources : SourceMeaning S) (sinks : SinkMeaning K) wher
   refuses_wrong_peer c h =
       record { reply = ap (λ (t : Turn). t.reply) h.0.0; position = ap (λ (t : Turn). t.position) h.0.0; files = h.0.1 }
 
+  -- a wrong peer is answered by ERROR 5
   pub wrong_peer_is_refused : WrongPeerIsRefused sources sinks
   wrong_peer_is_refused c f no_error =
       refuses_wrong_peer c
       (if_no (DidSo c) (has_error_opcode c.bytes) (Respond Ignore) (Respond WrongPeer) no_error (wrong_peer_did c f))
 
+  -- its ERROR is ignored
   pub error_of_wrong_peer_is_nothing : ErrorOfWrongPeerIsNothing sources sinks
   error_of_wrong_peer_is_nothing c f error =
       does_nothing c
@@ -85,16 +87,19 @@ module _ {S K : Type 0} (sources : SourceMeaning S) (sinks : SinkMeaning K) wher
       (packet_action c.e c.from None phase) (ap (λ (b : Bool). b && true) m.error)
       (nothing_at c phase own stands m.spells_none)
 
+  -- a malformed ERROR of the peer closes a sender
   pub malformed_error_closes_sender : MalformedErrorClosesSender sources sinks
   malformed_error_closes_sender c terms n f m =
       closes c (Sending terms n) outcomes.Illegal f.stands
       (garbled c (Sending terms n) (own_peer terms.peer c.from f.peer) f.stands m)
 
+  -- and a receiver
   pub malformed_error_closes_receiver : MalformedErrorClosesReceiver sources sinks
   malformed_error_closes_receiver c terms n f m =
       closes c (Receiving terms n) outcomes.Illegal f.stands
       (garbled c (Receiving terms n) (own_peer terms.peer c.from f.peer) f.stands m)
 
+  -- and a client that waits
   pub malformed_error_closes_waiting : MalformedErrorClosesWaiting sources sinks
   malformed_error_closes_waiting c writes asked limit f m =
       closes c (Waiting asked limit) outcomes.Illegal f.stands
@@ -121,12 +126,14 @@ test : (left : ℕ) (b : Bool) → (left == 0) ≡ b
     → (if left == 0 then Close outcomes.TimedOut else Retransmit) ≡ (if b then Close outcomes.TimedOut else Retransmit)
 test left b is = ap (λ (x : Bool). if x then Close outcomes.TimedOut else Retransmit) is
 
+-- a timeout sends the last datagram again
 pub timeout_retransmits : TimeoutRetransmits
 timeout_retransmits e still incomplete some =
     turn_is e Retransmit
     (open_response e.position.retries_left e.position.phase incomplete
     ∙ test e.position.retries_left false (ne_eqb e.position.retries_left 0 (λ z. omega (arith, some, z))))
 
+-- one without a retry left closes the end
 pub last_timeout_closes : LastTimeoutCloses
 last_timeout_closes e still incomplete none =
     let is =
@@ -142,6 +149,7 @@ last_timeout_closes e still incomplete none =
           incomplete;
     }
 
+-- the first in a dally is counted
 pub first_dally_timeout_is_counted : FirstDallyTimeoutIsCounted
 first_dally_timeout_is_counted e terms n stands =
     turn_is e Wait (ap (timeout_response e.position.retries_left) stands)
@@ -150,6 +158,7 @@ first_dally_timeout_is_counted e terms n stands =
     let turn : Turn = record { position = position; reply = None } in turn)
     stands
 
+-- the second ends it
 pub second_dally_timeout_completes : SecondDallyTimeoutCompletes
 second_dally_timeout_completes e terms n stands =
     let is = turn_is e (Close outcomes.Complete) (ap (timeout_response e.position.retries_left) stands) in

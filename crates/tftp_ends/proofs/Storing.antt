@@ -1,4 +1,4 @@
--- A receiver's step, from the result of storing a block.
+-- A receiver's step, from the result of storing a block. For `End::store`.
 use Rattle.std.proofs.Common.{◌≡◌, ℕ, Bool, true, false, ltb, List, length, Some, Result, Ok, Err, refl, ap, ◌∙◌}
 use Rattle.tftp_file.specs.Sink.{SinkMeaning}
 use Rattle.tftp_file.specs.declared.fault.StoreFault.{StoreFault}

@@ -1,4 +1,5 @@
--- A piece of netascii, by its first wrong byte and by the host bytes that it stands for.
+-- A piece of netascii, by its first wrong byte and by the host bytes that it stands for. For five functions and the
+-- crate tftp_rules.
 use Rattle.std.proofs.Common.{◌≡◌, ◌≢◌, ℕ, Bool, true, false, List, [], ◌∷◌, ◌++◌, Result, Ok, Err, length, ltb, ◌<◌}
 use Rattle.std.proofs.Common.{◌≤◌, sym, refl, ap, ◌∙◌, inl, inr, append_assoc}
 use Rattle.std.specs.Prelude.{◌==◌, ◌↔◌, ◌&&◌, not}
@@ -77,6 +78,7 @@ lone_lf : (rest : List ℕ) → begins_netascii (10 ∷ rest) ≡ false
 lone_lf [] = refl
 lone_lf (c ∷ rest) = refl
 
+-- a text that begins with a wrong byte begins no text in netascii
 pub wrong_begins : (text : List ℕ) (fault : NetFault) → IsWrong text fault → begins_netascii text ≡ false
 wrong_begins text LoneCr h =
     ap begins_netascii h.1.split

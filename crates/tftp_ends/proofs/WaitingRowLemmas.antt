@@ -1,4 +1,4 @@
--- The table of a client that waits.
+-- The table of a client that waits. For `waiting_rows`.
 use Rattle.std.proofs.Common.{ℕ, Bool, true, false, List, [], length, Option, Some, None, Result, Ok, Err, refl, subst}
 use Rattle.std.proofs.lemmas.Bool.{ne_eqb, eqb-true, le-leb, lt-leb}
 use Rattle.std.specs.Prelude.{◌==◌, ◌&&◌, ◌*◌, nat_lt, nat_le, codes, if◌then◌else◌}
@@ -90,6 +90,7 @@ module _ {S K : Type 0} (sources : SourceMeaning S) (sinks : SinkMeaning K) wher
     writer_takes (Err refusal) h = refuses_oack refusal h
 
   -- ---- a client that reads
+  -- DATA 1 is stored, by a reader whose options were ignored
   pub first_data_is_stored : FirstDataIsStored sources sinks
   first_data_is_stored c asked limit piece f says fits =
       let terms = default_terms c.from in
@@ -98,11 +99,13 @@ module _ {S K : Type 0} (sources : SourceMeaning S) (sinks : SinkMeaning K) wher
       (receiver_action true c.e.role.mode [] terms 0 (Some (Data 1 piece))) no_answer
       (le-leb (length piece) DEFAULT_BLOCK fits) (heard c false asked limit f (Data 1 piece) says))
 
+  -- an OACK opens a reader, by ACK 0
   pub oack_opens_reader : OackOpensReader sources sinks
   oack_opens_reader c asked limit options f says =
       reader_takes c false asked limit f (agreement asked kinds.Read c.e.role.mode options limit)
       (heard c false asked limit f (Oack options) says)
 
+  -- a reader opens by no other packet than OACK and DATA 1
   pub reader_takes_no_other : ReaderTakesNoOther sources sinks
   reader_takes_no_other c asked limit (Read request) f says unexpected =
       refuse c false asked limit f (heard c false asked limit f (Read request) says)
@@ -121,16 +124,19 @@ module _ {S K : Type 0} (sources : SourceMeaning S) (sinks : SinkMeaning K) wher
   reader_takes_no_other c asked limit (Oack options) f says unexpected = absurd unexpected
 
   -- ---- a client that writes
+  -- ACK 0 sends DATA 1, of a writer whose options were ignored
   pub first_ack_begins : FirstAckBegins sources sinks
   first_ack_begins c asked limit f says =
       writer_begins c true asked limit f (default_terms c.from) (nat_lt c.e.role.length (65535 * DEFAULT_BLOCK))
       (heard c true asked limit f (Ack 0) says)
 
+  -- an OACK opens a writer, by DATA 1
   pub oack_opens_writer : OackOpensWriter sources sinks
   oack_opens_writer c asked limit options f says =
       writer_takes c true asked limit f (agreement asked kinds.Write c.e.role.mode options limit)
       (heard c true asked limit f (Oack options) says)
 
+  -- a writer opens by no other packet than OACK and ACK 0
   pub writer_takes_no_other : WriterTakesNoOther sources sinks
   writer_takes_no_other c asked limit (Read request) f says unexpected =
       refuse c true asked limit f (heard c true asked limit f (Read request) says)
@@ -146,6 +152,7 @@ module _ {S K : Type 0} (sources : SourceMeaning S) (sinks : SinkMeaning K) wher
   writer_takes_no_other c asked limit (Oack options) f says unexpected = absurd unexpected
 
   -- ---- either
+  -- an ERROR closes the client
   pub error_closes_waiting : ErrorClosesWaiting sources sinks
   error_closes_waiting c true asked limit code text f says =
       closes c (Waiting asked limit) (outcomes.PeerError code) f.stands
@@ -154,6 +161,7 @@ module _ {S K : Type 0} (sources : SourceMeaning S) (sinks : SinkMeaning K) wher
       closes c (Waiting asked limit) (outcomes.PeerError code) f.stands
       (heard c false asked limit f (Error code text) says)
 
+  -- what is no packet closes the client
   pub malformed_closes_waiting : MalformedClosesWaiting sources sinks
   malformed_closes_waiting c true asked limit f m = refuse c true asked limit f (malformed c true asked limit f m)
   malformed_closes_waiting c false asked limit f m = refuse c false asked limit f (malformed c false asked limit f m)

@@ -1,4 +1,5 @@
--- Fills from the bytes read ahead, and then from the source below.
+-- Fills from the bytes read ahead, and then from the source below. For `AheadSource::read_ahead`, `fill_after` and
+-- `fill_ahead`.
 use Rattle.std.proofs.Common.{◌≡◌, ℕ, ◌+◌, ◌-◌, ◌≤◌, ◌⊎◌, Bool, true, false, List, [], ◌++◌, length, take, drop, Option}
 use Rattle.std.proofs.Common.{Some, None, Result, Ok, Err, refl, sym, ap, subst, ◌∙◌, inl, inr, arith, append_assoc}
 use Rattle.std.proofs.Common.{length-append, length-take-le, IfOk, IfErr, OnOk, OnErr}

@@ -1,4 +1,4 @@
--- The blocks of a text.
+-- The blocks of a text. For `blocks` and the crate tftp_rules.
 use Rattle.std.proofs.Common.{◌≡◌, ℕ, zero, suc, ◌+◌, ◌-◌, ◌*◌, ◌<◌, ◌≤◌, List, [], ◌++◌, sym, ap, ◌∙◌, arith, length}
 use Rattle.std.proofs.Common.{take, drop}
 use Rattle.std.specs.Prelude.{◌/◌, ◌%◌}
@@ -7,6 +7,7 @@ use Rattle.std.proofs.lemmas.List.{nil_from_length}
 use Rattle.std.proofs.lemmas.Nat.{row_fits, div-add-mod', mod_below, mod-mul-add}
 use Rattle.tftp_file.specs.Block.{block, block_count, first_blocks}
 
+-- the first elements of a list are some and then some of the rest
 pub take-add : (m n : ℕ) (xs : List ℕ) → take (m + n) xs ≡ take m xs ++ take n (drop m xs)
 take-add m n xs =
     sym (take-append-drop m (take (m + n) xs))
@@ -32,6 +33,7 @@ module _ (text : List ℕ) (size : ℕ) (some : 0 < size) where
   count_covers : length text ≤ block_count text size * size
   count_covers = omega (arith, div-add-mod' (length text) size, mod_below (length text) size some)
 
+  -- all blocks together are the text
   pub blocks_join : first_blocks text size (block_count text size) ≡ text
   blocks_join =
       first_blocks_is text size (block_count text size) ∙ take_all (block_count text size * size) text count_covers
@@ -51,9 +53,11 @@ module _ (text : List ℕ) (size : ℕ) (some : 0 < size) where
         mod_below (length text) size some,
       )
 
+  -- the last is shorter than the block size
   pub last_short : length (block text size (block_count text size)) < size
   last_short = omega (arith, length-last, mod_below (length text) size some)
 
+  -- every other has the block size
   pub others_full : (n : ℕ) → 1 ≤ n → n < block_count text size → length (block text size n) ≡ size
   others_full n low high =
       length-take size (drop ((n - 1) * size) text)
@@ -64,6 +68,7 @@ module _ (text : List ℕ) (size : ℕ) (some : 0 < size) where
         div-add-mod' (length text) size,
       )
 
+  -- the last is empty where the others have all of the text
   pub last_empty : (n : ℕ) → length text ≡ n * size → block text size (block_count text size) ≡ []
   last_empty n e =
       nil_from_length (block text size (block_count text size))

@@ -1,4 +1,4 @@
--- A text is decoded in the same way wherever it is cut.
+-- A text is decoded in the same way wherever it is cut. For `any_cut`, `one_reading` and the crate tftp_rules.
 use Rattle.std.proofs.Common.{◌≡◌, ℕ, ◌+◌, ◌<◌, ◌≤◌, List, [], ◌∷◌, ◌++◌, sym, refl, ap, ◌∙◌, subst, arith, inl, inr}
 use Rattle.std.proofs.Common.{append_assoc, length}
 use Rattle.std.specs.Prelude.{◌⊎◌}
@@ -33,6 +33,7 @@ pub once : (held text bytes after others left : List ℕ) → DecodesPiece held 
 once held text bytes after others left d k =
     one_way bytes others after left (stop_held after d.0) (stop_held left k.0) (sym d.1 ∙ k.1)
 
+-- pieces that are decoded one after another are decoded as a whole
 pub pieces_join : (held : List ℕ) (pieces : List (List ℕ)) (bytes after : List ℕ) → IsHeldBack held
     → TakesAll held pieces bytes after → DecodesPiece held (concat pieces) bytes after
 pieces_join held [] bytes after h t = (
@@ -47,6 +48,7 @@ pieces_join held (piece ∷ pieces) bytes after h t =
 begins_cut : (held text bytes after : List ℕ) → DecodesPiece held text bytes after → BeginsWireText (held ++ text)
 begins_cut held text bytes after d = (bytes, after, d)
 
+-- a text that is decoded as a whole is decoded by pieces
 pub whole_taken : (held : List ℕ) (pieces : List (List ℕ)) (bytes after : List ℕ) → IsHeldBack held
     → DecodesPiece held (concat pieces) bytes after → TakesAll held pieces bytes after
 whole_taken held [] bytes after h d =
@@ -161,6 +163,7 @@ begins_front text rest b = elim (read text) [
   | Wrong fault w ↦ absurd (begins_or_wrong (text ++ rest) fault b (w.0, first_wrong_before text rest w.0 fault w.1))
 ]
 
+-- the first wrong byte is refused in whichever piece it is
 pub refused_at : (held : List ℕ) (pieces : List (List ℕ)) (at : ℕ) (fault : NetFault) → IsHeldBack held
     → FirstWrong (held ++ concat pieces) at fault → RefusesAt held pieces at fault
 refused_at held [] at fault h w = absurd (begins_or_wrong (held ++ []) fault ([], held, (h, append-nil held)) (at, w))

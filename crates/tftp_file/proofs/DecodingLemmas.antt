@@ -1,4 +1,5 @@
--- The wire text that a text begins, or its first wrong byte.
+-- The wire text that a text begins, or its first wrong byte. For `netascii.rt`, five functions, CutLemmas and
+-- PrefixLemmas.
 use Rattle.std.proofs.Common.{◌≡◌, ◌≢◌, ℕ, ◌+◌, ◌≤◌, List, [], ◌∷◌, ◌++◌, sym, refl, ap, ◌∙◌, subst, arith, inl, inr}
 use Rattle.std.proofs.Common.{append_assoc, length, get_or}
 use Rattle.std.proofs.lemmas.List.{append-nil, length-append, nil_from_length}
@@ -76,6 +77,7 @@ first_wrong_after front text at LoneLf h = record {
 first_wrong_after front text at EndsInCr h = h
 first_wrong_after front text at Memory h = h
 
+-- a wrong byte is wrong behind any text that is right
 pub wrong_after : (front text : List ℕ) (fault : NetFault) → IsWrong text fault
     → IsWrong (netascii_text front ++ text) fault
 wrong_after front text fault h = (length (netascii_text front) + h.0, first_wrong_after front text h.0 fault h.1)
@@ -84,6 +86,7 @@ wrong_after front text fault h = (length (netascii_text front) + h.0, first_wron
 append_tail : (text front rest tail : List ℕ) → text ≡ front ++ rest → text ++ tail ≡ front ++ (rest ++ tail)
 append_tail text front rest tail e = ap (λ (t : List ℕ). t ++ tail) e ∙ append_assoc front rest tail
 
+-- the first wrong byte is the first, whatever follows
 pub first_wrong_before : (text tail : List ℕ) (at : ℕ) (fault : NetFault) → FirstWrong text at fault
     → FirstWrong (text ++ tail) at fault
 first_wrong_before text tail at LoneCr h = record {
@@ -104,6 +107,7 @@ first_wrong_before text tail at LoneLf h = record {
 first_wrong_before text tail at EndsInCr h = h
 first_wrong_before text tail at Memory h = h
 
+-- the beginning of a text is one behind any text that is right
 pub begins_after : (front text : List ℕ) → BeginsWireText text → BeginsWireText (netascii_text front ++ text)
 begins_after front text h =
     (front ++ h.0, h.1, (h.2.0, ap (λ (t : List ℕ). netascii_text front ++ t) h.2.1 ∙ front_joins front h.0 h.1))
@@ -112,6 +116,7 @@ begins_after front text h =
 abbrev pub Stop : List ℕ → Type 0
 Stop text = (x : ℕ) (rest : List ℕ) → wire_byte x ++ rest ≡ text → ⊥
 
+-- the empty text is read to its end
 pub stop_nil : Stop []
 stop_nil x rest e = elim (byte_form x) [
   | Line _ w _ ↦ let f : 13 ∷ 10 ∷ rest ≡ [] = rw w at e in cc
@@ -119,6 +124,7 @@ stop_nil x rest e = elim (byte_form x) [
   | Itself _ _ w _ ↦ let f : x ∷ rest ≡ [] = rw w at e in cc
 ]
 
+-- so is a CR that is the last byte
 pub stop_cr : Stop (13 ∷ [])
 stop_cr x rest e = elim (byte_form x) [
   | Line _ w _ ↦ let f : 13 ∷ 10 ∷ rest ≡ 13 ∷ [] = rw w at e in cc
@@ -126,6 +132,7 @@ stop_cr x rest e = elim (byte_form x) [
   | Itself _ n w _ ↦ let f : x ∷ rest ≡ 13 ∷ [] = rw w at e in n cc
 ]
 
+-- a CR before neither LF nor zero is wrong
 pub stop_lone_cr : (byte : ℕ) (text : List ℕ) → byte ≢ 10 → byte ≢ 0 → Stop (13 ∷ byte ∷ text)
 stop_lone_cr byte text a b x rest e = elim (byte_form x) [
   | Line _ w _ ↦ let f : 13 ∷ 10 ∷ rest ≡ 13 ∷ byte ∷ text = rw w at e in a cc
@@ -133,6 +140,7 @@ stop_lone_cr byte text a b x rest e = elim (byte_form x) [
   | Itself _ n w _ ↦ let f : x ∷ rest ≡ 13 ∷ byte ∷ text = rw w at e in n cc
 ]
 
+-- so is an LF without a CR
 pub stop_lf : (text : List ℕ) → Stop (10 ∷ text)
 stop_lf text x rest e = elim (byte_form x) [
   | Line _ w _ ↦
@@ -142,6 +150,7 @@ stop_lf text x rest e = elim (byte_form x) [
   | Itself n _ w _ ↦ let f : x ∷ rest ≡ 10 ∷ text = rw w at e in n cc
 ]
 
+-- what is held back is the beginning of a text
 pub stop_held : (held : List ℕ) → IsHeldBack held → Stop held
 stop_held held h = elim h [
   | inl e ↦ subst (λ (t : List ℕ). Stop t) (sym e) stop_nil
@@ -240,6 +249,7 @@ read_on (x ∷ xs) =
       ],
     )
 
+-- each text is read to its end or to its first wrong byte
 pub read : (text : List ℕ) → Reading text
 read text = (read_on text).0
 
@@ -288,6 +298,7 @@ pub held_is : (held : HeldText) → IsHeldBack (held_bytes held)
 held_is Nothing = inl refl
 held_is CarriageReturn = inr refl
 
+-- an empty piece decodes to nothing
 pub nothing_taken : (held : HeldText) (before piece : List ℕ) → held_bytes held ≡ before → length piece ≡ 0
     → DecodesPiece before piece [] before
 nothing_taken held before piece e z = (
@@ -301,11 +312,13 @@ pub piece_taken : (held piece first rest bytes after : List ℕ) → held ++ pie
 piece_taken held piece first rest bytes after e d =
     (d.0, e ∙ (ap (λ (t : List ℕ). netascii_text first ++ t) d.1 ∙ front_joins first bytes after))
 
+-- a piece whose rest is decoded begins a text
 pub piece_begins : (held piece first rest bytes after : List ℕ) → held ++ piece ≡ netascii_text first ++ rest
     → DecodesPiece [] rest bytes after → BeginsWireText (held ++ piece)
 piece_begins held piece first rest bytes after e d =
     (first ++ bytes, after, piece_taken held piece first rest bytes after e d)
 
+-- a piece whose rest is wrong is refused
 pub piece_wrong : (held piece first rest : List ℕ) (fault : NetFault) → held ++ piece ≡ netascii_text first ++ rest
     → IsWrong rest fault → Refuses (held ++ piece) fault
 piece_wrong held piece first rest fault e w =

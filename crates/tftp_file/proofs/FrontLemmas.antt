@@ -1,4 +1,4 @@
--- The bytes moved from the start of a text, if only its first bytes are given.
+-- The bytes moved from the start of a text, if only its first bytes are given. For `FaultSourceSource::fill`.
 use Rattle.std.proofs.Common.{◌≡◌, ℕ, ◌+◌, ◌-◌, ◌≤◌, min, List, ◌++◌, length, take, drop, Some, sym, ap, ◌∙◌, arith}
 use Rattle.std.proofs.Common.{length-take-le}
 use Rattle.std.proofs.lemmas.List.{take-take, drop-take}

@@ -1,4 +1,4 @@
--- The content of a full sink in memory.
+-- The content of a full sink in memory. For `MemSinkSink::append`.
 use Rattle.std.proofs.Common.{◌≡◌, ℕ, ◌+◌, Bool, false, List, ◌++◌, length, take, drop, Some, refl}
 use Rattle.std.proofs.lemmas.List.{take-append-drop, take_at, drop_at}
 use Rattle.std.proofs.Math.Seq.{take-add}

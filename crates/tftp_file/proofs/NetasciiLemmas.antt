@@ -1,4 +1,4 @@
--- Bytes and their wire text in netascii.
+-- Bytes and their wire text in netascii. For `lines.rt`, four functions and five other files.
 use Rattle.std.proofs.Common.{◌≡◌, ◌≢◌, ℕ, ◌+◌, List, [], ◌∷◌, ◌++◌, true, false, cond, refl, ap, ◌∙◌, arith, inl, inr}
 use Rattle.std.proofs.Common.{length, take, drop}
 use Rattle.std.specs.Prelude.{◌==◌, count_by, ltb, not, Option, Some, None, unwrap_or}
@@ -17,6 +17,7 @@ pub data ByteForm (x : ℕ) : Type 0 where
   Return : x ≡ 13 → wire_byte x ≡ 13 ∷ 0 ∷ [] → is_line_byte x ≡ true → ByteForm x
   Itself : x ≢ 10 → x ≢ 13 → wire_byte x ≡ x ∷ [] → is_line_byte x ≡ false → ByteForm x
 
+-- a byte is LF, CR or another
 pub byte_form : (x : ℕ) → ByteForm x
 byte_form x = elim (cases_eq x 10) [
   | inl e ↦ Line e (rw e) (rw e)
@@ -28,6 +29,7 @@ byte_form x = elim (cases_eq x 10) [
       ]
 ]
 
+-- the text of two parts is that of the first and then that of the second
 pub netascii-append : (xs ys : List ℕ) → netascii_text (xs ++ ys) ≡ netascii_text xs ++ netascii_text ys
 netascii-append xs ys = flat_map-append wire_byte xs ys
 

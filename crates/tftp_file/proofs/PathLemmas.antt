@@ -1,4 +1,4 @@
--- The names that are paths, and the faults of the others.
+-- The names that are paths, and the faults of the others. For `path.rt`, `check` and `names`.
 use Rattle.std.proofs.Common.{◌≡◌, ◌≢◌, ℕ, ◌<◌, ◌≤◌, Bool, true, false, cond, List, [], ◌∷◌, sym, refl, ap, ◌∙◌, subst}
 use Rattle.std.proofs.Common.{arith, inl, inr, length, get_or, Result, Ok, Err}
 use Rattle.std.specs.Prelude.{◌==◌, ◌&&◌, not, nat_lt, nat_le, count_by}
@@ -37,6 +37,7 @@ segment_cases (x ∷ xs) = (
 )
 
 module _ (path : List ℕ) (some : (length path == 0) ≡ false) (short : length path ≤ 255) where
+  -- a path of too many parts is refused
   pub deep : 8 ≤ count_by (λ byte. byte == 47) path → checked_path path ≡ Err Depth
   deep many =
       let a : nat_lt 255 (length path) ≡ false = le-ltb 255 (length path) short in
@@ -45,6 +46,7 @@ module _ (path : List ℕ) (some : (length path == 0) ≡ false) (short : length
       (omega (arith, many, length-slice_split (λ byte. byte == 47) path)) in
       rw (some, a, b)
 
+  -- and one with a part that is not allowed
   pub bad_segment : count_by (λ byte. byte == 47) path < 8
       → list_all is_segment (slice_split (λ byte. byte == 47) path) ≡ false → checked_path path ≡ Err Segment
   bad_segment few bad =
@@ -54,6 +56,7 @@ module _ (path : List ℕ) (some : (length path == 0) ≡ false) (short : length
       (omega (arith, few, length-slice_split (λ byte. byte == 47) path)) in
       rw (some, a, b, bad)
 
+  -- every other is a path
   pub good : count_by (λ byte. byte == 47) path < 8 → list_all is_segment (slice_split (λ byte. byte == 47) path) ≡ true
       → (checked_path path ≡ Ok path) × IsPath path
   good few all =
@@ -150,8 +153,10 @@ passes_path path answer h =
     (negated (list_all is_segment parts) d.0)).1 in
     (subst IsPath same whole, same)
 
+-- the name of a path is that path, with or without a slash before it
 pub path_from_name : (name path : List ℕ) → path_of_name name ≡ Ok path → IsPath path × (without_slash name ≡ path)
 path_from_name name path h = passes_path (without_slash name) path h
 
+-- and conversely
 pub name_from_path : (name path : List ℕ) → IsPath path × (without_slash name ≡ path) → path_of_name name ≡ Ok path
 name_from_path name path h = ap checked_path h.1 ∙ path_passes path h.0

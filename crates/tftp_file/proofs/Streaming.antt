@@ -1,4 +1,4 @@
--- From the bytes of a reader to the text of a source.
+-- From the bytes of a reader to the text of a source. For `fill_octet` and `read_encoded`.
 use Rattle.std.proofs.Common.{◌≡◌, ℕ, ◌+◌, ◌*◌, ◌≤◌, ◌<◌, min, List, [], ◌++◌, length, take, drop, Option, Some, None}
 use Rattle.std.proofs.Common.{option_to_list, option_map, Result, Ok, Err, IfOk, IfErr, sym, ap, ◌∙◌, arith}
 use Rattle.std.proofs.Common.{append_assoc, append-nil, length-append, length-drop, length-take-le, take-append-drop}

@@ -1,5 +1,6 @@
 -- The model of a source, and the bytes that a fill moves from it to a buffer.
-use Rattle.std.specs.Prelude.{ℕ, ◌≡◌, ◌≤◌, ◌⊎◌, List, [], ◌++◌, length, take, drop, min, Option, Some}
+use Rattle.std.specs.Prelude.{ℕ, ◌≡◌, ◌≤◌, ◌⊎◌, List, [], ◌++◌, length, take, drop, min, Option}
+use Rattle.std.specs.Prelude.{Some}
 use Rattle.std.specs.Prelude.{None, Result, Ok, Err, ⊤}
 use Rattle.std.specs.Borrow.{MutBor}
 use Rattle.tftp_wire.specs.declared.mode.Mode.{Mode}
@@ -14,11 +15,11 @@ pub record SourceMeaning (S : Type 0) : Type 1 where
   pub may_fail : S → ℕ → Type 0
   -- a fill of this many bytes returns Read
   pub fails : S → ℕ → Type 0
-  -- the effect of a call on the source: of a fill that gave these bytes, or of a fill that failed or
-  -- a read ahead, which give none
+  -- the effect of a call on the source: of a fill that gave these bytes, or of a fill that failed
+  -- or a read ahead, which give none
   pub gives : S → List ℕ → S → Type 0
-  -- a source that a store opens, of this root, at this path, in this mode, and which it says to be so
-  -- long, is such
+  -- a source that a store opens, of this root, at this path, in this mode, and which it says to be
+  -- so long, is such
   pub opens : List ℕ → List ℕ → Mode → ℕ → S → Type 0
 
 -- the model of sources of which nothing is known: each fill may fail, and none must

@@ -1,4 +1,4 @@
--- What the printer of an instant writes.
+-- What the printer of an instant writes. For `text_of`.
 use Rattle.std.proofs.Common.{◌≡◌, ◌∙◌, ℕ, Bool, false, List, ◌++◌, Option, Some, None, pos, ◌*ℤ◌, ap}
 use Rattle.jiff_core.specs.declared.timestamp.Timestamp.{Timestamp}
 use Rattle.jiff_fmt.specs.Printer.{IsTimestampText, options}
@@ -6,6 +6,7 @@ use Rattle.jiff_fmt.specs.Text.{datetime_text, zulu_text}
 use Rattle.jiff_fmt.specs.declared.temporal.printer.DateTimePrinter.{DateTimePrinter}
 use Rattle.tftp_lines.specs.StampedLine.{IsUtcText}
 
+-- an instant is printed in UTC, with three digits of its second
 pub utc_text : (millis : ℕ) (made printer : DateTimePrinter) (instant : Timestamp) (text : List ℕ)
     → options made ≡ (false, 84, None) → options printer ≡ (made.lowercase, made.separator, Some 3)
     → instant.nanosecond ≡ pos millis *ℤ pos 1_000_000 → IsTimestampText printer instant text → IsUtcText millis text

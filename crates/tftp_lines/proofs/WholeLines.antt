@@ -1,4 +1,4 @@
--- A line, byte by byte and call by call.
+-- A line, byte by byte and call by call. For `LineText::push_all` and `WholeLine::of`.
 use Rattle.std.proofs.Common.{◌≡◌, ◌∙◌, ℕ, List, [], ◌∷◌, ◌++◌, refl, sym, ap}
 use Rattle.std.specs.Prelude.{Option, Some, None, IfSome}
 use Rattle.std.specs.List.{FoldsTo, concat}

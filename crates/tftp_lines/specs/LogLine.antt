@@ -44,7 +44,8 @@ request_text request = endpoint_text request.peer ++ (codes " " ++ request.line.
 abbrev pub amounts_text : ℕ → ℕ → ℕ → List ℕ
 amounts_text bytes millis again =
     decimal bytes
-    ++ (codes " bytes, " ++ (decimal millis ++ (codes " ms, " ++ (decimal again ++ codes " sent again"))))
+    ++ (codes " bytes, "
+    ++ (decimal millis ++ (codes " ms, " ++ (decimal again ++ codes " sent again"))))
 
 -- a line, without its end
 abbrev pub log_text : LogLine → List ℕ
@@ -52,7 +53,8 @@ log_text (Opened port request answer) =
     codes "opened "
     ++ (decimal port ++ (codes " " ++ (request_text request ++ (codes ": " ++ answer.now))))
 log_text (Refused request answer reason) =
-    codes "refused " ++ (request_text request ++ (codes ": " ++ (answer.now ++ because_text reason)))
+    codes "refused "
+    ++ (request_text request ++ (codes ": " ++ (answer.now ++ because_text reason)))
 log_text (Ignored request) = codes "ignored " ++ request_text request
 log_text (Lost request lost) =
     codes "lost " ++ (request_text request ++ (codes ": " ++ lost_text lost))

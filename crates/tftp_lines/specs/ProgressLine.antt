@@ -32,8 +32,8 @@ speed_text bytes millis =
     then tenths_text (kilo_tenths_of bytes millis) (codes " KB/s")
     else tenths_text (tenths_of bytes millis) (codes " MB/s")
 
--- how long the rest takes at the speed so far, in seconds, rounded up; nothing at the end, before the
--- first byte, and if it is more than 100 hours
+-- how long the rest takes at the speed so far, in seconds, rounded up; nothing at the end, before
+-- the first byte, and if it is more than 100 hours
 abbrev pub seconds_left : ℕ → ℕ → ℕ → Option ℕ
 seconds_left bytes total millis =
     if (bytes == 0) || nat_le total bytes then None else

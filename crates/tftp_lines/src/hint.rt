@@ -19,7 +19,7 @@ pub enum Hint {
 impl Hint {
     /// The hint for a transfer that has closed so, of a server at this address or at each
     /// (`is_anywhere`): a client answers a datagram of another address than it asked by ERROR 5 (RFC
-    /// 1350, section 4), and nothing has come of the transfer before.
+    /// 1350, section 4), and that is before any progress.
     pub fn of(is_anywhere: bool, has_progressed: bool, outcome: Outcome) -> Option<Hint>
         ensures { result ≡ hint_of is_anywhere has_progressed outcome }
     {

@@ -1,6 +1,6 @@
--- A negotiation drops no option: each agreed option is in the result, unless one is refused.
-use Rattle.std.proofs.Common.{◌≡◌, ◌⊎◌, inl, inr, ℕ, ◌^◌, ◌<◌, ◌≤◌, Bool, true, false, cond, min, nat_le, ◌==◌, ◌&&◌}
-use Rattle.std.proofs.Common.{List, [], ◌∷◌, ◌++◌, Option, Some, None, Result, Ok, Err, IsSome, Contains, decimal}
+-- A negotiation drops no option: each agreed option is in the result, unless one is refused. For `drops_nothing`.
+use Rattle.std.proofs.Common.{◌≡◌, ◌⊎◌, inl, inr, ℕ, ◌^◌, ◌<◌, ◌≤◌, Bool, true, false, cond, nat_le, ◌&&◌}
+use Rattle.std.proofs.Common.{List, [], ◌∷◌, Option, Some, None, Result, Ok, Err, Contains, decimal}
 use Rattle.std.proofs.Common.{bytes_eq, refl, sym, ◌∙◌, ap, subst, arith, eq-eqb}
 use Rattle.std.specs.List.{AllByRecursion}
 use Rattle.std.specs.Str.{str_to_ascii_lowercase}
@@ -23,12 +23,12 @@ use Rattle.tftp_negotiate.specs.declared.refusal.Refusal.{Refusal}
 use Rattle.tftp_negotiate.specs.declared.refusal.Refusal.TheVariants.{Repeated, TooLarge}
 use Rattle.tftp_negotiate.specs.Options.{name_of, number_of, name_text}
 use Rattle.tftp_negotiate.specs.Ranges.{is_in, block_sizes, timeouts, IsBlockSize, IsTimeout}
-use Rattle.tftp_negotiate.specs.Negotiation.{repeats, AreOnce, kept_before, each_judged, negotiated}
+use Rattle.tftp_negotiate.specs.Negotiation.{repeats, kept_before, each_judged}
 use Rattle.tftp_negotiate.specs.Asked.{asked_value}
-use Rattle.tftp_negotiate.specs.Answer.{answer, answered, answered_option, answered_blksize, answered_timeout}
+use Rattle.tftp_negotiate.specs.Answer.{answer, answered, answered_option}
 use Rattle.tftp_negotiate.specs.Answer.{answered_tsize}
 use Rattle.tftp_negotiate.specs.Agreement.{agreement, taken, taken_option, taken_blksize, taken_timeout, taken_tsize}
-use Rattle.tftp_negotiate.specs.Laws.{Requests, Says, HasOption, MayRequest, granted, AnswersWhatIsKnown}
+use Rattle.tftp_negotiate.specs.Laws.{Says, HasOption, MayRequest, granted, AnswersWhatIsKnown}
 use Rattle.tftp_negotiate.specs.Laws.{TooLargeForWrites, TakesLength, IsWithinAsked, known_of, AnswersAsked}
 use Rattle.tftp_negotiate.specs.Laws.{TakesWhatWasAsked}
 use Rattle.tftp_negotiate.proofs.OptionsLemmas.{number_of-decimal}
@@ -197,6 +197,7 @@ answers options kind mode length limits (Ok ks) is keeps = inr (
       ],
 )
 
+-- the server answers each option that it knows and may
 pub answers_what_is_known : AnswersWhatIsKnown
 answers_what_is_known options kind mode length limits once =
     answers options kind mode length limits (each_judged (answered_option kind mode length limits) options)
@@ -207,6 +208,7 @@ refused_for : (b : Bool) (r : Result (List Known) Refusal) → cond b (Err Repea
 refused_for true r h = cc
 refused_for false r h = h
 
+-- a write whose stated length is too large is refused
 pub too_large_for_writes : TooLargeForWrites
 too_large_for_writes options kind mode length limits h =
     let judgement = answered_option kind mode length limits in
@@ -270,6 +272,7 @@ agrees asked kind mode options limit (Ok ks) is keeps all = (
       subst (Contains ks) (says_one has.0 w.0 one w.1 n w.2 has.2) (subst (Kept ks) good (keeps has.0 has.1)),
 )
 
+-- the client takes each option that it asked for
 pub takes_what_was_asked : TakesWhatWasAsked
 takes_what_was_asked asked kind mode options limit once all =
     agrees asked kind mode options limit (each_judged (taken_option asked kind mode limit) options)

@@ -1,4 +1,5 @@
--- The laws of negotiation, option by option.
+-- The laws of negotiation, option by option. For five functions and the crates tftp_player, tftp_promises and
+-- tftp_rules.
 use Rattle.std.proofs.Common.{◌≡◌, ℕ, ◌+◌, ◌^◌, ◌<◌, ◌≤◌, Bool, true, false, cond, min, nat_le, nat_lt, ◌==◌, ◌&&◌}
 use Rattle.std.proofs.Common.{◌||◌, length, List, [], ◌∷◌, ◌++◌, Option, Some, None, Result, Ok, Err, IfSome, IsSome}
 use Rattle.std.proofs.Common.{Contains, decimal, refl, sym, ◌∙◌, ap, subst, arith}
@@ -41,6 +42,7 @@ use Rattle.tftp_negotiate.proofs.NegotiationLemmas.{Keeps, occurrences_of-nil, o
 use Rattle.tftp_negotiate.proofs.NegotiationLemmas.{repeats_none, IsAgreement-from_judged}
 use Rattle.tftp_negotiate.proofs.PolicyLemmas.{answered_option-Keeps, taken_option-Keeps, cond_ok, block_size_from_test}
 
+-- a number is read from its digits
 pub numbers_are_printed : NumbersArePrinted
 numbers_are_printed text n =
     (λ h. decimal-number_of text n h, λ h. ap number_of h.0 ∙ number_of-decimal n h.1)
@@ -150,6 +152,7 @@ within-request options kind mode length limits (Some name.Timeout) (Some n) k r 
 within-request options kind mode length limits (Some name.Tsize) (Some n) k r h =
     within-tsize options mode kind length n limits k (r name.Tsize n refl refl) h
 
+-- an answer is within what was asked
 pub answers_within_request : AnswersWithinRequest
 unfolding answered_option
 answers_within_request options kind mode length limits known h =
@@ -237,6 +240,7 @@ within-asked asked kind mode limit (Some name.Timeout) value k h =
 within-asked asked kind mode limit (Some name.Tsize) value k h =
     taken-tsize asked kind mode limit (asked_tsize mode asked) value k refl h
 
+-- a client takes no option that it did not ask for
 pub takes_nothing_unasked : TakesNothingUnasked
 unfolding taken_option
 takes_nothing_unasked asked kind mode options limit known h =
@@ -393,6 +397,7 @@ once_from_repeats os h name.Timeout =
 once_from_repeats os h name.Tsize =
     (once_each (occurrences_of name.Blksize os) (occurrences_of name.Timeout os) (occurrences_of name.Tsize os) h).2
 
+-- both ends agree on the same values
 pub ends_agree : EndsAgree
 ends_agree asked kind mode client_length length limit limits known ok t max h =
     let server = answered_option kind mode length limits in
@@ -421,11 +426,13 @@ may_be_agreed judgement keeps options known h =
     let ok = negotiated_ok judgement options known h in
     IsAgreement-from_judged judgement keeps options (Ok known) (once_from_repeats options ok.0) (sym ok.1)
 
+-- an answer is one that may be agreed on
 pub answers_may_be_agreed : AnswersMayBeAgreed
 answers_may_be_agreed options kind mode length limits known max h =
     may_be_agreed (answered_option kind mode length limits)
     (answered_option-Keeps kind mode length limits max) options known h
 
+-- so is what a client takes
 pub taken_may_be_agreed : TakenMayBeAgreed
 taken_may_be_agreed asked kind mode options limit known askable h =
     may_be_agreed (taken_option asked kind mode limit)
@@ -449,6 +456,7 @@ by_names (k ∷ ks) =
       one_name (Timeout n) = refl
       one_name (Tsize n) = refl
 
+-- what was agreed on fits an OACK
 pub agreements_are_short : AgreementsAreShort
 agreements_are_short known h =
     let n = by_names known in
@@ -463,5 +471,6 @@ size_from_values (Blksize n ∷ ks) h = h.0
 size_from_values (Timeout n ∷ ks) h = size_from_values ks h.1
 size_from_values (Tsize n ∷ ks) h = size_from_values ks h.1
 
+-- and has a block size that is allowed
 pub agreements_have_block_sizes : AgreementsHaveBlockSizes
 agreements_have_block_sizes known h = size_from_values known h.values

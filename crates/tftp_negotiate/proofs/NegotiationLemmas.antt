@@ -1,4 +1,4 @@
--- The state of a negotiation after each of its options.
+-- The state of a negotiation after each of its options. For `negotiate`, KeptLemmas, LawsLemmas and PolicyLemmas.
 use Rattle.std.proofs.Common.{◌≡◌, ℕ, ◌+◌, ◌<◌, ◌≤◌, Bool, true, false, not, ◌||◌, cond, nat_lt, zero-add, add-zero}
 use Rattle.std.proofs.Common.{length, get_or, take, drop, List, [], ◌∷◌, ◌++◌, Option, Some, None, Result, Ok, Err}
 use Rattle.std.proofs.Common.{IfOk, refl, sym, ◌∙◌, ap, subst, arith}
@@ -24,10 +24,12 @@ use Rattle.tftp_negotiate.specs.Agreed.{name_of_known, IsAgreeable, IsAgreement,
 abbrev pub occurrence : Name → RawOption → ℕ
 occurrence name o = cond (is_name name (name_of o.name)) 1 0
 
+-- no option is of any name
 pub occurrences_of-nil : (name : Name) → occurrences_of name [] ≡ 0
 unfolding occurrences_of
 occurrences_of-nil name = refl
 
+-- one option more counts if it has the name
 pub occurrences_of-cons : (name : Name) (o : RawOption) (os : List RawOption)
     → occurrences_of name (o ∷ os) ≡ occurrence name o + occurrences_of name os
 unfolding occurrences_of
@@ -35,12 +37,14 @@ occurrences_of-cons name o os =
     sum_by-append (λ x. occurrence name x) (o ∷ []) os
     ∙ ap (λ n. n + occurrences_of name os) (zero-add (occurrence name o))
 
+-- one known option more counts if it has the name
 pub count_of-cons : (name : Name) (k : Known) (ks : List Known)
     → count_of name (k ∷ ks) ≡ cond (same_name name (name_of_known k)) 1 0 + count_of name ks
 count_of-cons name k ks =
     let f : Known → ℕ = λ x. cond (same_name name (name_of_known x)) 1 0 in
     sum_by-append f (k ∷ []) ks ∙ ap (λ n. n + count_of name ks) (zero-add (f k))
 
+-- the options of two lists are counted together
 pub occurrences_of-append : (name : Name) (os others : List RawOption)
     → occurrences_of name (os ++ others) ≡ occurrences_of name os + occurrences_of name others
 unfolding occurrences_of
@@ -78,6 +82,7 @@ pub record Keeps (judgement : RawOption → Result (Option Known) Refusal) : Typ
 none_twice : (a b c : ℕ) → a ≤ 1 → b ≤ 1 → c ≤ 1 → (nat_lt 1 a || (nat_lt 1 b || nat_lt 1 c)) ≡ false
 none_twice a b c p q r = grind (arith, nat_tests)
 
+-- options of different names repeat none
 pub repeats_none : (os : List RawOption) → AreOnce os → repeats os ≡ false
 repeats_none os h =
     none_twice (occurrences_of Blksize os) (occurrences_of Timeout os) (occurrences_of Tsize os) (h Blksize) (h Timeout)
@@ -92,6 +97,7 @@ second_twice a b c p = grind (arith, nat_tests)
 third_twice : (a b c : ℕ) → 1 < c → (nat_lt 1 a || (nat_lt 1 b || nat_lt 1 c)) ≡ true
 third_twice a b c p = grind (arith, nat_tests)
 
+-- a name that occurs twice is repeated
 pub repeats_some : (name : Name) (os : List RawOption) → 1 < occurrences_of name os → repeats os ≡ true
 repeats_some Blksize os h =
     some_twice (occurrences_of Blksize os) (occurrences_of Timeout os) (occurrences_of Tsize os) h
@@ -136,6 +142,7 @@ module _ (judgement : RawOption → Result (Option Known) Refusal) (keeps : Keep
       let same : k ∷ js ≡ ks = cc in
       subst (AllByRecursion IsAgreeable) same (keeps.values o k is, below js refl)
 
+  -- each option that was judged has a value that is allowed
   pub values : (os : List RawOption) (ks : List Known) → each_judged judgement os ≡ Ok ks
       → AllByRecursion IsAgreeable ks
   values [] ks h = let same : [] ≡ ks = cc in subst (AllByRecursion IsAgreeable) same tt

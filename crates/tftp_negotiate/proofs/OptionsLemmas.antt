@@ -1,4 +1,4 @@
--- A name by its letters, and a number by its decimal digits.
+-- A name by its letters, and a number by its decimal digits. For `Name::of`, `number_of`, KeptLemmas and LawsLemmas.
 use Rattle.std.proofs.Common.{◌≡◌, ℕ, ◌^◌, ◌<◌, ◌↔◌, Bool, true, false, ◌&&◌, cond, List, Some, None, Ok, Err, Result}
 use Rattle.std.proofs.Common.{MatchResult, IsTrue, decimal, nat_lt, bytes_eq, refl, sym, ◌∙◌, ap, subst, arith}
 use Rattle.std.specs.Str.{str_to_ascii_lowercase, IsUtf8}
@@ -21,20 +21,24 @@ pub means_is : (text : List ℕ) (name : Name) (r : Bool) → (IsTrue r ↔ (str
 means_is text name r h =
     same_from_decides (means text name) r (bytes_eq-Decides (str_to_ascii_lowercase text) (name_text name)) (h.0, h.1)
 
+-- the name `blksize`, in any case
 pub name_of-blksize : (text : List ℕ) → means text Blksize ≡ true → name_of text ≡ Some Blksize
 unfolding name_of
 name_of-blksize text h = cond-true _ _ _ h
 
+-- the name `timeout`
 pub name_of-timeout : (text : List ℕ) → means text Blksize ≡ false → means text Timeout ≡ true
     → name_of text ≡ Some Timeout
 unfolding name_of
 name_of-timeout text a h = cond-false _ _ _ a ∙ cond-true _ _ _ h
 
+-- the name `tsize`
 pub name_of-tsize : (text : List ℕ) → means text Blksize ≡ false → means text Timeout ≡ false → means text Tsize ≡ true
     → name_of text ≡ Some Tsize
 unfolding name_of
 name_of-tsize text a b h = cond-false _ _ _ a ∙ (cond-false _ _ _ b ∙ cond-true _ _ _ h)
 
+-- another name is unknown
 pub name_of-none : (text : List ℕ) → means text Blksize ≡ false → means text Timeout ≡ false → means text Tsize ≡ false
     → name_of text ≡ None
 unfolding name_of

@@ -1,4 +1,4 @@
--- The results of either side for an option.
+-- The results of either side for an option. For `negotiate` and LawsLemmas.
 use Rattle.std.proofs.Common.{◌≡◌, ℕ, Bool, true, false, cond, min, nat_le, ◌==◌, ◌&&◌, Option, Some, None, Ok, Err}
 use Rattle.std.proofs.Common.{IfSome, refl, sym, subst, arith}
 use Rattle.std.proofs.lemmas.Option.{cond_some}
@@ -25,9 +25,11 @@ use Rattle.tftp_negotiate.specs.Agreement.{taken, taken_option, taken_blksize, t
 use Rattle.tftp_negotiate.specs.Policy.{judged, IsSoundPolicy}
 use Rattle.tftp_negotiate.proofs.NegotiationLemmas.{Keeps}
 
+-- a number within the range is a block size
 pub block_size_from_test : (n : ℕ) → is_in block_sizes n ≡ true → IsBlockSize n
 block_size_from_test n h = (grind (arith, nat_tests), grind (arith, nat_tests))
 
+-- a number within the range is a timeout
 pub timeout_from_test : (n : ℕ) → is_in timeouts n ≡ true → IsTimeout n
 timeout_from_test n h = (grind (arith, nat_tests), grind (arith, nat_tests))
 
@@ -120,6 +122,7 @@ taken-Bears asked kind mode limit (Some name.Timeout) value k ok h =
 taken-Bears asked kind mode limit (Some name.Tsize) value k ok h =
     taken_tsize-Bears (asked_tsize mode asked) kind limit value k h
 
+-- what the server answers for an option has its name and an allowed value
 pub answered_option-Keeps : (kind : Kind) (mode : Mode) (length : ℕ) (limits : Limits) → IsBlockSize limits.max_block
     → Keeps (answered_option kind mode length limits)
 unfolding answered_option
@@ -128,6 +131,7 @@ answered_option-Keeps kind mode length limits ok = record {
   values = λ o k h. (answered-Bears kind mode length limits (name_of o.name) (number_of o.value) k ok h).1;
 }
 
+-- so has what the client takes
 pub taken_option-Keeps : (asked : Asked) (kind : Kind) (mode : Mode) (limit : ℕ) → IsAskable asked
     → Keeps (taken_option asked kind mode limit)
 unfolding taken_option

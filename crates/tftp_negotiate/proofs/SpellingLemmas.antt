@@ -1,4 +1,4 @@
--- Known options as they are sent are options of a packet.
+-- Known options as they are sent are options of a packet. For `options_are_spelled` and the crate tftp_rules.
 use Rattle.std.proofs.Common.{◌≡◌, ℕ, ◌+◌, ◌^◌, ◌<◌, ◌≤◌, List, [], ◌∷◌, ◌++◌, length, map, Option, Some, None, IfSome}
 use Rattle.std.proofs.Common.{decimal, sym, ap, ◌∙◌, subst, arith, inl, inr}
 use Rattle.std.specs.Prelude.{◌≢◌}
@@ -68,6 +68,7 @@ spelled_known (known.Blksize n) f = spelled_option Blksize n f
 spelled_known (known.Timeout n) f = spelled_option Timeout n f
 spelled_known (known.Tsize n) f = spelled_option Tsize n f
 
+-- the server's can be sent
 pub known_are_options : KnownAreOptions
 known_are_options [] h = (tt, omega arith)
 known_are_options (k ∷ ks) h =
@@ -99,6 +100,7 @@ request_word : (kind : Kind) (length n : ℕ) → length < 2 ^ 64 → n ≡ requ
 request_word Read length n fits e = omega (arith, e)
 request_word Write length n fits e = omega (arith, e)
 
+-- and the client's
 pub asked_are_options : AskedAreOptions
 asked_are_options asked kind mode length fits is =
     options_if Blksize asked.blksize _

@@ -1,5 +1,6 @@
--- A step that is lent a file, and a transfer that is held, as the server's list has them.
-use Rattle.std.proofs.Common.{◌≡◌, ℕ, List, Option, Some, refl, sym, ap}
+-- A step that is lent a file, and a transfer that is held, as the server's list has them. For `Server::hold`,
+-- `Server::lend_sink` and `Server::lend_source`.
+use Rattle.std.proofs.Common.{◌≡◌, ℕ, List, Some, refl, sym, ap}
 use Rattle.tftp_file.specs.declared.files.Files.{Files}
 use Rattle.tftp_ends.specs.declared.outgoing.Outgoing.{Outgoing}
 use Rattle.tftp_ends.specs.declared.record.Step.{Step}

@@ -1,4 +1,5 @@
--- What repeats a request, by the keys of an index and by the transfers under them.
+-- What repeats a request, by the keys of an index and by the transfers under them. For
+-- `Table+Transfer+F+D::is_repeated`.
 use Rattle.std.proofs.Common.{ℕ, List, [], ◌∷◌, map, Option, Some, None, IsSome, inl, inr}
 use Rattle.std.specs.Prelude.{◌⊎◌}
 use Rattle.slab.specs.Slab.{Slab, get}
@@ -22,6 +23,7 @@ module _ {F D : Type 0} (from : Endpoint) (packet : Packet) where
   keyed tid None others rest here k more = absurd (cc)
   keyed tid (Some held) others rest here k more = elim k [ inl r ↦ inl r | inr r ↦ inr (more r) ]
 
+  -- a transfer under a key of the index is one of the table
   pub repeats_joined : (index : List (ℕ × ℕ)) (slots : Slab (TransferState F D)) → IsJoined index slots →
       AnyKeyRepeats from packet slots (map (λ e. e.1) index) → AnyRepeats from packet (joined index slots)
   repeats_joined [] slots h k = k
@@ -29,6 +31,7 @@ module _ {F D : Type 0} (from : Endpoint) (packet : Packet) where
       found e.0 (get slots e.1) (joined index slots) (AnyKeyRepeats from packet slots (map (λ f. f.1) index)) h.0 k
       (repeats_joined index slots h.2)
 
+  -- and conversely
   pub joined_repeats : (index : List (ℕ × ℕ)) (slots : Slab (TransferState F D)) → IsJoined index slots →
       AnyRepeats from packet (joined index slots) → AnyKeyRepeats from packet slots (map (λ e. e.1) index)
   joined_repeats [] slots h k = k

@@ -1,4 +1,4 @@
--- What the request port decides, from the calls that it makes.
+-- What the request port decides, from the calls that it makes. For four functions.
 use Rattle.std.proofs.Common.{◌≡◌, ◌≢◌, ℕ, Bool, true, false, List, ◌++◌, Option, Some, None, Result, Ok, Err, IfOk}
 use Rattle.std.proofs.Common.{IsErrOf, OnOk, OnErr, length, take, refl, sym, ap, subst, ◌∙◌}
 use Rattle.std.specs.Prelude.{if◌then◌else◌, nat_le, IsOk}
@@ -57,6 +57,7 @@ refused_bytes reply P before sent all cut start (Err e) s a c h = tt
 refused_bytes reply P before sent all cut start (Ok d) s a c h =
     cut_back before sent all cut start s a c ∙ sym (ap (λ d. before ++ decided_bytes d) h.0 ∙ append-nil before)
 
+-- what was appended before a fault is cut off again
 pub cut_on_err : {T E : Type 0} (before sent all cut : List ℕ) (start : ℕ) (r : Result T E) → start ≡ length before →
     all ≡ before ++ sent → cut ≡ take start all → OnErr r (cut ≡ before)
 cut_on_err before sent all cut start (Ok d) s a c = tt
@@ -145,6 +146,7 @@ module _ {S F D : Type 0} (old : ServerState S F D) (from : Endpoint) (bytes : L
             repeated test is);
       }
 
+  -- a request that is no repeat is decided by its name first
   pub asked_by_name : {E : Type 0} (kind : Kind) (request : Request) (decoded : Option Packet) (repeated : Bool)
       (r : Result PortAction E) → has_error_opcode bytes ≡ false → Decodes bytes decoded →
       IsRequest decoded (Some (kind, request)) →

@@ -1,4 +1,5 @@
--- The end of a transfer lacks memory over a draft of the store, which is then unchanged.
+-- The end of a transfer lacks memory over a draft of the store, which is then unchanged. For
+-- `Transfer::handle_datagram` and `Transfer::on_datagram`.
 use Rattle.std.proofs.Common.{◌≡◌, ℕ, Bool, List, [], ◌∷◌, Result, Ok, Err, OnErr, inl, inr, refl, sym, ap, ◌∙◌}
 use Rattle.std.specs.Prelude.{IsErrOf}
 use Rattle.tftp_wire.specs.declared.mode.Mode.{Mode}

@@ -1,4 +1,5 @@
--- How a transfer handles a datagram with its file, and why an event was not handled.
+-- How a transfer handles a datagram with its file, and why an event was not handled. For eight functions and
+-- ShortageLemmas.
 use Rattle.std.proofs.Common.{◌≡◌, ◌↔◌, ℕ, Bool, true, false, List, Option, Some, Result, Err, refl, sym, ap, subst}
 use Rattle.std.proofs.Common.{◌∙◌}
 use Rattle.std.specs.Prelude.{not, IsErrOf}
@@ -122,6 +123,7 @@ pub when_closed : {R Q P : Type 0} (fault : EndFault) → (IsErrOf {T = R} (Err 
 when_closed ends.Closed then e = then refl
 when_closed ends.Memory then e = absurd (cc)
 
+-- a fault of memory of the end is one of the server
 pub when_memory : {R Q P : Type 0} (fault : EndFault) → (IsErrOf {T = R} (Err fault) ends.Memory → P) →
     IsErrOf {T = Q} (Err (of_end fault)) faults.Memory → P
 when_memory ends.Closed then e = absurd (cc)
@@ -134,6 +136,7 @@ module _ {F D R : Type 0} (held : TransferState F D) where
       false_from_ne_true (is_closed held)
       (λ h. let e : IsErrOf {T = R} (Err ends.Memory) ends.Closed = closed.1 h in cc)
 
+  -- why a timeout was not handled
   pub timeout_fault : (fault : EndFault) → (IsErrOf {T = R} (Err fault) ends.Closed ↔ (is_closed held ≡ true)) →
       (IsErrOf {T = R} (Err fault) ends.Memory →
       IsAnswered (timeout_action held.end.position.retries_left held.end.position.phase)) →
@@ -141,6 +144,7 @@ module _ {F D R : Type 0} (held : TransferState F D) where
   timeout_fault ends.Closed closed memory = ap not (closed.0 refl)
   timeout_fault ends.Memory closed memory = (still_open closed, memory refl)
 
+  -- why a datagram was not handled
   pub datagram_fault : (kind : Action → Type 0) (from : Endpoint) (bytes : List ℕ) (fault : EndFault) →
       (IsErrOf {T = R} (Err fault) ends.Closed ↔ (is_closed held ≡ true)) →
       (IsErrOf {T = R} (Err fault) ends.Memory → (decoded : Option Packet) × Decodes bytes decoded
@@ -152,6 +156,7 @@ module _ {F D R : Type 0} (held : TransferState F D) where
 -- ---- what is written back to the transfers
 module _ {F D : Type 0} (tid : ℕ) {held : List (ℕ × TransferState F D)} {transfer next : TransferState F D}
     (found : Some transfer ≡ at tid held) where
+  -- a timeout of the transfer is one of the table
   pub times_out : (gives : Gives) {step : Step} →
       gives transfer.end (timeout_turn transfer.end) next.end step.to
       × (step ≡ reported transfer.end (timeout_turn transfer.end)) × (next ≡ with_end next.end transfer) →

@@ -1,4 +1,4 @@
--- The joined list of an index and a slab under look-ups, insertions, removals and writes.
+-- The joined list of an index and a slab under look-ups, insertions, removals and writes. For ten functions.
 use Rattle.std.proofs.Common.{arith, ◌≡◌, ◌≢◌, ℕ, suc, Bool, true, false, List, [], ◌∷◌, length, get_or, Option, Some}
 use Rattle.std.proofs.Common.{None, IsSome, is_some, cond, Result, Ok, Err, OnErr, refl, sym, ap, subst, ◌∙◌, inl, inr}
 use Rattle.std.proofs.lemmas.Bool.{cases_eq}
@@ -82,6 +82,7 @@ removes_new Greater tid key e es more o absent rest =
     let there : lookup (is_at (nat_cmp tid)) es ≡ None = rw o at absent in
     rw (o, rest there) refl
 
+-- to remove what was inserted leaves what was there
 pub removes_inserted : (index : List (ℕ × ℕ)) (tid key : ℕ) → lookup (is_at (nat_cmp tid)) index ≡ None →
     remove_entry (is_at (nat_cmp tid)) (insert_entry nat_cmp index tid key) ≡ index
 removes_inserted [] tid key absent = rw same_key refl
@@ -122,12 +123,14 @@ module _ {T : Type 0} where
   with_found-insert tid k None others v h = absurd (cc)
   with_found-insert tid k (Some u) others v h = refl
 
+  -- the list has as many entries as the index
   pub joined-length : (index : List (ℕ × ℕ)) (slots : Slab T) → IsJoined index slots →
       length (joined index slots) ≡ length index
   joined-length [] slots h = refl
   joined-length (e ∷ index) slots h =
       with_found-length e.0 (get slots e.1) (joined index slots) h.0 ∙ ap suc (joined-length index slots h.2)
 
+  -- and its keys
   pub joined-keys : (index : List (ℕ × ℕ)) (slots : Slab T) → IsJoined index slots →
       keys_of (joined index slots) ≡ keys_of index
   joined-keys [] slots h = refl
@@ -140,6 +143,7 @@ module _ {T : Type 0} where
   found_there true k key m l slots more found = ap (get slots) (cc)
   found_there false k key m l slots more found = more found
 
+  -- a key that is found in the index has its transfer
   pub joined-lookup : (test : ℕ → Bool) (index : List (ℕ × ℕ)) (slots : Slab T) (key : ℕ) → IsJoined index slots →
       lookup test index ≡ Some key → lookup test (joined index slots) ≡ get slots key
   joined-lookup test [] slots key h found = absurd (cc)
@@ -153,6 +157,7 @@ module _ {T : Type 0} where
   absent_there true k m o l more found = absurd (cc)
   absent_there false k m o l more found = more found
 
+  -- one that is not has none
   pub joined-absent : (test : ℕ → Bool) (index : List (ℕ × ℕ)) (slots : Slab T) → IsJoined index slots →
       lookup test index ≡ None → lookup test (joined index slots) ≡ None
   joined-absent test [] slots h found = refl
@@ -167,6 +172,7 @@ module _ {T : Type 0} where
   has_there true k m o l here more = here
   has_there false k m o l here more = more
 
+  -- a key is in both or in neither
   pub joined-has : (test : ℕ → Bool) (index : List (ℕ × ℕ)) (slots : Slab T) → IsJoined index slots →
       is_some (lookup test (joined index slots)) ≡ is_some (lookup test index)
   joined-has test [] slots h = refl
@@ -207,6 +213,7 @@ module _ {T : Type 0} where
       ap (λ o. with_found e.0 o (joined index new)) (updates.others e.1 free.0)
       ∙ ap (λ xs. with_found e.0 (get old e.1) xs) (joined-apart index old new key slot updates free.1)
 
+  -- a write to a free slot keeps them joined
   pub IsJoined-apart : (index : List (ℕ × ℕ)) (old new : Slab T) (key : ℕ) (slot : Option T) →
       Updates old new key slot → IsFree key index → IsJoined index old → IsJoined index new
   IsJoined-apart [] old new key slot updates free h = tt
@@ -229,6 +236,7 @@ module _ {T : Type 0} where
       (IsFree-insert index tid e.1 key (λ same. free.0 (sym same)) h.1)
       (IsJoined-inserted index new tid key here free.1 h.2)
 
+  -- an insertion keeps them joined
   pub IsJoined-insert : (index : List (ℕ × ℕ)) (old new : Slab T) (tid key : ℕ) (v : T) → IsJoined index old →
       get old key ≡ None → Updates old new key (Some v) → IsJoined (insert_entry nat_cmp index tid key) new
   IsJoined-insert index old new tid key v h vacant updates =
@@ -254,6 +262,7 @@ module _ {T : Type 0} where
       (with_found e.0 (get new e.1) xs)) (joined-inserted index new tid key v here h.2)
       ∙ sym (with_found-insert tid e.0 (get new e.1) (joined index new) v h.0)
 
+  -- and inserts into the list
   pub joined-insert : (index : List (ℕ × ℕ)) (old new : Slab T) (tid key : ℕ) (v : T) → IsJoined index old →
       get old key ≡ None → Updates old new key (Some v) →
       joined (insert_entry nat_cmp index tid key) new ≡ insert_entry nat_cmp (joined index old) tid v
@@ -282,6 +291,7 @@ module _ {T : Type 0} where
       joins-removed (test e.0) e index _ slots h (IsFree-remove test index e.1 h.1)
       (IsJoined-removed test index slots h.2)
 
+  -- a removal keeps them joined
   pub IsJoined-remove : (test : ℕ → Bool) (index : List (ℕ × ℕ)) (old new : Slab T) (key : ℕ) → IsJoined index old →
       lookup test index ≡ Some key → Updates old new key None → IsJoined (remove_entry test index) new
   IsJoined-remove test index old new key h found updates =
@@ -303,6 +313,7 @@ module _ {T : Type 0} where
       (joined-removed test index slots h.2)
       ∙ sym (with_found-remove test e.0 (get slots e.1) (joined index slots) h.0)
 
+  -- and removes from the list
   pub joined-remove : (test : ℕ → Bool) (index : List (ℕ × ℕ)) (old new : Slab T) (key : ℕ) → IsJoined index old →
       lookup test index ≡ Some key → Updates old new key None →
       joined (remove_entry test index) new ≡ remove_entry test (joined index old)
@@ -326,6 +337,7 @@ module _ {T : Type 0} where
       ap (λ o. with_found e.0 o (joined index new)) (updates.others e.1 (λ same. differs found (sym same)))
       ∙ ap (λ xs. with_found e.0 (get old e.1) xs) (more found)
 
+  -- a write under a key writes that entry
   pub joined-write : (test : ℕ → Bool) (index : List (ℕ × ℕ)) (old new : Slab T) (key : ℕ) (w : T) →
       IsJoined index old → lookup test index ≡ Some key → Updates old new key (Some w) →
       joined index new ≡ set_value test (joined index old) w
@@ -345,6 +357,7 @@ module _ {T : Type 0} where
         | inr differs ↦ ap is_some (updates.others k differs) ∙ here
       ]
 
+  -- a write keeps them joined
   pub IsJoined-write : (index : List (ℕ × ℕ)) (old new : Slab T) (key : ℕ) (w : T) → IsJoined index old →
       Updates old new key (Some w) → IsJoined index new
   IsJoined-write [] old new key w h updates = tt
@@ -352,6 +365,7 @@ module _ {T : Type 0} where
       (kept_there old new key e.1 w updates h.0, h.1, IsJoined-write index old new key w h.2 updates)
 
   -- ---- slots with equal values
+  -- the same slots give the same list
   pub joined-same : (index : List (ℕ × ℕ)) (old new : Slab T) → new.slots ≡ old.slots →
       joined index new ≡ joined index old
   joined-same [] old new same = refl
@@ -359,26 +373,31 @@ module _ {T : Type 0} where
       ap (λ s. with_found e.0 (get_or s e.1 None) (joined index new)) same
       ∙ ap (λ xs. with_found e.0 (get old e.1) xs) (joined-same index old new same)
 
+  -- the same slots stay joined
   pub IsJoined-same : (index : List (ℕ × ℕ)) (old new : Slab T) → new.slots ≡ old.slots → IsJoined index old →
       IsJoined index new
   IsJoined-same [] old new same h = tt
   IsJoined-same (e ∷ index) old new same h =
       (ap (λ s. is_some (get_or s e.1 None)) same ∙ h.0, h.1, IsJoined-same index old new same h.2)
 
+  -- an update, for a key that is said by an equation
   pub updates_at : (old new : Slab T) (key at : ℕ) (slot : Option T) → at ≡ key → Updates old new at slot →
       Updates old new key slot
   updates_at old new key at slot same updates = subst (λ (k : ℕ). Updates old new k slot) same updates
 
   -- ---- the new index as a list
+  -- the same index and slots stay joined
   pub IsJoined-kept : (index after : List (ℕ × ℕ)) (old new : Slab T) → after ≡ index → new.slots ≡ old.slots →
       IsJoined index old → IsJoined after new
   IsJoined-kept index after old new same slots h =
       subst (λ (es : List (ℕ × ℕ)). IsJoined es new) (sym same) (IsJoined-same index old new slots h)
 
+  -- the same index and slots are the same list
   pub joined-kept : (index after : List (ℕ × ℕ)) (old new : Slab T) → after ≡ index → new.slots ≡ old.slots →
       joined after new ≡ joined index old
   joined-kept index after old new same slots = ap (λ es. joined es new) same ∙ joined-same index old new slots
 
+  -- `IsJoined-insert`, by equations
   pub IsJoined-after_insert : (index after : List (ℕ × ℕ)) (old mid new : Slab T) (tid key : ℕ) (v : T) →
       after ≡ insert_entry nat_cmp index tid key → mid.slots ≡ old.slots → IsJoined index old → get mid key ≡ None →
       Updates mid new key (Some v) → IsJoined after new
@@ -386,6 +405,7 @@ module _ {T : Type 0} where
       subst (λ (es : List (ℕ × ℕ)). IsJoined es new) (sym same)
       (IsJoined-insert index mid new tid key v (IsJoined-same index old mid slots h) vacant updates)
 
+  -- `joined-insert`, by equations
   pub joined-after_insert : (index after : List (ℕ × ℕ)) (old mid new : Slab T) (tid key : ℕ) (v : T) →
       after ≡ insert_entry nat_cmp index tid key → mid.slots ≡ old.slots → IsJoined index old → get mid key ≡ None →
       Updates mid new key (Some v) → joined after new ≡ insert_entry nat_cmp (joined index old) tid v
@@ -394,12 +414,14 @@ module _ {T : Type 0} where
       ∙ joined-insert index mid new tid key v (IsJoined-same index old mid slots h) vacant updates
       ∙ ap (λ xs. insert_entry nat_cmp xs tid v) (joined-same index old mid slots)
 
+  -- `IsJoined-remove`, by equations
   pub IsJoined-after_remove : (test : ℕ → Bool) (index after : List (ℕ × ℕ)) (old new : Slab T) (key : ℕ) →
       after ≡ remove_entry test index → IsJoined index old → lookup test index ≡ Some key → Updates old new key None →
       IsJoined after new
   IsJoined-after_remove test index after old new key same h found updates =
       subst (λ (es : List (ℕ × ℕ)). IsJoined es new) (sym same) (IsJoined-remove test index old new key h found updates)
 
+  -- `joined-remove`, by equations
   pub joined-after_remove : (test : ℕ → Bool) (index after : List (ℕ × ℕ)) (old new : Slab T) (key : ℕ) →
       after ≡ remove_entry test index → IsJoined index old → lookup test index ≡ Some key → Updates old new key None →
       joined after new ≡ remove_entry test (joined index old)
@@ -411,6 +433,7 @@ module _ {T : Type 0} where
   remove_nothing_there true e es more m rest found = absurd (cc)
   remove_nothing_there false e es more m rest found = ap (λ xs. e ∷ xs) (rest found)
 
+  -- to remove a key that is not there changes nothing
   pub remove_nothing : (test : ℕ → Bool) (es : List (ℕ × T)) → lookup test es ≡ None → remove_entry test es ≡ es
   remove_nothing test [] found = refl
   remove_nothing test (e ∷ es) found =
@@ -429,6 +452,7 @@ module _ {T : Type 0} where
         | inr differs ↦ ap is_some (others_kept s key k w differs) ∙ here
       ]
 
+  -- a slot that was lent keeps them joined
   pub IsJoined-lent : (index : List (ℕ × ℕ)) (s : Slab T) (key : ℕ) (w : T) → IsJoined index s →
       IsJoined index (with_value s key w)
   IsJoined-lent [] s key w h = tt
@@ -451,6 +475,7 @@ module _ {T : Type 0} where
   set_nothing test (e ∷ es) w found =
       set_nothing_there (test e.0) e es _ w (lookup test es) (set_nothing test es w) found
 
+  -- what is lent under a key is that entry
   pub joined-lent_for : (test : ℕ → Bool) (index : List (ℕ × ℕ)) (s : Slab T) (key : ℕ) (w : T) (found : Option ℕ) →
       IsJoined index s → lookup test index ≡ found → IsKeyFor found key s →
       joined index (with_value s key w) ≡ set_value test (joined index s) w
@@ -462,6 +487,7 @@ module _ {T : Type 0} where
       joined-write test index s (with_value s key w) key w h at
       (Updates-with_value s key w (joined-present test index s key h at))
 
+  -- what is found under a key, for either result of the look-up
   pub joined-lookup_for : (test : ℕ → Bool) (index : List (ℕ × ℕ)) (s : Slab T) (key : ℕ) (found : Option ℕ) →
       IsJoined index s → lookup test index ≡ found → IsKeyFor found key s → get s key ≡ lookup test (joined index s)
   joined-lookup_for test index s key None h looked vacant = vacant ∙ sym (joined-absent test index s h looked)
@@ -469,6 +495,7 @@ module _ {T : Type 0} where
       sym (joined-lookup test index s key h (looked ∙ ap Some (sym same)))
 
   -- ---- reserved capacity for a value at an identifier that holds none
+  -- a key that the list has not is not in the index
   pub index_absent : (test : ℕ → Bool) (index : List (ℕ × ℕ)) (s : Slab T) → IsJoined index s →
       lookup test (joined index s) ≡ None → lookup test index ≡ None
   index_absent test index s h none = by (lookup test index) refl

@@ -95,7 +95,8 @@ module _ {S F D : Type 0} (old : ServerState S F D) (from : Endpoint) (bytes : L
 module _ {S F D : Type 0} (meaning : StoreMeaning S D) (sources : SourceMeaning F)
     (old : ServerState S F D) (from : Endpoint) (bytes : List ℕ) where
   -- the end of a read opens with DATA 1 or the OACK
-  pub record StartsSending (path : List ℕ) (mode : Mode) (length : ℕ) (agreed : List Known) (source : F)
+  pub record StartsSending (path : List ℕ) (mode : Mode) (length : ℕ) (agreed : List Known)
+      (source : F)
       (came : Came S F D) : Type 0 where
     pub rest : F
     pub end : EndState

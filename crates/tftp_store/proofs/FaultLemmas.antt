@@ -1,4 +1,4 @@
--- Calls that are passed to the source that the inner store opened.
+-- Calls that are passed to the source that the inner store opened. For `OpenedSourceSource::read_ahead`.
 use Rattle.std.proofs.Common.{◌≡◌, ℕ, ◌⊎◌, Bool, true, false, refl, inl, inr}
 use Rattle.tftp_file.specs.Source.{SourceMeaning, ReadsAhead}
 use Rattle.tftp_store.specs.FaultStore.{opened_meaning}

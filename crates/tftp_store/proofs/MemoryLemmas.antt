@@ -1,4 +1,4 @@
--- The content of files that are added one by one.
+-- The content of files that are added one by one. For `MemStore::new` and `in_path_order`.
 use Rattle.std.proofs.Common.{◌≡◌, ℕ, Bool, true, false, List, [], ◌∷◌, ◌++◌, cond, refl, sym, ap, ◌∙◌}
 use Rattle.std.specs.Prelude.{not, ◌&&◌, Option, Some, None, is_some}
 use Rattle.std.proofs.lemmas.Map.Lookups.{exact_bytes}

@@ -1,4 +1,4 @@
--- The maximum length of the line of a packet.
+-- The maximum length of the line of a packet. For `line_room_ref`, `line_room` and `show_fault`.
 use Rattle.std.proofs.Common.{ℕ, ◌+◌, ◌*◌, ◌<◌, ◌≤◌, ◌^◌, Bool, true, false, cond, arith, List, [], ◌∷◌, length}
 use Rattle.std.proofs.lemmas.Fmt.{length-decimal-le}
 use Rattle.std.proofs.lemmas.List.{length-append}

@@ -1,4 +1,4 @@
--- Bytes that begin with an option.
+-- Bytes that begin with an option. For `OptionsIterIterator::next`.
 use Rattle.std.proofs.Common.{ℕ, ◌≡◌, refl, ap, sym, ◌∙◌, List, [], ◌∷◌, ◌++◌}
 use Rattle.std.proofs.lemmas.List.{append_assoc, append_cancel_left}
 use Rattle.tftp_wire.specs.Texts.{IsText, zero_ended}

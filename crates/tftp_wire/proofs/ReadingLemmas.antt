@@ -1,4 +1,4 @@
--- The first fault of a datagram, text by text.
+-- The first fault of a datagram, text by text. For five functions and SpellingLemmas.
 use Rattle.std.proofs.Common.{ℕ, ◌≡◌, ◌≢◌, ◌+◌, ◌-◌, ◌≤◌, Bool, true, false, cond, not, eqb, ltb, ⊎_elim, refl, ap, sym}
 use Rattle.std.proofs.Common.{◌∙◌, arith, List, [], ◌∷◌, ◌++◌, length, drop, Option, Some, None, MatchOption}
 use Rattle.std.specs.Borrow.{Bor}
@@ -118,6 +118,7 @@ options_whole at ((c ∷ name) ∷ value ∷ ts) u t h =
       (record { named = cons_named c name; name = t.0; value = t.1.0 }, r.2),
     )
 
+-- bytes without a fault are options
 pub options_fine : (at : ℕ) (bytes : List ℕ) → bytes_fault at bytes ≡ None → AreOptions bytes
 options_fine at bytes h =
     let r = options_whole at (texts bytes) (unended bytes) (texts_each bytes) h in
@@ -134,6 +135,7 @@ nothing_left at (b ∷ bytes) h = absurd (omega arith)
 
 -- ---- the cases that a test excludes
 
+-- where a test gives no fault it is false, and what follows gives none
 pub guard_none : (b : Bool) (e : PacketFault) (y : Option PacketFault) → cond b (Some e) y ≡ None
     → (b ≡ false) × (y ≡ None)
 guard_none true e y h = cc

@@ -1,4 +1,5 @@
--- Bytes that spell a packet have no fault and decode to it; bytes without a fault spell a packet.
+-- Bytes that spell a packet have no fault and decode to it; bytes without a fault spell a packet. For five functions
+-- and four other crates.
 use Rattle.std.proofs.Common.{ℕ, ◌≡◌, ◌≢◌, ◌+◌, ◌/◌, ◌%◌, ◌<◌, ◌≤◌, ◌^◌, ◌⊎◌, Bool, true, false, cond, eqb, ltb, ⊎_elim}
 use Rattle.std.proofs.Common.{inl, inr, refl, ap, sym, ◌∙◌, arith, List, [], ◌∷◌, ◌++◌, length, get_or, drop, Some}
 use Rattle.std.proofs.Common.{None, is_none, unwrap_or, codes, rules, Result, Ok, Err, IfOk, IfErr, IsOkAnd}
@@ -203,12 +204,15 @@ spelled_holds (Oack os) bytes s =
     let h = head_decides (written s.word (Oack os)) 6 (omega arith) refl in
     rw s.whole (h.0 ∙ q.0, h.1 ∙ ap Oack q.1)
 
+-- bytes that spell a packet have no fault
 pub spelled_has_no_fault : SpelledHasNoFault
 spelled_has_no_fault p bytes s = (spelled_holds p bytes s).0
 
+-- and are decoded to it
 pub spelled_is_found : SpelledIsFound
 spelled_is_found p bytes s = (spelled_holds p bytes s).1
 
+-- bytes spell one packet at most
 pub one_meaning : OneMeaning
 one_meaning p q bytes s t = sym (spelled_is_found p bytes s) ∙ spelled_is_found q bytes t
 
@@ -404,6 +408,7 @@ opcode_whole opcode bytes start h f =
     (chosen (eqb opcode 2) _ _ _ q.1))
     (chosen (eqb opcode 1) _ _ _ f)
 
+-- bytes that spell none have a fault
 pub fault_where_nothing : FaultWhereNothing
 fault_where_nothing bytes h f =
     let g = guard_none (ltb (length bytes) 2) _ _ f in
@@ -411,11 +416,13 @@ fault_where_nothing bytes h f =
 
 -- ---- the clauses of `decode_ref`
 
+-- what the reader finds is spelled by the bytes
 pub found_spells : (bytes : List ℕ) (r : Result PacketRef PacketFault) → ((k : ℕ) → get_or bytes k 0 < 256)
     → Reads owned (packet_in bytes) (first_fault bytes) r → IfOk r (λ p. Spells (owned p) bytes)
 found_spells bytes (Ok p) h e = rw e.1 (fault_where_nothing bytes h e.0)
 found_spells bytes (Err f) h e = tt
 
+-- and is the packet that they spell
 pub only_spelled : (bytes : List ℕ) (r : Result PacketRef PacketFault) (p : Packet) → Spells p bytes
     → Reads owned (packet_in bytes) (first_fault bytes) r → IsOkAnd r (λ q. owned q ≡ p)
 only_spelled bytes (Ok q) p s e = e.1 ∙ spelled_is_found p bytes s
@@ -423,11 +430,13 @@ only_spelled bytes (Err f) p s e = let n = spelled_has_no_fault p bytes s in abs
 
 -- ---- the clauses of `decode`
 
+-- so is its copy
 pub copied_only : (r : Result Packet PacketFault) (q p : Packet) → IfOk r (λ x. x ≡ q)
     → IfErr r (λ e. e ≡ out_of_memory) → q ≡ p → MatchResult r (λ x. x ≡ p) (λ e. e ≡ out_of_memory)
 copied_only (Ok x) q p h k e = h ∙ e
 copied_only (Err f) q p h k e = k
 
+-- a copy fails only when out of memory, if the bytes spell a packet
 pub copied_fault : (bytes : List ℕ) (r : Result Packet PacketFault) (q : Packet) → Spells q bytes
     → IfErr r (λ e. e ≡ out_of_memory) → IfErr r (λ e. IsFailure (first_fault bytes) e)
 copied_fault bytes (Ok x) q s k = tt

@@ -1,4 +1,4 @@
--- The end of a text, and the bytes after it.
+-- The end of a text, and the bytes after it. For `split_text`, OptionsLemmas, ReadingLemmas and SpellingLemmas.
 use Rattle.std.proofs.Common.{ℕ, suc, ◌≡◌, ◌+◌, ◌-◌, ◌<◌, ◌≤◌, Bool, true, false, cond, eqb, ltb, refl, ap, sym, ◌∙◌}
 use Rattle.std.proofs.Common.{arith, List, [], ◌∷◌, ◌++◌, length, get_or, take, drop, Some, None, add-one}
 use Rattle.std.proofs.lemmas.Bool.{ltb-false, eqb-false, eqb-true, ne_eqb}
