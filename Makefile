@@ -39,7 +39,7 @@ SOURCES := $(shell find crates -path '*/out' -prune -o \( -name '*.rt' -o -name 
 
 # the tests of the tools; `python3 -m unittest` runs the checks, too
 TESTS := tools.tests.test_gate tools.tests.test_packages tools.tests.test_stand_ins tools.tests.test_programs \
-	tools.tests.test_rows tools.tests.test_requests tools.tests.test_slips
+	tools.tests.test_rows tools.tests.test_requests tools.tests.test_slips tools.tests.test_soak
 # what is run behind `rt ci`, over bin/, which holds by then what `make` builds (tools/shipped.py). Each is run with a limit,
 # whatever the others come to, and once more if it fails: tools/gate.py says what was skipped, what repeated, and what failed
 CHECKS := tools/same_options.py tools/check_install.py tools/check_documents.py tools/statement.py tools/definitions.py \
@@ -107,7 +107,7 @@ docs:
 	tools/figures.py --write
 
 slips:
-	@tools/slips.py $(if $(FEW),--few $(FEW),$(if $(STALE),--stale) $(CRATES))
+	@tools/slips.py $(if $(FEW),--few $(FEW),--together $(if $(STALE),--stale) $(CRATES))
 
 install uninstall:
 	@tools/install.sh $@ 'DESTDIR=$(DESTDIR)' 'PREFIX=$(PREFIX)' 'PROGRAM_PREFIX=$(PROGRAM_PREFIX)' \

@@ -1,11 +1,16 @@
 #!/usr/bin/env python3
-"""Tries slips: slips.py [--jobs N] [--stale] [CRATE.. | CRATE/SLIP..], or slips.py --few [COUNT]
+"""Tries slips: slips.py [--jobs N] [--stale] [--together] [CRATE.. | CRATE/SLIP..], or slips.py --few [COUNT]
 
 A slip is a wrong body in crates/NAME/slips/, in the form of an edit in must-fail/. The prover has to refuse it: a goal stays
 open at the function that it changes, or else in its crate. tools/slips.txt says of each by which commit and at which function
 it was last refused, and a run without --few writes there. Without words all are tried, and with --stale of these only such as
 have changed since, or whose crate has, and such of which nothing is known. The status is 1 where a slip proves or cannot be
 read.
+
+With --together those of a crate that change bodies of different functions are first tried by one check of these functions,
+over what a check of the crate has kept: a proof rests on what other functions promise, and not on their bodies. There a slip
+is refused if a goal of its own function stays open. Those that are hidden by a refused one below are tried so again, and the
+others alone.
 
 With --few, as in the gate, some are tried by the seed of the commit, five if COUNT is not given, over the libraries that are
 there. There one that proves is a failure only if it was refused by a commit since which neither it nor its crate has changed:
@@ -20,9 +25,10 @@ import sys
 import tempfile
 import time
 from concurrent.futures import ThreadPoolExecutor
+from contextlib import contextmanager
 from functools import partial
 from pathlib import Path
-from typing import Any, Callable, NamedTuple, Optional
+from typing import Any, Callable, Iterator, NamedTuple, Optional
 
 from lib.kit import crates, has_libraries
 from lib.programs import TOP
@@ -32,16 +38,18 @@ PARTS = ("src", "specs", "proofs", "c")
 RECORD = TOP / "tools/slips.txt"
 # how many are tried of all, how many at a time, and the longest time of all in seconds
 FEW, AT_ONCE, LIMIT = 5, 2, 600
-# the longest time of one that is tried by hand
-PATIENCE = 3_600
+# the longest time of one that is tried by hand, and the most that are tried by one check
+PATIENCE, MOST = 3_600, 8
 UNKNOWN = "-"
 # a line of the prover on a place; what says that it cannot read a text, and what that a name is gone
 SAID = re.compile(r"(?:note: )?(?:\./)?(?P<path>\S+?):\d+:\d+: (?P<error>error: )?(?P<name>`[^`]*`: )?(?P<what>.*)")
 UNREAD = re.compile(r"is not in scope|has no field|is no name|operand is missing|expected the end|cannot continue")
 UNREADABLE = "it cannot be read"
+# what says that a function is not proved because another is not
+WAITS = re.compile(r"\bwhich (?:is|are) not proved|\bit waits for ")
 GONE = re.compile(r"has no field|is not in scope|has no `|was not admitted")
 FUNCTION = re.compile(r"""^ *(?:pub(?:\([a-z]+\))? )?(?:unsafe )?(?:extern "C" )?fn (\w+)""")
-IMPL = re.compile(r"^(?:pub )?(?:unsafe )?(?:(?P<trait>trait) (?P<own>\w+)|impl(?:<.*?>)? (?:(?P<what>\w+)(?:<.*>)? for )?(?P<type>\w+).*)")
+IMPL = re.compile(r"^(?:pub )?(?:unsafe )?(?:(?P<trait>trait) (?P<own>\w+)|impl(?:<.*?>)? (?:(?:\w+::)*(?P<what>\w+)(?:<.*>)? for )?(?P<type>\w+).*)")
 
 
 def all_slips() -> list[str]:
@@ -90,10 +98,11 @@ def is_fresh(slip: str, refusal: Refusal) -> bool:
 
 
 def record(slip: str, function: str, crate: Any) -> None:
-    """Writes that this one was refused by the commit that is checked out, if its crate and those below are as they are there."""
-    head = git("rev-parse", "--short=10", "HEAD").stdout.strip()
-    changed = git("status", "--porcelain", "--", *(f"crates/{it.name}" for it in [crate, *crate.below()])).stdout
-    if not head or changed:
+    """Writes that this one was refused by the commit that made it, its crate and those below what they are, if it is so."""
+    parts = [f"crates/{it.name}/{part}" for it in [crate, *crate.below()] for part in PARTS]
+    paths = [*parts, str(path_of(slip).relative_to(TOP))]
+    head = git("log", "-1", "--abbrev=10", "--format=%h", "--", *paths).stdout.strip()
+    if not head or git("status", "--porcelain", "--", *paths).stdout:
         print(f"slip {slip}: not recorded: its crates differ from the commit")
         return
     known = {**recorded(), slip: Refusal(head, function)}
@@ -104,10 +113,10 @@ def record(slip: str, function: str, crate: Any) -> None:
 # ---- whether each can be applied
 
 
-def edited(slip: str) -> tuple[dict[str, str], str]:
-    """The texts that a slip changes, by their paths in the crate; or why it cannot be applied."""
+def edited(slip: str, others: dict[str, str] = {}) -> tuple[dict[str, str], str]:
+    """The texts that a slip changes, by their paths in the crate, over those of others; or why it cannot be applied."""
     folder, path, old = path_of(slip).parent.parent, "", ""
-    texts: dict[str, str] = {}
+    texts = {**others}
     for line in path_of(slip).read_text().splitlines():
         if line.startswith("file: "):
             path = line[len("file: "):].strip()
@@ -153,6 +162,14 @@ class Place(NamedTuple):
     owner: str
     name: str
 
+    def module(self, crate: str) -> str:
+        """The module that the file is, by its whole name."""
+        return "::".join([crate, *Path(self.path).with_suffix("").parts[1:]]).removesuffix("::lib").removesuffix("::main")
+
+    def names(self, crate: str) -> str:
+        """What is in the prover's names of the function and its closures, and of no function of another place."""
+        return f"::{self.owner}::{self.name}::" if self.owner else f"::{self.module(crate)}::{self.name}::"
+
 
 def places(slip: str, texts: dict[str, str]) -> list[Place]:
     """The functions that a slip changes: each stands before the first line that differs."""
@@ -163,7 +180,8 @@ def places(slip: str, texts: dict[str, str]) -> list[Place]:
         owner, name = "", ""
         for line in before[:at + 1]:
             head = IMPL.match(line)
-            owner = (head["own"] or head["type"] + (head["what"] or "")) if head else "" if line.startswith("}") else owner
+            owner, name = ("", "") if line.startswith("}") else (owner, name)
+            owner = head["own"] or head["type"] + (head["what"] or "") if head else owner
             name = match[1] if (match := FUNCTION.match(line)) else name
         found += [Place(path, owner, name)] if name else []
     return found
@@ -214,9 +232,14 @@ def judged_by(output: str, texts: dict[str, str]) -> Verdict:
     return Verdict(False, why="it is proved") if is_proved else Verdict(None)
 
 
+def kept_of(crate: str) -> Path:
+    """Where checks of a crate keep what they have proved."""
+    return TOP / "crates" / crate / "out/incremental"
+
+
 def seeded(crate: Any, room: Path) -> list[str]:
     """The words by which a check takes what earlier ones of the crate have proved, of which the copy gets links."""
-    kept = TOP / "crates" / crate.name / "out/incremental"
+    kept = kept_of(crate.name)
 
     def linked(one: str, other: str) -> str:
         try:
@@ -233,28 +256,90 @@ def seeded(crate: Any, room: Path) -> list[str]:
     return ["--incremental", str(room / "kept")]
 
 
-def judged(slip: str, crate: Any, function: str, end: float) -> Verdict:
+@contextmanager
+def copied(crate: Any, texts: dict[str, str]) -> Iterator[Path]:
+    """A copy of a crate with these texts."""
+    with tempfile.TemporaryDirectory(prefix="slip-") as folder:
+        for part in PARTS:
+            if (TOP / "crates" / crate.name / part).is_dir():
+                shutil.copytree(TOP / "crates" / crate.name / part, Path(folder, part))
+        for path, text in texts.items():
+            Path(folder, path).write_text(text)
+        yield Path(folder)
+
+
+def judged(slip: str, crate: Any, function: str, end: float, is_whole: bool = False) -> Verdict:
     """What the prover says of a slip: at the function where it was refused before, or at the one that it changes, or else in
-    the whole crate."""
+    the whole crate, or there alone."""
     texts, why = edited(slip)
     if why:
         return Verdict(False, why=why)
-    with tempfile.TemporaryDirectory(prefix="slip-") as folder:
-        room = Path(folder)
-        for part in PARTS:
-            if (TOP / "crates" / crate.name / part).is_dir():
-                shutil.copytree(TOP / "crates" / crate.name / part, room / part)
-        for path, text in texts.items():
-            (room / path).write_text(text)
+    with copied(crate, texts) as room:
         tries: list[Callable[[], str]] = [partial(checked, crate, room, ["--only", function], end)] * (function != UNKNOWN)
         tries += [partial(checked_at, place, crate, room, end) for place in places(slip, texts)]
-        tries.append(lambda: checked(crate, room, seeded(crate, room), end))
+        tries = [*tries[:0 if is_whole else None], lambda: checked(crate, room, seeded(crate, room), end)]
         verdict = Verdict(None)
         for run in tries:
             verdict = judged_by(run(), texts)
             if verdict.is_refused or verdict.why.startswith(UNREADABLE):
                 break
         return verdict
+
+
+# ---- several in one copy
+
+
+def own(slip: str) -> Optional[Place]:
+    """The function whose body is all that a slip changes, if it is so."""
+    texts, why = edited(slip)
+    found, pairs = places(slip, texts), re.findall(r"(?m)^old: *(\w+)", path_of(slip).read_text())
+    is_body = len(pairs) == 1 and not {"requires", "ensures", "ghost"} & {*pairs}
+    return found[0] if not why and is_body and len(found) == 1 and found[0].path.startswith("src/") else None
+
+
+def groups(slips: list[str], places: dict[str, Place]) -> list[list[str]]:
+    """The slips by their crates, in groups in which no two change one function."""
+    found: list[list[str]] = []
+    key = {slip: (crate_of(slip), places[slip].names(crate_of(slip))) for slip in slips}
+    for slip in slips:
+        fitting = [group for group in found if len(group) < MOST and crate_of(group[0]) == crate_of(slip)
+                   and key[slip] not in map(key.get, group)]
+        if not fitting:
+            fitting = [[]]
+            found += fitting
+        fitting[0].append(slip)
+    return found
+
+
+def judged_at(place: Place, crate: str, output: str, texts: dict[str, str]) -> Verdict:
+    """What the output of a check comes to at one function: nothing is known of it where one that it calls is refused."""
+    verdict, before = Verdict(False, why="it is proved at its function"), []
+    for line in output.splitlines():
+        before.append(line)
+        if not (said := re.match(r"fn (\S+): (.*)", line)):
+            continue
+        is_own = place.names(crate) in f"::{said[1]}::".replace("::fn::", "::")
+        is_open = re.match(r"not proved|no proof", said[2])
+        if is_own and is_open and not WAITS.search(said[2]):
+            return judged_by("\n".join(before), texts)
+        if is_own and is_open:
+            verdict = Verdict(None)
+        before = []
+    return verdict
+
+
+def together(slips: list[str], places: dict[str, Place], crate: Any, end: float) -> dict[str, Verdict]:
+    """What one check says of slips in different functions. Where one of them cannot be read it says nothing: then halves are
+    tried."""
+    texts: dict[str, str] = {}
+    for slip in slips:
+        texts = edited(slip, texts)[0] or texts
+    modules = sorted({places[slip].module(crate.name) for slip in slips})
+    with copied(crate, texts) as room:
+        output = checked(crate, room, [*seeded(crate, room), *(word for it in modules for word in ["--only", it])], end)
+    if len(slips) > 1 and not re.search(r"(?m)^fn ", output):
+        return {**together(slips[::2], places, crate, end), **together(slips[1::2], places, crate, end)}
+    return {slip: judged_at(places[slip], crate.name, output, texts) for slip in slips}
 
 
 # ---- a few of them
@@ -288,20 +373,39 @@ def built(names: set[str], known: dict[str, Any]) -> bool:
     return not lacking or subprocess.run(["tools/build.sh", *lacking], cwd=TOP).returncode == 0
 
 
-def every(slips: list[str], jobs: int) -> int:
+def every(slips: list[str], jobs: int, is_together: bool) -> int:
     """Tries these, and records those that are refused."""
     known, before, began = crates(), recorded(), time.monotonic()
     if not built({crate_of(slip) for slip in slips}, known):
         return 1
+    end, found = began + PATIENCE * len(slips), dict[str, Verdict]()
+
+    def note(slip: str, verdict: Verdict) -> None:
+        found[slip] = verdict
+        print(f"slip {slip}: {verdict}", flush=True)
+        if verdict.is_refused:
+            record(slip, verdict.function, known[crate_of(slip)])
+
     with ThreadPoolExecutor(jobs) as pool:
-        runs = {slip: pool.submit(judged, slip, known[crate_of(slip)], before.get(slip, Refusal()).function,
-                                  time.monotonic() + PATIENCE * len(slips)) for slip in slips}
-        for slip, run in runs.items():
-            verdict = run.result()
-            print(f"slip {slip}: {verdict}", flush=True)
-            if verdict.is_refused:
-                record(slip, verdict.function, known[crate_of(slip)])
-    wrong = sum(not run.result().is_refused for run in runs.values())
+        kept = [slip for slip in slips if is_together and kept_of(crate_of(slip)).is_dir()]
+        places = {slip: place for slip in kept if (place := own(slip))}
+        left, proved = [*places], set[str]()
+        while left:
+            runs = [pool.submit(together, group, places, known[crate_of(group[0])], end) for group in groups(left, places)]
+            hidden = []
+            for slip, verdict in (item for run in runs for item in run.result().items()):
+                if verdict.is_refused:
+                    note(slip, verdict)
+                elif verdict.is_refused is None:
+                    hidden.append(slip)
+                else:
+                    proved.add(slip)
+            left = hidden if len(hidden) < len(left) else []
+        alone = {slip: pool.submit(judged, slip, known[crate_of(slip)], before.get(slip, Refusal()).function, end, slip in proved)
+                 for slip in slips if slip not in found}
+        for slip, one in alone.items():
+            note(slip, one.result())
+    wrong = sum(not verdict.is_refused for verdict in found.values())
     print(f"slips: {len(slips) - wrong} refused, {wrong} not, in {time.monotonic() - began:.0f} s")
     return int(wrong > 0)
 
@@ -309,7 +413,7 @@ def every(slips: list[str], jobs: int) -> int:
 def chosen_by(words: list[str]) -> list[str]:
     """The slips that a command line names."""
     slips, before, is_stale = all_slips(), recorded(), "--stale" in words
-    names = {*words} - {"--stale"}
+    names = {*words} - {"--stale", "--together"}
     lacking = names - {*slips} - {*map(crate_of, slips)}
     if lacking:
         sys.exit(f"slips: there is no slip {', '.join(sorted(lacking))}")
@@ -324,7 +428,7 @@ def main() -> int:
     if words[:1] == ["--few"]:
         return few(int(words[1]) if words[1:] else FEW)
     jobs, words = (int(words[1]), words[2:]) if words[:1] == ["--jobs"] else (AT_ONCE, words)
-    return every(chosen_by(words), jobs)
+    return every(chosen_by(words), jobs, "--together" in words)
 
 
 if __name__ == "__main__":

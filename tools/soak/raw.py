@@ -454,8 +454,9 @@ def run_once(programs, folder, rng, seconds, **limits) -> dict[str, int]:
         has_files(folder, trial.port.files)
         name = next(iter(trial.files)).decode()
         get = Program([programs["tftp"], "get", trial.server.word, name, "got", "--no-dally"], folder, 60)
-        if get.ended()[0] or (folder / "got").read_bytes() != trial.files[name.encode()]:
-            raise Failure("a get at the end")
+        ended = get.ended()
+        if ended[0] or (folder / "got").read_bytes() != trial.files[name.encode()]:
+            raise Failure(f"a get at the end: {ended}")
         return trial.counts
     finally:
         trial.close()

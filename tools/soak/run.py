@@ -134,6 +134,8 @@ def main() -> int:
                 status, printed = Trial(trial.name, at, seed, seconds, words, f"{folder}/{at}.again{run}").ended()
                 print(f"once more{', since the host stalled' * stalled}: {printed}", end="", flush=True)
                 failed += [trial.name] * (status != 0)
+                # what it saw counts, too
+                texts[at] = printed
     failed = list(dict.fromkeys(failed))
     if not sys.argv[5:] and not failed:
         failed += [f"no ERROR `{text}`" for text in unseen("".join(texts))]

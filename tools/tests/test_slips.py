@@ -39,6 +39,32 @@ class Judged(unittest.TestCase):
         self.assertEqual(slips.judged_by(said, TEXTS).why, "only because a proof cites what it takes away")
 
 
+class Together(unittest.TestCase):
+    """Several in one copy: what is said of each, and which can be tried so."""
+
+    SAID = ("note: src/lib.rt:3:1: it is not proved that it holds\nfn a::stores: no proof: expected answers in ./proofs/stores\n"
+            "fn a::loads: no proof: it calls `a::stores`, which is not proved\nfn a::copies: proved\n"
+            "fn a::fn::copies::map: not proved\nfn a::b::Row::new: proved\nfn a::RowDisplay::fmt: no proof: it waits for `a`\n")
+
+    def judged(self, path: str, owner: str, name: str) -> Optional[bool]:
+        return slips.judged_at(slips.Place(path, owner, name), "a", self.SAID, TEXTS).is_refused
+
+    def test_what_is_said_of_each(self) -> None:
+        self.assertTrue(self.judged("src/lib.rt", "", "stores"))
+        self.assertTrue(self.judged("src/lib.rt", "", "copies"), "its closure")
+        self.assertIsNone(self.judged("src/lib.rt", "", "loads"))
+        self.assertIsNone(self.judged("src/lib.rt", "RowDisplay", "fmt"))
+        self.assertIs(self.judged("src/b/rows.rt", "Row", "new"), False)
+        self.assertIs(self.judged("src/b.rt", "", "stores"), False)
+
+    def test_groups(self) -> None:
+        places = {f"a/{name}": slips.Place("src/lib.rt", "Row", name[0]) for name in ["new", "next", "fmt"]}
+        places["b/new"] = places["a/new"]
+        self.assertEqual(slips.groups([*places], places), [["a/new", "a/fmt"], ["a/next"], ["b/new"]])
+        many = {f"a/{name}": slips.Place("src/lib.rt", "", name) for name in map(str, range(slips.MOST + 1))}
+        self.assertEqual([*map(len, slips.groups([*many], many))], [slips.MOST, 1])
+
+
 class Few(unittest.TestCase):
     """A repository with two crates, each with one slip that was refused by its first commit; and then `b` changes."""
 
