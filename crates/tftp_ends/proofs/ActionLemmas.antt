@@ -17,14 +17,15 @@ use Rattle.tftp_negotiate.specs.Agreement.{agreement}
 use Rattle.tftp_ends.specs.declared.action.Action.{Action}
 use Rattle.tftp_ends.specs.declared.action.Action.TheVariants.{Respond, Send, Store}
 use Rattle.tftp_ends.specs.declared.action.Response.{Response}
-use Rattle.tftp_ends.specs.declared.action.Response.TheVariants.{Ignore, ResendReply, Refuse, Complete}
+use Rattle.tftp_ends.specs.declared.action.Response.TheVariants.{Ignore, ResendReply, Refuse, Complete, WrongPeer}
 use Rattle.tftp_ends.specs.declared.endpoint.Endpoint.{Endpoint}
 use Rattle.tftp_ends.specs.declared.error_reply.ErrorReply.TheVariants.{FileTooLarge, NotNetascii}
 use Rattle.tftp_ends.specs.declared.outcome.Outcome.TheVariants as outcomes
 use Rattle.tftp_ends.specs.declared.phase.Phase.{Phase}
 use Rattle.tftp_ends.specs.declared.phase.Phase.TheVariants.{Waiting, Sending, Receiving, Dallying, Closed}
 use Rattle.tftp_ends.specs.declared.phase.Terms.{Terms}
-use Rattle.tftp_ends.specs.Action.{Decodes, packet_action}
+use Rattle.tftp_wire.specs.Reading.{has_error_opcode}
+use Rattle.tftp_ends.specs.Action.{Decodes, packet_action, datagram_action, is_wrong_peer, garbled_response}
 use Rattle.tftp_ends.specs.End.{EndState, is_sender, is_client, terms_of, number_of}
 use Rattle.tftp_ends.specs.Receiver.{receiver_action, data_action, next_action, dally_response}
 use Rattle.tftp_ends.specs.Sender.{sender_action, acked_action, illegal_action}
@@ -252,3 +253,29 @@ module _ (e : EndState) (from : Endpoint) (bytes : List ℕ) where
   pub packet_fits : (decoded : Option Packet) → IsSound e → Decodes bytes decoded →
       Fits (packet_action e from decoded e.position.phase)
   packet_fits decoded sound d = phase_fits decoded e.position.phase refl sound.phase sound.resends sound.sent d
+
+-- the last of three actions
+chosen_last : (wrong error : Bool) (x y z : Action) → wrong ≡ false →
+    (if wrong then x else if error && false then y else z) ≡ z
+chosen_last wrong true x y z h = rw h refl
+chosen_last wrong false x y z h = rw h refl
+
+-- the action of a receiver for a DATA from its peer
+pub data_acts : (e : EndState) (from : Endpoint) (bytes : List ℕ) (terms : Terms) (stored block : ℕ) (piece : List ℕ) →
+    e.position.phase ≡ Receiving terms stored →
+    is_wrong_peer (terms_of e.position.phase) e.position.last_sent_to from ≡ false →
+    datagram_action e from bytes (Some (Data block piece))
+    ≡ data_action e.role.mode e.position.held_back terms stored block piece
+data_acts e from bytes terms stored block piece phase peer =
+    chosen_last (is_wrong_peer (terms_of e.position.phase) e.position.last_sent_to from) (has_error_opcode bytes)
+    (if has_error_opcode bytes then Respond Ignore else Respond WrongPeer) (Respond (garbled_response e.position.phase))
+    (packet_action e from (Some (Data block piece)) e.position.phase) peer
+    ∙ ap (λ (p : Phase). packet_action e from (Some (Data block piece)) p) phase
+
+-- what it requires
+pub data_acts_fit : (e : EndState) (from : Endpoint) (bytes : List ℕ) (terms : Terms) (stored block : ℕ)
+    (piece : List ℕ) → IsSound e → e.position.phase ≡ Receiving terms stored → Spells (Data block piece) bytes →
+    BytesFit e bytes (data_action e.role.mode e.position.held_back terms stored block piece)
+data_acts_fit e from bytes terms stored block piece sound phase spelled =
+    subst (λ (p : Phase). BytesFit e bytes (packet_action e from (Some (Data block piece)) p)) phase
+    (packet_fits e from bytes (Some (Data block piece)) sound spelled)

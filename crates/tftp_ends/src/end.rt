@@ -8,9 +8,13 @@ mod sides;
 mod storing;
 
 ghost use Rattle.std.specs.Prelude.{◌≡◌, ◌↔◌, ◌+◌, ◌++◌, ◌≤◌, length, option_map, Option};
-ghost use Rattle.std.specs.Prelude.{IfOk, OnErr, IsErrOf, IsSome, is_some, vec_len, vec_capacity};
+ghost use Rattle.std.specs.Prelude.{Some, false, IfOk, IfSome, OnErr, IsErrOf, IsSome, is_some};
+ghost use Rattle.std.specs.Prelude.{vec_len, vec_capacity};
 ghost use Rattle.tftp_wire.specs.Borrowed.{owned};
+ghost use Rattle.tftp_wire.specs.Spelling.{Spells};
 ghost use Rattle.tftp_wire.specs.declared.packet.Packet.{Packet};
+ghost use Rattle.tftp_wire.specs.declared.packet.Packet.TheVariants.{Data};
+ghost use Rattle.tftp_ends.specs.declared.phase.Phase.TheVariants.{Receiving};
 
 use crate::action::{Action, Response};
 use crate::endpoint::Endpoint;
@@ -19,7 +23,7 @@ use crate::fault::EndFault;
 use crate::outcome::Outcome;
 use crate::outgoing::Outgoing;
 use crate::phase::{Dally, Phase, Terms};
-use crate::receiver::{dally_response, receiver_action};
+use crate::receiver::{dally_response, data_action, receiver_action};
 use crate::record::{DEFAULT_INTERVAL, Held, Record, Step};
 use crate::role::Role;
 use crate::sender::sender_action;
@@ -27,7 +31,7 @@ use crate::waiting::{reader_action, writer_action};
 use std::marker::Model;
 use tftp_file::{Files, NetDecoder, Sink, Source};
 use tftp_negotiate::DEFAULT_BLOCK;
-use tftp_wire::{PacketRef, decode_ref, has_error_opcode};
+use tftp_wire::{PacketRef, data_in, decode_ref, has_error_opcode};
 
 /// One end of a transfer.
 ///
@@ -139,13 +143,14 @@ impl End {
 
     /// Whether a datagram is not from the peer or, while the peer is unknown, not from the server's
     /// address.
+    #[inline(always)]
     fn is_wrong_peer(&self, from: Endpoint) -> bool
         ensures { result ≡ is_wrong_peer (terms_of self.now.position.phase)
             self.now.position.last_sent_to from }
     {
         match self.phase.terms() {
-            Some(terms) => terms.peer != from,
-            None => self.last_sent_to.ip != from.ip,
+            Some(terms) => !terms.peer.is_same(from),
+            None => !self.last_sent_to.has_address_of(from),
         }
     }
 
@@ -216,6 +221,65 @@ impl End {
             return Action::Respond(self.garbled_response());
         }
         self.packet_action(from, &decoded)
+    }
+
+    /// What holds of every end.
+    #[inline(always)]
+    fn sound(&self)
+        ensures { IsSound self.now }
+    {
+        let _role = self.role;
+    }
+
+    /// How a receiver that has stored `stored` blocks handles a DATA from its peer.
+    #[inline(always)]
+    fn data_step(
+        &self,
+        from: Endpoint,
+        bytes: &[u8],
+        terms: Terms,
+        stored: u16,
+        block: u16,
+        piece: &[u8],
+    ) -> Action
+        requires phase { self.now.position.phase ≡ Receiving terms stored }
+        requires peer { is_wrong_peer (terms_of self.now.position.phase)
+            self.now.position.last_sent_to from ≡ false }
+        requires spelled { Spells (Data block piece.now) bytes.now }
+        ensures action { result
+            ≡ datagram_action self.now from bytes.now (Some (Data block piece.now)) }
+        ensures fits { ActionFits self.now result }
+        ensures bytes { BytesFit self.now bytes.now result }
+    {
+        self.sound();
+        data_action(self.role.mode, self.decoder, terms, stored, block, piece)
+    }
+
+    /// The action of a receiver that stores the next block, if the datagram is its DATA from the
+    /// peer.
+    #[inline(always)]
+    fn next_block(&self, from: Endpoint, bytes: &[u8]) -> Option<Action>
+        ensures action { IfSome result (λ action. (decoded : Option Packet)
+            × Decodes bytes.now decoded
+            × (action ≡ datagram_action self.now from bytes.now decoded)) }
+        ensures fits { IfSome result (λ action. ActionFits self.now action) }
+        ensures bytes { IfSome result (λ action. BytesFit self.now bytes.now action) }
+    {
+        let Phase::Receiving { terms, number } = self.phase else {
+            return None;
+        };
+        if self.is_wrong_peer(from) {
+            return None;
+        }
+        let Some((block, piece)) = data_in(bytes) else {
+            return None;
+        };
+        let action = self.data_step(from, bytes, terms, number, block, piece);
+        match action {
+            Action::Store { .. } => Some(action),
+            Action::Send { .. } => None,
+            Action::Respond(_) => None,
+        }
     }
 
     /// How the end handles a timeout (RFC 1350, sections 2 and 6).

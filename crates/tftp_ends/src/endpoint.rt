@@ -1,5 +1,8 @@
 //! The source or destination of a datagram.
 
+ghost use Rattle.std.specs.Prelude.{◌≡◌};
+ghost use Rattle.tftp_ends.specs.Action.{same_address, same_endpoint};
+
 use std::fmt;
 use std::net::{Ipv4Addr, SocketAddrV4};
 
@@ -11,6 +14,26 @@ pub struct Endpoint {
     pub ip: [u8; 4],
     /// The UDP port.
     pub port: u16,
+}
+
+impl Endpoint {
+    /// Whether both have the same address.
+    #[inline(always)]
+    pub(crate) fn has_address_of(self, other: Endpoint) -> bool
+        ensures { result ≡ same_address self other }
+    {
+        let [a, b, c, d] = self.ip;
+        let [e, f, g, h] = other.ip;
+        a == e && b == f && c == g && d == h
+    }
+
+    /// Whether both have the same address and the same port.
+    #[inline(always)]
+    pub(crate) fn is_same(self, other: Endpoint) -> bool
+        ensures { result ≡ same_endpoint self other }
+    {
+        self.has_address_of(other) && self.port == other.port
+    }
 }
 
 impl fmt::Display for Endpoint {

@@ -65,7 +65,7 @@ fn next_action(mode: Mode, decoder: NetDecoder, terms: Terms, number: u16, bytes
 
 /// The newest block is acknowledged again, an older one is ignored, and none may be skipped.
 #[inline(always)]
-fn data_action(
+pub(crate) fn data_action(
     mode: Mode,
     decoder: NetDecoder,
     terms: Terms,

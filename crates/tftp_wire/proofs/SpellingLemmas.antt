@@ -1,13 +1,14 @@
--- Bytes that spell a packet have no fault and decode to it; bytes without a fault spell a packet. For five functions
+-- Bytes that spell a packet have no fault and decode to it; bytes without a fault spell a packet. For six functions
 -- and four other crates.
-use Rattle.std.proofs.Common.{ℕ, ◌≡◌, ◌≢◌, ◌+◌, ◌/◌, ◌%◌, ◌<◌, ◌≤◌, ◌^◌, ◌⊎◌, Bool, true, false, cond, eqb, ltb, ⊎_elim}
+use Rattle.std.proofs.Common.{ℕ, ◌≡◌, ◌≢◌, ◌+◌, ◌/◌, ◌%◌, ◌<◌, ◌≤◌, ◌^◌, ◌⊎◌, Bool, true, false, cond, eqb, leb, ltb, ◌&&◌, ⊎_elim}
 use Rattle.std.proofs.Common.{inl, inr, refl, ap, sym, ◌∙◌, arith, List, [], ◌∷◌, ◌++◌, length, get_or, drop, Some}
 use Rattle.std.proofs.Common.{None, is_none, unwrap_or, codes, rules, Result, Ok, Err, IfOk, IfErr, IsOkAnd}
 use Rattle.std.proofs.Common.{MatchResult}
+use Rattle.std.specs.Borrow.{Bor}
 use Rattle.std.specs.List.{AllByRecursion, flat_map}
 use Rattle.std.specs.Char.{to_ascii_lowercase}
 use Rattle.std.specs.Str.{str_to_ascii_lowercase, str_eq_ignore_ascii_case, bytes_eq}
-use Rattle.std.proofs.lemmas.Bool.{le-ltb, ltb-false, eqb-false, eqb-true, ne_eqb}
+use Rattle.std.proofs.lemmas.Bool.{le-ltb, leb-true, ltb-false, eqb-false, eqb-true, ne_eqb}
 use Rattle.std.proofs.lemmas.List.{append-nil, append_assoc, length-append, length-map, length-drop, get_or-drop}
 use Rattle.std.proofs.lemmas.List.{drop-drop}
 use Rattle.std.proofs.Math.ListN.{drop_of_length-le}
@@ -27,7 +28,7 @@ use Rattle.tftp_wire.specs.Options.{IsOption, options_bytes, paired, options_in}
 use Rattle.tftp_wire.specs.Modes.{mode_word}
 use Rattle.tftp_wire.specs.Spelling.{request_bytes, written, IsRequest, IsValid, Spells}
 use Rattle.tftp_wire.specs.Reading.{mode_in, options_fault, texts_fault, request_fault, data_fault, ack_fault}
-use Rattle.tftp_wire.specs.Reading.{error_fault, oack_fault, message_fault, opcode_fault, first_fault}
+use Rattle.tftp_wire.specs.Reading.{error_fault, oack_fault, message_fault, opcode_fault, first_fault, starts_as_data}
 use Rattle.tftp_wire.specs.Parts.{request_of, first_of, packet_of, packet_in, Reads}
 use Rattle.tftp_wire.specs.Laws.{FaultWhereNothing, OneMeaning, SpelledHasNoFault, SpelledIsFound}
 use Rattle.tftp_wire.specs.Borrowed.{owned}
@@ -427,6 +428,27 @@ pub only_spelled : (bytes : List ℕ) (r : Result PacketRef PacketFault) (p : Pa
     → Reads owned (packet_in bytes) (first_fault bytes) r → IsOkAnd r (λ q. owned q ≡ p)
 only_spelled bytes (Ok q) p s e = e.1 ∙ spelled_is_found p bytes s
 only_spelled bytes (Err f) p s e = let n = spelled_has_no_fault p bytes s in absurd (cc)
+
+-- ---- the clauses of `data_in`
+
+both : (x y : Bool) → (x && y) ≡ true → (x ≡ true) × (y ≡ true)
+both true y e = (refl, e)
+both false y e = absurd (cc)
+
+-- what begins with the opcode of DATA has its two bytes
+pub opcode_of_data : (bytes : List ℕ) → starts_as_data bytes ≡ true → (2 ≤ length bytes) × (big_number 2 bytes ≡ 3)
+opcode_of_data bytes e =
+    let h = both (leb 2 (length bytes)) (eqb (big_number 2 bytes) 3) e in
+    (leb-true 2 (length bytes) h.0, eqb-true (big_number 2 bytes) 3 h.1)
+
+-- what is read of a datagram with the opcode of DATA is its block
+pub block_found : (bytes : List ℕ) (r : Result (ℕ × Bor (List ℕ)) PacketFault) → ((k : ℕ) → get_or bytes k 0 < 256)
+    → 2 ≤ length bytes → big_number 2 bytes ≡ 3 → Reads (λ d. Data d.0 d.1.now) (packet_of 3 bytes) (data_fault bytes) r
+    → IfOk r (λ d. Spells (Data d.0 d.1.now) bytes)
+block_found bytes (Ok d) h least opcode e =
+    let head = head_decides bytes 3 least opcode in
+    rw (e.1 ∙ sym head.1) (fault_where_nothing bytes h (head.0 ∙ e.0))
+block_found bytes (Err f) h least opcode e = tt
 
 -- ---- the clauses of `decode`
 

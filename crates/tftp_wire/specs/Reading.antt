@@ -1,6 +1,6 @@
 -- The first fault of a datagram from the left, and its offset (our own; the layouts are those of
 -- RFC 1350, section 5, and RFC 2347, "Packet Formats").
-use Rattle.std.specs.Prelude.{ℕ, ◌+◌, ◌==◌, ◌&&◌, nat_lt, Bool, false, if◌then◌else◌, List, [], ◌∷◌}
+use Rattle.std.specs.Prelude.{ℕ, ◌+◌, ◌==◌, ◌&&◌, nat_le, nat_lt, Bool, false, if◌then◌else◌, List, [], ◌∷◌}
 use Rattle.std.specs.Prelude.{length, drop, Option, Some, None, is_none, codes}
 use Rattle.std.specs.Str.{str_eq_ignore_ascii_case}
 use Rattle.byteorder.specs.Endian.{big_number}
@@ -135,6 +135,10 @@ abbrev pub first_fault : List ℕ → Option PacketFault
 first_fault bytes = first_row (
     row (nat_lt (length bytes) 2) kinds.Short 0
     ∷ []) (opcode_fault (big_number 2 bytes) bytes)
+
+-- the datagram begins with the opcode of DATA
+abbrev pub starts_as_data : List ℕ → Bool
+starts_as_data bytes = nat_le 2 (length bytes) && (big_number 2 bytes == 3)
 
 -- the datagram begins with the opcode of ERROR
 abbrev pub has_error_opcode : List ℕ → Bool

@@ -39,6 +39,6 @@ pub use opcode::has_error_opcode;
 pub use options::{OptionRef, OptionsIter, OptionsRef, RawOption, RawOptions};
 pub use owned::decode;
 pub use packet::{Packet, PacketRef, Request, RequestRef};
-pub use reader::decode_ref;
+pub use reader::{data_in, decode_ref};
 pub use text::is_text;
 pub use writer::{encode, is_valid};

@@ -1,7 +1,8 @@
 //! Decodes a datagram, for owned and borrowed packets, and finds its first fault.
 
 ghost use Rattle.std.specs.Prelude.{◌≡◌, ◌≤◌, ◌+◌, ◌-◌, ◌<◌, ◌^◌, ◌==◌, ◌∷◌, [], not, None, length};
-ghost use Rattle.std.specs.Prelude.{drop, IfOk, IfErr, MatchResult, IsOkAnd, IsTrue, ◌↔◌};
+ghost use Rattle.std.specs.Prelude.{drop, IfOk, IfErr, IfSome, IsSomeAnd, MatchResult, IsOkAnd, IsTrue};
+ghost use Rattle.std.specs.Prelude.{◌↔◌, List, ℕ};
 ghost use Rattle.byteorder.specs.Endian.{big_number};
 ghost use Rattle.tftp_wire.specs.Borrowed.{owned, owned_request};
 ghost use Rattle.tftp_wire.specs.Options.{options_in};
@@ -9,11 +10,12 @@ ghost use Rattle.tftp_wire.specs.Parts.{packet_in, packet_of, request_of, Reads,
 ghost use Rattle.tftp_wire.specs.Parts.{SplitsText, GoesOn};
 ghost use Rattle.tftp_wire.specs.Reading.{first_row, row, first_fault, request_fault, data_fault};
 ghost use Rattle.tftp_wire.specs.Reading.{ack_fault, error_fault, oack_fault, mode_in};
-ghost use Rattle.tftp_wire.specs.Reading.{number_fault};
+ghost use Rattle.tftp_wire.specs.Reading.{number_fault, starts_as_data};
 ghost use Rattle.tftp_wire.specs.declared.fault.PacketFaultKind.TheVariants.{Trailing};
 ghost use Rattle.tftp_wire.specs.Spelling.{Spells};
 ghost use Rattle.tftp_wire.specs.Texts.{texts};
 ghost use Rattle.tftp_wire.specs.declared.packet.Packet.{Packet};
+ghost use Rattle.tftp_wire.specs.declared.packet.Packet.TheVariants.{Data};
 
 use crate::fault::{PacketFault, PacketFaultKind};
 use crate::limits::{HEADER, MAX_DATA, MAX_REQUEST};
@@ -82,6 +84,17 @@ fn read_data(bytes: &[u8]) -> Result<PacketRef<'_>, PacketFault>
     requires { 2 ≤ length bytes.now }
     ensures { Reads owned (packet_of 3 bytes.now) (data_fault bytes.now) result }
 {
+    let (block, bytes) = read_block(bytes)?;
+    Ok(PacketRef::Data { block, bytes })
+}
+
+/// The block number and the bytes of a datagram with the opcode of DATA.
+#[inline(always)]
+fn read_block(bytes: &[u8]) -> Result<(u16, &[u8]), PacketFault>
+    requires { 2 ≤ length bytes.now }
+    ensures { Reads (λ d. Data d.0 d.1.now) (packet_of 3 bytes.now)
+        (data_fault bytes.now) result }
+{
     if bytes.len() > MAX_DATA {
         return Err(fault_at(PacketFaultKind::TooLong, MAX_DATA));
     }
@@ -89,10 +102,32 @@ fn read_data(bytes: &[u8]) -> Result<PacketRef<'_>, PacketFault>
     if block == 0 {
         return Err(fault_at(PacketFaultKind::BlockZero, 2));
     }
-    Ok(PacketRef::Data {
-        block,
-        bytes: &bytes[4..],
-    })
+    Ok((block, &bytes[4..]))
+}
+
+/// The block number and the bytes of a DATA, borrowed from the datagram, and `None` for every other
+/// datagram (RFC 1350, section 5): what [`decode_ref`] finds, for who expects a DATA.
+#[inline(always)]
+pub fn data_in(bytes: &[u8]) -> Option<(u16, &[u8])>
+    ensures found { IfSome result (λ d. Spells (Data d.0 d.1.now) bytes.now) }
+    ensures only { (block : ℕ) (piece : List ℕ) → Spells (Data block piece) bytes.now
+        → IsSomeAnd result (λ d. (d.0 ≡ block) × (d.1.now ≡ piece)) }
+{
+    if !begins_as_data(bytes) {
+        return None;
+    }
+    match read_block(bytes) {
+        Ok(data) => Some(data),
+        Err(_) => None,
+    }
+}
+
+/// Whether a datagram begins with the opcode of DATA.
+#[inline(always)]
+fn begins_as_data(bytes: &[u8]) -> bool
+    ensures { result ≡ starts_as_data bytes.now }
+{
+    bytes.len() >= 2 && BigEndian::read_u16(bytes) == DATA
 }
 
 fn read_ack(bytes: &[u8]) -> Result<PacketRef<'_>, PacketFault>
