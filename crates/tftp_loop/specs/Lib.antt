@@ -20,3 +20,4 @@ pub mod Dropped
 pub mod Hinted
 pub mod Reflected
 pub mod Leaving
+pub mod Told

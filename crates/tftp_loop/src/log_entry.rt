@@ -1,24 +1,32 @@
 //! The log entry of a transfer.
 
-ghost use Rattle.std.specs.Prelude.{◌≡◌, ◌||◌, false};
+ghost use Rattle.std.specs.Prelude.{◌≡◌, ◌||◌, ◌-◌, false};
 ghost use Rattle.tftp_lines.specs.Hint.{hint_of};
 ghost use Rattle.tftp_loop.specs.Hinted.{hint_in};
+ghost use Rattle.tftp_loop.specs.Told.{data_length};
 
 use crate::datagram::Datagram;
 use crate::log::Log;
+use crate::report::direction_asked;
 use std::alloc::Global;
 use std::cell::Cell;
 use tftp_ends::{Endpoint, Outcome, Step};
 use tftp_lines::{Hint, LogLine, Reason, RequestLine, Why};
-use tftp_wire::{PacketRef, decode_ref, show_datagram};
+use tftp_negotiate::stated_tsize;
+use tftp_sockets::{Direction, OpenTransfer};
+use tftp_wire::{HEADER, PacketRef, decode_ref, show_datagram};
 
-/// The content of a transfer's log lines.
+/// The content of a transfer's log lines, and what is counted of it.
 #[derive(Drop)]
 pub(crate) struct LogEntry {
     pub(crate) log: Log,
     peer: Endpoint,
+    direction: Direction,
     request: String,
+    /// The line of the answer; empty without a log.
     answer: String,
+    /// The length of the file in bytes, if the answer stated it.
+    length: Option<u64>,
     /// The reading of the clock at the opening, in milliseconds.
     opened_at: u64,
     /// Whether a datagram made progress: the first one of the transfer has been answered so.
@@ -49,8 +57,10 @@ impl LogEntry {
         LogEntry {
             log,
             peer: request.from,
+            direction: direction_asked(request.bytes),
             request: shown(alloc, request.bytes),
-            answer: shown(alloc, answer),
+            answer: answer_shown(alloc, log, answer),
+            length: length_stated(answer),
             opened_at,
             has_progressed: false,
             bytes: data_length(answer),
@@ -153,6 +163,39 @@ impl LogEntry {
         }
     }
 
+    /// The number of DATA bytes sent or received, without repetitions.
+    pub(crate) fn bytes(&self) -> u64
+        ensures { result ≡ self.now.bytes }
+    {
+        self.bytes
+    }
+
+    /// The number of datagrams that were sent again.
+    pub(crate) fn again(&self) -> u64 {
+        self.again.get()
+    }
+
+    /// The open transfer at this port, at this reading of the clock.
+    pub(crate) fn open_transfer(&self, port: u16, reading: u64) -> OpenTransfer<'_>
+        ensures port { result.port ≡ port }
+        ensures peer { result.peer ≡ self.now.peer }
+        ensures direction { result.direction ≡ self.now.direction }
+        ensures bytes { result.bytes ≡ self.now.bytes }
+        ensures length { result.length ≡ self.now.length }
+        ensures millis { result.millis ≡ reading - self.now.opened_at }
+    {
+        OpenTransfer {
+            port,
+            peer: self.peer,
+            direction: self.direction,
+            request: self.request.as_str(),
+            bytes: self.bytes,
+            length: self.length,
+            millis: reading.saturating_sub(self.opened_at),
+            again: self.again.get(),
+        }
+    }
+
     /// Why the transfer closed, if more is known than its outcome.
     fn why(&self, outcome: Outcome, reason: Option<Reason>) -> Option<Why<'_>> {
         match outcome {
@@ -172,10 +215,30 @@ pub(crate) fn shown(alloc: Global, bytes: &[u8]) -> String {
     line
 }
 
-/// The number of DATA bytes in a datagram.
-fn data_length(datagram: &[u8]) -> u64 {
-    match decode_ref(datagram) {
-        Ok(PacketRef::Data { bytes, .. }) => bytes.len() as u64,
+/// The line of an answer, if there is a log.
+fn answer_shown(alloc: Global, log: Log, answer: &[u8]) -> String {
+    if log.is_written {
+        shown(alloc, answer)
+    } else {
+        String::new(alloc)
+    }
+}
+
+/// The length of the file in bytes that an answer states, if it does.
+fn length_stated(answer: &[u8]) -> Option<u64> {
+    match decode_ref(answer) {
+        Ok(PacketRef::Oack(options)) => stated_tsize(&options),
+        _ => None,
+    }
+}
+
+/// The number of bytes behind the header of a datagram that begins as a DATA: of a packet, its DATA
+/// bytes.
+fn data_length(datagram: &[u8]) -> u64
+    ensures { result ≡ data_length datagram.now }
+{
+    match datagram {
+        [0, 3, ..] => (datagram.len() as u64).saturating_sub(HEADER as u64),
         _ => 0,
     }
 }

@@ -71,6 +71,7 @@ impl PortPool {
         ensures same { self.new ≡ self.old }
         ensures port { IfSome result (IsOfPool self.old) }
         ensures tries { Tries self.old.range (N.log net.old) (N.log net.new) result }
+        ensures told { N.told net.new ≡ N.told net.old }
     {
         let ip = self.ip;
         match &mut self.order {
@@ -119,6 +120,7 @@ fn bind_any<N: ServerUdp>(
 ) -> Option<ServerSocket>
     ensures ip { IfSome result (λ socket. socket.ip ≡ ip) }
     ensures tries { Tries None (N.log net.old) (N.log net.new) result }
+    ensures told { N.told net.new ≡ N.told net.old }
 {
     bind_at(net, ip, 0, bind_error)
 }
@@ -136,6 +138,7 @@ fn bind_next<N: ServerUdp>(
     ensures bound { IfSome result (IsOfPool (record { ip = ip; range = Some order.old.range })) }
     ensures tries { Tries (Some order.old.range) (N.log net.old) (N.log net.new) result }
     ensures turns { TriesInTurn ip order.old order.new result }
+    ensures told { N.told net.new ≡ N.told net.old }
 {
     let mut left = order.len();
     loop {
@@ -172,6 +175,7 @@ fn bind_at<N: ServerUdp>(
     ensures bound { IfSome result (λ socket.
         IsBoundTo (record { ip = ip; port = port }) socket.ip socket.port) }
     ensures noted { N.log net.new ≡ after_bind port result (N.log net.old) }
+    ensures told { N.told net.new ≡ N.told net.old }
 {
     match net.bind_noted(Endpoint { ip, port }) {
         Ok(socket) => Some(socket),

@@ -3,17 +3,21 @@
 ghost use Rattle.std.specs.Prelude.{◌≡◌, ◌⊎◌, Some, IfErr, is_some, option_map, if◌then◌else◌};
 ghost use Rattle.tftp_server.specs.State.{at, taken_of, without};
 ghost use Rattle.tftp_loop.specs.LoopStates.{FailsToPrint, close_reported};
+ghost use Rattle.tftp_loop.specs.Told.{IsCloseTold, IsClosedBy, direction_asked, direction_of};
+ghost use Rattle.tftp_loop.specs.Told.{unopened_entry};
+ghost use Rattle.tftp_sockets.specs.Told.{and_told};
+ghost use Rattle.tftp_sockets.specs.declared.entry.Entry.TheVariants.{Opened};
 
 use crate::datagram::Datagram;
 use crate::log::Log;
-use crate::log_entry::shown;
+use crate::log_entry::{LogEntry, shown};
 use crate::serving::{LoopConfig, LoopFault};
 use crate::transfer_port::TransferPort;
 use std::alloc::Global;
-use tftp_ends::{Outcome, Record};
+use tftp_ends::{ErrorReply, Outcome, Record, Side};
 use tftp_lines::{LogLine, Lost, Printed, Reason, RequestLine};
 use tftp_server::Server;
-use tftp_sockets::ServerUdp;
+use tftp_sockets::{Direction, Entry, ServerUdp};
 use tftp_store::ServedStore;
 
 /// Logs the line of the request port, if there is a log: what standard output has may go nowhere.
@@ -56,6 +60,46 @@ pub(crate) fn log_unopened<E: Eprint>(
         }
     };
     log.write(rt, line);
+}
+
+/// Counts a datagram of the request port that opened no transfer and is not lost, by its answer.
+pub(crate) fn count_unopened<N: ServerUdp>(net: &mut N, answer: &[u8])
+    ensures events { N.log net.new ≡ N.log net.old }
+    ensures told { N.told net.new ≡ and_told (unopened_entry answer.now) (N.told net.old) }
+{
+    net.count(unopened_entry(answer));
+}
+
+/// What happened by this answer to a datagram that opened no transfer.
+fn unopened_entry(answer: &[u8]) -> Entry
+    ensures { result ≡ unopened_entry answer.now }
+{
+    if answer.is_empty() {
+        return Entry::Ignored;
+    }
+    if answer == ErrorReply::ServerBusy.datagram() {
+        return Entry::Busy;
+    }
+    Entry::Refused
+}
+
+/// Counts a request that opened a transfer.
+pub(crate) fn count_opened<N: ServerUdp>(net: &mut N, request: &[u8])
+    ensures events { N.log net.new ≡ N.log net.old }
+    ensures told { N.told net.new
+        ≡ and_told (Opened (direction_asked request.now)) (N.told net.old) }
+{
+    net.count(Entry::Opened(direction_asked(request)));
+}
+
+/// Which way the file goes that a request asks for.
+pub(crate) fn direction_asked(request: &[u8]) -> Direction
+    ensures { result ≡ direction_asked request.now }
+{
+    match request {
+        [0, 1, ..] => Direction::Read,
+        _ => Direction::Write,
+    }
 }
 
 /// The answer to a datagram that opened no transfer.
@@ -127,6 +171,9 @@ pub(crate) fn log_unsent<E: Eprint>(rt: &E, port: &TransferPort) {
     let Some(entry) = &port.socket.log_entry else {
         return;
     };
+    if !entry.log.is_written {
+        return;
+    }
     if let Some(line) = entry.take_unsent(port.socket.udp.port()) {
         entry.log.write(rt, line);
     }
@@ -166,7 +213,7 @@ fn let_go<S: ServedStore<Reason>>(store: &S, closed: &Record, mut draft: S::Draf
     }
 }
 
-/// Prints the outcome of a transfer, and logs its close. `reading` is the newest reading of the
+/// Counts the close of a transfer, logs it, and prints its outcome. `reading` is the newest reading of the
 /// clock, and `reason` the system's reason for refusing the last file call.
 pub(crate) fn report_close<N: ServerUdp + Eprint>(
     net: &mut N,
@@ -179,6 +226,7 @@ pub(crate) fn report_close<N: ServerUdp + Eprint>(
         ≡ close_reported port.now.socket.udp.port port.now.socket.peer closed
         (N.log net.old) }
     ensures fault { IfErr result (λ fault. FailsToPrint fault (N.log net.new)) }
+    ensures told { IsCloseTold closed (N.told net.old) (N.told net.new) }
 {
     let Some(record) = closed else {
         return Ok(());
@@ -187,6 +235,7 @@ pub(crate) fn report_close<N: ServerUdp + Eprint>(
         return Ok(());
     };
     log_closed(&*net, port, reading, outcome, reason);
+    net.count(closed_entry(&port.socket.log_entry, record.side, outcome));
     let line = Printed::Closed {
         port: port.socket.udp.port(),
         peer: port.socket.peer.port,
@@ -206,8 +255,54 @@ fn log_closed<E: Eprint>(
     outcome: Outcome,
     reason: Option<Reason>,
 ) {
-    if let Some(entry) = &port.socket.log_entry {
+    let Some(entry) = &port.socket.log_entry else {
+        return;
+    };
+    if entry.log.is_written {
         let line = entry.closed(port.socket.udp.port(), reading, outcome, reason);
         entry.log.write(rt, line);
+    }
+}
+
+/// What happened by the close of a transfer with this entry, if it has one.
+fn closed_entry(log_entry: &Option<LogEntry>, side: Side, outcome: Outcome) -> Entry
+    ensures { IsClosedBy side outcome result }
+{
+    let direction = direction_of(side);
+    match log_entry {
+        Some(entry) => Entry::Closed {
+            direction,
+            outcome,
+            bytes: entry.bytes(),
+            again: entry.again(),
+        },
+        None => Entry::Closed {
+            direction,
+            outcome,
+            bytes: 0,
+            again: 0,
+        },
+    }
+}
+
+/// Which way the file of an end of this kind goes.
+fn direction_of(side: Side) -> Direction
+    ensures { result ≡ direction_of side }
+{
+    match side {
+        Side::ClientRead => Direction::Read,
+        Side::ServerRead => Direction::Read,
+        Side::ClientWrite => Direction::Write,
+        Side::ServerWrite => Direction::Write,
+    }
+}
+
+/// Adds an open transfer to the report that is due. `reading` is the newest reading of the clock.
+pub(crate) fn report_open<N: ServerUdp>(net: &mut N, port: &TransferPort, reading: u64)
+    ensures events { N.log net.new ≡ N.log net.old }
+    ensures told { N.told net.new ≡ N.told net.old }
+{
+    if let Some(entry) = &port.socket.log_entry {
+        net.report_open(entry.open_transfer(port.socket.udp.port(), reading));
     }
 }

@@ -8,6 +8,8 @@ ghost use Rattle.tftp_server.specs.Port.{asks_store};
 ghost use Rattle.tftp_server.specs.Request.{Admits};
 ghost use Rattle.tftp_server.specs.State.{at};
 ghost use Rattle.tftp_sockets.specs.declared.address.TheConstants.{DATAGRAM_BUFFER};
+ghost use Rattle.tftp_sockets.specs.Told.{and_told};
+ghost use Rattle.tftp_sockets.specs.declared.entry.Entry.TheVariants.{Opened as Opened_by};
 ghost use Rattle.tftp_sockets.specs.Trace.SocketEvent.{Quiet};
 ghost use Rattle.tftp_sockets.specs.Trace.QuietEvent.{Out_of_memory};
 ghost use Rattle.tftp_loop.specs.PortOrder.{IsOneOf};
@@ -18,18 +20,21 @@ ghost use Rattle.tftp_loop.specs.OnlyRequests.{IsHandledBy, begins_as_request};
 ghost use Rattle.tftp_loop.specs.LoopStates.{HasAnswered, HasRoom, IsAdmission, WorksRound, timer_of};
 ghost use Rattle.tftp_loop.specs.MayWait.{AnswersPending, HandlesReceived, HasTriedRequests};
 ghost use Rattle.tftp_loop.specs.MayWait.{HasFew, IsSettled, reads_of, timers_of};
+ghost use Rattle.tftp_loop.specs.Told.{IsToldOnce, IsToldUnlessKept, direction_asked, unopened_entry};
 ghost use Rattle.tftp_loop.specs.declared.port_visit.TheConstants.{MOST_AT_ONCE};
 
 use crate::datagram::Datagram;
 use crate::log_entry::{LogEntry, reason_unasked};
-use crate::report::{Refusal, log_lost, log_refused, log_unopened, log_unsent_answer};
+use crate::report::{
+    Refusal, count_opened, count_unopened, log_lost, log_refused, log_unopened, log_unsent_answer,
+};
 use crate::server_loop::ServerLoop;
 use crate::sockets::Sockets;
 use crate::transfer_port::{TransferPort, TransferSocket, age_limit, next_look, open_of, reply};
 use tftp_ends::{DEFAULT_INTERVAL, Endpoint};
 use tftp_lines::{Lost, Reason};
 use tftp_server::{Admission, Opened, Server, Store};
-use tftp_sockets::{Load, Port, Receipt, ServerSocket, ServerUdp, deadline};
+use tftp_sockets::{Entry, Load, Port, Receipt, ServerSocket, ServerUdp, deadline};
 use tftp_store::ServedStore;
 
 /// The port of a datagram whose sender has none, and gets no answer (RFC 768).
@@ -90,11 +95,12 @@ impl<S: ServedStore<Reason> + Drop> ServerLoop<S> {
         requires room { HasRoom self.old }
         ensures answers { AnswersPending S.meaning S.Source.meaning datagram.entry.from
             datagram.entry.bytes.now self.old (N.log net.old) self.new (N.log net.new) }
+        ensures told { IsToldOnce (N.told net.old) (N.told net.new) }
         ensures rounds { self.new.rounds ≡ self.old.rounds }
         ensures room { HasRoom self.new }
     {
         if self.drops(datagram.bytes) {
-            self.ignore(&*net, datagram);
+            self.ignore(net, datagram);
             return;
         }
         let Ok(admission) = self.server.admit(datagram.from, datagram.bytes) else {
@@ -166,16 +172,17 @@ impl<S: ServedStore<Reason> + Drop> ServerLoop<S> {
         requires pending { self.old.pending ≡ None }
         ensures handles { HandlesReceived S.meaning S.Source.meaning from count request.now
             self.old (N.log net.old) self.new (N.log net.new) }
+        ensures told { IsToldUnlessKept self.new.pending (N.told net.old) (N.told net.new) }
         ensures rounds { self.new.rounds ≡ self.old.rounds }
         ensures room { HasRoom self.new }
     {
         let bytes = &request[..count];
         if from.port == NO_PORT {
-            self.ignore(&*net, Datagram { from, bytes });
+            self.ignore(net, Datagram { from, bytes });
             return;
         }
         if self.drops(bytes) {
-            self.ignore(&*net, Datagram { from, bytes });
+            self.ignore(net, Datagram { from, bytes });
             return;
         }
         let Ok(admission) = self.server.admit(from, bytes) else {
@@ -200,10 +207,14 @@ impl<S: ServedStore<Reason> + Drop> ServerLoop<S> {
         self.requests_only && !begins_as_request(bytes)
     }
 
-    /// Logs a datagram that gets no answer, if there is a log.
-    fn ignore<E: Eprint>(&self, rt: &E, datagram: Datagram<'_>) {
+    /// Counts a datagram that gets no answer, and logs it, if there is a log.
+    fn ignore<N: ServerUdp + Eprint>(&self, net: &mut N, datagram: Datagram<'_>)
+        ensures events { N.log net.new ≡ N.log net.old }
+        ensures told { N.told net.new ≡ and_told Entry.Ignored (N.told net.old) }
+    {
+        net.count(Entry::Ignored);
         if self.log.is_written {
-            log_unopened(rt, self.alloc, self.log, datagram, &[], None);
+            log_unopened(&*net, self.alloc, self.log, datagram, &[], None);
         }
     }
 
@@ -244,11 +255,12 @@ impl<S: ServedStore<Reason> + Drop> ServerLoop<S> {
         requires reserved { vec_len self.old.ports < vec_capacity self.old.ports }
         ensures answers { AnswersPending S.meaning S.Source.meaning datagram.entry.from
             datagram.entry.bytes.now self.old (N.log net.old) self.new (N.log net.new) }
+        ensures told { IsToldOnce (N.told net.old) (N.told net.new) }
         ensures rounds { self.new.rounds ≡ self.old.rounds }
         ensures room { HasRoom self.new }
     {
         match self.most_reached(datagram.from) {
-            Some(most) => self.lose(&*net, datagram, Lost::Client(most)),
+            Some(most) => self.lose(net, datagram, Lost::Client(most)),
             None => self.open_request(net, datagram, admission),
         }
     }
@@ -270,15 +282,16 @@ impl<S: ServedStore<Reason> + Drop> ServerLoop<S> {
         requires reserved { vec_len self.old.ports < vec_capacity self.old.ports }
         ensures answers { AnswersPending S.meaning S.Source.meaning datagram.entry.from
             datagram.entry.bytes.now self.old (N.log net.old) self.new (N.log net.new) }
+        ensures told { IsToldOnce (N.told net.old) (N.told net.new) }
         ensures rounds { self.new.rounds ≡ self.old.rounds }
         ensures room { HasRoom self.new }
     {
         let Some(bound) = self.sockets.port_for(net, &admission) else {
-            self.lose(&*net, datagram, Lost::Port(self.sockets.bind_error()));
+            self.lose(net, datagram, Lost::Port(self.sockets.bind_error()));
             return;
         };
         if is_taken(&self.sockets, &self.server, bound.port()) {
-            self.lose(&*net, datagram, Lost::Port(None));
+            self.lose(net, datagram, Lost::Port(None));
             return;
         }
         self.open_at(net, datagram, admission, bound);
@@ -305,6 +318,7 @@ impl<S: ServedStore<Reason> + Drop> ServerLoop<S> {
         requires reserved { vec_len self.old.ports < vec_capacity self.old.ports }
         ensures answers { AnswersPending S.meaning S.Source.meaning datagram.entry.from
             datagram.entry.bytes.now self.old (N.log net.old) self.new (N.log net.new) }
+        ensures told { IsToldOnce (N.told net.old) (N.told net.new) }
         ensures rounds { self.new.rounds ≡ self.old.rounds }
         ensures room { HasRoom self.new }
     {
@@ -333,8 +347,9 @@ impl<S: ServedStore<Reason> + Drop> ServerLoop<S> {
         requires port { IsOfPool self.old.sockets.pool bound }
         requires own { bound.port ≢ self.old.sockets.requests.port }
         requires tid { IfSome opened.tid (λ tid. tid ≡ bound.port) }
-        ensures { HasAnswered datagram.entry.from opened self.old.out.items self.old
+        ensures answers { HasAnswered datagram.entry.from opened self.old.out.items self.old
             (N.log net.old) self.new (N.log net.new) }
+        ensures told { IsToldOnce (N.told net.old) (N.told net.new) }
     {
         match opened.tid {
             Some(_) => self.begin(net, datagram, bound, opened.to),
@@ -354,6 +369,7 @@ impl<S: ServedStore<Reason> + Drop> ServerLoop<S> {
         requires handled { IsHandledBy self.old.requests_only datagram.bytes.now }
         ensures answers { AnswersPending S.meaning S.Source.meaning datagram.entry.from
             datagram.entry.bytes.now self.old (N.log net.old) self.new (N.log net.new) }
+        ensures told { IsToldOnce (N.told net.old) (N.told net.new) }
         ensures rounds { self.new.rounds ≡ self.old.rounds }
         ensures room { HasRoom self.old → HasRoom self.new }
     {
@@ -372,10 +388,12 @@ impl<S: ServedStore<Reason> + Drop> ServerLoop<S> {
         to: Option<Endpoint>,
         answer: &[u8],
     )
-        ensures { HasAnswered datagram.entry.from (record { tid = None; to = to })
+        ensures answers { HasAnswered datagram.entry.from (record { tid = None; to = to })
             answer.now self.old (N.log net.old) self.new (N.log net.new) }
+        ensures told { N.told net.new ≡ and_told (unopened_entry answer.now) (N.told net.old) }
     {
         let sent = reply(net, &self.sockets.requests, to, answer);
+        count_unopened(net, answer);
         if self.log.is_written {
             let reason = reason_unasked(answer);
             let port = self.sockets.requests.port();
@@ -390,16 +408,21 @@ impl<S: ServedStore<Reason> + Drop> ServerLoop<S> {
 
     /// Notes that memory was refused for a datagram, which is lost by that.
     fn lose_for_memory<N: ServerUdp + Eprint>(&self, net: &mut N, datagram: Datagram<'_>)
-        ensures { N.log net.new ≡ Quiet Out_of_memory ∷ N.log net.old }
+        ensures events { N.log net.new ≡ Quiet Out_of_memory ∷ N.log net.old }
+        ensures told { N.told net.new ≡ and_told Entry.Lost (N.told net.old) }
     {
         net.out_of_memory();
-        self.lose(&*net, datagram, Lost::Memory);
+        self.lose(net, datagram, Lost::Memory);
     }
 
-    /// Logs a lost request, if there is a log.
-    fn lose<E: Eprint>(&self, rt: &E, datagram: Datagram<'_>, lost: Lost) {
+    /// Counts a lost request, and logs it, if there is a log.
+    fn lose<N: ServerUdp + Eprint>(&self, net: &mut N, datagram: Datagram<'_>, lost: Lost)
+        ensures events { N.log net.new ≡ N.log net.old }
+        ensures told { N.told net.new ≡ and_told Entry.Lost (N.told net.old) }
+    {
+        net.count(Entry::Lost);
         if self.log.is_written {
-            log_lost(rt, self.alloc, self.log, datagram, lost);
+            log_lost(&*net, self.alloc, self.log, datagram, lost);
         }
     }
 
@@ -412,11 +435,14 @@ impl<S: ServedStore<Reason> + Drop> ServerLoop<S> {
         to: Option<Endpoint>,
         reason: Option<Reason>,
     )
-        ensures { HasAnswered datagram.entry.from (record { tid = None; to = to })
+        ensures answers { HasAnswered datagram.entry.from (record { tid = None; to = to })
             self.old.out.items self.old (N.log net.old) self.new (N.log net.new) }
+        ensures told { N.told net.new
+            ≡ and_told (unopened_entry self.old.out.items) (N.told net.old) }
     {
         let answer = self.out.as_slice();
         let sent = reply(net, &self.sockets.requests, to, answer);
+        count_unopened(net, answer);
         if self.log.is_written {
             let port = self.sockets.requests.port();
             let refusal = Refusal {
@@ -439,10 +465,13 @@ impl<S: ServedStore<Reason> + Drop> ServerLoop<S> {
         requires port { IsOneOf self.old.sockets.pool.range bound.port }
         requires own { bound.port ≢ self.old.sockets.requests.port }
         requires reserved { vec_len self.old.ports < vec_capacity self.old.ports }
-        ensures { HasAnswered datagram.entry.from (record { tid = Some bound.port; to = to })
+        ensures answers { HasAnswered datagram.entry.from (record { tid = Some bound.port; to = to })
             self.old.out.items self.old (N.log net.old) self.new (N.log net.new) }
+        ensures told { N.told net.new
+            ≡ and_told (Opened_by (direction_asked datagram.entry.bytes.now)) (N.told net.old) }
     {
         let sent = reply(net, &bound, to, self.out.as_slice());
+        count_opened(net, datagram.bytes);
         let log_entry = self.log_opened(&*net, bound.port(), datagram, sent);
         let port = self.port_of(bound, datagram.from, log_entry);
         self.ports.push_reserved(port);
@@ -485,23 +514,25 @@ impl<S: ServedStore<Reason> + Drop> ServerLoop<S> {
     }
 
     /// Logs a request that opened a transfer, if there is a log, and returns the entry for its
-    /// close.
-    fn log_opened<E: Eprint>(
+    /// close, if there is a log or the device counts.
+    fn log_opened<N: ServerUdp + Eprint>(
         &self,
-        rt: &E,
+        net: &N,
         tid: u16,
         datagram: Datagram<'_>,
         sent: Result<(), Reason>,
     ) -> Option<LogEntry> {
-        if !self.log.is_written {
+        if !self.log.is_written && !net.is_counted() {
             return None;
         }
         let first = self.out.as_slice();
         let reading = self.sockets.watch.reading;
         let entry = LogEntry::new(self.alloc, self.log, datagram, first, reading);
-        self.log.write(rt, entry.opened(tid));
-        if let Err(reason) = sent {
-            log_unsent_answer(rt, self.alloc, self.log, tid, datagram, reason);
+        if self.log.is_written {
+            self.log.write(net, entry.opened(tid));
+            if let Err(reason) = sent {
+                log_unsent_answer(net, self.alloc, self.log, tid, datagram, reason);
+            }
         }
         Some(entry)
     }

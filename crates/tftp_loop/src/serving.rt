@@ -151,11 +151,13 @@ fn run<N: ServerUdp + Eprint, S: ServedStore<Reason> + Drop, D: DrainSignal>(
         return Err(LoopFault::Memory);
     };
     let mut running = ServerLoop::new(alloc, server, sockets, config, reserved);
-    running.take_rounds(
+    let served = running.take_rounds(
         net,
         signal,
         &mut buffers.reports,
         buffers.request.as_mut_slice(),
         buffers.datagram.as_mut_slice(),
-    )
+    );
+    running.report(net);
+    served
 }

@@ -114,6 +114,7 @@ impl Sockets {
         ensures same { self.new ≡ self.old }
         ensures port { IfSome result (IsOfPool self.old.pool) }
         ensures tries { Tries self.old.pool.range (N.log net.old) (N.log net.new) result }
+        ensures told { N.told net.new ≡ N.told net.old }
     {
         self.pool.bind_port(net)
     }

@@ -47,7 +47,7 @@ pub(crate) struct TransferSocket {
     pub(crate) received: usize,
     /// The number of active transfers up to which its file reads ahead or is written back.
     pub(crate) file_work_limit: usize,
-    /// The log entry, if there is a log.
+    /// The log entry, if there is a log or the device counts.
     pub(crate) log_entry: Option<LogEntry>,
 }
 
@@ -155,6 +155,7 @@ pub(crate) fn reply<N: ServerUdp>(
     bytes: &[u8],
 ) -> Result<(), Reason>
     ensures events { N.log net.new ≡ replied socket.now.port to bytes.now (N.log net.old) }
+    ensures told { N.told net.new ≡ N.told net.old }
     ensures received { ReceivesAtMost 0 (N.log net.old) (N.log net.new) }
 {
     match to {

@@ -13,7 +13,8 @@ use std::net::UdpSocket;
 use tftp_ends::Endpoint;
 use tftp_lines::{Printed, Reason, StampedLine, UtcTime};
 use tftp_sockets::{
-    DrainSignal, Load, PortPoll, Receipt, Reports, ServerSocket, ServerUdp, Udp, Watch,
+    DrainSignal, Entry, Load, OpenTransfer, PortPoll, Receipt, Reports, ServerSocket, ServerUdp,
+    Udp, Watch,
 };
 
 /// A device of a server that may have been handed its request port, and may be one of several. Its
@@ -147,6 +148,8 @@ impl<N: ServerUdp> Udp for HandedUdp<N> {
 }
 
 impl<N: ServerUdp> ServerUdp for HandedUdp<N> {
+    ghost told = { λ handed. N.told handed.net };
+
     /// The request port: the socket that was handed over, if it is bound to the endpoint.
     fn bind(&self, at: Endpoint) -> io::Result<ServerSocket> {
         match &self.socket {
@@ -252,6 +255,26 @@ impl<N: ServerUdp> ServerUdp for HandedUdp<N> {
 
     fn rng(&self) -> io::Result<StdRng> {
         self.net.rng()
+    }
+
+    fn is_counted(&self) -> bool {
+        self.net.is_counted()
+    }
+
+    fn count(&mut self, entry: Entry) {
+        self.net.count(entry)
+    }
+
+    fn is_report_due(&self, now: u64) -> bool {
+        self.net.is_report_due(now)
+    }
+
+    fn report_open(&mut self, transfer: OpenTransfer<'_>) {
+        self.net.report_open(transfer)
+    }
+
+    fn end_report(&mut self, now: u64) {
+        self.net.end_report(now)
     }
 }
 

@@ -2,6 +2,7 @@ pub mod Address
 pub mod Bound
 pub mod EventRef
 pub mod Output
+pub mod Told
 pub mod Trace
 pub mod Quiet
 pub mod Receipt

@@ -8,6 +8,7 @@
 mod address;
 mod bound;
 mod clock;
+mod entry;
 mod error_lines;
 mod event_ref;
 mod load;
@@ -25,6 +26,7 @@ mod wall_clock;
 mod watch;
 
 pub use address::{DATAGRAM_BUFFER, address_of, endpoint_in, endpoint_of};
+pub use entry::{Direction, Entry, OpenTransfer};
 pub use error_lines::{ErrorLines, WholeLines};
 pub use load::Load;
 pub use port::{Port, index_of, wait_for};

@@ -11,11 +11,12 @@
 //! no time and reports no port is no event, nor is a look that finds nothing, or whether a datagram
 //! has arrived.
 
-ghost use Rattle.std.specs.Prelude.{◌≡◌, []};
+ghost use Rattle.std.specs.Prelude.{◌≡◌, [], None};
 
 use crate::address::address_of;
 use crate::bound::{bound_socket, client_socket, same_socket};
 use crate::clock::{micros, read_clock};
+use crate::entry::{Entry, OpenTransfer};
 use crate::error_lines::{ErrorLines, WholeLines};
 use crate::event_ref::EventRef;
 use crate::load::Load;
@@ -117,6 +118,8 @@ impl<R: Net + Clock + Print> ClientUdp for SystemUdp<'_, R> {
 }
 
 impl<R: Net + Clock + Print + RandomSource> ServerUdp for SystemUdp<'_, R> {
+    ghost told = { λ _. None };
+
     fn bind(&self, at: Endpoint) -> io::Result<ServerSocket> {
         bound_socket(self.rt, at)
     }
@@ -235,6 +238,21 @@ impl<R: Net + Clock + Print + RandomSource> ServerUdp for SystemUdp<'_, R> {
     fn rng(&self) -> io::Result<StdRng> {
         make_rng(self.rt)
     }
+
+    /// The system counts nothing: a device that wraps this one does.
+    fn is_counted(&self) -> bool {
+        false
+    }
+
+    fn count(&mut self, _entry: Entry) {}
+
+    fn is_report_due(&self, _now: u64) -> bool {
+        false
+    }
+
+    fn report_open(&mut self, _transfer: OpenTransfer<'_>) {}
+
+    fn end_report(&mut self, _now: u64) {}
 }
 
 impl<R: ErrorLines> Eprint for SystemUdp<'_, R> {

@@ -4,6 +4,7 @@
 //! make no second device and note nothing of its own: each call says what it puts on the trace. A
 //! call without an event takes `&self`, and changes nothing of it.
 
+use crate::entry::{Entry, OpenTransfer};
 use crate::load::Load;
 use crate::port_poll::{PortPoll, Reports};
 use crate::receipt::Receipt;
@@ -84,8 +85,10 @@ pub trait ClientUdp: Udp {
 /// The UDP sockets of a server, its waits, its clock and its lines.
 pub trait ServerUdp: Udp {
     ghost use Rattle.std.specs.Prelude.{◌≡◌, ◌≢◌, ◌≤◌, ◌∷◌, [], true, false, IfOk, OnErr, length};
-    ghost use Rattle.std.specs.Prelude.{max};
+    ghost use Rattle.std.specs.Prelude.{max, List, Option};
     ghost use Rattle.tftp_lines.specs.Printed.{line_text};
+    ghost use Rattle.tftp_sockets.specs.declared.entry.Entry.{Entry};
+    ghost use Rattle.tftp_sockets.specs.Told.{and_told};
     ghost use Rattle.tftp_sockets.specs.Bound.{IsBoundTo};
     ghost use Rattle.tftp_sockets.specs.Trace.SocketEvent.{Sent, Watched, Printed as Line, Quiet};
     ghost use Rattle.tftp_sockets.specs.Trace.QuietEvent.{Failed, New_socket, No_socket};
@@ -95,6 +98,9 @@ pub trait ServerUdp: Udp {
     ghost use Rattle.tftp_sockets.specs.Receipt.{Fits, receive_event};
     ghost use Rattle.tftp_sockets.specs.Watch.{later_within};
     ghost use Rattle.tftp_sockets.specs.declared.address.TheConstants.{DATAGRAM_BUFFER};
+
+    /// What was counted, the newest entry first, if the device counts. It is no part of the trace.
+    ghost told: { Self → Option (List Entry) };
 
     /// Binds a non-blocking socket to the endpoint; the system chooses a port for 0. It fails with
     /// the system's error, or with `AddrNotAvailable` if the system reports another port, or the port
@@ -114,7 +120,8 @@ pub trait ServerUdp: Udp {
         ensures ok { IfOk result (λ socket. Self.log self.new ≡ Quiet (New_socket socket.port)
             ∷ Self.log self.old) }
         ensures err { OnErr result (Self.log self.new ≡ Quiet (No_socket at.port)
-            ∷ Self.log self.old) };
+            ∷ Self.log self.old) }
+        ensures told { Self.told self.new ≡ Self.told self.old };
 
     /// Receives a datagram at the port of a transfer, if one has arrived. A shorter buffer would cut
     /// a DATA, which then counts as the last block (RFC 1350, section 6).
@@ -144,7 +151,8 @@ pub trait ServerUdp: Udp {
 
     /// Sends a datagram. If the system refuses it, the datagram is lost, and its reason returned.
     fn send(&mut self, socket: &ServerSocket, peer: Endpoint, bytes: &[u8]) -> Result<(), Reason>
-        ensures { Self.log self.new ≡ Sent socket.now.port peer bytes.now ∷ Self.log self.old };
+        ensures noted { Self.log self.new ≡ Sent socket.now.port peer bytes.now ∷ Self.log self.old }
+        ensures told { Self.told self.new ≡ Self.told self.old };
 
     /// Creates the poll of non-blocking sockets. The loss of the reader of standard output wakes it,
     /// too, if that is watched.
@@ -191,11 +199,13 @@ pub trait ServerUdp: Udp {
 
     /// Notes that memory was refused.
     fn out_of_memory(&mut self)
-        ensures { Self.log self.new ≡ Quiet Out_of_memory ∷ Self.log self.old };
+        ensures noted { Self.log self.new ≡ Quiet Out_of_memory ∷ Self.log self.old }
+        ensures told { Self.told self.new ≡ Self.told self.old };
 
     /// Prints a line of `tftpd`, on standard output.
     fn print_line(&mut self, line: Printed) -> io::Result<()>
-        ensures { Self.log self.new ≡ Line (line_text line) ∷ Self.log self.old };
+        ensures noted { Self.log self.new ≡ Line (line_text line) ∷ Self.log self.old }
+        ensures told { Self.told self.new ≡ Self.told self.old };
 
     /// Watches the reader of standard output from now on.
     fn watch_reader(&mut self, alloc: Global) -> io::Result<()>
@@ -212,4 +222,27 @@ pub trait ServerUdp: Udp {
 
     /// A generator that is seeded by random bytes of the system.
     fn rng(&self) -> io::Result<StdRng>;
+
+    /// Whether what happens at the server is counted: then [`count`](ServerUdp::count) is told of it.
+    fn is_counted(&self) -> bool;
+
+    /// Counts what happened at the server. It is no event of the trace.
+    fn count(&mut self, entry: Entry)
+        ensures noted { Self.log self.new ≡ Self.log self.old }
+        ensures told { Self.told self.new ≡ and_told entry (Self.told self.old) };
+
+    /// Whether a report of the open transfers is due at this time of the watch, in milliseconds. It
+    /// costs one comparison.
+    fn is_report_due(&self, now: u64) -> bool;
+
+    /// Adds an open transfer to the report that is due. It is no event of the trace.
+    fn report_open(&mut self, transfer: OpenTransfer<'_>)
+        ensures noted { Self.log self.new ≡ Self.log self.old }
+        ensures told { Self.told self.new ≡ Self.told self.old };
+
+    /// Ends the report that is due, at this time of the watch, in milliseconds: the transfers that
+    /// were added are all that are open. It is no event of the trace.
+    fn end_report(&mut self, now: u64)
+        ensures noted { Self.log self.new ≡ Self.log self.old }
+        ensures told { Self.told self.new ≡ Self.told self.old };
 }

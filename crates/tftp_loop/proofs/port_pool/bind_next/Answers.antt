@@ -18,6 +18,7 @@ loop-port-init g c =
       turns = ([], Unused, omega (arith, many, c.len-left.ensures), λ k d h. absurd (omega (arith, h)));
       left = omega (arith, many, some, c.len-left.ensures);
       tries = Start;
+      told = refl;
     }
 
 pub loop-port-preserved : goal.loop-port-preserved
@@ -43,6 +44,7 @@ loop-port-preserved g c =
           tried_more port (g.N.Udp.log c.args.net.now) (g.N.Udp.log c.loop-port.net) _
           (subst (λ (range : PortRange). IsOneOf (Some range) port) before.range c.in_ok-port.ensures.port) noted
           before.tries;
+      told = c.bind_at.ensures.told ∙ before.told;
     }
 
 pub returns-in-Some-clause-turns : goal.returns-in-Some-clause-turns

@@ -16,6 +16,7 @@ invariant-loop-port g l =
           × (length ports + l.left ≡ length (coming l.fn.order)) × All (IsMissed (g.N.Udp.log l.net)) ports;
       left : 1 ≤ l.left;
       tries : TriesPorts (Some l.fn.order.range) (g.N.Udp.log l.fn.net) (g.N.Udp.log l.net);
+      told : g.N.ServerUdp.told l.net ≡ g.N.ServerUdp.told l.fn.net;
     }
 
 abbrev pub decreases-loop-port : goal.decreases-loop-port

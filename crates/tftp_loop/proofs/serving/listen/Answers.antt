@@ -12,7 +12,7 @@ use Rattle.tftp_loop.proofs.serving.listen.Goals as goal
 pub returns-in-Ok : goal.returns-in-Ok
 returns-in-Ok g c =
     let line =
-    c.print_line.ensures ∙ ap (λ (e : Endpoint). Printed (line_text (Listening e)) ∷ g.N.Udp.log c.args.net.now)
+    c.print_line.ensures.noted ∙ ap (λ (e : Endpoint). Printed (line_text (Listening e)) ∷ g.N.Udp.log c.args.net.now)
     c.listening.ensures in
     let At : List SocketEvent → Type 0 = λ es. RunsServerFrom g.S.Store.meaning g.S.Source.Source.meaning
     c.args.config.now c.args.sockets.requests.port c.args.server c.run.result es (g.N.Udp.log c.run.new.net) in
@@ -22,7 +22,7 @@ pub returns-in-Err : goal.returns-in-Err
 returns-in-Err g c =
     let sockets = c.args.sockets in
     let line =
-    c.print_line.ensures ∙ ap (λ (e : Endpoint). Printed (line_text (Listening e)) ∷ g.N.Udp.log c.args.net.now)
+    c.print_line.ensures.noted ∙ ap (λ (e : Endpoint). Printed (line_text (Listening e)) ∷ g.N.Udp.log c.args.net.now)
     c.listening.ensures in
     record {
       reading = sockets.watch.reading;

@@ -16,7 +16,7 @@ returns-in_default g c = record {
   last = at_start c.args.config.now c.args.sockets.requests.port c.args.server c.args.sockets.watch.reading
       (g.N.Udp.log c.args.net.now);
   run = Start;
-  noted = c.out_of_memory.ensures;
+  noted = c.out_of_memory.ensures.noted;
   ends = inl (refl, refl);
 }
 
@@ -26,18 +26,18 @@ returns-in_default-new g c = record {
   last = at_start c.args.config.now c.args.sockets.requests.port c.args.server c.args.sockets.watch.reading
       (g.N.Udp.log c.args.net.now);
   run = Start;
-  noted = c.out_of_memory-in_default-new.ensures;
+  noted = c.out_of_memory-in_default-new.ensures.noted;
   ends = inl (refl, refl);
 }
 
-pub take_rounds-requires-clause-settled : goal.take_rounds-requires-clause-settled
-take_rounds-requires-clause-settled g c = starts_settled c.new-running.result c.new-running.ensures.ports
+pub take_rounds-served-requires-clause-settled : goal.take_rounds-served-requires-clause-settled
+take_rounds-served-requires-clause-settled g c = starts_settled c.new-running.result c.new-running.ensures.ports
 
-pub take_rounds-requires-clause-few : goal.take_rounds-requires-clause-few
-take_rounds-requires-clause-few g c = starts_few c.new-running.result c.new-running.ensures.ports
+pub take_rounds-served-requires-clause-few : goal.take_rounds-served-requires-clause-few
+take_rounds-served-requires-clause-few g c = starts_few c.new-running.result c.new-running.ensures.ports
 
-pub take_rounds-requires-clause-first : goal.take_rounds-requires-clause-first
-take_rounds-requires-clause-first g c =
+pub take_rounds-served-requires-clause-first : goal.take_rounds-served-requires-clause-first
+take_rounds-served-requires-clause-first g c =
     ap (λ (s : Sockets). s.has_received) c.new-running.ensures.sockets ∙ c.requires.asked
 
 pub returns : goal.returns
@@ -45,7 +45,7 @@ returns g c =
     let made = c.new-running.ensures in
     let request = c.as_mut_slice.result.now in
     let begins = state_of request c.new-running.result (g.N.Udp.log c.args.net.now) in
-    let rounds = c.take_rounds in
+    let rounds = c.take_rounds-served in
     let started_at : ℕ → Watch = λ n. record { now = n; reading = c.args.sockets.watch.reading } in
     let last = state_of rounds.new.request rounds.new.self rounds.ensures.serves.served in
     record {
@@ -64,7 +64,7 @@ returns g c =
           (ap (λ (s : Sockets). s.is_ready) made.sockets ∙ c.requires.marked)
           (ap (λ (s : Sockets). s.has_received) made.sockets ∙ c.requires.asked) made.drain made.left made.rounds refl))
           rounds.ensures.serves.serves;
-      noted = rounds.ensures.serves.noted;
+      noted = c.report.ensures.events ∙ rounds.ensures.serves.noted;
       ends =
           ends_by rounds.result rounds.new.request rounds.new.self _ rounds.ensures.serves.served rounds.ensures.end
           rounds.ensures.serves.fault;

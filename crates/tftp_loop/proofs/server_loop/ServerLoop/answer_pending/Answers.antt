@@ -11,13 +11,14 @@ returns-in_default-clause-answers g c =
     let d = c.args.datagram in
     loses_for_memory g.S.Store.meaning g.S.Source.Source.meaning
     (loop_state (Some (d.from, d.bytes.now)) c.args.self.now (g.N.Udp.log c.args.net.now)) _ d.from d.bytes.now refl
-    (inl c.in_default.ensures.why) (ap (loop_state None c.args.self.now) c.lose_for_memory.ensures)
+    (inl c.in_default.ensures.why) (ap (loop_state None c.args.self.now) c.lose_for_memory.ensures.events)
 
 pub returns-then-drops-clause-answers : goal.returns-then-drops-clause-answers
 returns-then-drops-clause-answers g c =
     let d = c.args.datagram in
     drops_as g.S.Store.meaning g.S.Source.Source.meaning
-    (loop_state (Some (d.from, d.bytes.now)) c.args.self.now (g.N.Udp.log c.args.net.now)) _ d.from d.bytes.now refl (sym c.drops.ensures.value ∙ c.if-drops.true) refl
+    (loop_state (Some (d.from, d.bytes.now)) c.args.self.now (g.N.Udp.log c.args.net.now)) _ d.from d.bytes.now refl (sym c.drops.ensures.value ∙ c.if-drops.true)
+    (ap (loop_state None c.args.self.now) c.ignore.ensures.events)
 
 pub open_or_lose-requires-clause-reserved : goal.open_or_lose-requires-clause-reserved
 open_or_lose-requires-clause-reserved g c =
@@ -29,3 +30,9 @@ open_or_lose-requires-clause-reserved g c =
     (vec_capacity ports) c.in-Ok.ensures.admits (sym c.may_open.ensures ∙ c.if-may_open.true) c.requires.settled.kept
     c.requires.room.each in
     omega (arith, ports.ok.0, long, fewer)
+
+pub returns-then-drops-clause-told : goal.returns-then-drops-clause-told
+returns-then-drops-clause-told g c = (_, c.ignore.ensures.told)
+
+pub returns-in_default-clause-told : goal.returns-in_default-clause-told
+returns-in_default-clause-told g c = (_, c.lose_for_memory.ensures.told)

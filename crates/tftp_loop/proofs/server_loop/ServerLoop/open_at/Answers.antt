@@ -10,7 +10,7 @@ use Rattle.tftp_loop.proofs.server_loop.ServerLoop.open_at.Goals as goal
 pub returns-in-Ok-clause-answers : goal.returns-in-Ok-clause-answers
 returns-in-Ok-clause-answers g c =
     let d = c.args.datagram in
-    let a = c.answer_opened.ensures in
+    let a = c.answer_opened.ensures.answers in
     let free =
     is_free (at c.port-tid.result c.set_store.new.server.held)
     (λ h. ok-err c.in-Ok.opened _ (c.in-Ok.ensures.in_use.1 h)) in
@@ -25,13 +25,13 @@ returns-in-Ok-clause-answers g c =
     (same_state _ _ a.requests a.range a.longest a.requests_only a.per_client a.server refl a.timers a.watch a.limit refl a.marked a.asked a.drain a.left_to_close a.rounds a.events)
 
 pub returns-in-Ok-clause-rounds : goal.returns-in-Ok-clause-rounds
-returns-in-Ok-clause-rounds g c = c.answer_opened.ensures.rounds
+returns-in-Ok-clause-rounds g c = c.answer_opened.ensures.answers.rounds
 
 pub returns-in-Err-clause-answers : goal.returns-in-Err-clause-answers
 returns-in-Err-clause-answers g c =
     let d = c.args.datagram in
     let why = c.in-Err.ensures in
-    let lost = c.lose_for_memory.ensures in
+    let lost = c.lose_for_memory.ensures.events in
     let free =
     ap (λ (s : ServerState _ _ _). at c.port-tid.result s.held) c.set_store.ensures.rest
     ∙ (ap (λ (p : ℕ). at p c.args.self.now.server.held) c.port-tid.ensures ∙ c.requires.free) in
@@ -55,7 +55,7 @@ returns-in-Ok-clause-room g c =
     ∙ ap (λ (s : ServerState _ _ _). s.config) c.set_store.ensures.rest in
     let capacity = c.clear.ensures.capacity in
     let grown = c.open-opened.ensures.capacity in
-    c.answer_opened.ensures.room (room_same config (room_grown (omega (arith, capacity, grown)) c.requires.room))
+    c.answer_opened.ensures.answers.room (room_same config (room_grown (omega (arith, capacity, grown)) c.requires.room))
 
 pub returns-in-Err-clause-room : goal.returns-in-Err-clause-room
 returns-in-Err-clause-room g c =
@@ -65,3 +65,6 @@ returns-in-Err-clause-room g c =
     let capacity = c.clear.ensures.capacity in
     let grown = c.open-opened.ensures.capacity in
     room_same config (room_grown (omega (arith, capacity, grown)) c.requires.room)
+
+pub returns-in-Err-clause-told : goal.returns-in-Err-clause-told
+returns-in-Err-clause-told g c = (_, c.lose_for_memory.ensures.told)

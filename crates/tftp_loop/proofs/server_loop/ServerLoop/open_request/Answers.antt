@@ -1,6 +1,9 @@
 use Rattle.std.proofs.Common.{◌≡◌, ◌==◌, true, refl, sym, ap, subst, ◌∙◌, ℕ}
 use Rattle.std.specs.Prelude.{None, Some, ◌||◌, is_some}
 use Rattle.tftp_server.specs.State.{at}
+use Rattle.tftp_sockets.specs.Told.{and_told}
+use Rattle.tftp_sockets.specs.declared.entry.Entry.TheVariants.{Lost}
+use Rattle.tftp_loop.specs.Told.{IsToldOnce}
 use Rattle.tftp_loop.specs.declared.sockets.Sockets.{Sockets}
 use Rattle.tftp_loop.specs.Steps.{LoopState, is_taken}
 use Rattle.tftp_loop.specs.LoopStates.{loop_state}
@@ -21,7 +24,7 @@ returns-in_default-clause-answers g c =
     (g.N.Udp.log c.port_for.new.net) refl opens c.in_default.ensures.tries
     (same_state _ _ (ap (λ (s : Sockets). s.requests.port) same) (ap (λ (s : Sockets). s.pool.range) same) refl refl refl refl refl
     refl (ap (λ (s : Sockets). s.watch) same) (ap (λ (s : Sockets). s.limit) same) refl
-    (ap (λ (s : Sockets). s.is_ready) same) (ap (λ (s : Sockets). s.has_received) same) refl refl refl refl)
+    (ap (λ (s : Sockets). s.is_ready) same) (ap (λ (s : Sockets). s.has_received) same) refl refl refl c.lose.ensures.events)
 
 pub returns-then-is_taken-clause-answers : goal.returns-then-is_taken-clause-answers
 returns-then-is_taken-clause-answers g c =
@@ -40,7 +43,7 @@ returns-then-is_taken-clause-answers g c =
     c.in-Some.ensures.tries taken
     (same_state _ _ (ap (λ (s : Sockets). s.requests.port) same) (ap (λ (s : Sockets). s.pool.range) same) refl refl refl refl refl
     refl (ap (λ (s : Sockets). s.watch) same) (ap (λ (s : Sockets). s.limit) same) refl
-    (ap (λ (s : Sockets). s.is_ready) same) (ap (λ (s : Sockets). s.has_received) same) refl refl refl refl)
+    (ap (λ (s : Sockets). s.is_ready) same) (ap (λ (s : Sockets). s.has_received) same) refl refl refl c.lose-then-is_taken.ensures.events)
 
 pub returns-clause-answers : goal.returns-clause-answers
 returns-clause-answers g c =
@@ -60,3 +63,15 @@ returns-clause-answers g c =
     refl refl (ap (λ (s : Sockets). s.watch) same) (ap (λ (s : Sockets). s.limit) same) refl
     (ap (λ (s : Sockets). s.is_ready) same) (ap (λ (s : Sockets). s.has_received) same) refl refl refl refl)
     c.open_at.ensures.answers)
+
+pub returns-in_default-clause-told : goal.returns-in_default-clause-told
+returns-in_default-clause-told g c =
+    (Lost, c.lose.ensures.told ∙ ap (and_told Lost) c.port_for.ensures.told)
+
+pub returns-then-is_taken-clause-told : goal.returns-then-is_taken-clause-told
+returns-then-is_taken-clause-told g c =
+    (Lost, c.lose-then-is_taken.ensures.told ∙ ap (and_told Lost) c.port_for.ensures.told)
+
+pub returns-clause-told : goal.returns-clause-told
+returns-clause-told g c =
+    subst (λ told. IsToldOnce told (g.N.ServerUdp.told c.open_at.new.net)) c.port_for.ensures.told c.open_at.ensures.told

@@ -10,7 +10,7 @@ use Rattle.tftp_loop.proofs.server_loop.ServerLoop.refuse_request.Goals as goal
 pub returns-in-Some-clause-answers : goal.returns-in-Some-clause-answers
 returns-in-Some-clause-answers g c =
     let d = c.args.datagram in
-    let a = c.answer.ensures in
+    let a = c.answer.ensures.answers in
     let s = loop_state (Some (d.from, d.bytes.now)) c.args.self.now (g.N.Udp.log c.args.net.now) in
     let M = g.S.Store.meaning in
     refuses_as M g.S.Source.Source.meaning s (loop_state None c.answer.new.self (g.N.Udp.log c.answer.new.net)) d.from d.bytes.now
@@ -23,7 +23,7 @@ returns-in-Some-clause-answers g c =
 pub returns-clause-answers : goal.returns-clause-answers
 returns-clause-answers g c =
     let d = c.args.datagram in
-    let a = c.answer-in-None.ensures in
+    let a = c.answer-in-None.ensures.answers in
     let s = loop_state (Some (d.from, d.bytes.now)) c.args.self.now (g.N.Udp.log c.args.net.now) in
     let M = g.S.Store.meaning in
     refuses_as M g.S.Source.Source.meaning s (loop_state None c.answer-in-None.new.self (g.N.Udp.log c.answer-in-None.new.net)) d.from d.bytes.now
@@ -32,3 +32,9 @@ returns-clause-answers g c =
     (a.events
     ∙ ap (λ (o : Option ErrorReply). replied s.requests (refused_to d.from o)
     (refused_bytes o) s.events) (sym c.in-None.is ∙ c.refusal.ensures)))
+
+pub returns-in-Some-clause-told : goal.returns-in-Some-clause-told
+returns-in-Some-clause-told g c = (_, c.answer.ensures.told)
+
+pub returns-clause-told : goal.returns-clause-told
+returns-clause-told g c = (_, c.answer-in-None.ensures.told)
