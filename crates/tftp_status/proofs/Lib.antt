@@ -1,0 +1,3 @@
+pub mod CountsAfter
+pub mod Keeping
+pub mod Texts

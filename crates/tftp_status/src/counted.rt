@@ -1,0 +1,235 @@
+//! A device that counts what a server tells, and reports it in a file.
+
+ghost use Rattle.std.specs.Prelude.{◌≡◌, [], None};
+
+use crate::report::{Report, ReportSettings};
+use crate::status_text::Datagrams;
+use crate::unused_disk::UnusedDisk;
+use rand::rngs::StdRng;
+use std::alloc::{AllocError, Global};
+use std::fmt::Display;
+use std::io;
+use std::net::UdpSocket;
+use tftp_disk::Disk;
+use tftp_ends::Endpoint;
+use tftp_lines::{Printed, Reason, reason_of};
+use tftp_sockets::{
+    DrainSignal, Entry, Load, OpenTransfer, PortPoll, Receipt, Reports, ServerSocket, ServerUdp,
+    Udp, Watch,
+};
+
+/// A device of a server that may report in a file what it was told. Its trace is that of the device
+/// that it wraps.
+#[derive(Drop)]
+pub struct Counted<N, D: Disk> {
+    /// The device that it wraps.
+    pub net: N,
+    /// The disk for the reports, until they begin.
+    disk: Option<UnusedDisk<D>>,
+    datagrams: Datagrams,
+    report: Option<Report<D>>,
+}
+
+impl<N, D: Disk> Counted<N, D> {
+    /// This device, which reports nothing yet, and a disk for its reports, of which nothing was asked.
+    pub fn new(net: N, disk: D) -> Counted<N, D>
+        requires { D.log disk ≡ [] }
+        ensures net { result.net ≡ net }
+        ensures report { result.report ≡ None }
+    {
+        Counted {
+            net,
+            disk: Some(UnusedDisk::new(disk)),
+            datagrams: Datagrams {
+                received: 0,
+                sent: 0,
+            },
+            report: None,
+        }
+    }
+
+    /// From now on what the server tells is counted, and reported in a file. It does nothing where
+    /// reports have begun, and out of memory.
+    pub fn begin_reports(
+        &mut self,
+        alloc: Global,
+        settings: ReportSettings<'_>,
+    ) -> Result<(), AllocError>
+        ensures net { self.new.net ≡ self.old.net }
+    {
+        if let Some(disk) = self.disk.take() {
+            self.report = Some(Report::new(alloc, disk.into_disk(), &settings)?);
+        }
+        Ok(())
+    }
+
+    /// Counts a datagram that was received, if one was.
+    fn count_receipt(&mut self, receipt: Receipt)
+        ensures net { self.new.net ≡ self.old.net }
+        ensures report { self.new.report ≡ self.old.report }
+    {
+        if let Receipt::Datagram(..) = receipt {
+            self.datagrams.received = self.datagrams.received.saturating_add(1);
+        }
+    }
+}
+
+impl<N: ServerUdp, D: Disk> Udp for Counted<N, D> {
+    ghost log = { λ counted. N.log counted.net };
+
+    fn start_watch(&self) -> Watch {
+        self.net.start_watch()
+    }
+
+    fn elapsed(&mut self, port: u16, time: u64) {
+        self.net.elapsed(port, time)
+    }
+}
+
+impl<N: ServerUdp + Eprint, D: Disk> ServerUdp for Counted<N, D> {
+    ghost use Rattle.std.specs.Prelude.{option_map};
+    ghost use Rattle.tftp_status.specs.Told.{told_to};
+
+    ghost told = { λ counted. told_to (option_map (λ report. report.status) counted.report) };
+
+    fn bind(&self, at: Endpoint) -> io::Result<ServerSocket> {
+        self.net.bind(at)
+    }
+
+    fn adopt(&self, handed: &UdpSocket, at: Endpoint) -> io::Result<ServerSocket> {
+        self.net.adopt(handed, at)
+    }
+
+    fn bind_noted(&mut self, at: Endpoint) -> io::Result<ServerSocket> {
+        self.net.bind_noted(at)
+    }
+
+    fn receive(&mut self, socket: &ServerSocket, buffer: &mut [u8]) -> Receipt {
+        let receipt = self.net.receive(socket, buffer);
+        self.count_receipt(receipt);
+        receipt
+    }
+
+    fn receive_request(
+        &mut self,
+        requests: &ServerSocket,
+        load: Load,
+        buffer: &mut [u8],
+    ) -> Receipt {
+        let receipt = self.net.receive_request(requests, load, buffer);
+        self.count_receipt(receipt);
+        receipt
+    }
+
+    fn first_sender(&self, socket: &ServerSocket) -> Option<Endpoint> {
+        self.net.first_sender(socket)
+    }
+
+    fn leave(&mut self, requests: &ServerSocket, load: Load) -> Receipt {
+        self.net.leave(requests, load)
+    }
+
+    fn send(&mut self, socket: &ServerSocket, peer: Endpoint, bytes: &[u8]) -> Result<(), Reason> {
+        self.datagrams.sent = self.datagrams.sent.saturating_add(1);
+        self.net.send(socket, peer, bytes)
+    }
+
+    fn poll(&self) -> io::Result<PortPoll> {
+        self.net.poll()
+    }
+
+    fn polls(&self) -> u32 {
+        self.net.polls()
+    }
+
+    fn wait(&mut self, poll: &mut PortPoll, reports: &mut Reports, millis: u64, polls: u32) {
+        self.net.wait(poll, reports, millis, polls)
+    }
+
+    fn poll_now(&self, poll: &mut PortPoll, reports: &mut Reports) -> bool {
+        self.net.poll_now(poll, reports)
+    }
+
+    fn note_poll(&mut self, reports: &mut Reports) {
+        self.net.note_poll(reports)
+    }
+
+    fn read_watch_within(&mut self, watch: &mut Watch, limit: u64) -> u64 {
+        self.net.read_watch_within(watch, limit)
+    }
+
+    fn micros(&self) -> Option<u64> {
+        self.net.micros()
+    }
+
+    fn utc_millis(&self) -> Option<u64> {
+        self.net.utc_millis()
+    }
+
+    fn out_of_memory(&mut self) {
+        self.net.out_of_memory()
+    }
+
+    fn print_line(&mut self, line: Printed) -> io::Result<()> {
+        self.net.print_line(line)
+    }
+
+    fn watch_reader(&mut self, alloc: Global) -> io::Result<()> {
+        self.net.watch_reader(alloc)
+    }
+
+    fn has_no_reader(&mut self) -> bool {
+        self.net.has_no_reader()
+    }
+
+    fn is_signalled<G: DrainSignal>(&mut self, signal: &G) -> bool {
+        self.net.is_signalled(signal)
+    }
+
+    fn rng(&self) -> io::Result<StdRng> {
+        self.net.rng()
+    }
+
+    fn is_counted(&self) -> bool {
+        self.report.is_some()
+    }
+
+    fn count(&mut self, entry: Entry) {
+        if let Some(report) = &mut self.report {
+            report.add(entry);
+        }
+    }
+
+    fn is_report_due(&self, now: u64) -> bool {
+        match &self.report {
+            Some(report) => report.is_due(now, self.datagrams),
+            None => false,
+        }
+    }
+
+    fn report_open(&mut self, transfer: OpenTransfer<'_>) {
+        if let Some(report) = &mut self.report {
+            report.add_open(transfer);
+        }
+    }
+
+    /// Writes the file, if something has changed. The first time that it cannot be written is said.
+    fn end_report(&mut self, now: u64) {
+        if let Some(report) = &mut self.report {
+            if let Some(error) = report.write(now, self.datagrams) {
+                let reason = reason_of(&error);
+                let _ = eprintln!(self.net; "tftpd: --status: {reason}");
+            }
+        }
+    }
+}
+
+impl<N: ServerUdp + Eprint, D: Disk> Eprint for Counted<N, D> {
+    fn eprint<T: Display + Drop>(&self, value: T) -> io::Result<()> {
+        self.net.eprint(value)
+    }
+
+    fn eprintln<T: Display + Drop>(&self, value: T) -> io::Result<()> {
+        self.net.eprintln(value)
+    }
+}

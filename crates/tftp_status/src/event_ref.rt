@@ -1,0 +1,21 @@
+//! The events of a status file, as values of the code.
+
+use crate::trace::StatusEvents;
+use tftp_sockets::Entry;
+use tftp_trace::Kind;
+
+/// An event to be noted, with the text that it borrows.
+#[derive(Clone, Copy)]
+pub(crate) enum EventRef<'a> {
+    /// The server told this.
+    Told(Entry),
+    /// The file was handed this text.
+    Handed(&'a str),
+}
+
+impl<'a> Kind<EventRef<'a>> for StatusEvents {
+    ghost use Rattle.std.specs.Prelude.{◌∷◌};
+    ghost use Rattle.tftp_status.specs.EventRef.{event_of};
+
+    ghost after = { λ event events. event_of event ∷ events };
+}
