@@ -52,14 +52,14 @@ COLUMNS: list[list[str | None]] = [
     [None, None, "tftp_lines", "tftp_server", "tftp_rules", None, "tftp_show_main"],
     ["tftp_folder", "tftp_sockets", None, "tftp_c", "tftp_player", "tftp_script", None],
     [None, "tftp_client", "tftp_loop", None, None, "tftp_play", None],
-    [None, "tftp_main", "tftp_service", None, "tftp_promises", "tftp_play_main", None],
+    ["tftp_status", "tftp_main", "tftp_service", None, "tftp_promises", "tftp_play_main", None],
     [None, None, "tftp_daemon", None, None, None, None],
     [None, None, "tftpd_main", None, "tftp_words", None, None],
 ]
 # what is not drawn: tests, examples, and a crate that hands out others' functions
 HIDDEN = re.compile(r"tests_|serve_memory|fetch_memory|tftp_cmd")
 KINDS = {
-    "sockets": ["tftp_sockets", "tftp_client", "tftp_loop", "tftp_service"],
+    "sockets": ["tftp_sockets", "tftp_client", "tftp_loop", "tftp_service", "tftp_status"],
     "files": ["tftp_disk", "tftp_folder"],
     "laws": ["tftp_rules", "tftp_promises", "tftp_words"],
     "program": ["tftp_show_main", "tftp_play_main", "tftp_main", "tftpd_main", "tftp_c"],
