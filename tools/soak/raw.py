@@ -268,7 +268,7 @@ class Trial:
                    and live.end.path.decode() in CUT and live.end.number and not live.is_cut]
         if readers:
             live = self.rng.choice(readers)
-            path, content = self.folder / live.end.path.decode(), self.files[live.end.path]
+            path, content = self.folder / live.end.path.decode(), self.port.files[live.end.path]
             os.truncate(path, self.rng.randrange(live.end.number * live.end.size // 2 + 1))
             (self.folder / "next").write_bytes(content)
             os.replace(self.folder / "next", path)
@@ -452,14 +452,18 @@ def run_once(programs, folder, rng, seconds, **limits) -> dict[str, int]:
         if files > 7 or megabytes > (MOST_MEGABYTES if not trial.server.has_checks() else MOST_CHECKED):
             raise Failure(f"{files} open files and {megabytes:.1f} MB at the end")
         has_files(folder, trial.port.files)
-        name = next(iter(trial.files)).decode()
-        get = Program([programs["tftp"], "get", trial.server.word, name, "got", "--no-dally"], folder, 60)
-        ended = get.ended()
-        if ended[0] or (folder / "got").read_bytes() != trial.files[name.encode()]:
-            raise Failure(f"a get at the end: {ended}")
+        gets(programs, folder, trial.server.word, next(iter(trial.files)), trial.port.files)
         return trial.counts
     finally:
         trial.close()
+
+
+def gets(programs, folder, server, name, files) -> None:
+    """A get by `tftp` has what the model says: a mutated request may have been a put that replaced the file."""
+    get = Program([programs["tftp"], "get", server, name.decode(), "got", "--no-dally"], folder, 60)
+    ended = get.ended()
+    if ended[0] or (folder / "got").read_bytes() != files[name]:
+        raise Failure(f"a get at the end: {ended}")
 
 
 def has_files(folder, files) -> None:

@@ -2,6 +2,7 @@
 import contextlib
 import io
 import sys
+import tempfile
 import unittest
 from pathlib import Path
 from typing import Any
@@ -12,6 +13,7 @@ sys.path[:0] = [str(TOOLS), str(TOOLS / "soak")]
 
 import raw
 import run
+from lib.process import Failure
 
 BUSY = "raw clients, few transfers"
 
@@ -39,6 +41,25 @@ class Again(unittest.TestCase):
                 self.assertIs(run.main(), False)
         self.assertIn(f"0 failed; once more: {BUSY}", said.getvalue())
         self.assertEqual(tries.count(BUSY), 3)
+
+
+class AtTheEnd(unittest.TestCase):
+    """The get behind a trial of raw clients is beside the model's file: a put may have replaced the first one."""
+
+    def gets(self, stored: bytes, modelled: bytes) -> None:
+        """A get by a stand-in of `tftp` that copies the file."""
+        with tempfile.TemporaryDirectory() as place:
+            folder = Path(place)
+            (folder / "f0").write_bytes(stored)
+            (folder / "tftp").write_text('#!/bin/sh\ncp "$3" "$4"\n')
+            (folder / "tftp").chmod(0o755)
+            raw.gets({"tftp": folder / "tftp"}, folder, "192.0.2.1", b"f0", {b"f0": modelled})
+
+    def test_a_file_that_was_replaced(self) -> None:
+        self.gets(b"of a put", b"of a put")
+
+    def test_a_file_that_the_model_has_not(self) -> None:
+        self.assertRaises(Failure, self.gets, b"as it was", b"of a put")
 
 
 if __name__ == "__main__":
