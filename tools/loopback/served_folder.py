@@ -7,12 +7,12 @@ import threading
 import time
 from contextlib import contextmanager
 from pathlib import Path
-from typing import Iterator
+from typing import Callable, Iterator
 
 from datagrams import PATIENCE, PATIENT, End, ack, data, error, expect, free_ports, oack, rrq, wrq
 from scene import Server
 from server_alone import ACCESS_VIOLATION, DISK_FULL, FILE_EXISTS, FILE_NOT_FOUND, first_block_of, is_refused, opened
-from servers import children_of
+from servers import children_of, wait_until
 
 LAST = data(1, b"new")
 TOO_LARGE = error(0, "file too large")
@@ -360,8 +360,8 @@ def time_used(pids) -> int:
 
 
 @contextmanager
-def renamed_again_and_again(path, content, pids) -> Iterator[None]:
-    """A file that is replaced by a rename all the time that servers work, as by atomic updates."""
+def renamed_again_and_again(path, content, pids) -> Iterator[Callable[[], int]]:
+    """A file that is replaced by a rename all the time that servers work, as by atomic updates. Yields what says how often."""
     is_over, count = threading.Event(), [0]
 
     def rename() -> None:
@@ -376,21 +376,24 @@ def renamed_again_and_again(path, content, pids) -> Iterator[None]:
     thread = threading.Thread(target=rename)
     thread.start()
     try:
-        yield
+        yield lambda: count[0]
     finally:
         is_over.set()
         thread.join()
-    expect(count[0] > 10, True, f"whether {count[0]} renames are some")
 
 
 def test_reads_meet_renames(scene) -> None:
-    """A read finds a file at each moment at which another is renamed over it: none is refused."""
+    """A read finds a file at each moment at which another is renamed over it: none is refused. Each round of reads has a
+    rename at least, however late the host lets it come."""
     scene.make("served/a", b"ABC")
     server = scene.serve("--transfers", "400", root="served")
     servers = children_of(server.process) or [server.process.pid]
-    with renamed_again_and_again(scene.folder / "served/a", b"ABC", servers):
-        for _ in range(400):
-            opened(scene, server, rrq("a"), data(1, b"ABC")).send(ack(1))
+    with renamed_again_and_again(scene.folder / "served/a", b"ABC", servers) as renames:
+        for _ in range(20):
+            before = renames()
+            for _ in range(20):
+                opened(scene, server, rrq("a"), data(1, b"ABC")).send(ack(1))
+            wait_until(lambda: renames() > before, "a rename")
     server.has_closed(*["Complete"] * 400)
 
 
