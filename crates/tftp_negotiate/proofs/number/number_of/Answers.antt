@@ -1,20 +1,13 @@
 -- A text is a number exactly if it is the number's decimal digits.
-use Rattle.std.proofs.Common.{ap, refl, sym, ◌∙◌}
-use Rattle.tftp_negotiate.specs.Options.{number_of}
-use Rattle.tftp_negotiate.proofs.OptionsLemmas.{number_of_none, number_of-decimal, number_of_others}
+use Rattle.tftp_negotiate.proofs.OptionsLemmas.{begins-decimal, number_of-read, number_of_none}
 use Rattle.tftp_negotiate.proofs.number.number_of.Goals as goal
 
-pub returns-then-is_digits_of : goal.returns-then-is_digits_of
-returns-then-is_digits_of c =
-    sym (ap number_of (c.is_digits_of.ensures.0 c.if-is_digits_of.true)
-    ∙ number_of-decimal c.in-Some.number c.in-Some.ensures.small)
+pub returns-then-not-begins_number : goal.returns-then-not-begins_number
+returns-then-not-begins_number c = number_of_none c.args.text.now (λ n small e.
+    let begins = c.begins_number.ensures.1 (begins-decimal c.args.text.now n small e) in
+    cc (begins, c.if-not-begins_number.true))
 
--- a number of other digits has been read
-pub returns-else-is_digits_of : goal.returns-else-is_digits_of
-returns-else-is_digits_of c =
-    number_of_others c.args.text.now c.in-Some.number c.in-Some.ensures.some (λ e.
-    let same = c.is_digits_of.ensures.1 e in
-    cc (same, c.if-is_digits_of.false))
-
-pub returns-in-None : goal.returns-in-None
-returns-in-None c = number_of_none c.args.text.now (c.in-None.ensures.none refl)
+pub returns : goal.returns
+returns c =
+    number_of-read c.args.text.now c.value_of.result (c.begins_number.ensures.0 c.if-not-begins_number.false)
+    c.value_of.ensures.value c.value_of.ensures.digits c.value_of.ensures.small c.value_of.ensures.none

@@ -1,7 +1,7 @@
 -- The number of a text of digits: if it is a number's own, no step loses anything.
 use Rattle.std.proofs.Common.{arith, get_or}
 use Rattle.std.proofs.lemmas.Str.{digit_value_digit}
-use Rattle.std.proofs.lemmas.Int.Digits.{digits_value_more}
+use Rattle.std.proofs.lemmas.Int.Digits.{digits_more, digits_value_more}
 use Rattle.std.proofs.lemmas.Str.Parse.{digit_from_value}
 use Rattle.tftp_negotiate.proofs.OptionsLemmas.{digit_of-decimal, first_digits-decimal}
 use Rattle.tftp_negotiate.proofs.number.value_of.Goals as goal
@@ -36,4 +36,9 @@ loop-byte-preserved c =
     let from = c.from.ensures in
     let sum = c.in_ok-number.ensures in
     let value = c.loop-byte.invariant.value in
-    record { value = omega arith; small = omega arith }
+    record {
+      value = omega arith;
+      digits = digits_more 10 c.args.text.now c.loop-byte.byte-index c.loop-byte-test.true c.loop-byte.invariant.digits
+          c.if-not-is_ascii_digit.ensures.bound;
+      small = omega arith;
+    }
