@@ -3,13 +3,12 @@ use Rattle.std.specs.Prelude.{ℕ, ◌≡◌, List, Option, Some, None, option_m
 use Rattle.std.proofs.Common.{ap, sym, subst, ◌∙◌}
 use Rattle.tftp_ends.specs.declared.endpoint.Endpoint.{Endpoint}
 use Rattle.tftp_ends.specs.declared.outgoing.Outgoing.{Outgoing}
-use Rattle.tftp_ends.specs.declared.record.Record.{Record}
 use Rattle.tftp_ends.specs.declared.record.Step.{Step}
-use Rattle.tftp_ends.specs.End.{EndState, is_progress, record_of}
+use Rattle.tftp_ends.specs.End.{EndState, is_progress}
 use Rattle.tftp_ends.specs.Step.{Lends, Reply, Turn, lent, reply_bytes, reported, timeout_turn}
 use Rattle.tftp_c.specs.declared.event.TftpEvent.{TftpEvent}
 use Rattle.tftp_c.specs.Handled.{Steps, TimedOut}
-use Rattle.tftp_c.specs.Reports.{Reports, ReportsRecord, Sends, SendsReply}
+use Rattle.tftp_c.specs.Reports.{Reports, Sends, SendsReply}
 
 sends_reply : (reply : Option Reply) (to : Option Endpoint) (bytes buffer : List ℕ)
     (event : TftpEvent) →
@@ -62,21 +61,3 @@ timed_out before e step outgoing buffer event lends is sends file progress repor
           steps_of before (timeout_turn before) e step outgoing buffer event lends is sends
           progress reports;
     }
-
--- the same, from the record and the bytes that were reported
-pub timed_out_by : (before e : EndState) (step : Step) (outgoing : Outgoing) (r : Record)
-    (bytes buffer : List ℕ) (event : TftpEvent) →
-    Lends before (timeout_turn before) e step.to outgoing →
-    step ≡ reported before (timeout_turn before) →
-    r ≡ record_of e →
-    bytes ≡ lent outgoing e →
-    Sends step.to bytes buffer event →
-    event.file_len ≡ 0 →
-    event.progress ≡ step.progress →
-    ReportsRecord r event →
-    TimedOut before e buffer event
-timed_out_by before e step outgoing r bytes buffer event lends is known same sends file progress
-    reports =
-    timed_out before e step outgoing buffer event lends is
-    (subst (λ (b : List ℕ). Sends step.to b buffer event) same sends) file progress
-    (subst (λ (s : Record). ReportsRecord s event) known reports)

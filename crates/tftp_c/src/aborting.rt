@@ -8,7 +8,7 @@ ghost use Rattle.tftp_c.specs.Aborted.{abort_number};
 use crate::elsewhere::Elsewhere;
 use crate::error::{error_packet, may_tell};
 use crate::event::{self, TftpEvent};
-use crate::report::report_record;
+use crate::report::report_apart;
 use std::alloc::Global;
 use tftp_ends::{Record, Step};
 use tftp_server::Server;
@@ -44,7 +44,7 @@ fn report_abort(state: &Record, error: &[u8], reply: &mut [u8], event: &mut Tftp
         progress: false,
         closed: None,
     };
-    report_record(state, step, error, reply, 0, event);
+    report_apart(state, step, error, reply, 0, event);
     event.complete = false;
     event.outcome = event::ABORTED;
 }

@@ -63,6 +63,7 @@ impl TftpEnd {
         mem::replace(self, TftpEnd::of(client));
     }
 
+    #[inline(never)]
     pub(crate) fn close(&mut self, alloc: Global)
         ensures { self.new.slot.value ≡ None }
     {

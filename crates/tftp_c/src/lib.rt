@@ -237,7 +237,7 @@ pub extern "C" fn tftp_abort(
     if !end.is_open() {
         return event::NOT_OPEN;
     }
-    let state = end.slot.client().end.record();
+    let state = report::state_of(&end.slot.client().end);
     match aborting::abort(alloc, &state, code, text, reply, event) {
         Ok(()) => {
             end.close(alloc);

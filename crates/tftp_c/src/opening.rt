@@ -9,9 +9,9 @@ ghost use Rattle.tftp_c.specs.Reports.{Reports, Sends};
 
 use crate::client::Client;
 use crate::event::{self, TftpEndpoint, TftpEvent, TftpOptions};
-use crate::report::{endpoint, report_opening};
+use crate::report::{endpoint, report};
 use std::alloc::Global;
-use tftp_ends::{End, EndConfig, Endpoint, OpenFault, Outgoing};
+use tftp_ends::{End, EndConfig, Endpoint, OpenFault, Outgoing, Step};
 use tftp_negotiate::{Asked, Limits};
 use tftp_wire::{MAX_BLOCK, Mode};
 
@@ -128,9 +128,12 @@ fn report_client(client: &Client, to: Endpoint, request: &mut [u8], event: &mut 
     ensures file { event.new.file_len ≡ 0 }
     ensures reports { Reports client.now.end event.new }
 {
-    let state = client.end.record();
-    let datagram = client.end.bytes_of(Outgoing::LastSent);
-    report_opening(&state, to, datagram, request, 0, event);
+    let step = Step {
+        to: Some(to),
+        progress: false,
+        closed: None,
+    };
+    report(&client.end, step, Outgoing::LastSent, request, 0, event);
 }
 
 /// Opens a client that gets.

@@ -2,10 +2,13 @@
 
 ghost use Rattle.std.specs.Prelude.{◌≡◌, ◌≤◌, Some, length, take, option_map};
 ghost use Rattle.tftp_c.specs.Reports.{endpoint_of, outcome_number, peer_code};
-ghost use Rattle.tftp_c.specs.Reports.{ReportsRecord, Sends};
+ghost use Rattle.tftp_c.specs.Reports.{Reports, ReportsRecord, Sends};
+ghost use Rattle.tftp_ends.specs.End.{record_of};
+ghost use Rattle.tftp_ends.specs.Step.{lent};
 
 use crate::event::{TftpEndpoint, TftpEvent};
-use tftp_ends::{Endpoint, Outcome, Record, Step};
+use crate::slice_sink::copy_to;
+use tftp_ends::{End, Endpoint, Outcome, Outgoing, Record, Step};
 
 pub(crate) fn endpoint(at: &TftpEndpoint) -> Endpoint
     ensures { result ≡ endpoint_of at.now }
@@ -30,7 +33,7 @@ pub(crate) fn copy(bytes: &[u8], to: &mut [u8]) -> usize
 {
     let count = bytes.len();
     if count <= to.len() {
-        to[..count].copy_from_slice(bytes);
+        copy_to(to, bytes);
     }
     count
 }
@@ -55,6 +58,7 @@ fn peer_code(outcome: Option<Outcome>) -> u16
 }
 
 /// Reports a step of an end by its record, and copies the datagram to send.
+#[inline(always)]
 pub(crate) fn report_record(
     state: &Record,
     step: Step,
@@ -84,6 +88,51 @@ pub(crate) fn report_record(
     event.peer_code = peer_code(state.outcome);
 }
 
+/// As [`report_record`], for every call but that of a block: they share this code.
+#[inline(never)]
+pub(crate) fn report_apart(
+    state: &Record,
+    step: Step,
+    datagram: &[u8],
+    reply: &mut [u8],
+    file_len: usize,
+    event: &mut TftpEvent,
+)
+    ensures sends { Sends step.to datagram.now reply.new event.new }
+    ensures file { event.new.file_len ≡ file_len }
+    ensures progress { event.new.progress ≡ step.progress }
+    ensures reports { ReportsRecord state.now event.new }
+{
+    report_record(state, step, datagram, reply, file_len, event);
+}
+
+/// The state of an end, for the same calls.
+#[inline(never)]
+pub(crate) fn state_of(end: &End) -> Record
+    ensures { result ≡ record_of end.now }
+{
+    end.record()
+}
+
+/// Reports a step of an end, and copies the datagram to send.
+pub(crate) fn report(
+    end: &End,
+    step: Step,
+    outgoing: Outgoing,
+    reply: &mut [u8],
+    file_len: usize,
+    event: &mut TftpEvent,
+)
+    ensures sends { Sends step.to (lent outgoing end.now) reply.new event.new }
+    ensures file { event.new.file_len ≡ file_len }
+    ensures progress { event.new.progress ≡ step.progress }
+    ensures reports { Reports end.now event.new }
+{
+    let state = state_of(end);
+    let datagram = end.bytes_of(outgoing);
+    report_apart(&state, step, datagram, reply, file_len, event);
+}
+
 /// Reports an opening, and copies its first datagram, which is for `to`.
 pub(crate) fn report_opening(
     state: &Record,
@@ -102,5 +151,5 @@ pub(crate) fn report_opening(
         progress: false,
         closed: None,
     };
-    report_record(state, step, datagram, reply, file_len, event);
+    report_apart(state, step, datagram, reply, file_len, event);
 }

@@ -6,7 +6,9 @@ ghost use Rattle.std.specs.Prelude.{min};
 use tftp_file::{Sink, StoreFault};
 
 /// Copies the bytes to the start of a buffer.
-fn copy_to(room: &mut [u8], bytes: &[u8])
+// Inlined, the loop of each call would be of some 300 bytes.
+#[inline(never)]
+pub(crate) fn copy_to(room: &mut [u8], bytes: &[u8])
     requires { length bytes.now ≤ length room.old }
     ensures { room.new ≡ bytes.now ++ drop (length bytes.now) room.old }
 {

@@ -7,7 +7,7 @@ ghost use Rattle.tftp_c.specs.Stated.{LearnsFrom};
 
 use crate::client::Client;
 use crate::event::{self, TftpEndpoint, TftpEvent};
-use crate::report::{endpoint, report_record};
+use crate::report::{endpoint, report, report_record};
 use crate::slice_sink::SliceSink;
 use crate::slice_source::SliceSource;
 use crate::stated::stated_after;
@@ -126,14 +126,7 @@ pub(crate) fn send(
             Ok((step, outgoing, count)) => {
                 let after = client.end.record();
                 client.stated = stated_after(before.peer, after.peer, datagram, client.stated);
-                report_record(
-                    &after,
-                    step,
-                    client.end.bytes_of(outgoing),
-                    reply,
-                    count,
-                    event,
-                );
+                report(&client.end, step, outgoing, reply, count, event);
                 0
             }
             Err(fault) => number(fault),
@@ -151,8 +144,7 @@ pub(crate) fn time_out(client: &mut Client, reply: &mut [u8], event: &mut TftpEv
 {
     match client.end.handle_timeout() {
         Ok((step, outgoing)) => {
-            let after = client.end.record();
-            report_record(&after, step, client.end.bytes_of(outgoing), reply, 0, event);
+            report(&client.end, step, outgoing, reply, 0, event);
             0
         }
         Err(fault) => number(fault),

@@ -11,7 +11,7 @@ ghost use Rattle.tftp_c.specs.HeldServer.{CallersTransfer, ReceivedAt, SentAt, S
 use crate::elsewhere::Elsewhere;
 use crate::event::{TftpEndpoint, TftpEvent};
 use crate::holding::number;
-use crate::report::{endpoint, report_record};
+use crate::report::{endpoint, report_apart};
 use crate::slice_sink::SliceSink;
 use crate::slice_source::SliceSource;
 use tftp_ends::{Endpoint, Outgoing, Step};
@@ -41,7 +41,7 @@ fn report_at(
     let Some(datagram) = server.bytes_of(tid, outgoing) else {
         unreachable!()
     };
-    report_record(&record, step, datagram, reply, file_len, event);
+    report_apart(&record, step, datagram, reply, file_len, event);
 }
 
 /// A receiver's step over a buffer, with the number of bytes that it stored.

@@ -84,6 +84,7 @@ impl Model for End {
 
 impl End {
     ghost use Rattle.tftp_ends.specs.End.{record_of, held_by, outcome_of, terms_of, interval_of};
+    ghost use Rattle.tftp_ends.specs.End.{is_sender};
     ghost use Rattle.tftp_ends.specs.Action.{Decodes, HandledBy, datagram_action, packet_action};
     ghost use Rattle.tftp_ends.specs.Action.{garbled_response, is_wrong_peer, timeout_response};
     ghost use Rattle.tftp_ends.specs.Action.{timeout_action};
@@ -168,8 +169,10 @@ impl End {
     }
 
     /// How the end handles a packet from its peer, or from the server while the peer is unknown.
+    /// `sends` is whether it is a sender: as a constant, it keeps the other side's code out.
     #[inline(always)]
-    fn packet_action(&self, from: Endpoint, decoded: &Option<PacketRef<'_>>) -> Action
+    fn packet_action(&self, sends: bool, from: Endpoint, decoded: &Option<PacketRef<'_>>) -> Action
+        requires { is_sender self.now.role.side ≡ sends }
         ensures action { result
             ≡ packet_action self.now from (option_map owned decoded.now) self.now.position.phase }
         ensures fits { ActionFits self.now result }
@@ -178,13 +181,16 @@ impl End {
         let role = self.role;
         match self.phase {
             Phase::Waiting { asked, limit } => {
-                if role.side.is_sender() {
+                if sends {
                     writer_action(role.mode, &asked, limit, role.length, from, decoded)
                 } else {
                     reader_action(role.mode, &asked, limit, from, decoded)
                 }
             }
             Phase::Sending { terms, number } => {
+                if !sends {
+                    unreachable!()
+                }
                 sender_action(role.side, role.length, terms, number, decoded)
             }
             Phase::Receiving { terms, number } => receiver_action(
@@ -202,7 +208,8 @@ impl End {
 
     /// How the end handles a datagram: it tests the sender first, and then for a malformed ERROR.
     #[inline(always)]
-    fn datagram_action(&self, from: Endpoint, bytes: &[u8]) -> Action
+    fn datagram_action(&self, sends: bool, from: Endpoint, bytes: &[u8]) -> Action
+        requires { is_sender self.now.role.side ≡ sends }
         ensures action { (decoded : Option Packet) × Decodes bytes.now decoded
             × (result ≡ datagram_action self.now from bytes.now decoded) }
         ensures fits { ActionFits self.now result }
@@ -220,7 +227,7 @@ impl End {
         if is_error && decoded.is_none() {
             return Action::Respond(self.garbled_response());
         }
-        self.packet_action(from, &decoded)
+        self.packet_action(sends, from, &decoded)
     }
 
     /// What holds of every end.

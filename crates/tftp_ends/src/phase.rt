@@ -3,7 +3,7 @@
 ghost use Rattle.std.specs.Prelude.{◌≡◌, if◌then◌else◌};
 ghost use Rattle.tftp_ends.specs.End.{terms_of, number_of, is_complete, outcome_of, is_progress};
 ghost use Rattle.tftp_ends.specs.End.{step_of};
-ghost use Rattle.tftp_ends.specs.Phase.{closed, refused, completed, waited};
+ghost use Rattle.tftp_ends.specs.Phase.{refused, completed, waited};
 
 use crate::endpoint::Endpoint;
 use crate::outcome::Outcome;
@@ -159,13 +159,6 @@ impl Phase {
             progress: self.is_progress(next),
             closed: next.outcome(),
         }
-    }
-
-    /// Closed, with the terms as they are.
-    pub(crate) fn closed(self, outcome: Outcome) -> Phase
-        ensures { result ≡ closed outcome self }
-    {
-        self.refused(self.terms(), outcome)
     }
 
     /// Closed, with these terms.

@@ -1,11 +1,14 @@
 -- A name by its letters, and a number by its decimal digits. For `Name::of`, `number_of`, KeptLemmas and LawsLemmas.
-use Rattle.std.proofs.Common.{◌≡◌, ℕ, ◌^◌, ◌<◌, ◌↔◌, Bool, true, false, ◌&&◌, cond, List, Some, None, Ok, Err, Result}
-use Rattle.std.proofs.Common.{MatchResult, IsTrue, decimal, nat_lt, bytes_eq, refl, sym, ◌∙◌, ap, subst, arith}
-use Rattle.std.specs.Str.{str_to_ascii_lowercase, IsUtf8}
-use Rattle.std.specs.Result.{result_ok}
-use Rattle.std.proofs.lemmas.Str.{IsUtf8-from_ascii}
-use Rattle.std.specs.Str.Parse.{digits_value, ParsesUnsigned}
-use Rattle.std.proofs.lemmas.Fmt.{decimal_is_IsNumeral, IsAscii-decimal}
+use Rattle.std.proofs.Common.{◌≡◌, ℕ, ◌^◌, ◌<◌, ◌↔◌, Bool, true, false, ◌&&◌, cond, List, Some, None}
+use Rattle.std.proofs.Common.{IsTrue, decimal, nat_lt, bytes_eq, refl, subst, sym, ◌∙◌, ap, arith}
+use Rattle.std.specs.Str.{str_to_ascii_lowercase}
+use Rattle.std.specs.Char.{digit_value}
+use Rattle.std.specs.Int.{IsInRange}
+use Rattle.std.proofs.Common.{◌*◌, ◌+◌, IfSome, Option, get_or, length, suc, take, zero}
+use Rattle.std.proofs.lemmas.Int.Digits.{digits_value_more}
+use Rattle.std.proofs.lemmas.Str.Parse.{digit_at, digits_value-take-le, numerals_by_value, tells_digits}
+use Rattle.std.specs.Str.Parse.{AllDigits, digits_value}
+use Rattle.std.proofs.lemmas.Fmt.{decimal_is_IsNumeral, decimal_digit, first_decimal, decimal_nonempty, decimal-digits_value}
 use Rattle.std.proofs.lemmas.Slice.Eq.{bytes_eq-Decides}
 use Rattle.std.proofs.lemmas.Bool.{false_from_ne_true, cond-true, cond-false}
 use Rattle.std.proofs.lemmas.Bool.Decides.{same_from_decides, nat_tests}
@@ -20,6 +23,19 @@ pub means_is : (text : List ℕ) (name : Name) (r : Bool) → (IsTrue r ↔ (str
     → means text name ≡ r
 means_is text name r h =
     same_from_decides (means text name) r (bytes_eq-Decides (str_to_ascii_lowercase text) (name_text name)) (h.0, h.1)
+
+-- the names are in lower case
+lower_name : (name : Name) → str_to_ascii_lowercase (name_text name) ≡ name_text name
+lower_name Blksize = refl
+lower_name Timeout = refl
+lower_name Tsize = refl
+
+-- the same, of the bytes of a name
+pub means_bytes : (text bytes : List ℕ) (name : Name) (r : Bool) → bytes ≡ name_text name
+    → (IsTrue r ↔ (str_to_ascii_lowercase text ≡ str_to_ascii_lowercase bytes)) → means text name ≡ r
+means_bytes text bytes name r is h =
+    means_is text name r (subst (λ (b : List ℕ). IsTrue r ↔ (str_to_ascii_lowercase text ≡ b))
+    (ap str_to_ascii_lowercase is ∙ lower_name name) h)
 
 -- the name `blksize`, in any case
 pub name_of-blksize : (text : List ℕ) → means text Blksize ≡ true → name_of text ≡ Some Blksize
@@ -81,24 +97,36 @@ number_of_none text none =
     let is = decimal-number_of text v (e ∙ cond-true _ _ _ t) in none v is.1 is.0) in
     sym (e ∙ cond-false _ _ _ no)
 
--- the decimal digits of a number are UTF-8
-pub IsUtf8-from_decimal : (text : List ℕ) (n : ℕ) → n < 2 ^ 64 → text ≡ decimal n → IsUtf8 text
-IsUtf8-from_decimal text n small e = IsUtf8-from_ascii text (rw e (IsAscii-decimal n small))
+-- a number has a first digit, which is 0 only if it is the only one
+pub begins-decimal : (text : List ℕ) (n : ℕ) → n < 2 ^ 64 → text ≡ decimal n
+    → (0 < length text) × (get_or text 0 0 ≡ 48 → length text ≡ 1)
+begins-decimal text zero small e = rw e (rw (decimal_digit 0 (omega arith)) (omega arith, λ _. refl))
+begins-decimal text (suc n) small e =
+    let first = first_decimal (suc n) (omega arith) small in
+    rw e (decimal_nonempty (suc n) small, λ zero. omega arith)
 
--- the fact that a failed call gives
-pub why_none : {X E : Type 0} (r : Result X E) (P : X → Type 0) (Q : E → Type 0) (U : Type 0)
-    → MatchResult r P (λ e. ¬ U × Q e) → result_ok r ≡ None → U → ⊥
-why_none (Ok x) P Q U h none = cc
-why_none (Err e) P Q U h none = h.0
+-- what was read of a text that begins as a number
+pub number_of-read : (text : List ℕ) (r : Option ℕ)
+    → (0 < length text) × (get_or text 0 0 ≡ 48 → length text ≡ 1)
+    → IfSome r (λ n. n ≡ digits_value 10 text) → IfSome r (λ _. AllDigits 10 text) → IfSome r (λ n. n < 2 ^ 64)
+    → (r ≡ None → (n : ℕ) → n < 2 ^ 64 → text ≡ decimal n → ⊥) → r ≡ number_of text
+number_of-read text None begins value digits small none = number_of_none text (none refl)
+number_of-read text (Some n) begins value digits small none =
+    let own = numerals_by_value (AllDigits 10) tells_digits in
+    let below : digits_value 10 text < 2 ^ 64 = omega arith in
+    let same : decimal n ≡ text = ap decimal value ∙ decimal-digits_value own text digits begins.0 begins.1 below in
+    sym (ap number_of (sym same) ∙ number_of-decimal n small)
 
--- the fact that a successful call gives
-pub what_some : {X E : Type 0} (r : Result X E) (P : X → Type 0) (Q : E → Type 0) (x : X) → MatchResult r P Q
-    → Some x ≡ result_ok r → P x
-what_some (Ok y) P Q x h some = let e : y ≡ x = cc in subst P e h
-what_some (Err e) P Q x h some = cc
+-- each byte of a number is a digit
+pub digit_of-decimal : (text : List ℕ) (n i : ℕ) → n < 2 ^ 64 → text ≡ decimal n → i < length text
+    → IsInRange 48 57 (get_or text i 0)
+digit_of-decimal text n i small e within = digit_at text i (rw e ((decimal_is_IsNumeral n small).0.1)) within
 
--- a parsed number fits 64 bits
-pub parsed_small : {E : Type 0} (bytes : List ℕ) (r : Result ℕ E) (n : ℕ) → ParsesUnsigned 64 10 bytes r
-    → Some n ≡ result_ok r → n < 2 ^ 64
-parsed_small bytes (Ok m) n h some = let e : m ≡ n = cc in let small = h.0.1 in let same = h.1 in omega arith
-parsed_small bytes (Err e) n h some = cc
+-- the first digits of a number write a number that is no greater
+pub first_digits-decimal : (text : List ℕ) (n i : ℕ) → n < 2 ^ 64 → text ≡ decimal n → i < length text
+    → digits_value 10 (take i text) * 10 + digit_value (get_or text i 0) < 2 ^ 64
+first_digits-decimal text n i small e within =
+    let more = digits_value_more 10 text i within in
+    let part = digits_value-take-le 10 text (i + 1) (omega arith) in
+    let whole : digits_value 10 text ≡ n = ap (digits_value 10) e ∙ (decimal_is_IsNumeral n small).1 in
+    omega arith

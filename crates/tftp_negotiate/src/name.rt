@@ -1,7 +1,7 @@
 //! The names of the known options.
 
 ghost use Rattle.std.specs.Prelude.{◌≡◌, not, false};
-ghost use Rattle.tftp_negotiate.specs.Options.{name_of, name_text};
+ghost use Rattle.tftp_negotiate.specs.Options.{means, name_of, name_text};
 ghost use Rattle.tftp_negotiate.specs.Names.{has, has_name, with_name};
 
 use std::mem;
@@ -34,16 +34,24 @@ impl Name {
     pub fn of(text: &[u8]) -> Option<Name>
         ensures { result ≡ name_of text.now }
     {
-        if text.eq_ignore_ascii_case(b"blksize") {
+        if means(text, Name::Blksize) {
             Some(Name::Blksize)
-        } else if text.eq_ignore_ascii_case(b"timeout") {
+        } else if means(text, Name::Timeout) {
             Some(Name::Timeout)
-        } else if text.eq_ignore_ascii_case(b"tsize") {
+        } else if means(text, Name::Tsize) {
             Some(Name::Tsize)
         } else {
             None
         }
     }
+}
+
+/// Whether the text is this name, in any case.
+#[inline(never)]
+fn means(text: &[u8], name: Name) -> bool
+    ensures { result ≡ means text.now name }
+{
+    text.eq_ignore_ascii_case(name.text().as_bytes())
 }
 
 /// A set of known names.

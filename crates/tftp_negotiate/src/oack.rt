@@ -75,6 +75,7 @@ pub fn check_oack_ref(
 /// The length of the file that an OACK states, in bytes of wire text, if it states one
 /// (RFC 2349, "Transfer Size Option Specification"). It does not check the OACK as
 /// [`check_oack_ref`] does.
+#[inline(never)]
 pub fn stated_tsize(options: &OptionsRef<'_>) -> Option<u64>
     ensures { result ≡ stated_tsize options.now }
 {

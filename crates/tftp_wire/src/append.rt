@@ -156,6 +156,8 @@ fn put_number(out: &mut Vec<u8>, number: u16)
     put(out, &bytes);
 }
 
+// Inlined, the loop of each copy would be of some 300 bytes.
+#[inline(never)]
 fn put_text(out: &mut Vec<u8>, text: &[u8])
     requires { vec_len out.old + (length text.now + 1) ≤ vec_capacity out.old }
     ensures items { out.new.items ≡ out.old.items ++ zero_ended text.now }
@@ -166,6 +168,7 @@ fn put_text(out: &mut Vec<u8>, text: &[u8])
     put(out, &[0]);
 }
 
+#[inline(never)]
 fn put(out: &mut Vec<u8>, bytes: &[u8])
     requires { vec_len out.old + length bytes.now ≤ vec_capacity out.old }
     ensures items { out.new.items ≡ out.old.items ++ bytes.now }

@@ -7,6 +7,7 @@ ghost use Rattle.tftp_ends.specs.OneFile.{ReceiverActs, ReceiverActLacksMemory};
 ghost use Rattle.tftp_ends.specs.Step.{Turn, AcksAgain, Lends, UsesFile, ack_bytes};
 ghost use Rattle.tftp_ends.specs.Step.{having_sent, in_phase, response_turn, with_position};
 ghost use Rattle.tftp_ends.specs.Step.{lent};
+ghost use Rattle.tftp_ends.specs.Phase.{refused};
 ghost use Rattle.tftp_ends.specs.Room.{room_of, response_room};
 ghost use Rattle.tftp_ends.specs.End.{is_sender, number_of, terms_of};
 ghost use Rattle.tftp_ends.specs.Fits.{ActionFits, BytesFit, ReplyFits, ResponseFits, SentFits};
@@ -17,8 +18,9 @@ use crate::end::End;
 use crate::end::sending::block_length;
 use crate::endpoint::Endpoint;
 use crate::error_reply::ErrorReply;
+use crate::outcome::Outcome;
 use crate::outgoing::Outgoing;
-use crate::phase::Phase;
+use crate::phase::{Phase, Terms};
 use crate::reply::MAX_ERROR;
 use std::alloc::AllocError;
 use tftp_file::Sink;
@@ -46,6 +48,16 @@ impl End {
             .phase
             .retries_left(phase, self.role.retries, self.retries_left);
         self.phase = phase;
+    }
+
+    /// Closes, with these terms.
+    #[inline(never)]
+    pub(crate) fn close(&mut self, terms: Option<Terms>, outcome: Outcome)
+        requires { SentFits self.old terms }
+        ensures { self.new ≡ with_position (in_phase
+            (refused terms outcome self.old.position.phase) self.old) self.old }
+    {
+        self.go_into(self.phase.refused(terms, outcome));
     }
 
     /// Enters a phase and acknowledges its block. It allocates no memory.
@@ -120,7 +132,7 @@ impl End {
                 (None, Outgoing::Nothing)
             }
             Response::Close { outcome } => {
-                self.go_into(self.phase.closed(outcome));
+                self.close(self.phase.terms(), outcome);
                 (None, Outgoing::Nothing)
             }
             Response::Refuse {
@@ -128,7 +140,7 @@ impl End {
                 reply,
                 outcome,
             } => {
-                self.go_into(self.phase.refused(terms, outcome));
+                self.close(terms, outcome);
                 (Some(from), Outgoing::Error(reply))
             }
             Response::Accept { terms } => {

@@ -165,7 +165,7 @@ impl End {
             (refused (Some terms) Outcome.SourceFault self.old.position.phase) self.old) self.old }
         ensures sent { result ≡ Outgoing.Error ErrorReply.FileChanged }
     {
-        self.go_into(self.phase.refused(Some(terms), Outcome::SourceFault));
+        self.close(Some(terms), Outcome::SourceFault);
         Outgoing::Error(ErrorReply::FileChanged)
     }
 }

@@ -50,7 +50,7 @@ impl End {
             return Err(EndFault::Closed);
         }
         let before = self.phase();
-        let action = self.datagram_action(from, bytes);
+        let action = self.datagram_action(true, from, bytes);
         let (to, outgoing) = self.act_as_sender(action, source, from)?;
         Ok((before.step_to(self.phase(), to), outgoing))
     }
@@ -86,7 +86,7 @@ impl End {
             return Err(EndFault::Closed);
         }
         let before = self.phase();
-        let action = self.datagram_action(from, bytes);
+        let action = self.datagram_action(false, from, bytes);
         let (to, outgoing) = self.act_as_receiver(action, sink, from, bytes)?;
         Ok((before.step_to(self.phase(), to), outgoing))
     }
@@ -160,7 +160,7 @@ impl End {
             return Err(EndFault::Closed);
         }
         let before = self.phase();
-        let action = self.datagram_action(from, bytes);
+        let action = self.datagram_action(true, from, bytes);
         out.reserve(self.room(action))?;
         let (to, outgoing) = self.act_as_sender(action, source, from)?;
         self.append_outgoing(outgoing, out);
@@ -197,7 +197,7 @@ impl End {
             return Err(EndFault::Closed);
         }
         let before = self.phase();
-        let action = self.datagram_action(from, bytes);
+        let action = self.datagram_action(false, from, bytes);
         out.reserve(self.room(action))?;
         let (to, outgoing) = self.act_as_receiver(action, sink, from, bytes)?;
         self.append_outgoing(outgoing, out);

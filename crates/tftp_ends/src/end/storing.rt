@@ -241,11 +241,11 @@ impl End {
                 Ok(outgoing)
             }
             BlockStored::Refused => {
-                self.go_into(self.phase.refused(Some(terms), Outcome::StoreFault));
+                self.close(Some(terms), Outcome::StoreFault);
                 Ok(Outgoing::Error(ErrorReply::DiskFull))
             }
             BlockStored::Uncommitted(reply) => {
-                self.go_into(self.phase.refused(Some(terms), Outcome::StoreFault));
+                self.close(Some(terms), Outcome::StoreFault);
                 self.decoder = after;
                 Ok(Outgoing::Error(reply))
             }

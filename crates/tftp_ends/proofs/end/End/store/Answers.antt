@@ -1,9 +1,7 @@
 -- The result of storing the piece is that of the step.
-use Rattle.std.proofs.Common.{◌≡◌, ◌∙◌, ap, Some, rules}
-use Rattle.tftp_ends.specs.declared.outcome.Outcome.TheVariants as outcomes
+use Rattle.std.proofs.Common.{◌∙◌, ap, rules}
 use Rattle.tftp_ends.specs.End.{EndState}
-use Rattle.tftp_ends.specs.Phase.{refused}
-use Rattle.tftp_ends.specs.Step.{holding, in_phase, with_position}
+use Rattle.tftp_ends.specs.Step.{holding}
 use Rattle.tftp_ends.proofs.Storing.{stored_more, stored_all, stored_not, not_committed}
 use Rattle.tftp_ends.proofs.end.End.store.Goals as goal
 
@@ -31,21 +29,7 @@ returns-in-Refused-clause-stores g c =
 pub returns-in-Uncommitted-clause-stores : goal.returns-in-Uncommitted-clause-stores
 returns-in-Uncommitted-clause-stores g c =
     let takes = rw (c.in-Uncommitted.is, c.block_kind-kind.ensures) at c.in_ok-stored.ensures.takes in
-    let e : EndState =
-    record {
-      role = c.self.inside.role;
-      position =
-          record {
-            retries_left = c.self.inside.retries_left;
-            last_sent = c.self.inside.last_sent.items;
-            last_sent_to = c.self.inside.last_sent_to;
-            held_back = c.self.inside.decoder;
-            phase = c.self.inside.phase;
-          };
-    } in
-    let closes : c.go_into-in-Uncommitted-2.new.self
-    ≡ with_position (in_phase (refused (Some c.args.terms) outcomes.StoreFault e.position.phase) e) e =
-    search rules in
     rw (← c.self.view_is)
     (not_committed _ _ _ _ _ _ _ _ _ c.in-Uncommitted.reply takes _
-    (ap (λ (x : EndState). holding c.in_ok-stored.after x) (c.self-in-Uncommitted.view_is ∙ closes)))
+    (ap (λ (x : EndState). holding c.in_ok-stored.after x)
+    (c.self-in-Uncommitted.view_is ∙ c.close-in-Uncommitted.ensures)))
