@@ -1,7 +1,7 @@
 -- A get and a put that are complete: the law `some_transfers_are_complete` has them.
 use denote.RawPtr.{null_ptr}
 use Rattle.std.proofs.Common.{rules, ◌≡◌, refl, ℕ, [], ◌∷◌, ◌++◌, Some, None, Ok, true, false, arith, inl, inr, List, length, ap, sym, zero, suc}
-use Rattle.std.specs.Prelude.{◌<◌, ◌^◌, ◌*◌, pos, codes, get_or, IsUtf8, ⊤, Option}
+use Rattle.std.specs.Prelude.{◌<◌, ◌^◌, ◌*◌, pos, codes, get_or, IsUtf8}
 use Rattle.std.proofs.lemmas.Fmt.{decimal_digit}
 use Rattle.std.proofs.lemmas.Option.{same_Some}
 use Rattle.tftp_arguments.specs.Read.{IsFlag}
@@ -14,8 +14,6 @@ use Rattle.tftp_wire.specs.declared.mode.Mode.TheVariants.{Octet}
 use Rattle.tftp_wire.specs.declared.packet.Packet.TheVariants.{Ack, Data}
 use Rattle.tftp_negotiate.specs.declared.asked.Asked.{Asked}
 use Rattle.tftp_negotiate.specs.declared.known.Kind.TheVariants.{Read, Write}
-use Rattle.tftp_file.specs.Sink.{SinkMeaning}
-use Rattle.tftp_file.specs.Source.{SourceMeaning}
 use Rattle.tftp_file.specs.declared.files.Files.{Files}
 use Rattle.tftp_file.specs.declared.files.Files.TheVariants.{Sink, Source}
 use Rattle.tftp_ends.specs.declared.endpoint.Endpoint.{Endpoint}
@@ -26,22 +24,21 @@ use Rattle.tftp_ends.specs.Step.{DatagramStep, Done, Turn, ack_bytes, after_turn
 use Rattle.tftp_ends.specs.Step.{reported, response_turn}
 use Rattle.tftp_ends.specs.Waiting.{default_terms}
 use Rattle.tftp_file.specs.declared.length.TheConstants.{MAX_WIRE}
-use Rattle.tftp_disk.specs.DiskTrace.{DiskEvent, state_of, made_at, sync_failed}
+use Rattle.tftp_disk.specs.DiskTrace.{state_of, sync_failed}
 use Rattle.tftp_disk.specs.DiskTrace.DiskEvent.{Written as Written_bytes, Created, Examined, Given, Opened, Synced, Made, Removed, Linked, Folder_opened, Folder_synced}
 use Rattle.tftp_disk.specs.DiskWriter.{calls_of}
 use Rattle.tftp_disk.specs.Folder.IsFolderOf.{Here}
-use Rattle.tftp_disk.specs.Folder.{HasNoSlash, IsFolderOf}
+use Rattle.tftp_disk.specs.Folder.{HasNoSlash}
 use Rattle.tftp_disk.specs.declared.existing.Existing.TheVariants.{Refused}
 use Rattle.tftp_disk.specs.declared.found.Found.{Found}
 use Rattle.tftp_disk.specs.declared.found.Kind.TheVariants.{Regular}
 use Rattle.tftp_sockets.specs.declared.watch.Watch.{Watch}
 use Rattle.tftp_disk.specs.Still.{IsStillAt}
 use Rattle.tftp_client.specs.Fetched.{IsNamed, KeepsPlace}
-use Rattle.tftp_client.specs.Written.{held_of, paths_for, paths_of}
+use Rattle.tftp_client.specs.Written.{paths_for, paths_of}
 use Rattle.tftp_client.specs.declared.written.Written.{Written}
 use Rattle.tftp_client.specs.declared.transfer.Job.{Job}
 use Rattle.tftp_client.specs.declared.transfer.conversation.Progress.TheVariants.{Hidden}
-use Rattle.tftp_ends.specs.End.{outcome_of}
 use Rattle.tftp_client.specs.Converses.{Converses, IsOpen, State, received, turned, renewed}
 use Rattle.tftp_client.specs.Converses.Converses.{Begins, Receives}
 use Rattle.tftp_client.specs.Converses.HandlesReceived.{Answers}
@@ -53,7 +50,7 @@ use Rattle.tftp_sockets.specs.Address.{Names}
 use Rattle.tftp_sockets.specs.Trace.{SocketEvent}
 use Rattle.tftp_client.specs.Runs.{begun, printed}
 use Rattle.tftp_client.specs.Words.{WordsName}
-use Rattle.tftp_client.specs.Witness.{Calls, Local, LocalSource, SomeAreSent, SomeAreStored, get_words, its_calls}
+use Rattle.tftp_client.specs.Witness.{Calls, Local, LocalSource, SomeAreSent, SomeAreStored, get_words}
 use Rattle.tftp_client.specs.Witness.{local_sink, local_source, put_words}
 
 abbrev pub text : (bytes : List ℕ) → length bytes < 1000 → IsUtf8 bytes → String Global
