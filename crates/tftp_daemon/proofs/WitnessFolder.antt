@@ -3,20 +3,17 @@ use denote.RawPtr.{null_ptr}
 use Rattle.std.proofs.Common.{rules, ◌≡◌, refl, ℕ, [], ◌∷◌, ◌++◌, Some, None, Ok, true, false, arith, inl, inr, List, length, ap, sym, zero, suc}
 use Rattle.std.proofs.lemmas.Bool.{true≢false}
 use Rattle.tftp_file.specs.Path.{is_segment}
-use Rattle.std.specs.Prelude.{IsTrue, ◌≢◌, ◌+◌, ◌<◌, pos, codes, get_or, IsUtf8}
-use Rattle.std.specs.List.{slice_index}
+use Rattle.std.specs.Prelude.{IsTrue, ◌≢◌, ◌<◌, pos, codes, get_or, IsUtf8}
 use Rattle.std.specs.Fmt.{decimal}
 use Rattle.std.proofs.lemmas.Fmt.{IsAscii-decimal, length-decimal-le}
 use Rattle.std.proofs.lemmas.Str.{IsUtf8-append, IsUtf8-from_ascii}
 use Rattle.std.specs.declared.alloc.Global.{Global}
 use Rattle.std.specs.declared.string.String.{String}
-use Rattle.std.specs.Global.{Vec}
 use Rattle.tftp_wire.specs.declared.mode.Mode.TheVariants.{Octet, Netascii}
-use Rattle.tftp_disk.specs.DiskTrace.{DiskEvent, made_at, state_of, sync_failed}
+use Rattle.tftp_disk.specs.DiskTrace.{made_at, state_of, sync_failed}
 use Rattle.tftp_disk.specs.DiskWriter.{calls_of}
 use Rattle.tftp_disk.specs.DiskTrace.DiskEvent.{Looked, Opened, Examined, Given, Followed, Resolved, Created, Written}
 use Rattle.tftp_disk.specs.DiskTrace.DiskEvent.{Synced, Made, Removed, Linked, Folder_opened, Folder_synced}
-use Rattle.tftp_disk.specs.Still.{AllLeave, IsStillAt, LeavesPath}
 use Rattle.tftp_disk.specs.declared.found.Found.{Found}
 use Rattle.tftp_disk.specs.declared.found.Kind.TheVariants.{Regular, Folder}
 use Rattle.tftp_disk.specs.declared.disk_file.DiskFolder.{DiskFolder}

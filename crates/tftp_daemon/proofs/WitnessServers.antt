@@ -1,5 +1,5 @@
 -- Runs of two servers over such a store, one that gives a file and one that stores one: the law `some_servers_serve`.
-use Rattle.std.proofs.Common.{rules, ◌≡◌, ◌<◌, ◌≤◌, refl, ℕ, Bool, [], ◌∷◌, ◌++◌, Some, None, Ok, Err, true, false, arith, inl, inr, List, length, ap, sym, zero, suc}
+use Rattle.std.proofs.Common.{rules, ◌≡◌, ◌<◌, ◌≤◌, refl, ℕ, Bool, [], ◌∷◌, Some, None, Ok, Err, true, false, arith, inl, inr, List, length, ap, sym}
 use Rattle.std.specs.Prelude.{◌*◌, ◌^◌, codes, get_or, slice_index_or, slice_set, ⊤}
 use Rattle.std.proofs.lemmas.Bool.{ltb-true, true≢false}
 use Rattle.std.proofs.lemmas.Fmt.{decimal_digit}
