@@ -11,12 +11,12 @@ use Rattle.tftp_file.specs.declared.files.Files.{Files}
 use Rattle.tftp_ends.specs.End.{Position, outcome_of}
 use Rattle.tftp_ends.specs.declared.outcome.Outcome.TheVariants.{TimedOut}
 use Rattle.tftp_ends.specs.declared.phase.Phase.TheVariants.{Waiting}
-use Rattle.tftp_sockets.specs.Watch.{last_moment, later_by}
+use Rattle.tftp_sockets.specs.Watch.{last_moment}
 use Rattle.tftp_sockets.specs.declared.watch.Watch.{Watch}
 use Rattle.tftp_sockets.specs.Trace.{SocketEvent, QuietEvent}
 use Rattle.tftp_client.specs.declared.transfer.Job.{Job}
 use Rattle.tftp_client.specs.Converses.{Converses, HandlesReceived, IsOpen, IsReadBy, MayElapse, MayWait, State}
-use Rattle.tftp_client.specs.Converses.{elapsed, waited, watch_of}
+use Rattle.tftp_client.specs.Converses.{elapsed, waited}
 use Rattle.tftp_client.specs.Converses.Converses.{Begins, Receives, Waits, Times, Rests}
 use Rattle.tftp_client.specs.Converses.HandlesReceived.{Answers, Loses}
 use Rattle.tftp_client.specs.Converses.MayElapse.{Stays, Elapses}

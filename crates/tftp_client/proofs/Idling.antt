@@ -24,8 +24,8 @@ use Rattle.tftp_ends.specs.Action.{datagram_action, garbled_response, packet_act
 use Rattle.tftp_ends.specs.End.{EndState, Position, interval_of, is_client, is_progress, is_sender, outcome_of, terms_of}
 use Rattle.tftp_ends.specs.Receiver.{receiver_action, data_action, next_action, dally_response}
 use Rattle.tftp_ends.specs.Sender.{acked_action, illegal_action, sender_action}
-use Rattle.tftp_ends.specs.Step.{Acts, DatagramStep, Done, GoesOn, SendsFrom, StoresIn, Turn, after, after_turn}
-use Rattle.tftp_ends.specs.Step.{block_length, committed_turn, data_bytes, filled_turn, holding, refused_turn}
+use Rattle.tftp_ends.specs.Step.{Acts, Done, GoesOn, SendsFrom, StoresIn, Turn, after, after_turn}
+use Rattle.tftp_ends.specs.Step.{block_length, committed_turn, data_bytes, holding, refused_turn}
 use Rattle.tftp_ends.specs.Step.{response_turn, result_count_is, sent_turn, timeout_turn}
 use Rattle.tftp_ends.specs.Text.{is_readable}
 use Rattle.tftp_ends.specs.Waiting.{reader_action, writer_action, accept_action, begin_action, begin_with_action}
@@ -57,7 +57,7 @@ use Rattle.tftp_client.specs.Runs.{begun, opens}
 use Rattle.tftp_client.specs.Seconds.{ClosesByTheClock, ClosesWithoutProgress, IsIdle, IsSteady, longest_timeout}
 use Rattle.tftp_client.proofs.ByTheClock.{passes_with_the_clock, reads_soon, same_elapses, same_handles}
 use Rattle.tftp_client.proofs.Committing.{by_tests, if_either}
-use Rattle.tftp_client.proofs.Silent.{second, timed_out}
+use Rattle.tftp_client.proofs.Silent.{timed_out}
 
 -- ---- an action without progress leaves the phase, or closes the end
 abbrev Fits : Phase → Action → Type 0

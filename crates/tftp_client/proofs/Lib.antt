@@ -21,3 +21,4 @@ pub mod SentLength
 pub mod Silent
 pub mod StaysComplete
 pub mod StillThere
+pub mod Witness

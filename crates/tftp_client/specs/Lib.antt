@@ -16,5 +16,6 @@ pub mod Sent
 pub mod Silence
 pub mod Stored
 pub mod Taken
+pub mod Witness
 pub mod Words
 pub mod Written

@@ -4,6 +4,7 @@ ghost use Rattle.tftp_client.specs.Given.{CountsWhatItSent, SendsWhatItsFileGave
 ghost use Rattle.tftp_client.specs.Sent.{SendsTheTextWhole, SendsWhatReadsReturned};
 ghost use Rattle.tftp_client.specs.Seconds.{ClosesByTheClock, ClosesWithoutProgress};
 ghost use Rattle.tftp_client.specs.Seconds.{PassesWithTheClock, TimesOutByTheClock};
+ghost use Rattle.tftp_client.specs.Witness.{SomeAreSent, SomeAreStored};
 ghost use Rattle.tftp_client.specs.Silence.{TimesOut, WaitsForEachSending};
 
 use std::io::Read;
@@ -55,3 +56,10 @@ pub fn a_put_sends_what_reads_returned<F: Read, K: Sink>()
 {
     gives_in_order::<F>();
 }
+
+/// What is proved of a complete get and of a complete put can be met: arguments, traces of the network
+/// and calls of a disk are given that have it all (RFC 1350, section 4).
+pub fn some_transfers_are_complete()
+    ensures stored { SomeAreStored }
+    ensures sent { SomeAreSent }
+{}

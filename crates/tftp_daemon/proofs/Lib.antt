@@ -8,3 +8,5 @@ mod OwnDrafts
 mod Supervising
 mod WithinLimits
 pub mod SentFiles
+pub mod WitnessFolder
+pub mod WitnessServers

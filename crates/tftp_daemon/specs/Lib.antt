@@ -1,6 +1,7 @@
 pub mod Leaves
 pub mod DraftPorts
 pub mod CommandLine
+pub mod Witness
 pub mod Words
 pub mod Configured
 pub mod Changes

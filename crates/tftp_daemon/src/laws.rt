@@ -6,6 +6,7 @@ ghost use Rattle.tftp_daemon.specs.DraftPorts.{EachDraftHasItsPort, NoTwoShareAD
 ghost use Rattle.tftp_daemon.specs.Leaves.{ReadOnlyRunStoresNothing, RunKeepsSettings};
 ghost use Rattle.tftp_daemon.specs.Leaves.{UploadsStayInTheirFolder};
 ghost use Rattle.tftp_daemon.specs.Sent.{OnlyAskedFilesLeave};
+ghost use Rattle.tftp_daemon.specs.Witness.{SomeServe};
 
 use tftp_disk::Disk;
 use tftp_file::Source;
@@ -97,3 +98,9 @@ pub fn only_what_was_asked_leaves_the_folder<D: Disk>()
     gives_its_file::<D::View>();
     a_server_sends_only_what_was_asked::<FolderStore<D>>();
 }
+
+/// What is proved of a run of `tftpd` can be met, from its arguments to its disk: of a server that
+/// gives a file to a client, and of one that stores a file (RFC 1350, section 4).
+pub fn some_servers_serve()
+    ensures { SomeServe }
+{}

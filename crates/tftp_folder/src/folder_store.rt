@@ -1,11 +1,13 @@
 //! A store over the files in a folder and its subfolders.
 
+ghost use Rattle.std.specs.IoError.{error_kind};
 ghost use Rattle.std.specs.Prelude.{◌≡◌, ◌≢◌, ℕ, List, true, false, None, Some, Ok, Err, IfOk};
-ghost use Rattle.std.specs.Prelude.{IfErr};
+ghost use Rattle.std.specs.Prelude.{IfErr, ◌↔◌};
 ghost use Rattle.std.specs.Prelude.{[], ◌++◌, ◌⊎◌, codes, IfSome, OnOk, OnErr};
 ghost use Rattle.std.specs.String.{string_bytes};
 ghost use Rattle.tftp_disk.specs.Changes.{changes};
-ghost use Rattle.tftp_disk.specs.DiskFault.{MayNotOpen, MayNotStore, MayNotName, is_replaced};
+ghost use Rattle.tftp_disk.specs.DiskFault.{IsNotThere, MayNotOpen, MayNotStore, MayNotName};
+ghost use Rattle.tftp_disk.specs.DiskFault.{is_replaced};
 ghost use Rattle.tftp_disk.specs.Given.{examined, is_at_start};
 ghost use Rattle.tftp_disk.specs.Measuring.{calls_on, StaysOpen};
 ghost use Rattle.tftp_folder.specs.Inside.{StaysInside};
@@ -171,7 +173,10 @@ impl<D: Disk> FolderStore<D> {
 
     /// The fault of a file that states a length of 0 and is not known to be empty; keeps the reason.
     fn not_empty(&self, error: &io::Error) -> StoreFault
-        ensures { MayNotOpen result }
+        ensures opened { MayNotOpen result }
+        ensures missing { result ≡ StoreFault.Missing ↔ IsNotThere (error_kind error.now) }
+        ensures memory { result ≡ StoreFault.Memory
+            ↔ (error_kind error.now ≡ ErrorKind.OutOfMemory) }
     {
         if error.kind() == ErrorKind::InvalidData {
             self.folder.refused(Reason::LengthUnknown)

@@ -1,7 +1,7 @@
 //! Gives a draft a new name where the system has no hard links: under a lock of the name, since
 //! other servers may give it too.
 
-ghost use Rattle.std.specs.Prelude.{ℕ, ◌≡◌, List, ◌∷◌, false, Ok, Err, OnOk, OnErr};
+ghost use Rattle.std.specs.Prelude.{ℕ, ◌≡◌, ◌≢◌, List, ◌∷◌, false, Ok, Err, OnOk, OnErr};
 ghost use Rattle.std.specs.IoError.{error_kind};
 ghost use Rattle.std.specs.String.{string_bytes};
 ghost use Rattle.std.specs.declared.io.Error.{Error};
@@ -64,7 +64,12 @@ pub(crate) fn rename_locked<D: Disk>(
 }
 
 /// Why a lock was not made.
-fn lock_fault(error: io::Error) -> NameFault {
+fn lock_fault(error: io::Error) -> NameFault
+    ensures locked { error_kind error ≡ ErrorKind.AlreadyExists
+        → result ≡ NameFault.Rule Reason.NameLocked }
+    ensures system { error_kind error ≢ ErrorKind.AlreadyExists
+        → result ≡ NameFault.System error }
+{
     if error.kind() == ErrorKind::AlreadyExists {
         NameFault::Rule(Reason::NameLocked)
     } else {

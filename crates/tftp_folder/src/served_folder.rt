@@ -1,7 +1,9 @@
 //! The folder that a store serves, and why its calls were refused.
 
-ghost use Rattle.std.specs.Prelude.{◌≡◌, ◌≢◌};
-ghost use Rattle.tftp_disk.specs.DiskFault.{MayNotOpen, MayNotStore, MayNotName, is_replaced};
+ghost use Rattle.std.specs.IoError.{error_kind};
+ghost use Rattle.std.specs.Prelude.{◌≡◌, ◌≢◌, ◌↔◌};
+ghost use Rattle.tftp_disk.specs.DiskFault.{IsNoSpace, IsNotThere, MayNotOpen, MayNotStore};
+ghost use Rattle.tftp_disk.specs.DiskFault.{MayNotName, is_replaced};
 
 use crate::folder_source::SharedReason;
 use std::io::{self, ErrorKind};
@@ -34,6 +36,9 @@ impl ServedFolder {
     pub(crate) fn rule_refused(&self, reason: Reason, existing: Existing) -> StoreFault
         ensures named { MayNotName (is_replaced existing) result }
         ensures not_memory { result ≢ StoreFault.Memory }
+        ensures exists { result ≡ StoreFault.Exists
+            ↔ (reason ≡ Reason.NameLocked) × (existing ≡ Existing.Refused) }
+        ensures full { result ≢ StoreFault.Full }
     {
         self.reason.set(reason);
         if reason == Reason::NameLocked && existing == Existing::Refused {
@@ -52,7 +57,10 @@ impl ServedFolder {
 
     /// The fault of a failed open; keeps the reason.
     pub(crate) fn open_refused(&self, error: &io::Error) -> StoreFault
-        ensures { MayNotOpen result }
+        ensures opened { MayNotOpen result }
+        ensures missing { result ≡ StoreFault.Missing ↔ IsNotThere (error_kind error.now) }
+        ensures memory { result ≡ StoreFault.Memory
+            ↔ (error_kind error.now ≡ ErrorKind.OutOfMemory) }
     {
         let fault = open_fault(error);
         self.keep_reason(fault, reason_of(error));
@@ -63,6 +71,7 @@ impl ServedFolder {
     pub(crate) fn write_refused(&self, error: &io::Error) -> StoreFault
         ensures stored { MayNotStore result }
         ensures not_memory { result ≢ StoreFault.Memory }
+        ensures full { result ≡ StoreFault.Full ↔ IsNoSpace (error_kind error.now) }
     {
         let fault = write_fault(error);
         self.keep_reason(fault, reason_of(error));
@@ -72,7 +81,8 @@ impl ServedFolder {
     /// The fault of a draft that was not made; keeps the reason. `DraftReplaced` if another file
     /// stays at its path: a draft of another port may then be made.
     pub(crate) fn draft_refused(&self, error: &io::Error) -> StoreFault
-        ensures { MayNotStore result }
+        ensures stored { MayNotStore result }
+        ensures full { result ≡ StoreFault.Full ↔ IsNoSpace (error_kind error.now) }
     {
         if error.kind() == ErrorKind::AlreadyExists {
             self.refused(Reason::DraftReplaced)
@@ -85,6 +95,9 @@ impl ServedFolder {
     pub(crate) fn name_refused(&self, error: &io::Error, existing: Existing) -> StoreFault
         ensures named { MayNotName (is_replaced existing) result }
         ensures not_memory { result ≢ StoreFault.Memory }
+        ensures exists { result ≡ StoreFault.Exists ↔ (existing ≡ Existing.Refused)
+            × (error_kind error.now ≡ ErrorKind.AlreadyExists) }
+        ensures full { result ≡ StoreFault.Full ↔ IsNoSpace (error_kind error.now) }
     {
         let fault = name_fault(error, existing);
         self.keep_reason(fault, reason_of(error));

@@ -22,7 +22,6 @@ mod sockets;
 mod system_udp;
 mod trace;
 mod udp;
-mod wall_clock;
 mod watch;
 
 pub use address::{DATAGRAM_BUFFER, address_of, endpoint_in, endpoint_of};

@@ -1,9 +1,13 @@
-//! What the system returned of a receive, a send or a bind.
+//! What the system returned of a receive, a send, a bind, a print or a look.
 
 ghost use Rattle.std.specs.Prelude.{◌≡◌, ◌≤◌, ◌∷◌, ◌↔◌, length, IfOk, IsTrue, OnErr};
 ghost use Rattle.std.specs.IoError.{error_kind};
 ghost use Rattle.tftp_sockets.specs.Receipt.{FindsNothing, Fits, receive_event};
-ghost use Rattle.tftp_sockets.specs.Trace.SocketEvent.{Quiet};
+ghost use Rattle.tftp_lines.specs.ClientOutcome.{end_text};
+ghost use Rattle.tftp_sockets.specs.EventRef.{event_of};
+ghost use Rattle.tftp_sockets.specs.Output.{taken};
+ghost use Rattle.tftp_sockets.specs.Trace.{QuietEvent, looked};
+ghost use Rattle.tftp_sockets.specs.Trace.SocketEvent.{Printed, Quiet};
 ghost use Rattle.tftp_sockets.specs.Trace.QuietEvent.{New_socket, No_socket};
 
 use crate::address::endpoint_of;
@@ -13,7 +17,7 @@ use crate::sockets::ServerSocket;
 use crate::trace::Trace;
 use std::io::{self, ErrorKind};
 use std::net::SocketAddr;
-use tftp_lines::{Reason, reason_of};
+use tftp_lines::{ClientOutcome, Reason, reason_of};
 
 /// Notes the result of a receive at the port.
 pub(crate) fn note_receipt(
@@ -95,4 +99,38 @@ pub(crate) fn note_bound(
             Err(error)
         }
     }
+}
+
+/// Notes how `tftp` ended, on standard output: an empty line if the system refused that.
+pub(crate) fn note_end(
+    trace: &mut Trace,
+    end: ClientOutcome,
+    printed: io::Result<()>,
+) -> io::Result<()>
+    ensures same { result ≡ printed }
+    ensures noted { trace.new.events ≡ Printed (taken printed (end_text end))
+        ∷ trace.old.events }
+{
+    match printed {
+        Ok(()) => {
+            trace.note(&EventRef::End(end));
+            Ok(())
+        }
+        Err(error) => {
+            trace.note(&EventRef::Refused);
+            Err(error)
+        }
+    }
+}
+
+/// Notes the event of a look, if it found what that is of. Returns whether it did.
+pub(crate) fn note_look(trace: &mut Trace, is_found: bool, event: &EventRef<'_>) -> bool
+    ensures same { result ≡ is_found }
+    ensures noted { (quiet : QuietEvent) → event_of event.now ≡ Quiet quiet
+        → trace.new.events ≡ looked result quiet trace.old.events }
+{
+    if is_found {
+        trace.note(event);
+    }
+    is_found
 }

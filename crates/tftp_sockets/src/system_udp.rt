@@ -15,7 +15,7 @@ ghost use Rattle.std.specs.Prelude.{◌≡◌, [], None};
 
 use crate::address::address_of;
 use crate::bound::{bound_socket, client_socket, same_socket};
-use crate::clock::{micros, read_clock};
+use crate::clock::{micros, read_clock, utc_millis};
 use crate::entry::{Entry, OpenTransfer};
 use crate::error_lines::{ErrorLines, WholeLines};
 use crate::event_ref::EventRef;
@@ -23,12 +23,11 @@ use crate::load::Load;
 use crate::port_poll::{POLLS, PortPoll, Reports};
 use crate::reader::{OutputReader, has_gone, watch_output};
 use crate::receipt::Receipt;
-use crate::received::{note_bound, note_receipt, sent};
+use crate::received::{note_bound, note_end, note_look, note_receipt, sent};
 use crate::signal::DrainSignal;
 use crate::sockets::{ClientSocket, ServerSocket};
 use crate::trace::{SocketEvents, Trace};
 use crate::udp::{ClientUdp, ServerUdp, Udp};
-use crate::wall_clock::utc_millis;
 use crate::watch::Watch;
 use rand::make_rng;
 use rand::rngs::StdRng;
@@ -104,16 +103,8 @@ impl<R: Net + Clock + Print> ClientUdp for SystemUdp<'_, R> {
     }
 
     fn print_end(&mut self, end: ClientOutcome) -> io::Result<()> {
-        match self.rt.println(end) {
-            Ok(()) => {
-                self.trace.note(&EventRef::End(end));
-                Ok(())
-            }
-            Err(error) => {
-                self.trace.note(&EventRef::Refused);
-                Err(error)
-            }
-        }
+        let printed = self.rt.println(end);
+        note_end(&mut self.trace, end, printed)
     }
 }
 
@@ -220,19 +211,13 @@ impl<R: Net + Clock + Print + RandomSource> ServerUdp for SystemUdp<'_, R> {
     }
 
     fn has_no_reader(&mut self) -> bool {
-        if !has_gone(&mut self.reader) {
-            return false;
-        }
-        self.trace.note(&EventRef::NoReader);
-        true
+        let has_gone = has_gone(&mut self.reader);
+        note_look(&mut self.trace, has_gone, &EventRef::NoReader)
     }
 
     fn is_signalled<D: DrainSignal>(&mut self, signal: &D) -> bool {
-        if !signal.is_given() {
-            return false;
-        }
-        self.trace.note(&EventRef::DrainSignalled);
-        true
+        let is_given = signal.is_given();
+        note_look(&mut self.trace, is_given, &EventRef::DrainSignalled)
     }
 
     fn rng(&self) -> io::Result<StdRng> {

@@ -9,3 +9,6 @@ pub mod BegunAt
 pub mod FromDiskMade
 pub mod PutFromDiskMade
 pub mod SharedFolderLemmas
+mod NamedServer
+mod WitnessRuns
+mod WitnessSeveral

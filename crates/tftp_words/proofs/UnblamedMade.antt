@@ -1,6 +1,6 @@
 -- Of what `tftpd` and each `tftp` ran for their words none is blamed.
 -- For the law no_command_is_blamed.
-use Rattle.std.proofs.Common.{◌≡◌, ℕ, List, [], Some, refl}
+use Rattle.std.proofs.Common.{List, [], refl}
 use Rattle.tftp_file.specs.Sink.{SinkMeaning}
 use Rattle.tftp_file.specs.Source.{SourceMeaning}
 use Rattle.tftp_store.specs.Store.{StoreMeaning}

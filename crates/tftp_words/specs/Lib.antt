@@ -1,4 +1,5 @@
 pub mod Ran
+pub mod Witness
 pub mod WordsKept
 pub mod Unblamed
 pub mod EndToEnd

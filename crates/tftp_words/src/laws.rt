@@ -8,6 +8,7 @@ ghost use Rattle.tftp_words.specs.SeveralFromDisk.{SeveralFromDiskToDisk};
 ghost use Rattle.tftp_words.specs.SeveralFromDisk.{SeveralPutsFromDiskToDisk};
 ghost use Rattle.tftp_words.specs.SharedFolder.{OneHasTheName, PutsAreNamed, PutsNameTheirFiles};
 ghost use Rattle.tftp_words.specs.Unblamed.{NoCommandIsBlamed, NoneOfSeveralIsBlamed};
+ghost use Rattle.tftp_words.specs.Witness.{SomeMeetAll};
 ghost use Rattle.tftp_words.specs.WordsKept.{SeveralKeepAnyFiles, WordsKeepAnyFiles};
 
 use std::io::Read;
@@ -139,4 +140,12 @@ pub fn one_put_has_the_name()
     ensures named { PutsAreNamed }
     ensures files { PutsNameTheirFiles }
     ensures one { OneHasTheName }
+{}
+
+/// The premises of the laws from disk to disk can be met, all of them: by a `tftpd` and a `tftp get`,
+/// by another `tftpd` and a `tftp put`, and by all four at one address and port, where each server
+/// serves its client. Each has its arguments, its trace of the network and the calls of its disk, and
+/// an honest network joined them (RFC 1350, section 4).
+pub fn some_commands_meet_all_premises()
+    ensures { SomeMeetAll }
 {}

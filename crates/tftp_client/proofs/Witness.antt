@@ -1,0 +1,641 @@
+-- A get and a put that are complete: the law `some_transfers_are_complete` has them.
+use denote.RawPtr.{null_ptr}
+use Rattle.std.proofs.Common.{rules, ◌≡◌, refl, ℕ, [], ◌∷◌, ◌++◌, Some, None, Ok, true, false, arith, inl, inr, List, length, ap, sym, zero, suc}
+use Rattle.std.specs.Prelude.{◌<◌, ◌^◌, ◌*◌, pos, codes, get_or, IsUtf8}
+use Rattle.std.proofs.lemmas.Fmt.{decimal_digit}
+use Rattle.std.proofs.lemmas.Option.{same_Some}
+use Rattle.tftp_arguments.specs.Read.{IsFlag}
+use Rattle.std.proofs.lemmas.Bool.{ltb-true, true≢false}
+use Rattle.std.specs.declared.alloc.Global.{Global}
+use Rattle.std.specs.declared.string.String.{String}
+use Rattle.clap.proofs.OnLiterals.{clap_on_literals}
+use Rattle.tftp_wire.specs.Spelling.{Spells}
+use Rattle.tftp_wire.specs.declared.mode.Mode.TheVariants.{Octet}
+use Rattle.tftp_wire.specs.declared.packet.Packet.TheVariants.{Ack, Data}
+use Rattle.tftp_negotiate.specs.declared.asked.Asked.{Asked}
+use Rattle.tftp_negotiate.specs.declared.known.Kind.TheVariants.{Read, Write}
+use Rattle.tftp_file.specs.declared.files.Files.{Files}
+use Rattle.tftp_file.specs.declared.files.Files.TheVariants.{Sink, Source}
+use Rattle.tftp_ends.specs.declared.endpoint.Endpoint.{Endpoint}
+use Rattle.tftp_ends.specs.End.{EndState}
+use Rattle.tftp_ends.specs.Opening.{MayGet, MayPut, getting, putting}
+use Rattle.tftp_ends.specs.declared.action.Response.TheVariants.{Complete}
+use Rattle.tftp_ends.specs.Step.{DatagramStep, Done, Turn, ack_bytes, after_turn, committed_turn, data_bytes, filled_turn}
+use Rattle.tftp_ends.specs.Step.{reported, response_turn}
+use Rattle.tftp_ends.specs.Waiting.{default_terms}
+use Rattle.tftp_file.specs.declared.length.TheConstants.{MAX_WIRE}
+use Rattle.tftp_disk.specs.DiskTrace.{state_of, sync_failed}
+use Rattle.tftp_disk.specs.DiskTrace.DiskEvent.{Written as Written_bytes, Created, Examined, Given, Opened, Synced, Made, Removed, Linked, Folder_opened, Folder_synced}
+use Rattle.tftp_disk.specs.DiskWriter.{calls_of}
+use Rattle.tftp_disk.specs.Folder.IsFolderOf.{Here}
+use Rattle.tftp_disk.specs.Folder.{HasNoSlash}
+use Rattle.tftp_disk.specs.declared.existing.Existing.TheVariants.{Refused}
+use Rattle.tftp_disk.specs.declared.found.Found.{Found}
+use Rattle.tftp_disk.specs.declared.found.Kind.TheVariants.{Regular}
+use Rattle.tftp_sockets.specs.declared.watch.Watch.{Watch}
+use Rattle.tftp_disk.specs.Still.{IsStillAt}
+use Rattle.tftp_client.specs.Fetched.{IsNamed, KeepsPlace}
+use Rattle.tftp_client.specs.Written.{paths_for, paths_of}
+use Rattle.tftp_client.specs.declared.written.Written.{Written}
+use Rattle.tftp_client.specs.declared.transfer.Job.{Job}
+use Rattle.tftp_client.specs.declared.transfer.conversation.Progress.TheVariants.{Hidden}
+use Rattle.tftp_client.specs.Converses.{Converses, IsOpen, State, received, turned, renewed}
+use Rattle.tftp_client.specs.Converses.Converses.{Begins, Receives}
+use Rattle.tftp_client.specs.Converses.HandlesReceived.{Answers}
+use Rattle.tftp_client.specs.OnDisk.{KeepsDisk, StoresWords}
+use Rattle.tftp_client.specs.Sent.{SendsWords}
+use Rattle.tftp_lines.specs.ClientOutcome.{end_text}
+use Rattle.tftp_lines.specs.declared.client_outcome.ClientOutcome.TheVariants as ends
+use Rattle.tftp_sockets.specs.Address.{Names}
+use Rattle.tftp_sockets.specs.Trace.{SocketEvent}
+use Rattle.tftp_client.specs.Runs.{begun, printed}
+use Rattle.tftp_client.specs.Words.{WordsName}
+use Rattle.tftp_client.specs.Witness.{Calls, Local, LocalSource, SomeAreSent, SomeAreStored, get_words}
+use Rattle.tftp_client.specs.Witness.{local_sink, local_source, put_words}
+
+abbrev pub text : (bytes : List ℕ) → length bytes < 1000 → IsUtf8 bytes → String Global
+text bytes short valid = record {
+  bytes = record {
+    ptr = null_ptr;
+    len = length bytes;
+    cap = length bytes;
+    alloc = record { memory = record { seal = tt } };
+    items = bytes;
+    ok = (refl, omega arith);
+    small = omega (arith, short);
+  };
+  ok = ∣ valid ∣₁;
+}
+
+abbrev pub name : List ℕ
+name = codes "L"
+
+abbrev pub part : List ℕ
+part = codes "L.part"
+
+pub valid_name : IsUtf8 name
+unfolding lib.Utf8.encode
+valid_name = (name, (refl, refl))
+
+pub valid_part : IsUtf8 part
+unfolding lib.Utf8.encode
+valid_part = (part, (refl, refl))
+
+pub no_slash : HasNoSlash name
+no_slash zero within = λ e. absurd (omega (arith, e))
+no_slash (suc i) within = absurd (omega (arith, within))
+
+abbrev pub server : Endpoint
+server = record { ip = 1 ∷ 2 ∷ 3 ∷ 4 ∷ []; port = 69 }
+
+abbrev pub answers_from : Endpoint
+answers_from = record { ip = 1 ∷ 2 ∷ 3 ∷ 4 ∷ []; port = 1024 }
+
+abbrev pub no_options : Asked
+no_options = record { blksize = None; timeout = None; tsize = None }
+
+abbrev pub get_job : Job
+get_job = record {
+  kind = Read;
+  server = server;
+  name = record { ref_ptr = (0, 0); now = codes "a" };
+  local = record { ref_ptr = (0, 0); now = name };
+  existing = Refused;
+  mode = Octet;
+  asked = no_options;
+  retries = 5;
+  falls_back = false;
+  progress = Hidden;
+  dallies = false;
+}
+
+pub not_true : Some (codes "false") ≡ Some (codes "true") → ⊥
+not_true e =
+    let at = ap (λ (text : List ℕ). get_or text 0 0) (same_Some (codes "false") (codes "true") e) in
+    absurd (omega (arith, at))
+
+pub unset : IsFlag (Some (codes "false")) false
+unset = record { absent = λ e. refl; yes = λ e. absurd (not_true e); no = λ e. refl }
+
+pub set : IsFlag (Some (codes "true")) true
+set = record {
+  absent = λ e. absurd (let f : Some (codes "true") ≡ None = e in cc);
+  yes = λ e. refl;
+  no = λ e. absurd (not_true (sym e));
+}
+
+pub left_out : IsFlag None false
+left_out = record {
+  absent = λ e. refl;
+  yes = λ e. absurd (let f : None ≡ Some (codes "true") = e in cc);
+  no = λ e. refl;
+}
+
+-- the server's address, as it is spelled
+pub its_name : Names (codes "1.2.3.4:69") (Some server)
+its_name = (
+  record { ip = record { octets = 1 ∷ 2 ∷ 3 ∷ 4 ∷ [] }; port = 69 },
+  (
+    codes "1.2.3.4",
+    codes ":69",
+    refl,
+    record {
+      a = 1;
+      b = 2;
+      c = 3;
+      d = 4;
+      fit = (omega arith, omega arith, omega arith, omega arith);
+      value = refl;
+      spelled =
+          rw (decimal_digit 1 (omega arith)) (rw (decimal_digit 2 (omega arith)) (rw (decimal_digit 3 (omega arith))
+          (rw (decimal_digit 4 (omega arith)) refl)));
+    },
+    (codes "69", refl, ((omega arith, (omega arith, (omega arith, tt))), refl), omega arith),
+  ),
+  record { ip = refl; port = refl },
+)
+
+pub get_named : WordsName get_words get_job
+unfolding clap_on_literals
+get_named = record {
+  kind_is = refl;
+  name = refl;
+  local = refl;
+  server = (codes "1.2.3.4:69", refl, its_name, λ e. absurd (omega (arith, e)));
+  existing = (false, unset, refl);
+  mode = (false, unset, refl);
+  dallies = (true, set, refl);
+  asked = record { blksize = refl; timeout = refl; tsize = (false, unset, refl) };
+  retries = refl;
+  falls_back = unset;
+}
+
+abbrev pub put_job : Job
+put_job = record {
+  kind = Write;
+  server = server;
+  name = record { ref_ptr = (0, 0); now = codes "b" };
+  local = record { ref_ptr = (0, 0); now = name };
+  existing = Refused;
+  mode = Octet;
+  asked = no_options;
+  retries = 5;
+  falls_back = false;
+  progress = Hidden;
+  dallies = true;
+}
+
+pub put_named : WordsName put_words put_job
+unfolding clap_on_literals
+put_named = record {
+  kind_is = refl;
+  name = refl;
+  local = refl;
+  server = (codes "1.2.3.4:69", refl, its_name, λ e. absurd (omega (arith, e)));
+  existing = (false, left_out, refl);
+  mode = (false, unset, refl);
+  dallies = (false, left_out, refl);
+  asked = record { blksize = refl; timeout = refl; tsize = (false, unset, refl) };
+  retries = refl;
+  falls_back = unset;
+}
+
+-- ---- the file
+abbrev pub opened : Calls
+opened = Folder_opened (codes ".") (Ok tt) ∷ []
+
+abbrev pub local_text : String Global
+local_text = text name (omega arith) valid_name
+
+abbrev pub part_text : String Global
+part_text = text part (omega arith) valid_part
+
+abbrev pub new_local : Local
+new_local = record {
+  part = record {
+    disk = opened;
+    alloc = record { memory = record { seal = tt } };
+    names = record { local = local_text; part = part_text };
+    existing = Refused;
+    folder = record { folder = Some (record { file = tt; trace = record { events = opened } }) };
+    written = None;
+    is_tried = false;
+    placed = refl;
+    folder_fits = ∣ (codes ".", Here no_slash, refl) ∣₁;
+    still = λ e. ∣ tt ∣₁;
+  };
+  count = 0;
+  committed = false;
+  error = None;
+  counts = refl;
+  named = λ e. absurd (true≢false (sym e));
+}
+
+-- ---- the run
+abbrev pub at_first : EndState
+at_first = getting server (codes "a") Octet no_options MAX_WIRE 5
+
+abbrev pub done : Done
+done = tt
+
+abbrev pub stores : Turn
+stores = committed_turn (default_terms answers_from) 1 answers_from at_first (Ok done)
+
+abbrev pub s0 : State
+s0 = begun 5000 0 at_first []
+
+abbrev pub s1 : State
+s1 = turned 5000 stores (received 5000 answers_from (data_bytes 1 (65 ∷ [])) (record { now = 10; reading = 10 }) s0)
+
+abbrev pub s2 : State
+s2 = renewed true (record { now = 10; reading = 10 }) s1
+
+pub may_get : MayGet (codes "a") Octet no_options
+may_get = record { valid = search rules; options = search rules }
+
+pub block_spelled : (byte : ℕ) → Spells (Data 1 (byte ∷ [])) (data_bytes 1 (byte ∷ []))
+block_spelled byte =
+    record { valid = (λ e. omega (arith, e), omega arith, omega arith); word = []; mode = refl; whole = refl }
+
+abbrev pub appended : Calls
+appended = Made part (Ok tt) ∷ opened
+
+abbrev pub written_of : (calls : Calls) (buffered : List ℕ) → length buffered < 1000 → sync_failed calls ≡ false → Written (Unit {0})
+written_of calls buffered short sound = record {
+  writer = record {
+    file = record { file = tt; trace = record { events = calls } };
+    buffer = record {
+      ptr = null_ptr;
+      len = length buffered;
+      cap = length buffered;
+      alloc = record { memory = record { seal = tt } };
+      items = buffered;
+      ok = (refl, omega arith);
+      small = omega (arith, short);
+    };
+  };
+  unsynced = 0;
+  sync_error = None;
+  sound = λ none. sound;
+}
+
+abbrev pub buffered : Written (Unit {0})
+buffered = written_of (Created part 1 ∷ []) (65 ∷ []) (omega arith) refl
+
+abbrev pub whole : Written (Unit {0})
+whole = written_of (Synced (Ok tt) ∷ Written_bytes (65 ∷ []) ∷ Created part 1 ∷ []) [] (omega arith) refl
+
+pub still_appended : IsStillAt part (Some 1) appended
+still_appended = record { since = []; before = opened; made = refl; when = refl; left = tt }
+
+abbrev pub local_with_block : Local
+local_with_block = record new_local {
+  part = record {
+    disk = appended;
+    alloc = record { memory = record { seal = tt } };
+    names = record { local = local_text; part = part_text };
+    existing = Refused;
+    folder = record { folder = Some (record { file = tt; trace = record { events = opened } }) };
+    written = Some buffered;
+    is_tried = false;
+    placed = refl;
+    folder_fits = ∣ (codes ".", Here no_slash, refl) ∣₁;
+    still = λ e. ∣ still_appended ∣₁;
+  };
+  count = 1;
+  counts = refl;
+  named = λ e. absurd (true≢false (sym e));
+}
+
+abbrev pub given : Calls
+given =
+    Removed part (Ok tt) ∷ Folder_synced (Some (codes ".")) (Ok tt) ∷ Linked (state_of (calls_of whole.writer)) part name (Ok tt)
+    ∷ appended
+
+pub got_name : IsNamed (paths_for name Refused) (65 ∷ []) given
+got_name = inl (
+  state_of (calls_of whole.writer),
+  appended,
+  record { place = refl; content = refl; synced = refl; sound = refl },
+  ∣ still_appended ∣₁,
+  inl (
+    Folder_synced (Some (codes ".")) (Ok tt) ∷ Linked (state_of (calls_of whole.writer)) part name (Ok tt) ∷ appended,
+    Ok tt,
+    inl (codes ".", Ok tt, Here no_slash, tt, refl),
+    refl,
+  ),
+)
+
+abbrev pub stored_local : Local
+stored_local = record {
+  part = record {
+    disk = given;
+    alloc = record { memory = record { seal = tt } };
+    names = record { local = local_text; part = part_text };
+    existing = Refused;
+    folder = record { folder = Some (record { file = tt; trace = record { events = opened } }) };
+    written = Some whole;
+    is_tried = true;
+    placed = refl;
+    folder_fits = ∣ (codes ".", Here no_slash, refl) ∣₁;
+    still = λ e. absurd (true≢false e);
+  };
+  count = 1;
+  committed = true;
+  error = None;
+  counts = refl;
+  named = λ e. ∣ got_name ∣₁;
+}
+
+pub keeps_block : KeepsPlace (paths_of new_local.part.names Refused) (paths_of local_with_block.part.names Refused) opened appended
+keeps_block = record {
+  same = refl;
+  keeps = record { own = λ own. (refl, own); named = λ bytes named. inr named; barred = λ barred. inr barred };
+}
+
+pub keeps_name : KeepsPlace (paths_of local_with_block.part.names Refused) (paths_of stored_local.part.names Refused) appended given
+keeps_name = record {
+  same = refl;
+  keeps = record {
+    own = λ own. (inl refl, (tt, ((refl, refl), own)));
+    named = λ bytes named. inr (inr (inr named));
+    barred = λ barred. inr (inr (inr barred));
+  };
+}
+
+unfoldable pub stores_so : DatagramStep local_source local_sink answers_from (data_bytes 1 (65 ∷ [])) at_first (Sink new_local) stores
+    (Sink stored_local)
+stores_so = record {
+  decoded = Some (Data 1 (65 ∷ []));
+  says = block_spelled 65;
+  acts = (
+    65 ∷ [],
+    block_spelled 65,
+    record {
+      bytes = 65 ∷ [];
+      after = [];
+      mid = local_with_block;
+      answer = Ok done;
+      decoded = (refl, refl);
+      appended = (refl, tt, keeps_block, tt);
+      memory = λ e. absurd (cc);
+      rest = record {
+        answer = Ok done;
+        commits = refl;
+        refused = tt;
+        leaves = keeps_name;
+        effect = tt;
+        answers = refl;
+      };
+    },
+  );
+  again = tt;
+}
+
+pub still_open : IsOpen at_first
+still_open o = absurd (true≢false (sym o))
+
+unfoldable pub get_runs : Converses local_source local_sink 5000 s0 (Sink new_local) s2 (Sink stored_local)
+get_runs =
+    Receives {watch = record { now = 10; reading = 10 }} Begins
+    (record { not_closed = still_open; due = λ late. absurd (omega (arith, late)) })
+    (record { time = refl; forward = omega arith })
+    (record {
+      next = s1;
+      again = record { now = 10; reading = 10 };
+      handles = Answers still_open stores_so;
+      later = record { time = refl; forward = omega arith };
+      is = refl;
+    })
+
+abbrev pub get_after : List SocketEvent
+get_after = (printed (end_text (ends.Complete 1)) s2).events
+
+pub keeps_all : KeepsDisk get_job [] given
+keeps_all = record {
+  own = λ own. (inl refl, (tt, ((refl, refl), (refl, (tt, own)))));
+  put = λ e. absurd (let f : Read ≡ Write = e in cc);
+}
+
+unfoldable pub get_stored : StoresWords local_source local_sink get_words 0 [] get_after [] given
+unfolding get_runs stores_so
+get_stored = (
+  inr (
+    get_job,
+    get_named,
+    inl (
+      inl refl,
+      record {
+        port = 5000;
+        last = s2;
+        files = Sink stored_local;
+        count = 1;
+        transfers = inl (record {
+          length = 0;
+          may = may_get;
+          runs = record { reading = 0; file = Sink new_local; new = refl; converses = get_runs };
+          side = tt;
+          counts = (record { bytes = 65 ∷ []; committed = true; refuses = false }, refl, refl);
+        });
+        complete = refl;
+        side = tt;
+        whole = (record { bytes = 65 ∷ []; committed = true; refuses = false }, refl, refl, refl, refl);
+        stays = record {
+          last = printed (end_text (ends.Complete 1)) s2;
+          files = Sink stored_local;
+          converses = Begins;
+          events = refl;
+        };
+        stayed = refl;
+        still = λ moved. refl;
+        over = record { stayed = λ e. absurd (true≢false (sym e)); left = λ e. refl };
+        within = omega arith;
+      },
+    ),
+  ),
+  (∣ got_name ∣₁, keeps_all),
+)
+
+-- ---- a put
+abbrev pub file : Found
+file = record {
+  kind = Regular;
+  id = record { device = 1; inode = 3 };
+  bytes = 1;
+  mode = 33188;
+  changed = pos 0;
+  changed_nanos = pos 0;
+}
+
+abbrev pub source_after : Calls → ℕ → LocalSource
+source_after calls size = record {
+  file = record { file = tt; trace = record { events = calls ++ Examined (Ok file) ∷ Opened name (Ok tt) ∷ [] } };
+  buffer = [];
+  ahead = [];
+  mode = Octet;
+  size = size;
+  error = None;
+}
+
+abbrev pub unread : LocalSource
+unread = source_after [] 0
+
+abbrev pub read : LocalSource
+read = source_after (Given [] ∷ Given (66 ∷ []) ∷ []) 512
+
+abbrev pub put_first : EndState
+put_first = putting server (codes "b") Octet no_options 1 MAX_WIRE 5
+
+abbrev pub sends : Turn
+sends = filled_turn (default_terms answers_from) 1 answers_from (66 ∷ []) put_first (Ok 1)
+
+abbrev pub sending : EndState
+sending = after_turn put_first sends
+
+abbrev pub completes : Turn
+completes = response_turn Complete answers_from sending
+
+pub may_put : MayPut (codes "b") Octet no_options 1
+may_put = record { valid = search rules; options = search rules; fits = ltb-true 1 (65535 * 512) refl }
+
+pub ack_spelled : (number : ℕ) → number < 2 ^ 16 → Spells (Ack number) (ack_bytes number)
+ack_spelled number fits = record { valid = fits; word = []; mode = refl; whole = refl }
+
+abbrev pub PutFiles : Type 0
+PutFiles = Files LocalSource Local
+
+abbrev pub whole_file : PutFiles
+whole_file = Source unread
+
+abbrev pub given_file : PutFiles
+given_file = Source read
+
+unfoldable pub sends_so : DatagramStep local_source local_sink answers_from (ack_bytes 0) put_first whole_file sends given_file
+sends_so = record {
+  decoded = Some (Ack 0);
+  says = ack_spelled 0 (omega arith);
+  acts = record {
+    answer = Ok 1;
+    piece = 66 ∷ [];
+    reads = record {
+      fills = record { piece = 66 ∷ []; given = refl; count = refl; bound = omega arith };
+      read = λ e. absurd (cc);
+      fails = λ f. absurd (true≢false (sym f));
+      memory = λ e. absurd (cc);
+    };
+    gives = record {
+      mode = refl;
+      bytes = 66 ∷ [];
+      reads = record { place = refl; found = refl; pass = refl; more = refl };
+      text = λ e. (refl, refl);
+      none = λ some. absurd (true≢false (sym some));
+    };
+    answers = refl;
+  };
+  again = tt;
+}
+
+unfoldable pub completes_so : DatagramStep local_source local_sink answers_from (ack_bytes 1) sending given_file completes given_file
+completes_so = record { decoded = Some (Ack 1); says = ack_spelled 1 (omega arith); acts = (refl, refl); again = tt }
+
+abbrev pub at_10 : Watch
+at_10 = record { now = 10; reading = 10 }
+
+abbrev pub at_20 : Watch
+at_20 = record { now = 20; reading = 20 }
+
+abbrev pub p0 : State
+p0 = begun 5001 0 put_first []
+
+abbrev pub p1 : State
+p1 = turned 5001 sends (received 5001 answers_from (ack_bytes 0) at_10 p0)
+
+abbrev pub p2 : State
+p2 = renewed (reported put_first sends).progress at_10 p1
+
+abbrev pub p3 : State
+p3 = turned 5001 completes (received 5001 answers_from (ack_bytes 1) at_20 p2)
+
+abbrev pub p4 : State
+p4 = renewed (reported sending completes).progress at_20 p3
+
+pub still_sending : IsOpen sending
+still_sending o = absurd (true≢false (sym o))
+
+pub not_yet : IsOpen put_first
+not_yet o = absurd (true≢false (sym o))
+
+unfoldable pub put_runs : Converses local_source local_sink 5001 p0 whole_file p4 given_file
+put_runs =
+    Receives {watch = at_20}
+    (Receives {watch = at_10} Begins (record { not_closed = not_yet; due = λ late. absurd (omega (arith, late)) })
+    (record { time = refl; forward = omega arith })
+    (record {
+      next = p1;
+      again = at_10;
+      handles = Answers not_yet sends_so;
+      later = record { time = refl; forward = omega arith };
+      is = refl;
+    }))
+    (record { not_closed = still_sending; due = λ late. absurd (omega (arith, late)) })
+    (record { time = refl; forward = omega arith })
+    (record {
+      next = p3;
+      again = at_20;
+      handles = Answers still_sending completes_so;
+      later = record { time = refl; forward = omega arith };
+      is = refl;
+    })
+
+abbrev pub put_after : List SocketEvent
+put_after = (printed (end_text (ends.Complete 1)) p4).events
+
+unfoldable pub put_sent : SendsWords local_source local_sink put_words 0 [] put_after
+unfolding put_runs sends_so completes_so
+put_sent = (
+  inr (
+    put_job,
+    put_named,
+    inl (
+      inl refl,
+      record {
+        port = 5001;
+        last = p4;
+        files = given_file;
+        count = 1;
+        transfers = inl (record {
+          length = 1;
+          may = may_put;
+          runs = record { reading = 0; file = whole_file; new = tt; converses = put_runs };
+          side = tt;
+          counts = refl;
+        });
+        complete = refl;
+        side = tt;
+        whole = tt;
+        stays = record {
+          last = printed (end_text (ends.Complete 1)) p4;
+          files = given_file;
+          converses = Begins;
+          events = refl;
+        };
+        stayed = refl;
+        still = λ moved. refl;
+        over = record { stayed = λ e. inl refl; left = λ e. refl };
+        within = omega arith;
+      },
+    ),
+  ),
+  record {
+    opened = refl;
+    mode = refl;
+    gave = record { begins = ([], refl); whole = λ e. refl };
+    long = (record { found = file; told = refl; long = refl }, refl);
+  },
+)
+
+pub some_stored : SomeAreStored
+some_stored = (get_after, given, get_stored)
+
+pub some_sent : SomeAreSent
+some_sent = (put_after, put_sent)
