@@ -66,6 +66,12 @@ pub record KeepsCounts (status : Status) : Type 0 where
   pub texts : renamed_in status.log ≡ texts_in status.events
   pub own : AllOwn status.file status.draft status.log
 
+-- a status file at this path, with its temporary file beside it, that was told and handed nothing
+pub record IsNewAt (file : List ℕ) (status : Status) : Type 0 where
+  pub file_is : status.file ≡ file
+  pub draft_is : status.draft ≡ draft_of file
+  pub nothing : status.events ≡ []
+
 -- the temporary file that was made was to get this text, and then the name of the file
 pub data HandsMade (file draft text : List ℕ) (result : Done) (before after : List DiskEvent)
     : Type 0 where

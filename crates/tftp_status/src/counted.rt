@@ -1,6 +1,7 @@
 //! A device that counts what a server tells, and reports it in a file.
 
-ghost use Rattle.std.specs.Prelude.{◌≡◌, [], None};
+ghost use Rattle.std.specs.Prelude.{◌≡◌, [], None, IfSome};
+ghost use Rattle.tftp_status.specs.StatusFile.{IsNewAt};
 
 use crate::report::{Report, ReportSettings};
 use crate::status_text::Datagrams;
@@ -56,6 +57,8 @@ impl<N, D: Disk> Counted<N, D> {
         settings: ReportSettings<'_>,
     ) -> Result<(), AllocError>
         ensures net { self.new.net ≡ self.old.net }
+        ensures file { self.old.report ≡ None → IfSome self.new.report
+            (λ report. IsNewAt settings.entry.file.now report.status) }
     {
         if let Some(disk) = self.disk.take() {
             self.report = Some(Report::new(alloc, disk.into_disk(), &settings)?);

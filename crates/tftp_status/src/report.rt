@@ -24,7 +24,7 @@ pub struct ReportSettings<'a> {
     /// Which server it is of, if it is one of several.
     pub server: Option<u8>,
     /// The version of the program.
-    pub version: &'static str,
+    pub version: &'a str,
     /// The most transfers that may be open.
     pub limit: u64,
     /// When the server started, in seconds since 1970 began in UTC.
@@ -37,7 +37,7 @@ pub(crate) struct Report<D: Disk> {
     pub(crate) status: StatusFile<D>,
     alloc: Global,
     server: Option<u8>,
-    version: &'static str,
+    version: String,
     limit: u64,
     start: u64,
     /// The lines of the open transfers, of the report that is being made.
@@ -68,7 +68,7 @@ impl<D: Disk> Report<D> {
             status: StatusFile::new(alloc, disk, settings.file)?,
             alloc,
             server: settings.server,
-            version: settings.version,
+            version: String::from_str(alloc, settings.version)?,
             limit: settings.limit,
             start: settings.start,
             lines: String::new(alloc),
@@ -135,7 +135,7 @@ impl<D: Disk> Report<D> {
     {
         let facts = Facts {
             server: self.server,
-            version: self.version,
+            version: self.version.as_str(),
             limit: self.limit,
             start: self.start,
             datagrams,

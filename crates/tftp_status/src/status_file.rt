@@ -1,12 +1,13 @@
 //! A file that is written anew and renamed, with the counts of what was noted.
 
-ghost use Rattle.std.specs.Prelude.{◌≡◌, ◌∷◌, ◌++◌, [], OnErr, IfOk};
+ghost use Rattle.std.specs.Prelude.{◌≡◌, ◌∷◌, ◌++◌, [], OnErr, OnOk, IfOk};
 ghost use Rattle.std.specs.String.{string_bytes};
 ghost use Rattle.tftp_disk.specs.DiskTrace.{written};
 ghost use Rattle.tftp_disk.specs.DiskWriter.{calls_of, handed as handed_to};
 ghost use Rattle.tftp_status.specs.StatusEvent.{told_in};
-ghost use Rattle.tftp_status.specs.StatusEvent.StatusEvent.{Told};
+ghost use Rattle.tftp_status.specs.StatusEvent.StatusEvent.{Handed, Told};
 ghost use Rattle.tftp_status.specs.StatusFile.{Hands, HandsMade, KeepsCounts, draft_of};
+ghost use Rattle.tftp_status.specs.StatusText.{status_text};
 
 use crate::counts::Counts;
 use crate::event_ref::EventRef;
@@ -97,6 +98,8 @@ impl<D: Disk> StatusFile<D> {
     pub fn write(&mut self, alloc: Global, facts: Facts<'_>) -> io::Result<()>
         ensures told { told_in self.new.events ≡ told_in self.old.events }
         ensures file { self.new.file ≡ self.old.file }
+        ensures ok { OnOk result (self.new.events
+            ≡ Handed (status_text self.old.counts facts.entry) ∷ self.old.events) }
         ensures err { OnErr result (self.new.events ≡ self.old.events) }
         ensures keeps { KeepsCounts self.new }
     {

@@ -1,4 +1,6 @@
+use Rattle.std.proofs.Common.{◌∙◌, ◌∷◌, ℕ, List, ap}
 use Rattle.std.specs.String.{string_bytes}
+use Rattle.tftp_status.specs.StatusEvent.StatusEvent.{Handed}
 use Rattle.tftp_status.specs.StatusFile.{Status}
 use Rattle.tftp_status.proofs.Keeping.{keeps_handed}
 use Rattle.tftp_status.proofs.status_file.StatusFile.write.Goals as goal
@@ -34,3 +36,11 @@ returns-in-Ok-clause-keeps g c =
     rw (c.note.ensures, c.as_str-in-Ok.ensures.value)
     (keeps_handed status c.args.facts (string_bytes c.in_ok-text.text) (g.D.Looks.log c.hand.new.disk)
     c.self.invariant c.in_ok-text.ensures.ok handed)
+
+pub returns-in-Ok-clause-ok : goal.returns-in-Ok-clause-ok
+returns-in-Ok-clause-ok g c =
+    let self = c.self.inside in
+    rw (← c.self.view_is)
+    (c.note.ensures
+    ∙ ap (λ (text : List ℕ). Handed text ∷ self.trace.events)
+    (c.as_str-in-Ok.ensures.value ∙ c.in_ok-text.ensures.ok))
