@@ -1,4 +1,4 @@
--- A client that opens. For five functions and AskingLemmas.
+-- A client that opens. For three functions.
 use Rattle.std.proofs.Common.{◌≡◌, ℕ, List, [], ◌∷◌, ◌++◌, length, Some, None}
 use Rattle.std.proofs.Common.{sym, ap, ◌∙◌, subst, arith}
 use Rattle.tftp_rules.specs.OpenEnds.{OpenEnd}

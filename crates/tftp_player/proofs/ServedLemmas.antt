@@ -1,57 +1,41 @@
--- A turn of an end of the server, in the words of the world's ends. For `ServerEnd`'s and `PlayedEnd`'s calls.
-use Rattle.std.proofs.Common.{◌≡◌, ◌≤◌, ℕ, Bool, true, false, List, [], length, Option, Some, None, refl, sym, ap}
+-- A datagram at an end of the server, in the words of the world's ends. For `ServerEnd::on_datagram` and
+-- `PlayedEnd::on_datagram`.
+use Rattle.std.proofs.Common.{◌≡◌, ◌≤◌, ℕ, Bool, true, false, List, [], length, refl, sym, ap}
 use Rattle.std.proofs.Common.{◌∙◌, subst, Result, Ok, Err, IfOk, OnErr}
-use Rattle.std.specs.Prelude.{◌&&◌, ◌↔◌, IsTrue, not, is_some, if◌then◌else◌, option_map}
-use Rattle.std.proofs.lemmas.Bool.{true≢false}
-use Rattle.std.proofs.lemmas.Option.{same_Some}
-use Rattle.tftp_wire.specs.declared.packet.Packet.{Packet}
+use Rattle.std.specs.Prelude.{◌&&◌, not, is_some, if◌then◌else◌}
 use Rattle.tftp_file.specs.Memory.{memory_source}
 use Rattle.tftp_file.specs.Sink.{Holding}
 use Rattle.tftp_file.specs.declared.files.Files.{Files}
 use Rattle.tftp_file.specs.declared.files.Files.TheVariants.{Source, Sink}
 use Rattle.tftp_negotiate.specs.declared.limits.TheConstants.{DEFAULT_BLOCK}
-use Rattle.tftp_ends.specs.declared.outcome.Outcome.{Outcome}
-use Rattle.tftp_ends.specs.declared.outgoing.Outgoing.{Outgoing}
-use Rattle.tftp_ends.specs.declared.phase.Phase.{Phase}
-use Rattle.tftp_ends.specs.declared.phase.Phase.TheVariants.{Waiting, Sending, Receiving, Dallying, Closed}
-use Rattle.tftp_ends.specs.declared.phase.Dally.TheVariants.{Fresh, Waited}
-use Rattle.tftp_ends.specs.declared.record.Step.{Step}
-use Rattle.tftp_ends.specs.End.{EndState, is_sender, is_client, is_complete, outcome_of, record_of, terms_of}
-use Rattle.tftp_ends.specs.Files.{AreFilesOf, AreSame, KeepsFiles}
-use Rattle.tftp_ends.specs.Step.{Turn, Lends, after_turn, lent, reported, reply_bytes, timeout_turn, with_position}
+use Rattle.tftp_ends.specs.End.{EndState, is_client, record_of, terms_of}
+use Rattle.tftp_ends.specs.Files.{AreFilesOf, AreSame}
+use Rattle.tftp_ends.specs.Step.{Turn, after_turn, reply_bytes}
 use Rattle.tftp_server.specs.Draft.{files_in, KeepsStore, drafting_sink}
 use Rattle.tftp_store.specs.Memory.{memory_meaning, with_armed}
-use Rattle.tftp_server.specs.State.{draft_of, is_closed}
-use Rattle.tftp_server.specs.State as server
-use Rattle.tftp_server.specs.Steps.{StepIn, StaysAs, TakesBy, lends}
-use Rattle.tftp_store.specs.Store.{Stored, Drafted, FileList, new_draft}
+use Rattle.tftp_server.specs.State.{is_closed}
+use Rattle.tftp_server.specs.Steps.{StepIn}
+use Rattle.tftp_store.specs.Store.{Stored, Drafted}
 use Rattle.tftp_rules.specs.Machine.{Endpoint}
 use Rattle.tftp_rules.specs.OpenEnds.{OpenEnd, files_of, end_after}
-use Rattle.tftp_player.specs.Clients.{server_at}
-use Rattle.tftp_player.specs.Effect.{effect_of}
-use Rattle.tftp_player.specs.EndSteps.{EndTimesOut, EndTakes}
+use Rattle.tftp_player.specs.EndSteps.{EndTakes}
 use Rattle.tftp_player.specs.Played.{served_end, stands}
-use Rattle.tftp_player.specs.Requests.{is_transfer, Repeats}
 use Rattle.tftp_player.specs.Room.{answer_room}
-use Rattle.tftp_player.specs.ServerEnd.{PlayedServer, ServerTransfer, server_armed, draft_or_new, server_end_draft}
-use Rattle.tftp_player.specs.ServerEnd.{CommitsLast, ServerEndKept, ServerEndTimesOut, ServerEndTakes}
-use Rattle.tftp_player.specs.ServerEnd.{armed_server_end}
-use Rattle.tftp_player.specs.Simulation.{stored_in}
-use Rattle.tftp_player.specs.World.{by_outcome, standing, end_committed, file_at, has_committed, in_the_way}
-use Rattle.tftp_player.specs.WorldSteps.{EndStep, FilesAfter, armed_to_refuse, armed_end}
+use Rattle.tftp_player.specs.ServerEnd.{PlayedServer}
+use Rattle.tftp_player.specs.ServerEnd.{CommitsLast, ServerEndKept, ServerEndTakes}
+use Rattle.tftp_player.specs.World.{standing, file_at, has_committed, in_the_way}
+use Rattle.tftp_player.specs.WorldSteps.{EndStep, FilesAfter}
 use Rattle.tftp_player.specs.declared.effect.Effect.{Effect}
 use Rattle.tftp_player.specs.declared.fault.WorldFault.{WorldFault}
 use Rattle.tftp_player.specs.declared.played_end.PlayedEnd.TheVariants.{Server}
 use Rattle.tftp_player.specs.declared.server_end.ServerEnd.{ServerEnd}
 use Rattle.tftp_player.proofs.DraftLemmas.{ServerEndLeaves, served_leaves, with_files}
-use Rattle.tftp_player.proofs.PlayerLemmas.{open_times_out, open_takes, stands_armed, armed_sender, armed_receiver}
+use Rattle.tftp_player.proofs.PlayerLemmas.{open_takes}
 use Rattle.tftp_player.proofs.RoomLemmas.{answer_short, known_agrees}
 use Rattle.tftp_player.proofs.ServerTurns.{end_step, held_files}
-use Rattle.tftp_player.proofs.Standing.{stands_as, standing_transfer}
-use Rattle.tftp_player.proofs.TermsKept.{step_has, still_known, timeout_has}
+use Rattle.tftp_player.proofs.TermsKept.{step_has, still_known}
 
--- ---- what `ServerEnd` did, from what its transfer did
--- the answer fits the room by the record
+-- the answer of a transfer fits the room by its record
 pub served_short :
     (from : Endpoint) (bytes : List ℕ) (e : EndState) (store store' : Stored) (path path' : List ℕ) (replace : Bool)
     (turn : Turn) (files files' : Files (List ℕ) Drafted) →
@@ -66,129 +50,10 @@ served_short from bytes e store store' path path' replace turn (Sink draft) file
     answer_short memory_source (drafting_sink memory_meaning) from bytes e DEFAULT_BLOCK
     (files_in store path replace (Sink draft)) _ turn (known_agrees DEFAULT_BLOCK e.position.phase known) side d
 
--- the result of a step of an end there
-pub effect_is : (at : Endpoint) (e e' : EndState) (turn : Turn) (step : Step) (outgoing : Outgoing) (out : List ℕ) →
-    out ≡ lent outgoing e' → Lends e turn e' step.to outgoing → step ≡ reported e turn →
-    (let effect : Effect = record { from = at; to = step.to; bytes = out; closed = step.closed } in effect)
-    ≡ effect_of at turn
-effect_is at e e' turn step outgoing out copied c reports =
-    ap (λ (s : Step). record { from = at; to = s.to; bytes = out; closed = s.closed }) reports
-    ∙ ap
-    (λ (bytes : List ℕ). record {
-      from = at;
-      to = (reported e turn).to;
-      bytes = bytes;
-      closed = outcome_of turn.position.phase;
-    }) (copied ∙ c.bytes)
-
-module _ (port : ℕ) (from : Endpoint) (bytes : List ℕ) (old new : ServerEnd) (next : ServerTransfer)
-    (before armed mid after : PlayedServer) (armed_is : armed ≡ server_armed before old.refuses)
-    (rest : mid ≡ record armed { store = mid.store }) (quiet : after ≡ server_armed mid false) where
-  after_is : after ≡ record before { store = with_armed mid.store false }
-  after_is =
-      quiet
-      ∙ (ap (λ (m : PlayedServer). server_armed (record m { store = mid.store }) false) rest
-      ∙ ap (λ (m : PlayedServer). server_armed (record m { store = mid.store }) false) armed_is)
-
-  -- the step of a datagram: the store was set to refuse as the end is, and afterwards not to
-  pub server_end_takes : (effect : Effect) (here : Endpoint) (step : Step) (outgoing : Outgoing) (out : List ℕ) →
-      TakesBy memory_meaning memory_source (lends outgoing) armed.config.overwrite from bytes armed.store mid.store
-      old.transfer next step →
-      new ≡ record old { transfer = next; refuses = mid.store.refuses } → out ≡ lent outgoing next.end →
-      here ≡ server_at port → effect ≡ record { from = here; to = step.to; bytes = out; closed = step.closed } →
-      ServerEndTakes port from bytes old new before after effect
-  server_end_takes effect here step outgoing out takes is copied is_here made =
-      let t : TakesBy memory_meaning memory_source (lends outgoing) before.config.overwrite from bytes
-      (with_armed before.store old.refuses) mid.store old.transfer next step =
-      subst (λ (s : PlayedServer).
-      TakesBy memory_meaning memory_source (lends outgoing) s.config.overwrite from bytes s.store mid.store
-      old.transfer next step) armed_is takes in
-      let so : ServerEndTakes port from bytes old (record old { transfer = next; refuses = mid.store.refuses }) before
-      after effect =
-      record {
-        turn = t.turn;
-        store = mid.store;
-        steps = t.steps;
-        stays = t.stays;
-        kind = t.kind;
-        end = t.carries.state;
-        path = t.path;
-        request = t.request;
-        file = refl;
-        refuses = refl;
-        effects =
-            made ∙ (ap (λ (a : Endpoint). record { from = a; to = step.to; bytes = out; closed = step.closed }) is_here
-            ∙ effect_is (server_at port) old.transfer.end next.end t.turn step outgoing out copied t.carries t.reports);
-        server = after_is;
-      } in
-      subst (λ (s : ServerEnd). ServerEndTakes port from bytes old s before after effect) (sym is) so
-
--- ---- a datagram that the end did not handle changes nothing
--- what a draft's sink holds, and what is in its store
-abbrev draft_in : Option Holding → Drafted
-draft_in None = new_draft
-draft_in (Some h) = record { bytes = h.bytes; committed = h.committed }
-
-abbrev refuses_in : Option Holding → Bool
-refuses_in None = false
-refuses_in (Some h) = h.refuses
-
-abbrev files_or : Option FileList → FileList
-files_or None = []
-files_or (Some files) = files
-
-files_kept : (files files' : Files (List ℕ) Drafted) (store store' : Stored) (path path' : List ℕ) (replace : Bool) →
-    KeepsStore files store store' →
-    KeepsFiles memory_source (drafting_sink memory_meaning) (files_in store path replace files)
-    (files_in store' path' replace files') →
-    (files' ≡ files) × (store' ≡ store)
-files_kept (Source left) (Source left') store store' path path' replace stays k =
-    (ap Source (same_Some left' left k.left), stays)
-files_kept (Sink draft) (Sink draft') store store' path path' replace stays k = (
-  ap (λ (o : Option Holding). Sink (draft_in o)) k.holding,
-  ap (λ (o : Option Holding). record { files = store'.files; refuses = refuses_in o }) k.holding
-      ∙ ap (λ (o : Option FileList). record { files = files_or o; refuses = store.refuses }) k.leaves.files,
-)
-files_kept (Source left) (Sink draft') store store' path path' replace stays k = absurd k
-files_kept (Sink draft) (Source left') store store' path path' replace stays k = absurd k
-
-transfer_is : (next h : ServerTransfer) → next.end ≡ h.end → next.files ≡ h.files → next.path ≡ h.path →
-    next.request ≡ h.request → next ≡ h
-transfer_is next h a b c d =
-    ap (λ (e : EndState). record next { end = e }) a
-    ∙ (ap (λ (f : Files (List ℕ) Drafted). record next { end = h.end; files = f }) b
-    ∙ (ap (λ (p : List ℕ). record { end = h.end; files = h.files; path = p; request = next.request }) c
-    ∙ ap (λ (q : List ℕ). record h { request = q }) d))
-
--- a datagram that the transfer could not handle leaves it and the server as they were
-pub not_taken : (h next : ServerTransfer) (refuses : Bool) (before armed mid after : PlayedServer) →
-    before.store.refuses ≡ false → armed ≡ server_armed before refuses →
-    StaysAs memory_meaning memory_source armed.config.overwrite armed.store mid.store h next →
-    mid ≡ record armed { store = mid.store } → after ≡ server_armed mid false → (next ≡ h) × (after ≡ before)
-not_taken h next refuses before armed mid after none armed_is k rest quiet =
-    let s : StaysAs memory_meaning memory_source before.config.overwrite (with_armed before.store refuses) mid.store h
-    next =
-    subst (λ (v : PlayedServer). StaysAs memory_meaning memory_source v.config.overwrite v.store mid.store h next)
-    armed_is k in
-    let files =
-    files_kept h.files next.files (with_armed before.store refuses) mid.store h.path next.path before.config.overwrite
-    s.stays s.files in (
-      transfer_is next h s.end files.0 s.path s.request,
-      quiet
-          ∙ (ap (λ (m : PlayedServer). server_armed m false) (rest ∙ armed_so mid.store)
-          ∙ (ap (λ (st : Stored). record before { store = with_armed st false }) files.1
-          ∙ ap (λ (b : Bool). server_armed before b) (sym none))),
-    ) where
-      armed_so : (st : Stored) → record armed { store = st } ≡ record before { store = st }
-      armed_so st = ap (λ (m : PlayedServer). record m { store = st }) armed_is
-
 -- ---- what its end in the world did
+-- the same kind of file
 abbrev SameDraftKind : Files (List ℕ) Drafted → Files (List ℕ) Drafted → Type 0
 SameDraftKind old new = AreSame (λ (a b : List ℕ). Unit {0}) (λ (a b : Drafted). Unit {0}) old new
-
-same_draft_kind : (files : Files (List ℕ) Drafted) → SameDraftKind files files
-same_draft_kind (Source left) = tt
-same_draft_kind (Sink draft) = tt
 
 drafts_kept : (side : _) (old new : Files (List ℕ) Drafted) → SameDraftKind old new → AreFilesOf side old →
     AreFilesOf side new
@@ -201,10 +66,6 @@ drafts_kept side (Sink draft) (Source left) k f = absurd k
 abbrev KeepsArmed : Files (List ℕ) Drafted → Bool → Bool → Type 0
 KeepsArmed (Source left) old new = new ≡ old
 KeepsArmed (Sink draft) old new = Unit {0}
-
-same_armed : (files : Files (List ℕ) Drafted) (armed : Bool) → KeepsArmed files armed armed
-same_armed (Source left) armed = refl
-same_armed (Sink draft) armed = tt
 
 keeps_armed : (files : Files (List ℕ) Drafted) (before after : Stored) (armed : Bool) →
     KeepsStore files (with_armed before armed) after → KeepsArmed files armed after.refuses
@@ -249,22 +110,6 @@ moved_kept s turn files refuses kept kind commits known = record {
   known = known;
 }
 
--- an end that is not complete after a timeout was not before
-not_yet : (phase : Phase) (e : EndState) →
-    is_complete (timeout_turn (with_position (record e.position { phase = phase }) e)).position.phase ≡ false →
-    is_some (outcome_of phase) ≡ false → is_complete phase ≡ false
-not_yet (Waiting asked limit) e k open_now = refl
-not_yet (Sending terms number) e k open_now = refl
-not_yet (Receiving terms number) e k open_now = refl
-not_yet (Dallying terms number Fresh) e k open_now = k
-not_yet (Dallying terms number Waited) e k open_now = k
-not_yet (Closed terms number complete outcome) e k open_now = absurd (true≢false open_now)
-
-timeout_commits : (files : Files (List ℕ) Drafted) (e : EndState) → is_some (outcome_of e.position.phase) ≡ false →
-    CommitsLast files e.position.phase → CommitsLast files (timeout_turn e).position.phase
-timeout_commits (Source left) e open_now k = tt
-timeout_commits (Sink draft) e open_now k = λ f. k (not_yet e.position.phase e f open_now)
-
 module _ (port : ℕ) (s s' : ServerEnd) (effect : Effect) (kept : ServerEndKept s)
     (open_now : is_closed s.transfer ≡ false) where
   abbrev e : EndState
@@ -272,32 +117,6 @@ module _ (port : ℕ) (s s' : ServerEnd) (effect : Effect) (kept : ServerEndKept
 
   abbrev x : OpenEnd
   x = served_end port s
-
-  module _ (t : ServerEndTimesOut port s s' effect) where
-    abbrev timed : ServerEnd
-    timed = moved s (after_turn e (timeout_turn e)) s.transfer.files s.refuses
-
-    -- a timeout of an end of the server
-    pub served_times_out : EndTimesOut (stands port (Server s)) (stands port (Server s')) effect
-    served_times_out =
-        open_times_out x (stands port (Server s')) effect open_now (record {
-          effects = t.effects;
-          next =
-              ap (λ (q : ServerEnd). standing (served_end port q)) t.next
-              ∙ (ap standing
-              (sym
-              (served_after port s (timeout_turn e) s.transfer.files s.transfer.files s.refuses
-              (same_draft_kind s.transfer.files) (same_armed s.transfer.files s.refuses)))
-              ∙ ap (λ (f : Files (List ℕ) Holding). standing (end_after x (timeout_turn e) f)) (sym (served_files port s s.transfer.files kept.files)));
-        })
-
-    pub served_timed_out : ServerEndKept s'
-    served_timed_out =
-        subst ServerEndKept (sym t.next)
-        (moved_kept s (timeout_turn e) s.transfer.files s.refuses kept (same_draft_kind s.transfer.files)
-        (timeout_commits s.transfer.files e open_now kept.commits)
-        (still_known (terms_of e.position.phase) (terms_of (timeout_turn e).position.phase)
-        (λ agreed a. timeout_has agreed e a) kept.known))
 
   module _ (from : Endpoint) (bytes : List ℕ) (before after : PlayedServer)
       (t : ServerEndTakes port from bytes s s' before after effect) where
@@ -386,85 +205,3 @@ took_kept port s s' from bytes before after (Ok effect) kept open_now t err =
     served_took port s s' effect kept open_now from bytes before after t
 took_kept port s s' from bytes before after (Err fault) kept open_now t err =
     subst ServerEndKept (sym err.0) kept
-
--- ---- an end of the server that is set to refuse
-armed_in : (port : ℕ) (s : ServerEnd) (files : Files (List ℕ) Drafted) → AreFilesOf s.transfer.end.role.side files →
-    served_end port (if is_some (draft_of files) then record (with_files s files) { refuses = true } else with_files s files)
-    ≡ armed_to_refuse (served_end port (with_files s files))
-armed_in port s (Source left) fits = sym (armed_sender (served_end port (with_files s (Source left))) fits)
-armed_in port s (Sink draft) fits = sym (armed_receiver (served_end port (with_files s (Sink draft))) fits)
-
--- set or not, it is kept
-armed_kept : (s : ServerEnd) (b : Bool) → ServerEndKept s → ServerEndKept (if b then record s { refuses = true } else s)
-armed_kept s true k = record { side = k.side; files = k.files; commits = k.commits; known = k.known }
-armed_kept s false k = k
-
-pub served_armed : (port : ℕ) (s s' : ServerEnd) → s' ≡ armed_server_end s → ServerEndKept s →
-    ServerEndKept s' × (stands port (Server s') ≡ armed_end (stands port (Server s)))
-served_armed port s s' is k = (
-  subst ServerEndKept (sym is) (armed_kept s (not (is_closed s.transfer) && is_some (server_end_draft s)) k),
-  by_case (is_closed s.transfer) refl,
-) where
-  by : Bool → ServerEnd
-  by closed = if not closed && is_some (server_end_draft s) then record s { refuses = true } else s
-
-  same_state : (b : Bool) → (if b then record s { refuses = true } else s).transfer.end ≡ s.transfer.end
-  same_state true = refl
-  same_state false = refl
-
-  by_case : (closed : Bool) → is_closed s.transfer ≡ closed →
-      stands port (Server s') ≡ armed_end (stands port (Server s))
-  by_case closed e =
-      stands_armed (served_end port s) (served_end port s') closed e
-      (λ c. ap (served_end port) (is ∙ ap by (e ∙ c)))
-      (λ c. ap (served_end port) (is ∙ ap by (e ∙ c)) ∙ armed_in port s s.transfer.files k.files)
-      (ap (λ (q : ServerEnd). q.transfer.end) is ∙ same_state (not (is_closed s.transfer) && is_some (server_end_draft s)))
-
--- ---- what it has stored
-stores_by : (b : Bool) (files : Files (List ℕ) Drafted) (side : _) → AreFilesOf side files → is_sender side ≡ b →
-    option_map (λ (d : Drafted). d.bytes) (draft_of files)
-    ≡ (if b then None else Some (draft_or_new (draft_of files)).bytes)
-stores_by true (Source left) side f e = refl
-stores_by false (Source left) side f e = absurd (true≢false (sym f ∙ e))
-stores_by true (Sink draft) side f e = absurd (true≢false (sym e ∙ f))
-stores_by false (Sink draft) side f e = refl
-
-pub served_stores : (port : ℕ) (s : ServerEnd) → ServerEndKept s →
-    option_map (λ (d : Drafted). d.bytes) (server_end_draft s) ≡ stored_in (stands port (Server s))
-served_stores port s k =
-    stores_by (is_sender s.transfer.end.role.side) s.transfer.files s.transfer.end.role.side k.files refl
-    ∙ sym
-    (stands_as stored_in
-    (if is_sender s.transfer.end.role.side then None else Some (draft_or_new (server_end_draft s)).bytes)
-    (served_end port s) refl refl)
-
-pub served_commits : (port : ℕ) (s : ServerEnd) →
-    (draft_or_new (server_end_draft s)).committed ≡ end_committed (stands port (Server s))
-served_commits port s =
-    sym (stands_as end_committed (draft_or_new (server_end_draft s)).committed (served_end port s) refl refl)
-
--- ---- what the request port tests of it
--- it is a transfer while it is open
-pub served_is_transfer : (port : ℕ) (s : ServerEnd) → ServerEndKept s →
-    not (is_closed s.transfer) ≡ is_transfer (stands port (Server s))
-served_is_transfer port s k =
-    sym
-    (standing_transfer (served_end port s)
-    ∙ ap (λ (b : Bool). not b && not (is_closed s.transfer)) k.side)
-
--- what repeats its transfer repeats it
-pub served_repeats : (port : ℕ) (s : ServerEnd) (from : Endpoint) (packet : Packet) (b : Bool) → ServerEndKept s →
-    IsTrue b ↔ server.Repeats from packet s.transfer → IsTrue b ↔ Repeats from packet (stands port (Server s))
-served_repeats port s from packet b k is = (
-  λ h. there (outcome_of s.transfer.end.position.phase) refl (is.0 h),
-  λ r. is.1 (back (outcome_of s.transfer.end.position.phase) refl r),
-) where
-  there : (o : Option Outcome) → outcome_of s.transfer.end.position.phase ≡ o →
-      server.Repeats from packet s.transfer → Repeats from packet (by_outcome o (served_end port s))
-  there None e r = record { still = k.side; peer = r.peer; same = r.same }
-  there (Some outcome) e r = absurd (true≢false (sym (ap is_some e) ∙ r.still))
-
-  back : (o : Option Outcome) → outcome_of s.transfer.end.position.phase ≡ o →
-      Repeats from packet (by_outcome o (served_end port s)) → server.Repeats from packet s.transfer
-  back None e r = record { still = ap is_some e; peer = r.peer; same = r.same }
-  back (Some outcome) e r = absurd r

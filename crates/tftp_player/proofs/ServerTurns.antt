@@ -1,4 +1,4 @@
--- A turn of a transfer, in the words of the world's ends. For ServedLemmas, DraftLemmas and StepLemmas.
+-- A turn of a transfer, in the words of the world's ends. For DraftLemmas, ServedLemmas and StepLemmas.
 use Rattle.std.proofs.Common.{◌≡◌, ℕ, Bool, true, false, List, refl, sym, ap, ◌∙◌, subst, inl, inr}
 use Rattle.std.specs.Prelude.{◌&&◌, not, if◌then◌else◌}
 use Rattle.std.proofs.lemmas.Option.{same_Some}
