@@ -1,21 +1,20 @@
 -- The effect of a datagram on a world, from its effect on the ends. For `Ends::take`, `Simulation::arrive` and
 -- `Simulation::deliver`.
-use Rattle.std.proofs.Common.{◌≡◌, ◌≢◌, ℕ, suc, zero, ◌+◌, ◌<◌, ◌≤◌, List, [], ◌∷◌, ◌++◌, length, Some, None, refl, sym}
+use Rattle.std.proofs.Common.{◌≡◌, ◌≢◌, ℕ, ◌+◌, ◌<◌, ◌≤◌, List, ◌++◌, length, Some, sym}
 use Rattle.std.proofs.Common.{ap, ◌∙◌, subst, arith, inl, inr}
-use Rattle.std.specs.Prelude.{◌⊎◌, slice_get, slice_index_or}
+use Rattle.std.specs.Prelude.{◌⊎◌, slice_get, slice_set, slice_index_or}
 use Rattle.std.proofs.lemmas.List.{append-nil}
-use Rattle.std.proofs.lemmas.Option.{same_Some, slice_get_within}
+use Rattle.std.proofs.lemmas.Option.{slice_get_within}
 use Rattle.tftp_server.specs.declared.config.Config.{Config}
 use Rattle.tftp_rules.specs.Hosts.{request_port}
 use Rattle.tftp_rules.specs.Machine.{Endpoint}
 use Rattle.tftp_rules.specs.OpenEnds.{OpenEnd}
-use Rattle.tftp_player.specs.WorldKept.{HasPorts}
 use Rattle.tftp_player.specs.Effect.{no_effect, said_by, report_by}
-use Rattle.tftp_player.specs.Played.{ends_from, end_at, address_of, AllKept}
-use Rattle.tftp_player.specs.ServerEnd.{PlayedServer, ServerTransfer}
-use Rattle.tftp_player.specs.Simulation.{ends_of, world_of, EndsDatagramStep, DatagramAt, LostAt, EndTakes}
+use Rattle.tftp_player.specs.EndSteps.{EndHandles}
+use Rattle.tftp_player.specs.ServerEnd.{PlayedServer}
+use Rattle.tftp_player.specs.Simulation.{world_of, EndsTake, EndTakesAt, LostAt}
 use Rattle.tftp_player.specs.Arriving.{ArrivalRefuses, EndsAsk, EndsDelivery, EndsRefuse}
-use Rattle.tftp_player.specs.World.{WorldState, StoredFile, replied, report_of, no_report, WorldEnd, Open_end}
+use Rattle.tftp_player.specs.World.{ClosedEnd, WorldState, StoredFile, replied, report_of, no_report, WorldEnd, Open_end}
 use Rattle.tftp_player.specs.World.{Closed_end, end_address, world_after}
 use Rattle.tftp_player.specs.declared.datagram.Datagram.{Datagram}
 use Rattle.tftp_player.specs.WorldSteps.{Delivery, LacksPort, EventRefuses, WorldRefuses, WorldStep}
@@ -24,28 +23,10 @@ use Rattle.tftp_player.specs.declared.fault.WorldFault.{WorldFault}
 use Rattle.tftp_player.specs.declared.fault.WorldFault.TheVariants.{NoSuchDatagram, NoSuchEnd, NoPort, BadRequest}
 use Rattle.tftp_player.specs.declared.fault.WorldFault.TheVariants.{Memory}
 use Rattle.tftp_player.specs.declared.effect.Effect.{Effect}
-use Rattle.tftp_player.specs.declared.player.Player.{Player}
-use Rattle.tftp_player.specs.declared.player.Player.TheVariants.{Client, Server}
 use Rattle.tftp_player.specs.declared.report.Report.{Report}
-use Rattle.tftp_player.proofs.EndsByPort.{ends_length}
-use Rattle.tftp_player.proofs.PlayLemmas.{said_is, report_is, address_is, none_here, list_get}
+use Rattle.tftp_player.proofs.HostEnds.{list_get, same_set}
+use Rattle.tftp_player.proofs.PlayLemmas.{said_is, report_is}
 use Rattle.tftp_player.proofs.StepLemmas.{open_arrives, closed_arrives, none_arrives, other_arrives}
-
--- each end has the port of its index
-port_is : (port : ℕ) (p : Player) → (address_of port p).port ≡ port
-port_is port (Client c) = refl
-port_is port (Server q) = refl
-
-ports_from : (port : ℕ) (held : List (ℕ × ServerTransfer)) (ps : List Player) (k : ℕ) (x : WorldEnd) →
-    slice_get (ends_from port held ps) k ≡ Some x → (end_address x).port ≡ port + k
-ports_from port held [] k x e = absurd (let f : None ≡ Some x = e in cc)
-ports_from port held (p ∷ ps) zero x e =
-    let same : end_at port held p ≡ x = same_Some (end_at port held p) x e in
-    let here : port ≡ port + zero = omega arith in
-    ap (λ (y : WorldEnd). (end_address y).port) (sym same)
-    ∙ (ap (λ (a : Endpoint). a.port) (address_is port held p) ∙ (port_is port p ∙ here))
-ports_from port held (p ∷ ps) (suc k) x e =
-    let there : port + 1 + k ≡ port + suc k = omega arith in ports_from (port + 1) held ps k x e ∙ there
 
 -- an arrival, with the report and the world replaced by equal ones
 landed : (w v v' : WorldState) (from to : Endpoint) (bytes : List ℕ) (r r' : Report) → r' ≡ r → v' ≡ v →
@@ -54,150 +35,150 @@ landed w v v' from to bytes r r' e f a =
     subst (λ (q : Report). Delivery w from to bytes q v') (sym e)
     (subst (λ (u : WorldState). Delivery w from to bytes r u) (sym f) a)
 
-module _ (from to : Endpoint) (bytes : List ℕ) (before after : PlayedServer) (ps ps' : List Player) (effect : Effect)
-    (away : to ≢ request_port) (kept : AllKept 1024 before.held ps) where
+module _ (from to : Endpoint) (bytes : List ℕ) (before after : PlayedServer) (ends ends' : List WorldEnd)
+    (effect : Effect) (away : to ≢ request_port)
+    (ports : (k : ℕ) (x : WorldEnd) → slice_get ends k ≡ Some x → (end_address x).port ≡ 1024 + k) where
   abbrev old : List Datagram → WorldState
-  old sent = world_of before.config sent before ps
+  old sent = world_of before.config sent before ends
 
   abbrev new : List Datagram → WorldState
-  new sent = world_of before.config (sent ++ said_by effect.from effect.to effect.bytes) after ps'
+  new sent = world_of before.config (sent ++ said_by effect.from effect.to effect.bytes) after ends'
 
   abbrev Lost : Type 0
-  Lost = LostAt to before.store.files after.store.files (ends_of before ps) (ends_of after ps') effect
-
-  abbrev Came : ℕ → OpenEnd → Type 0
-  Came index x =
-      DatagramAt index x from bytes before.config.overwrite before.store.files after.store.files (ends_of before ps)
-      (ends_of after ps') effect
-
-  ports : (sent : List Datagram) → HasPorts (old sent)
-  ports sent k x e = ports_from 1024 before.held ps k x e
+  Lost = LostAt to before after ends ends' effect
 
   -- the datagram was lost
   still : (sent : List Datagram) → Lost → new sent ≡ old sent
   still sent lost =
-      ap (λ (e : Effect). world_of before.config (sent ++ said_by e.from e.to e.bytes) after ps') lost.effects
-      ∙ (ap (λ (ds : List Datagram). world_of before.config ds after ps') (append-nil sent)
-      ∙ (ap (λ (fs : List StoredFile). record (old sent) { files = fs; ends = ends_of after ps' }) lost.stays
+      ap (λ (e : Effect). world_of before.config (sent ++ said_by e.from e.to e.bytes) after ends') lost.effects
+      ∙ (ap (λ (ds : List Datagram). world_of before.config ds after ends') (append-nil sent)
+      ∙ (ap (λ (fs : List StoredFile). record (old sent) { files = fs; ends = ends' }) lost.stays
       ∙ ap (λ (xs : List WorldEnd). record (old sent) { ends = xs }) lost.next))
 
   lost_report : (sent : List Datagram) → Lost → report_by sent effect ≡ no_report
   lost_report sent lost = ap (report_by sent) lost.effects
 
-  turned_as : (sent : List Datagram) (index : ℕ) (x : OpenEnd) (h : Came index x) →
-      new sent ≡ world_after (old sent) index x h.turn h.held after.store.files
-  turned_as sent index x h =
-      ap (λ (e : Effect). world_of before.config (sent ++ said_by e.from e.to e.bytes) after ps') h.turns.effects
-      ∙ (ap (λ (ds : List Datagram). world_of before.config (sent ++ ds) after ps') (said_is x.address h.turn.reply)
+  -- an open end made a turn
+  turned_as : (sent : List Datagram) (index : ℕ) (x : OpenEnd) (y : WorldEnd)
+      (h : EndHandles before.config.overwrite from bytes x y before.store.files after.store.files effect) →
+      ends' ≡ slice_set ends index y → new sent ≡ world_after (old sent) index x h.turn h.held after.store.files
+  turned_as sent index x y h is =
+      ap (λ (e : Effect). world_of before.config (sent ++ said_by e.from e.to e.bytes) after ends') h.turns.effects
+      ∙ (ap (λ (ds : List Datagram). world_of before.config (sent ++ ds) after ends') (said_is x.address h.turn.reply)
       ∙ ap
       (λ (xs : List WorldEnd). record (old sent) {
         sent = sent ++ replied x.address h.turn.reply;
         files = after.store.files;
         ends = xs;
-      }) h.turns.next)
+      }) (is ∙ ap (slice_set ends index) h.turns.next))
+
+  -- at a closed end a datagram is lost
+  lost_there : (index : ℕ) (x : ClosedEnd) → slice_get ends index ≡ Some (Closed_end x) → x.address ≡ to →
+      EndTakesAt index (Closed_end x) from bytes before after ends ends' effect → Lost
+  lost_there index x found same h = record {
+    effects = h.takes.0.effects ∙ ap no_effect same;
+    next = h.is ∙ (ap (slice_set ends index) h.takes.0.next ∙ same_set ends index (Closed_end x) found);
+    stays = h.takes.1;
+  }
 
   -- a datagram for an end that is there arrives by that end's step
-  pub step_arrives : (index : ℕ) → to.port ≡ 1024 + index →
-      EndsDatagramStep index from to bytes before after ps ps' effect →
-      EndsDelivery from to bytes before after ps ps' effect
+  pub step_arrives : (index : ℕ) → to.port ≡ 1024 + index → EndsTake index from to bytes before after ends ends' effect →
+      EndsDelivery from to bytes before after ends ends' effect
   step_arrives index port t sent = by_case t.end t.found t.comes where
     lands : (v : WorldState) (report : Report) → report_by sent effect ≡ report → new sent ≡ v →
         Delivery (old sent) from to bytes report v → Delivery (old sent) from to bytes (report_by sent effect) (new sent)
     lands v report e f a = landed (old sent) v (new sent) from to bytes report (report_by sent effect) e f a
 
-    by_case : (x : WorldEnd) → slice_get (ends_of before ps) index ≡ Some x →
+    by_case : (x : WorldEnd) → slice_get ends index ≡ Some x →
         ((end_address x ≢ to) × Lost)
-        ⊎ ((end_address x ≡ to)
-        × EndTakes index x from to bytes before.config.overwrite before.store.files after.store.files
-        (ends_of before ps) (ends_of after ps') effect) →
+        ⊎ ((end_address x ≡ to) × EndTakesAt index x from bytes before after ends ends' effect) →
         Delivery (old sent) from to bytes (report_by sent effect) (new sent)
     by_case x found (inl (differs, lost)) =
         lands (old sent) no_report (lost_report sent lost) (still sent lost)
-        (other_arrives (old sent) from to bytes index x (ports sent) away found port differs)
-    by_case (Closed_end x) found (inr (same, lost)) =
+        (other_arrives (old sent) from to bytes index x ports away found port differs)
+    by_case (Closed_end x) found (inr (same, h)) =
+        let lost = lost_there index x found same h in
         lands (old sent) no_report (lost_report sent lost) (still sent lost)
         (subst (λ (a : Endpoint). Delivery (old sent) from a bytes no_report (old sent)) same
         (closed_arrives (old sent) index x from bytes found))
     by_case (Open_end x) found (inr (same, h)) =
-        let v = world_after (old sent) index x h.turn h.held after.store.files in
-        lands v (report_of (old sent) x h.turn) (report_is (old sent) x h.turn effect h.turns.effects)
-        (turned_as sent index x h)
-        (subst (λ (a : Endpoint). Delivery (old sent) from a bytes (report_of (old sent) x h.turn) v) same
-        (open_arrives (old sent) index x from bytes h.turn h.held after.store.files found h.steps h.commits))
+        let t = h.takes in
+        let v = world_after (old sent) index x t.turn t.held after.store.files in
+        lands v (report_of (old sent) x t.turn) (report_is (old sent) x t.turn effect t.turns.effects)
+        (turned_as sent index x h.next t h.is)
+        (subst (λ (a : Endpoint). Delivery (old sent) from a bytes (report_of (old sent) x t.turn) v) same
+        (open_arrives (old sent) index x from bytes t.turn t.held after.store.files found t.steps t.commits))
 
   -- a datagram for a port that nobody has is lost
-  pub nobody_arrives : (count : ℕ) → count ≡ length ps → (to.port < 1024) ⊎ (1024 + count ≤ to.port) → after ≡ before →
-      ps' ≡ ps → effect ≡ no_effect to → EndsDelivery from to bytes before after ps ps' effect
-  nobody_arrives count counts none e f nothing sent =
+  pub nobody_arrives : (to.port < 1024) ⊎ (1024 + length ends ≤ to.port) → after ≡ before → ends' ≡ ends →
+      effect ≡ no_effect to → EndsDelivery from to bytes before after ends ends' effect
+  nobody_arrives none e f nothing sent =
       let lost : Lost = record {
         effects = nothing;
-        next = ap (λ (v : PlayedServer). ends_of v ps') e ∙ ap (ends_of before) f;
+        next = f;
         stays = ap (λ (v : PlayedServer). v.store.files) e;
       } in
       landed (old sent) (old sent) (new sent) from to bytes no_report (report_by sent effect) (lost_report sent lost)
-      (still sent lost)
-      (none_arrives (old sent) from to bytes (ports sent) away (none_here before ps count to.port counts none))
+      (still sent lost) (none_arrives (old sent) from to bytes ports away none)
 
 -- a datagram for the request port arrives by what that does
 pub asks_arrive :
-    (from to : Endpoint) (bytes : List ℕ) (before after : PlayedServer) (ps ps' : List Player) (effect : Effect) →
-    to ≡ request_port → EndsAsk from bytes before after ps ps' effect →
-    EndsDelivery from to bytes before after ps ps' effect
-asks_arrive from to bytes before after ps ps' effect e a =
-    subst (λ (there : Endpoint). EndsDelivery from there bytes before after ps ps' effect) (sym e) a
+    (from to : Endpoint) (bytes : List ℕ) (before after : PlayedServer) (ends ends' : List WorldEnd) (effect : Effect) →
+    to ≡ request_port → EndsAsk from bytes before after ends ends' effect →
+    EndsDelivery from to bytes before after ends ends' effect
+asks_arrive from to bytes before after ends ends' effect e a =
+    subst (λ (there : Endpoint). EndsDelivery from there bytes before after ends ends' effect) (sym e) a
 
 -- the same, with what was sent given by equations
 pub arrives_reported :
     (config : Config) (sent : List Datagram) (from to : Endpoint) (bytes : List ℕ) (before after : PlayedServer)
-    (ps ps' : List Player) (effect : Effect) (old : WorldState) (sent0 sent1 : List Datagram) (report : Report) →
-    before.config ≡ config → world_of config sent before ps ≡ old →
-    EndsDelivery from to bytes before after ps ps' effect →
+    (ends ends' : List WorldEnd) (effect : Effect) (old : WorldState) (sent0 sent1 : List Datagram) (report : Report) →
+    before.config ≡ config → world_of config sent before ends ≡ old →
+    EndsDelivery from to bytes before after ends ends' effect →
     sent0 ≡ sent → sent1 ≡ sent0 ++ said_by effect.from effect.to effect.bytes → report ≡ report_by sent0 effect →
-    Delivery old from to bytes report (world_of config sent1 after ps')
-arrives_reported config sent from to bytes before after ps ps' effect old sent0 sent1 report set view a same more
+    Delivery old from to bytes report (world_of config sent1 after ends')
+arrives_reported config sent from to bytes before after ends ends' effect old sent0 sent1 report set view a same more
     reports =
-    subst (λ (w : WorldState). Delivery w from to bytes report (world_of config sent1 after ps')) view
-    (subst (λ (k : Config). Delivery (world_of k sent before ps) from to bytes report (world_of k sent1 after ps')) set
+    subst (λ (w : WorldState). Delivery w from to bytes report (world_of config sent1 after ends')) view
+    (subst (λ (k : Config). Delivery (world_of k sent before ends) from to bytes report (world_of k sent1 after ends')) set
     (subst
     (λ (r : Report).
-    Delivery (world_of before.config sent before ps) from to bytes r (world_of before.config sent1 after ps'))
+    Delivery (world_of before.config sent before ends) from to bytes r (world_of before.config sent1 after ends'))
     (sym (reports ∙ ap (λ (ds : List Datagram). report_by ds effect) same))
     (subst
     (λ (ds : List Datagram).
-    Delivery (world_of before.config sent before ps) from to bytes (report_by sent effect)
-    (world_of before.config ds after ps'))
+    Delivery (world_of before.config sent before ends) from to bytes (report_by sent effect)
+    (world_of before.config ds after ends'))
     (sym (more ∙ ap (λ (ds : List Datagram). ds ++ said_by effect.from effect.to effect.bytes) same)) (a sent))))
 
 -- a delivery is a step of the world, with its report
 pub delivers_reported :
     (config : Config) (sent : List Datagram) (i : ℕ) (d : Datagram) (bytes : List ℕ) (before after : PlayedServer)
-    (ps ps' : List Player) (effect : Effect) (old : WorldState) (sent0 sent1 : List Datagram) (report : Report) →
+    (ends ends' : List WorldEnd) (effect : Effect) (old : WorldState) (sent0 sent1 : List Datagram) (report : Report) →
     i < length sent0 → d ≡ slice_index_or sent0 i d → bytes ≡ d.bytes → before.config ≡ config →
-    world_of config sent before ps ≡ old → EndsDelivery d.from d.to bytes before after ps ps' effect →
+    world_of config sent before ends ≡ old → EndsDelivery d.from d.to bytes before after ends ends' effect →
     sent0 ≡ sent → sent1 ≡ sent0 ++ said_by effect.from effect.to effect.bytes → report ≡ report_by sent0 effect →
-    WorldStep old (Deliver i) report (world_of config sent1 after ps')
-delivers_reported config sent i d bytes before after ps ps' effect old sent0 sent1 report within reads own set view a
+    WorldStep old (Deliver i) report (world_of config sent1 after ends')
+delivers_reported config sent i d bytes before after ends ends' effect old sent0 sent1 report within reads own set view a
     same more reports =
     let there =
     subst (λ (w : WorldState). slice_get w.sent i ≡ Some d) view
     (subst (λ (ds : List Datagram). slice_get ds i ≡ Some d) same (list_get sent0 i d within reads)) in
     let l =
-    arrives_reported config sent d.from d.to d.bytes before after ps ps' effect old sent0 sent1 report set view
-    (subst (λ (bs : List ℕ). EndsDelivery d.from d.to bs before after ps ps' effect) own a) same more reports in
+    arrives_reported config sent d.from d.to d.bytes before after ends ends' effect old sent0 sent1 report set view
+    (subst (λ (bs : List ℕ). EndsDelivery d.from d.to bs before after ends ends' effect) own a) same more reports in
     (d, there, l)
 
 -- and why an arrival is refused
 pub arrival_refused :
-    (config : Config) (sent : List Datagram) (to : Endpoint) (before : PlayedServer) (ps : List Player)
-    (old : WorldState) (fault : WorldFault) → world_of config sent before ps ≡ old → EndsRefuse to ps fault →
+    (config : Config) (sent : List Datagram) (to : Endpoint) (before : PlayedServer) (ends : List WorldEnd)
+    (old : WorldState) (fault : WorldFault) → world_of config sent before ends ≡ old → EndsRefuse to ends fault →
     ArrivalRefuses old to fault
-arrival_refused config sent to before ps old fault view r =
+arrival_refused config sent to before ends old fault view r =
     subst (λ (w : WorldState). ArrivalRefuses w to fault) view (by_fault fault r) where
-      by_fault : (f : WorldFault) → EndsRefuse to ps f → ArrivalRefuses (world_of config sent before ps) to f
-      by_fault NoPort h = let n = ends_length before.held ps in let m = h.1 in
-          (h.0, (let l : 65535 < 1024 + length (ends_of before ps) = omega (arith, n, m) in l))
-      by_fault Memory h = λ lacks. let n = ends_length before.held ps in let m = lacks.1 in
-          h (lacks.0, (let l : 65535 < 1024 + length ps = omega (arith, n, m) in l))
+      by_fault : (f : WorldFault) → EndsRefuse to ends f → ArrivalRefuses (world_of config sent before ends) to f
+      by_fault NoPort h = h
+      by_fault Memory h = h
       by_fault NoSuchDatagram h = absurd h
       by_fault NoSuchEnd h = absurd h
       by_fault BadRequest h = absurd h
@@ -222,12 +203,12 @@ delivery_refused old i d BadRequest e h = absurd h
 
 -- and so is one whose datagram the ends refuse
 pub delivery_fault :
-    (config : Config) (sent sent0 : List Datagram) (i : ℕ) (d : Datagram) (before : PlayedServer) (ps : List Player)
+    (config : Config) (sent sent0 : List Datagram) (i : ℕ) (d : Datagram) (before : PlayedServer) (ends : List WorldEnd)
     (old : WorldState) (fault : WorldFault) →
-    i < length sent0 → d ≡ slice_index_or sent0 i d → sent0 ≡ sent → world_of config sent before ps ≡ old →
-    EndsRefuse d.to ps fault → WorldRefuses old (Deliver i) fault
-delivery_fault config sent sent0 i d before ps old fault within reads same view r =
+    i < length sent0 → d ≡ slice_index_or sent0 i d → sent0 ≡ sent → world_of config sent before ends ≡ old →
+    EndsRefuse d.to ends fault → WorldRefuses old (Deliver i) fault
+delivery_fault config sent sent0 i d before ends old fault within reads same view r =
     delivery_refused old i d fault
     (subst (λ (w : WorldState). slice_get w.sent i ≡ Some d) view
     (subst (λ (ds : List Datagram). slice_get ds i ≡ Some d) same (list_get sent0 i d within reads)))
-    (arrival_refused config sent d.to before ps old fault view r)
+    (arrival_refused config sent d.to before ends old fault view r)

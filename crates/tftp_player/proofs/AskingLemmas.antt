@@ -1,402 +1,303 @@
--- The effect of a request on a world, from what the server did. For `Ends::ask`.
-use Rattle.std.proofs.Common.{◌≡◌, ◌≢◌, ℕ, Bool, ◌+◌, ◌<◌, ◌≤◌, true, false, List, [], ◌∷◌, ◌++◌, length, get_or}
-use Rattle.std.proofs.Common.{Option, Some, None, refl, sym, ap, ◌∙◌, subst, arith, inl, inr, length-append}
-use Rattle.std.specs.Prelude.{◌⊎◌, ◌↔◌, IsTrue, is_some, not, option_map}
-use Rattle.std.proofs.lemmas.Bool.{true≢false}
+-- The effect of a request on a world, from what the server answered. For `Ends::ask`, `answer` and their calls.
+use Rattle.std.proofs.Common.{◌≡◌, ℕ, ◌+◌, ◌<◌, ◌≤◌, List, [], ◌∷◌, ◌++◌, length, Option, Some, None}
+use Rattle.std.proofs.Common.{refl, sym, ap, ◌∙◌, subst, arith, rules, zero, suc, inl, inr}
+use Rattle.std.specs.Prelude.{is_some, nat_lt, slice_get}
+use Rattle.std.proofs.lemmas.Bool.{cases_Bool, ltb-true}
+use Rattle.std.proofs.lemmas.Bool.Decides.{nat_tests}
 use Rattle.std.proofs.lemmas.List.{append-nil}
+use Rattle.std.proofs.lemmas.Option.{same_Some}
+use Rattle.tftp_wire.specs.declared.mode.Mode.{Mode}
 use Rattle.tftp_wire.specs.declared.packet.Packet.{Packet}
 use Rattle.tftp_negotiate.specs.Ranges.{IsBlockSize}
+use Rattle.tftp_negotiate.specs.declared.known.Known.{Known}
+use Rattle.tftp_negotiate.specs.declared.limits.Limits.{Limits}
 use Rattle.tftp_file.specs.Memory.{memory_source}
-use Rattle.tftp_ends.specs.declared.record.Record.{Record}
+use Rattle.tftp_file.specs.declared.files.Files.{Files}
+use Rattle.tftp_file.specs.declared.files.Files.TheVariants.{Source, Sink}
 use Rattle.tftp_ends.specs.Action.{Decodes}
-use Rattle.tftp_ends.specs.End.{EndState, is_client, outcome_of, record_of, terms_of}
+use Rattle.tftp_ends.specs.End.{outcome_of}
+use Rattle.tftp_server.specs.Port.{Service, Silent, Refused, Sends, Takes}
+use Rattle.tftp_server.specs.Request.{AdmissionState, AdmitsBeside, CarriesOut}
+use Rattle.tftp_server.specs.State.{at, without}
 use Rattle.tftp_server.specs.declared.opened.Opened.{Opened}
+use Rattle.tftp_server.specs.declared.server.admission.Occupancy.{Occupancy}
 use Rattle.tftp_store.specs.Memory.{memory_meaning}
-use Rattle.tftp_server.specs.Port.{Service, asks, asks_store}
-use Rattle.tftp_server.specs.Request.{RequestStep}
-use Rattle.tftp_server.specs.State.{at, draft_of}
-use Rattle.tftp_server.specs.State as server
-use Rattle.tftp_store.specs.Store.{Stored}
-use Rattle.tftp_rules.specs.OpenEnds.{OpenEnd}
-use Rattle.tftp_player.specs.Arriving.{EndsAsk}
-use Rattle.tftp_player.specs.Clients.{server_at, left_in}
-use Rattle.tftp_player.specs.Effect.{said_by, report_by}
+use Rattle.tftp_store.specs.Store.{Drafted, new_draft}
 use Rattle.tftp_rules.specs.Hosts.{request_port}
 use Rattle.tftp_rules.specs.Machine.{Endpoint}
-use Rattle.tftp_player.specs.Played.{PlayerKept, end_at, ends_from, records_from, open_server_end, server_end}
-use Rattle.tftp_player.specs.Requested.{IsRequested, OpensNone, IsAdmitted, new_server_end, requested_by}
-use Rattle.tftp_player.specs.Requests.{is_transfer, IsRepeated, open_transfers, served, service}
-use Rattle.tftp_player.specs.ServerEnd.{PlayedServer, ServerEndKept, ServerTransfer}
-use Rattle.tftp_player.specs.Simulation.{IsOwned, IsRising, ArePartsConsistent, ends_of, world_of}
-use Rattle.tftp_player.specs.World.{WorldState, datagram, next_port, no_report, said_in, opened_in, sent_report}
-use Rattle.tftp_player.specs.World.{WorldEnd, Open_end}
-use Rattle.tftp_player.specs.WorldSteps.{At_request_port, HasPort, Delivery}
+use Rattle.tftp_rules.specs.OpenEnds.{OpenEnd}
+use Rattle.tftp_player.specs.Answer.{AnswerOpens, AnswersAll, AnswersAs, IsServerOf, opening_end}
+use Rattle.tftp_player.specs.Arriving.{EndsAsk}
+use Rattle.tftp_player.specs.Clients.{server_at}
+use Rattle.tftp_player.specs.Effect.{report_by, said_by}
+use Rattle.tftp_player.specs.Openings.{sending_end, receiving_end}
+use Rattle.tftp_player.specs.Played.{served_end}
+use Rattle.tftp_player.specs.Requests.{AnyRepeats, IsRepeated, Repeats, open_transfers, served, service}
+use Rattle.tftp_player.specs.ServerEnd.{PlayedServer, ServerEndKept}
+use Rattle.tftp_player.specs.Simulation.{world_of}
+use Rattle.tftp_player.specs.World.{WorldState, WorldEnd, Open_end, datagram, next_port, opened_in, said_in}
+use Rattle.tftp_player.specs.World.{sent_report, standing}
+use Rattle.tftp_player.specs.WorldSteps.{At_request_port, Delivery, HasPort, ServiceStep}
 use Rattle.tftp_player.specs.declared.datagram.Datagram.{Datagram}
 use Rattle.tftp_player.specs.declared.effect.Effect.{Effect}
-use Rattle.tftp_player.specs.declared.player.Player.{Player}
-use Rattle.tftp_player.specs.declared.player.Player.TheVariants.{Server}
+use Rattle.tftp_player.specs.declared.ends.asking.Answer.{Answer}
 use Rattle.tftp_player.specs.declared.report.Report.{Report}
 use Rattle.tftp_player.specs.declared.server_end.ServerEnd.{ServerEnd}
-use Rattle.tftp_player.proofs.HeldLemmas.{AreBelow, AreBelow-with_new, AllKeys-with_new, IsRising-with_new}
-use Rattle.tftp_player.proofs.HeldLemmas.{with_new-last}
-use Rattle.tftp_player.proofs.OpenedLemmas.{ends_push, records_push}
-use Rattle.tftp_player.proofs.OwnedLemmas.{AllOwned, pushed_owned}
-use Rattle.tftp_player.proofs.EndsByPort.{mapped-same, kept-push, transfers-push}
-use Rattle.tftp_rules.proofs.Entries.{lookup-insert_other, lookup-insert_same, numbers}
-use Rattle.tftp_rules.proofs.Indices.{slice_get-push_new}
-use Rattle.tftp_player.proofs.EndsByPort.{ends_length, to_kept, from_kept}
-use Rattle.tftp_player.proofs.PortLemmas.{OpensFor, PortOpened, PortRefused, PortSilent, opens_asks, port_opened}
-use Rattle.tftp_player.proofs.PortLemmas.{port_not_opened, service_opens}
-use Rattle.tftp_player.proofs.RepeatedLemmas.{repeated_is}
-use Rattle.tftp_player.proofs.ServerLemmas.{says_something, says_one, IsServerOf, PortAsking, PortLeft, PortDid}
-use Rattle.tftp_player.proofs.ServerLemmas.{request_did}
-use Rattle.tftp_player.proofs.SimulationLemmas.{by_port, kept_by_port}
+use Rattle.tftp_player.proofs.ServerLemmas.{PortAsking, PortLeft, PortDid, port_answers, port_did, port_returns}
+use Rattle.tftp_player.proofs.ServerLemmas.{released, request_did}
+use Rattle.tftp_player.proofs.Standing.{standing_open}
 
--- two answers to whether it repeats a request are one
-both_or_none : {P : Type 0} (a b : Bool) → (IsTrue a ↔ P) → (IsTrue b ↔ P) → a ≡ b
-both_or_none {P = P} true true f g = refl
-both_or_none {P = P} false false f g = refl
-both_or_none {P = P} true false f g = absurd (true≢false (sym (g.1 (f.0 refl))))
-both_or_none {P = P} false true f g = absurd (true≢false (sym (f.1 (g.0 refl))))
-
-same_repeated : (from : Endpoint) (decoded : Option Packet) (held : List (ℕ × ServerTransfer)) (a b : Bool) →
-    server.IsRepeated a from decoded held → server.IsRepeated b from decoded held → a ≡ b
-same_repeated from None held a b f g = f ∙ sym g
-same_repeated from (Some packet) held a b f g = both_or_none a b f g
-
-module _ (from : Endpoint) (bytes : List ℕ) (before : PlayedServer) (ps : List Player) (records : List (ℕ × Record))
-    (count port : ℕ) (consistent : ArePartsConsistent before ps records)
-    (max : IsBlockSize before.config.limits.max_block) (counts : count ≡ length ps) (is : port ≡ 1024 + count)
-    (fits : port < 65536) (range : (k : ℕ) → get_or bytes k 0 < 256) where
-  abbrev w : List Datagram → WorldState
-  w sent = world_of before.config sent before ps
-
-  -- who asked, and for which identifier
+-- ---- what `ask_server` left of the server, and its answer
+module _ (server : PlayedServer) (occupancy : Occupancy) (from : Endpoint) (bytes : List ℕ) (port : ℕ)
+    (empty : server.held ≡ []) (max : IsBlockSize server.config.limits.max_block) (admission : AdmissionState)
+    (admits : AdmitsBeside server.config occupancy bytes admission.ask) (from_is : admission.from ≡ from)
+    (bytes_is : admission.bytes ≡ bytes) (left : PlayedServer) (opened : Opened) (start out : List ℕ)
+    (h : (sent : List ℕ) × (out ≡ start ++ sent)
+    × CarriesOut memory_meaning memory_source server admission.from admission.bytes admission.ask port
+    (record { new = left; opened = opened; sent = sent })) where
   abbrev asking : PortAsking
-  asking = record { old = before; from = from; bytes = bytes; tid = port }
+  asking = record { old = server; from = from; bytes = bytes; tid = port }
 
-  abbrev Step : PortLeft → Type 0
-  Step result = RequestStep memory_meaning memory_source before from bytes port result
+  abbrev result : PortLeft
+  result = record { new = left; opened = opened; sent = h.0 }
+
+  carries : CarriesOut memory_meaning memory_source server from bytes admission.ask port result
+  carries =
+      subst (λ (a : Endpoint). CarriesOut memory_meaning memory_source server a bytes admission.ask port result) from_is
+      (subst
+      (λ (bs : List ℕ).
+      CarriesOut memory_meaning memory_source server admission.from bs admission.ask port result) bytes_is h.2)
+
+  -- the server is as it was after the release
+  pub server_returns : (after : PlayedServer) → after ≡ record left { held = without port left.held } → after ≡ server
+  server_returns after rest =
+      let w = world_of server.config [] server [] in
+      let s : IsServerOf w server =
+      record { files = refl; limits = refl; retries = refl; cap = refl; overwrite = refl } in
+      rest
+      ∙ port_returns w asking result empty (served w admission.ask)
+      (subst (PortDid w (served w admission.ask) asking) (sym carries.left)
+      (port_did w asking carries.came s max admission.ask carries.goes))
+
+  -- and its answer is that of each world of the server
+  pub server_answers : (answer : Answer) → answer.to ≡ opened.to → answer.bytes.items ≡ out → start ≡ [] →
+      answer.opened ≡ released (at port left.held) server.store.files → AnswersAll server occupancy from bytes answer
+  server_answers answer to given none ends w decoded s counts says =
+      port_answers w asking result empty answer to (given ∙ (h.1 ∙ ap (λ (b : List ℕ). b ++ h.0) none))
+      (ends ∙ ap (released (at port left.held)) s.files) (service w occupancy.is_repeated bytes decoded)
+      (subst (PortDid w (service w occupancy.is_repeated bytes decoded) asking) (sym carries.left)
+      (request_did w asking carries.came s (subst (λ (l : Limits). IsBlockSize l.max_block) s.limits max)
+      occupancy.count occupancy.is_repeated admission.ask admits.0 decoded counts admits.1 says admits.2 carries.goes))
+
+-- ---- an end of the server as it opens is the world's new end
+record IsNewEnd (w : WorldState) (from : Endpoint) (s : ServerEnd) (x : OpenEnd) : Type 0 where
+  pub is : served_end (next_port w) s ≡ x
+  pub address : x.address ≡ server_at (next_port w)
+  pub still : outcome_of x.state.position.phase ≡ None
+  pub to : x.state.position.last_sent_to ≡ from
+  pub kept : ServerEndKept s
+
+new_sender :
+    (w : WorldState) (from : Endpoint) (bytes : List ℕ) (mode : Mode) (path file : List ℕ) (agreed : List Known) →
+    IsNewEnd w from
+    (opening_end (sending_end w from bytes mode path file agreed)
+    (Source (sending_end w from bytes mode path file agreed).left))
+    (sending_end w from bytes mode path file agreed)
+new_sender w from bytes mode path file [] = search rules
+new_sender w from bytes mode path file (known ∷ agreed) = search rules
+
+new_receiver :
+    (w : WorldState) (from : Endpoint) (bytes : List ℕ) (mode : Mode) (path : List ℕ) (agreed : List Known) →
+    IsNewEnd w from (opening_end (receiving_end w from bytes mode path agreed) (Sink new_draft))
+    (receiving_end w from bytes mode path agreed)
+new_receiver w from bytes mode path [] = search rules
+new_receiver w from bytes mode path (known ∷ agreed) = search rules
+
+-- ---- whether one of the ends repeats a request
+-- none does if none at an index does
+pub none_repeats : (from : Endpoint) (packet : Packet) (ends : List WorldEnd) →
+    ((k : ℕ) (x : WorldEnd) → slice_get ends k ≡ Some x → Repeats from packet x → ⊥) → AnyRepeats from packet ends → ⊥
+none_repeats from packet [] none r = r
+none_repeats from packet (y ∷ ends) none (inl r) = none zero y refl r
+none_repeats from packet (y ∷ ends) none (inr r) = none_repeats from packet ends (λ k x e. none (suc k) x e) r
+
+-- nor does one up to the next index
+pub none_before : (from : Endpoint) (packet : Packet) (ends : List WorldEnd) (index : ℕ) (item : WorldEnd) →
+    slice_get ends index ≡ Some item → (Repeats from packet item → ⊥) →
+    ((k : ℕ) (x : WorldEnd) → k < index → slice_get ends k ≡ Some x → Repeats from packet x → ⊥) →
+    (k : ℕ) (x : WorldEnd) → k < index + 1 → slice_get ends k ≡ Some x → Repeats from packet x → ⊥
+none_before from packet ends index item here not_this before k x below there r =
+    elim (cases_Bool (nat_lt k index)) [
+      | inl is ↦ before k x (ltb-true k index is) there r
+      | inr past ↦
+          let same : k ≡ index = grind (arith, nat_tests) in
+          let found : item ≡ x =
+          same_Some item x (sym here ∙ (ap (slice_get ends) (sym same) ∙ there)) in
+          not_this (subst (Repeats from packet) (sym found) r)
+    ]
+
+-- nothing is not something
+not_none : {A : Type 0} (o : Option A) (s : A) → o ≡ None → o ≡ Some s → ⊥
+not_none o s none some = let f : None ≡ Some s = sym none ∙ some in cc
+
+-- ---- what the answer leaves of a world
+module _ (w : WorldState) (from : Endpoint) (bytes : List ℕ) (answer : Answer) where
+  abbrev StepsTo : Service → Effect → List WorldEnd → Type 0
+  StepsTo what effect ends =
+      ServiceStep what w from bytes (report_by w.sent effect)
+      (record w { sent = w.sent ++ said_by effect.from effect.to effect.bytes; ends = ends })
+
+  -- without an end the datagram is from the request port
+  abbrev quiet_effect : Effect
+  quiet_effect = record { from = request_port; to = answer.to; bytes = answer.bytes.items; closed = None }
+
+  quietly : (what : Service) → AnswersAs what w from bytes answer → answer.opened ≡ None →
+      StepsTo what quiet_effect w.ends
+  quietly Silent h none = record {
+    reports = ap (λ (to : Option Endpoint). report_by w.sent (record quiet_effect { to = to })) h.to;
+    is =
+        ap (λ (to : Option Endpoint). record w { sent = w.sent ++ said_by request_port to answer.bytes.items }) h.to
+        ∙ ap (λ (ds : List Datagram). record w { sent = ds }) (append-nil w.sent);
+  }
+  quietly (Refused reply) h none = (
+    ap (λ (to : Option Endpoint). report_by w.sent (record quiet_effect { to = to })) h.to,
+    ap (λ (to : Option Endpoint). record w { sent = w.sent ++ said_by request_port to answer.bytes.items }) h.to
+        ∙ ap (λ (bs : List ℕ). said_in w (datagram request_port from bs)) h.bytes,
+  )
+  quietly (Sends path mode count agreed) h none =
+      absurd (not_none answer.opened _ none h.2.opened)
+  quietly (Takes path mode agreed) h none =
+      absurd (not_none answer.opened _ none h.opened)
+
+  -- an end that opens sends from its port
+  abbrev opened_effect : Effect
+  opened_effect =
+      record { from = server_at (next_port w); to = answer.to; bytes = answer.bytes.items; closed = None }
+
+  abbrev opened_world : ServerEnd → WorldState
+  opened_world s =
+      record w {
+        sent = w.sent ++ said_by (server_at (next_port w)) answer.to answer.bytes.items;
+        ends = w.ends ++ standing (served_end (next_port w) s) ∷ [];
+      }
+
+  -- the end that opened, and the step
+  pub record OpenedStep (what : Service) (s : ServerEnd) : Type 0 where
+    pub kept : ServerEndKept s
+    pub steps : StepsTo what opened_effect (w.ends ++ standing (served_end (next_port w) s) ∷ [])
+
+  new_step : (what : Service) (s : ServerEnd) (x : OpenEnd) (files : Files (List ℕ) Drafted) →
+      AnswerOpens x files from answer → answer.opened ≡ Some s → IsNewEnd w from (opening_end x files) x →
+      ServiceStep what w from bytes (sent_report w) (opened_in w x) → OpenedStep what s
+  new_step what s x files h opened new step =
+      let same : opening_end x files ≡ s = same_Some (opening_end x files) s (sym h.opened ∙ opened) in
+      let goes : answer.to ≡ Some x.state.position.last_sent_to =
+      h.to ∙ ap (λ (a : Endpoint). Some a) (sym new.to) in
+      let stands : standing (served_end (next_port w) s) ≡ Open_end x =
+      ap (λ (q : ServerEnd). standing (served_end (next_port w) q)) (sym same)
+      ∙ (ap standing new.is ∙ standing_new x new.still) in
+      let report : report_by w.sent opened_effect ≡ sent_report w =
+      ap (λ (to : Option Endpoint). report_by w.sent (record opened_effect { to = to })) goes in
+      let world : opened_world s ≡ opened_in w x =
+      ap (λ (to : Option Endpoint). record w {
+        sent = w.sent ++ said_by (server_at (next_port w)) to answer.bytes.items;
+        ends = w.ends ++ standing (served_end (next_port w) s) ∷ [];
+      }) goes
+      ∙ (ap (λ (a : Endpoint). record w {
+        sent = w.sent ++ datagram a x.state.position.last_sent_to answer.bytes.items ∷ [];
+        ends = w.ends ++ standing (served_end (next_port w) s) ∷ [];
+      }) (sym new.address)
+      ∙ (ap (λ (bs : List ℕ). record w {
+        sent = w.sent ++ datagram x.address x.state.position.last_sent_to bs ∷ [];
+        ends = w.ends ++ standing (served_end (next_port w) s) ∷ [];
+      }) h.bytes
+      ∙ ap (λ (y : WorldEnd). record w {
+        sent = w.sent ++ datagram x.address x.state.position.last_sent_to x.state.position.last_sent ∷ [];
+        ends = w.ends ++ y ∷ [];
+      }) stands)) in
+      record {
+        kept = subst ServerEndKept same new.kept;
+        steps =
+            subst (λ (r : Report). ServiceStep what w from bytes r (opened_world s)) (sym report)
+            (subst (λ (v : WorldState). ServiceStep what w from bytes (sent_report w) v) (sym world) step);
+      } where
+        standing_new : (x : OpenEnd) → outcome_of x.state.position.phase ≡ None → standing x ≡ Open_end x
+        standing_new x e = standing_open x (ap is_some e)
+
+  opens : (what : Service) (s : ServerEnd) → AnswersAs what w from bytes answer → answer.opened ≡ Some s →
+      OpenedStep what s
+  opens Silent s h some = absurd (not_none answer.opened s h.opened some)
+  opens (Refused reply) s h some = absurd (not_none answer.opened s h.opened some)
+  opens (Sends path mode count agreed) s h some =
+      let x = sending_end w from bytes mode path h.0 agreed in
+      new_step (Sends path mode count agreed) s x (Source x.left) h.2 some
+      (new_sender w from bytes mode path h.0 agreed)
+      (h.0, h.1, record { reports = refl; is = refl })
+  opens (Takes path mode agreed) s h some =
+      let x = receiving_end w from bytes mode path agreed in
+      new_step (Takes path mode agreed) s x (Sink new_draft) h some (new_receiver w from bytes mode path agreed)
+      (record { reports = refl; is = refl })
+
+-- ---- the request port of the ends of a world
+module _ (from : Endpoint) (bytes : List ℕ) (server : PlayedServer) (ends : List WorldEnd) (occupancy : Occupancy)
+    (port : ℕ) (is : port ≡ 1024 + length ends) (fits : port < 65536) (counts : occupancy.count ≡ open_transfers ends)
+    (repeats : (decoded : Option Packet) × Decodes bytes decoded × IsRepeated occupancy.is_repeated from decoded ends)
+    (answer : Answer) (answers : AnswersAll server occupancy from bytes answer) where
+  abbrev w : List Datagram → WorldState
+  w sent = world_of server.config sent server ends
+
+  abbrev what : List Datagram → Service
+  what sent = service (w sent) occupancy.is_repeated bytes repeats.0
 
   has : (sent : List Datagram) → HasPort (w sent)
-  has sent = let n = ends_length before.held ps in
-      let l : 1024 + length (ends_of before ps) ≤ 65535 = omega (arith, n, counts, is, fits) in l
+  has sent = let l : 1024 + length ends ≤ 65535 = omega (arith, is, fits) in l
 
-  is_server : (sent : List Datagram) → IsServerOf (w sent) before
-  is_server sent =
-      record { files = refl; limits = refl; retries = refl; cap = refl; overwrite = refl; count = consistent.count }
+  answered : (sent : List Datagram) → AnswersAs (what sent) (w sent) from bytes answer
+  answered sent =
+      answers (w sent) repeats.0 (record { files = refl; limits = refl; retries = refl; cap = refl; overwrite = refl })
+      counts repeats.1
 
-  said : (decoded : Option Packet) × Decodes bytes decoded
-  said = says_something bytes range
+  -- no end opens
+  pub not_opened_asks : (ends0 : List WorldEnd) (given : List ℕ) → answer.opened ≡ None → ends0 ≡ ends →
+      given ≡ answer.bytes.items →
+      EndsAsk from bytes server server ends ends0
+      (record { from = request_port; to = answer.to; bytes = given; closed = None })
+  not_opened_asks ends0 given none same own sent =
+      subst (λ (b : List ℕ).
+      Delivery (w sent) from request_port bytes
+      (report_by sent (record { from = request_port; to = answer.to; bytes = b; closed = None }))
+      (world_of server.config (sent ++ said_by request_port answer.to b) server ends0)) (sym own)
+      (subst (λ (es : List WorldEnd).
+      Delivery (w sent) from request_port bytes (report_by sent (quiet_effect (w sent) from bytes answer))
+      (world_of server.config (sent ++ said_by request_port answer.to answer.bytes.items) server es)) (sym same)
+      (At_request_port refl (has sent) repeats.0 repeats.1 occupancy.is_repeated repeats.2
+      (quietly (w sent) from bytes answer (what sent) (answered sent) none)))
 
-  module _ (result : PortLeft) (h : Step result) where
-    abbrev what : List Datagram → Service
-    what sent = service (w sent) h.repeated bytes said.0
+  opened_so : (s : ServerEnd) → answer.opened ≡ Some s → (sent : List Datagram) →
+      OpenedStep (w sent) from bytes answer (what sent) s
+  opened_so s some sent = opens (w sent) from bytes answer (what sent) s (answered sent) some
 
-    did : (sent : List Datagram) → PortDid (w sent) (what sent) asking result
-    did sent = request_did (w sent) asking result (is_server sent) max said.0 said.1 h
+  -- an end opens, and it is kept
+  pub opened_kept : (s : ServerEnd) → answer.opened ≡ Some s → ServerEndKept s
+  opened_kept s some = (opened_so s some []).kept
 
-    repeats : server.IsRepeated h.repeated from said.0 before.held
-    repeats =
-        subst (λ (d : Option Packet). server.IsRepeated h.repeated from d before.held)
-        (says_one bytes h.decoded said.0 h.says said.1) h.repeats
-
-    in_the_world : (sent : List Datagram) → IsRepeated h.repeated from said.0 (w sent).ends
-    in_the_world sent = repeated_is before ps records h.repeated from said.0 consistent repeats
-
-  -- ---- no end opens
-  module _ (after : PlayedServer) (opened : Opened) (out : List ℕ)
-      (h : Step (record { new = after; opened = opened; sent = out })) (none : opened.tid ≡ None) where
-    abbrev result : PortLeft
-    result = record { new = after; opened = opened; sent = out }
-
-    seen : (sent : List Datagram) →
-        PortRefused (w sent) asking result (what result h sent) ⊎ PortSilent (w sent) asking result (what result h sent)
-    seen sent = port_not_opened (w sent) asking result (what result h sent) (did result h sent) none
-
-    -- if no end opened the server is unchanged
-    pub not_opened_same : after ≡ before
-    not_opened_same = elim (seen []) [ inl refused ↦ refused.new | inr quiet ↦ quiet.new ]
-
-    abbrev effect : Effect
-    effect = record { from = request_port; to = opened.to; bytes = out; closed = None }
-
-    pub not_opened_asks : EndsAsk from bytes before after ps ps effect
-    not_opened_asks sent = elim (seen sent) [
-      | inl refused ↦
-          let d = datagram request_port from out in
-          let report : report_by sent effect ≡ sent_report (w sent) =
-          ap (λ (to : Option Endpoint). report_by sent (record effect { to = to })) refused.to in
-          let new : world_of before.config (sent ++ said_by request_port opened.to out) after ps ≡ said_in (w sent) d =
-          ap (λ (to : Option Endpoint). world_of before.config (sent ++ said_by request_port to out) after ps)
-          refused.to
-          ∙ ap (λ (v : PlayedServer). world_of before.config (sent ++ d ∷ []) v ps) refused.new in
-          subst
-          (λ (r : Report).
-          Delivery (w sent) from request_port bytes r
-          (world_of before.config (sent ++ said_by request_port opened.to out) after ps)) (sym report)
-          (subst (λ (v : WorldState). Delivery (w sent) from request_port bytes (sent_report (w sent)) v) (sym new)
-          (At_request_port refl (has sent) said.0 said.1 h.repeated (in_the_world result h sent) refused.serves))
-      | inr quiet ↦
-          let report : report_by sent effect ≡ no_report =
-          ap (λ (to : Option Endpoint). report_by sent (record effect { to = to })) quiet.to in
-          let new : world_of before.config (sent ++ said_by request_port opened.to out) after ps ≡ w sent =
-          ap (λ (to : Option Endpoint). world_of before.config (sent ++ said_by request_port to out) after ps) quiet.to
-          ∙ (ap (λ (ds : List Datagram). world_of before.config ds after ps) (append-nil sent)
-          ∙ ap (λ (v : PlayedServer). world_of before.config sent v ps) quiet.new) in
-          subst
-          (λ (r : Report).
-          Delivery (w sent) from request_port bytes r
-          (world_of before.config (sent ++ said_by request_port opened.to out) after ps)) (sym report)
-          (subst (λ (v : WorldState). Delivery (w sent) from request_port bytes no_report v) (sym new)
-          (At_request_port refl (has sent) said.0 said.1 h.repeated (in_the_world result h sent) quiet.serves))
-    ]
-
-    -- the same, by equations
-    pub quietly : (ps0 : List Player) (start given : List ℕ) → ps0 ≡ ps → start ≡ [] → given ≡ start ++ out →
-        EndsAsk from bytes before after ps ps0
-        (record { from = request_port; to = opened.to; bytes = given; closed = None })
-    quietly ps0 start given same empty is_out =
-        let own : given ≡ out = is_out ∙ ap (λ (s : List ℕ). s ++ out) empty in
-        subst
-        (λ (b : List ℕ).
-        EndsAsk from bytes before after ps ps0
-        (record { from = request_port; to = opened.to; bytes = b; closed = None })) (sym own)
-        (subst
-        (λ (qs : List Player).
-        EndsAsk from bytes before after ps qs
-        (record { from = request_port; to = opened.to; bytes = out; closed = None })) (sym same) not_opened_asks)
-
-    pub quietly_consistent : (ps0 : List Player) (records0 : List (ℕ × Record)) → ps0 ≡ ps → records0 ≡ records →
-        ArePartsConsistent after ps0 records0
-    quietly_consistent ps0 records0 a b =
-        subst (λ (v : PlayedServer). ArePartsConsistent v ps0 records0) (sym not_opened_same)
-        (subst (λ (qs : List Player). ArePartsConsistent before qs records0) (sym a)
-        (subst (λ (rs : List (ℕ × Record)). ArePartsConsistent before ps rs) (sym b) consistent))
-
-  -- ---- an end opens
-  module _ (after : PlayedServer) (opened : Opened) (out : List ℕ)
-      (h : Step (record { new = after; opened = opened; sent = out }))
-      (t : ℕ) (tid_is : opened.tid ≡ Some t) (o : Option ServerEnd) (admitted : IsAdmitted before from bytes o) where
-    abbrev result' : PortLeft
-    result' = record { new = after; opened = opened; sent = out }
-
-    q : (sent : List Datagram) → PortOpened (w sent) asking result' (what result' h sent)
-    q sent = port_opened (w sent) asking result' (what result' h sent) t (did result' h sent) tid_is
-
-    abbrev x : List Datagram → OpenEnd
-    x sent = (q sent).end
-
-    abbrev own : List Datagram → ServerEnd
-    own sent = new_server_end (q sent).mode (q sent).path (q sent).file
-
-    abbrev transfer : List Datagram → ServerTransfer
-    transfer sent = (q sent).transfer
-
-    -- it passes the port's tests that need no store
-    is_let_in : OpensNone before from bytes → ⊥
-    is_let_in none =
-        let one : none.0 ≡ said.0 = says_one bytes none.0 said.0 none.2 said.1 in
-        let repeated : none.1 ≡ h.repeated =
-        same_repeated from said.0 before.held none.1 h.repeated
-        (subst (λ (d : Option Packet). server.IsRepeated none.1 from d before.held) one none.3) (repeats result' h) in
-        let ask = asks before.config.cap (length before.held) h.repeated before.config.limits bytes said.0 in
-        let shut : asks_store ask ≡ false =
-        ap (λ (d : Option Packet).
-        asks_store (asks before.config.cap (length before.held) h.repeated before.config.limits bytes d)) (sym one)
-        ∙ (ap
-        (λ (b : Bool). asks_store (asks before.config.cap (length before.held) b before.config.limits bytes none.0))
-        (sym repeated) ∙ none.4) in
-        let opens : OpensFor (w []) (q []).mode (q []).path (q []).file (served (w []) ask) =
-        subst
-        (λ (n : ℕ).
-        OpensFor (w []) (q []).mode (q []).path (q []).file
-        (served (w []) (asks before.config.cap n h.repeated before.config.limits bytes said.0))) (sym consistent.count)
-        (q []).opens in
-        true≢false (sym (opens_asks (w []) (q []).mode (q []).path (q []).file ask opens) ∙ shut)
-
-    requests : IsRequested before.store.files bytes o
-    requests = elim admitted [
-      | inl r ↦ r
-      | inr none ↦ absurd (is_let_in none.1)
-    ]
-
-    requested_own : (sent : List Datagram) → o ≡ Some (own sent)
-    requested_own sent =
-        requests.2
-        ∙ (ap (requested_by before.store.files) (says_one bytes requests.0 said.0 requests.1 said.1)
-        ∙ service_opens (w sent) (q sent).mode (q sent).path (q sent).file h.repeated bytes said.0 (q sent).opens)
-
-    port_next : port ≡ 1024 + length ps
-    port_next = is ∙ ap (λ (n : ℕ). 1024 + n) counts
-
-    port_world : (sent : List Datagram) → port ≡ next_port (w sent)
-    port_world sent = port_next ∙ ap (λ (n : ℕ). 1024 + n) (sym (ends_length before.held ps))
-
-    below : AreBelow port before.held
-    below = subst (λ (n : ℕ). AreBelow n before.held) (sym port_next) consistent.below
-
-    found : (sent : List Datagram) → at port after.held ≡ Some (transfer sent)
-    found sent =
-        ap (λ (s : PlayedServer). at port s.held) (q sent).new
-        ∙ lookup-insert_same numbers port (transfer sent) before.held
-
-    recorded : (sent : List Datagram) →
-        option_map (λ (g : ServerTransfer). record_of g.end) (at port after.held) ≡ Some (record_of (x sent).state)
-    recorded sent =
-        ap (option_map (λ (g : ServerTransfer). record_of g.end)) (found sent)
-        ∙ ap (λ (e : EndState). Some (record_of e)) (q sent).is_new.state
-
-    -- it was admitted, and it is held
-    pub opened_requested : o ≡ None → ⊥
-    opened_requested e = let f : None ≡ Some (own []) = sym e ∙ requested_own [] in cc
-
-    pub opened_recorded : (r : Option Record) →
-        r ≡ option_map (λ (g : ServerTransfer). record_of g.end) (at port after.held) → r ≡ None → ⊥
-    opened_recorded r e n = let f : None ≡ Some (record_of (x []).state) = sym n ∙ (e ∙ recorded []) in cc
-
-    end_is : (sent : List Datagram) → end_at port after.held (Server (own sent)) ≡ Open_end (x sent)
-    end_is sent =
-        let g = transfer sent in
-        ap (λ (u : Option ServerTransfer). server_end port (own sent) None u) (found sent)
-        ∙ ap Open_end
-        (ap (λ (n : ℕ). open_server_end n (own sent) g.end (left_in g.files) (draft_of g.files) g.request) (port_world sent)
-        ∙ (q sent).is_new.end)
-
-    others : (other : ℕ) → 1024 ≤ other → other < 1024 + length ps → at other after.held ≡ at other before.held
-    others other low high =
-        let n : other ≢ port = omega (arith, port_next, high) in
-        ap (λ (s : PlayedServer). at other s.held) (q []).new
-        ∙ lookup-insert_other numbers port other (transfer []) before.held n
-
-    new_kept : ServerEndKept port (own []) after.held
-    new_kept =
-        let new = (q []).is_new in
-        record {
-          transfer = transfer [];
-          found = found [];
-          is_open = ap (λ (e : EndState). is_some (outcome_of e.position.phase)) new.state ∙ ap is_some new.still;
-          side = ap (λ (e : EndState). is_client e.role.side) new.state ∙ new.side;
-          files = new.files;
-          commits = new.commits;
-          known = ap (λ (e : EndState). is_some (terms_of e.position.phase)) new.state ∙ new.known;
-          mode = new.mode;
-          path = new.path;
-        }
-
-    is_one : (sent : List Datagram) → is_transfer (Open_end (x sent)) ≡ true
-    is_one sent = ap not (q sent).is_new.side
-
-    ends_now : (sent : List Datagram) →
-        ends_of after (ps ++ Server (own sent) ∷ []) ≡ ends_of before ps ++ Open_end (x sent) ∷ []
-    ends_now sent =
-        ends_push after ps (Server (own sent))
-        ∙ (ap (λ (xs : List WorldEnd). xs ++ end_at (1024 + length ps) after.held (Server (own sent)) ∷ [])
-        (mapped-same end_at ends_from (λ n g. refl) (λ n g r rs. refl) by_port 1024 before.held after.held ps others)
-        ∙ (ap (λ (n : ℕ). ends_of before ps ++ end_at n after.held (Server (own sent)) ∷ []) (sym port_next)
-        ∙ ap (λ (y : WorldEnd). ends_of before ps ++ y ∷ []) (end_is sent)))
-
-    held_now : after.held ≡ before.held ++ (port, transfer []) ∷ []
-    held_now = ap (λ (s : PlayedServer). s.held) (q []).new ∙ with_new-last port (transfer []) before.held below
-
-    owned_now : AllOwned (ps ++ Server (own []) ∷ []) after.held
-    owned_now =
-        subst (AllOwned (ps ++ Server (own []) ∷ [])) (sym (ap (λ (s : PlayedServer). s.held) (q []).new))
-        (AllKeys-with_new (IsOwned (ps ++ Server (own []) ∷ [])) port (transfer []) before.held below
-        (pushed_owned ps (Server (own [])) before.held consistent.owned)
-        (record {
-          index = length ps;
-          is = port_next;
-          served = own [];
-          there = slice_get-push_new ps (Server (own []));
-          lives = refl;
-        }))
-
-    consistent_now : ArePartsConsistent after (ps ++ Server (own []) ∷ []) (records ++ (port, record_of (x []).state) ∷ [])
-    consistent_now = record {
-      kept =
-          from_kept 1024 after.held (ps ++ Server (own []) ∷ [])
-          (kept-push PlayerKept kept_by_port 1024 before.held after.held ps (Server (own [])) others
-          (to_kept 1024 before.held ps consistent.kept)
-          (subst (λ (n : ℕ). PlayerKept n after.held (Server (own []))) port_next new_kept));
-      recorded =
-          ap (λ (rs : List (ℕ × Record)). rs ++ (port, record_of (x []).state) ∷ []) consistent.recorded
-          ∙ (ap (λ (n : ℕ). records_from 1024 (ends_of before ps) ++ (n, record_of (x []).state) ∷ []) (port_world [])
-          ∙ (sym (records_push 1024 (ends_of before ps) (Open_end (x [])))
-          ∙ ap (records_from 1024) (sym (ends_now []))));
-      below =
-          let n : port + 1 ≡ 1024 + length (ps ++ Server (own []) ∷ []) =
-          omega (arith, port_next, length-append ps (Server (own []) ∷ [])) in
-          subst (λ (m : ℕ). AreBelow m after.held) n
-          (subst (AreBelow (port + 1)) (sym (ap (λ (s : PlayedServer). s.held) (q []).new))
-          (AreBelow-with_new port (transfer []) before.held below));
-      count =
-          let a : length after.held ≡ length (before.held ++ (port, transfer []) ∷ []) = ap length held_now in
-          let b = transfers-push (ends_of before ps) (Open_end (x [])) (is_one []) in
-          let e = consistent.count in
-          let n : length after.held ≡ open_transfers (ends_of before ps ++ Open_end (x []) ∷ []) =
-          omega (arith, a, length-append before.held ((port, transfer []) ∷ []), b, e) in
-          n ∙ ap open_transfers (sym (ends_now []));
-      owned = owned_now;
-      rising =
-          subst IsRising (sym (ap (λ (s : PlayedServer). s.held) (q []).new))
-          (IsRising-with_new port (transfer []) before.held below consistent.rising);
-      quiet = ap (λ (s : PlayedServer). s.store.refuses) (q []).new ∙ consistent.quiet;
-    }
-
-    same_served : (kept : ServerEnd) (sent : List Datagram) → o ≡ Some kept → kept ≡ own sent
-    same_served kept sent e = let f : Some kept ≡ Some (own sent) = sym e ∙ requested_own sent in cc
-
-    pub opened_consistent : (kept : ServerEnd) (r : Record) (ps0 ps1 : List Player) (records0 records1 : List (ℕ × Record)) →
-        o ≡ Some kept → Some r ≡ option_map (λ (g : ServerTransfer). record_of g.end) (at port after.held) →
-        ps0 ≡ ps → ps1 ≡ ps0 ++ Server kept ∷ [] → records0 ≡ records → records1 ≡ records0 ++ (port, r) ∷ [] →
-        ArePartsConsistent after ps1 records1
-    opened_consistent kept r ps0 ps1 records0 records1 e f a b g k =
-        let action : Some r ≡ Some (record_of (x []).state) = f ∙ recorded [] in
-        let same : r ≡ record_of (x []).state = cc in
-        subst (λ (qs : List Player). ArePartsConsistent after qs records1)
-        (sym
-        (b ∙ (ap (λ (qs : List Player). qs ++ Server kept ∷ []) a
-        ∙ ap (λ (s : ServerEnd). ps ++ Server s ∷ []) (same_served kept [] e))))
-        (subst (λ (rs : List (ℕ × Record)). ArePartsConsistent after (ps ++ Server (own []) ∷ []) rs)
-        (sym
-        (k ∙ (ap (λ (rs : List (ℕ × Record)). rs ++ (port, r) ∷ []) g
-        ∙ ap (λ (u : Record). records ++ (port, u) ∷ []) same))) consistent_now)
-
-    pub opened_asks : (kept : ServerEnd) (here : Endpoint) (ps0 ps1 : List Player) (start given : List ℕ) → o ≡ Some kept →
-        here ≡ server_at port → ps0 ≡ ps → ps1 ≡ ps0 ++ Server kept ∷ [] → start ≡ [] → given ≡ start ++ out →
-        EndsAsk from bytes before after ps ps1 (record { from = here; to = opened.to; bytes = given; closed = None })
-    opened_asks kept here ps0 ps1 start given e at_here a b empty is_out sent =
-        let new_end = (q sent).is_new in
-        let d = datagram (x sent).address (x sent).state.position.last_sent_to (x sent).state.position.last_sent in
-        let bytes_are : given ≡ (x sent).state.position.last_sent =
-        is_out ∙ (ap (λ (s : List ℕ). s ++ out) empty ∙ (q sent).sent) in
-        let index : here ≡ (x sent).address = at_here ∙ (ap server_at (port_world sent) ∙ sym new_end.address) in
-        let goes : opened.to ≡ Some (x sent).state.position.last_sent_to =
-        (q sent).to ∙ ap (λ (p : Endpoint). Some p) (sym new_end.to) in
-        let players : ps1 ≡ ps ++ Server (own sent) ∷ [] =
-        b ∙ (ap (λ (qs : List Player). qs ++ Server kept ∷ []) a
-        ∙ ap (λ (s : ServerEnd). ps ++ Server s ∷ []) (same_served kept sent e)) in
-        let report : report_by sent (record { from = here; to = opened.to; bytes = given; closed = None })
-        ≡ sent_report (w sent) =
-        ap (λ (p : Option Endpoint). report_by sent (record { from = here; to = p; bytes = given; closed = None }))
-        goes in
-        let new : world_of before.config (sent ++ said_by here opened.to given) after ps1
-        ≡ opened_in (w sent) (x sent) =
-        ap (λ (p : Endpoint). world_of before.config (sent ++ said_by p opened.to given) after ps1) index
-        ∙ (ap (λ (p : Option Endpoint). world_of before.config (sent ++ said_by (x sent).address p given) after ps1)
-        goes
-        ∙ (ap
-        (λ (bs : List ℕ).
-        world_of before.config (sent ++ datagram (x sent).address (x sent).state.position.last_sent_to bs ∷ []) after
-        ps1) bytes_are
-        ∙ (ap (λ (s : Stored). record (world_of before.config (sent ++ d ∷ []) after ps1) { files = s.files })
-        (ap (λ (s : PlayedServer). s.store) (q sent).new)
-        ∙ (ap (λ (qs : List Player). record (w sent) { sent = sent ++ d ∷ []; ends = ends_of after qs }) players
-        ∙ ap (λ (xs : List WorldEnd). record (w sent) { sent = sent ++ d ∷ []; ends = xs }) (ends_now sent))))) in
-        subst
-        (λ (r : Report).
-        Delivery (w sent) from request_port bytes r
-        (world_of before.config (sent ++ said_by here opened.to given) after ps1)) (sym report)
-        (subst (λ (v : WorldState). Delivery (w sent) from request_port bytes (sent_report (w sent)) v) (sym new)
-        (At_request_port refl (has sent) said.0 said.1 h.repeated (in_the_world result' h sent) (q sent).serves))
+  pub opened_asks : (s : ServerEnd) (here : Endpoint) (ends1 : List WorldEnd) (given : List ℕ) →
+      answer.opened ≡ Some s → here ≡ server_at port → ends1 ≡ ends ++ standing (served_end port s) ∷ [] →
+      given ≡ answer.bytes.items →
+      EndsAsk from bytes server server ends ends1
+      (record { from = here; to = answer.to; bytes = given; closed = None })
+  opened_asks s here ends1 given some at more own sent =
+      let arrives : Effect → List WorldEnd → Type 0 = λ (e : Effect) (es : List WorldEnd).
+      Delivery (w sent) from request_port bytes (report_by sent e)
+      (world_of server.config (sent ++ said_by e.from e.to e.bytes) server es) in
+      let effect : record { from = here; to = answer.to; bytes = given; closed = None }
+      ≡ opened_effect (w sent) from bytes answer =
+      ap (λ (b : List ℕ). record { from = here; to = answer.to; bytes = b; closed = None }) own
+      ∙ ap (λ (a : Endpoint). record { from = a; to = answer.to; bytes = answer.bytes.items; closed = None })
+      (at ∙ ap server_at is) in
+      let players : ends1 ≡ ends ++ standing (served_end (next_port (w sent)) s) ∷ [] =
+      more ∙ ap (λ (n : ℕ). ends ++ standing (served_end n s) ∷ []) is in
+      subst (λ (e : Effect). arrives e ends1) (sym effect)
+      (subst (arrives (opened_effect (w sent) from bytes answer)) (sym players)
+      (At_request_port refl (has sent) repeats.0 repeats.1 occupancy.is_repeated repeats.2
+      (opened_so s some sent).steps))

@@ -1,4 +1,4 @@
--- The effect of a turn of a server's end on its draft and on the server's files. For DatagramLemmas.
+-- The effect of a turn of a server's end on its draft and on the server's files. For ServedLemmas.
 use Rattle.std.proofs.Common.{length, ◌≡◌, ℕ, Bool, true, false, List, [], ◌∷◌, Option, Some, None, Result, Ok, Err}
 use Rattle.std.proofs.Common.{refl, sym, ap, ◌∙◌, subst}
 use Rattle.std.specs.Prelude.{◌&&◌, ◌==◌, not, if◌then◌else◌, is_none, is_ok, nat_lt, ⊤}
@@ -26,22 +26,19 @@ use Rattle.tftp_file.specs.declared.files.Files.{Files}
 use Rattle.tftp_file.specs.declared.files.Files.TheVariants.{Source, Sink}
 use Rattle.tftp_server.specs.Draft.{DraftingBecomes, files_in, KeepsStore, drafting_sink}
 use Rattle.tftp_store.specs.Memory.{memory_meaning}
-use Rattle.tftp_server.specs.State.{draft_of}
 use Rattle.tftp_server.specs.Steps.{StepIn}
 use Rattle.tftp_store.specs.Store.{Stored, Drafted, FileList, with_file}
 use Rattle.tftp_rules.specs.Machine.{Endpoint}
 use Rattle.tftp_rules.specs.OpenEnds.{OpenEnd, end_after}
 use Rattle.tftp_rules.proofs.SinkMoves.{Kept_all, kept_by, none_committed, now_committed, same_bytes, still_committed}
 use Rattle.tftp_rules.proofs.SinkMoves.{took_armed}
-use Rattle.tftp_player.specs.Clients.{left_in}
-use Rattle.tftp_player.specs.Played.{open_server_end}
+use Rattle.tftp_player.specs.Played.{served_end}
 use Rattle.tftp_player.specs.ServerEnd.{CommitsLast}
 use Rattle.tftp_player.specs.World.{StoredFile, has_committed}
 use Rattle.tftp_player.specs.WorldSteps.{IsStored, FilesAfter}
 use Rattle.tftp_player.specs.declared.server_end.ServerEnd.{ServerEnd}
 use Rattle.tftp_player.proofs.FileLemmas.{stored_so}
-use Rattle.tftp_player.proofs.ServerTurns.{Drafts, seen}
-use Rattle.tftp_player.proofs.SimulationLemmas.{held_files}
+use Rattle.tftp_player.proofs.ServerTurns.{Drafts, held_files, seen}
 
 -- ---- a complete end does nothing more: it answers at most
 record Rests (action : Action) (from : Endpoint) (e : EndState) : Type 0 where
@@ -235,19 +232,24 @@ pub record ServerEndLeaves (x : OpenEnd) (turn : Turn) (held : Files (List ℕ) 
       FilesAfter overwrite (has_committed x (end_after x turn held)) x.path (end_after x turn held).stored files files'
   pub commits : CommitsLast next turn.position.phase
 
-module _ (port : ℕ) (s : ServerEnd) (from : Endpoint) (bytes : List ℕ) (e : EndState) (request : List ℕ)
-    (store store' : Stored) (path' : List ℕ) (replace : Bool) (turn : Turn) where
+-- the end with these files
+abbrev pub with_files : ServerEnd → Files (List ℕ) Drafted → ServerEnd
+with_files s files = record s { transfer = record s.transfer { files = files } }
+
+module _ (port : ℕ) (s : ServerEnd) (from : Endpoint) (bytes : List ℕ) (store store' : Stored) (path' : List ℕ)
+    (replace : Bool) (turn : Turn) where
   -- a turn of a server's end leaves its draft and the server's files as the world has them
   pub served_leaves : (files files' : Files (List ℕ) Drafted) →
-      StepIn memory_meaning memory_source from bytes e (files_in store s.path replace files) turn
+      StepIn memory_meaning memory_source from bytes s.transfer.end (files_in store s.transfer.path replace files) turn
       (files_in store' path' replace files') →
       KeepsStore files store store' → AreSame (λ (a b : List ℕ). ⊤) (λ (a b : Drafted). ⊤) files files' →
-      CommitsLast files e.position.phase →
-      ServerEndLeaves (open_server_end port s e (left_in files) (draft_of files) request) turn (held_files store'.refuses files')
-      files' replace store.files store'.files
+      CommitsLast files s.transfer.end.position.phase →
+      ServerEndLeaves (served_end port (with_files s files)) turn (held_files store'.refuses files') files' replace
+      store.files store'.files
   served_leaves (Source left) (Source left') h stays kind k =
       record { files_after = ap (λ (st : Stored). st.files) stays; commits = tt }
   served_leaves (Sink draft) (Sink draft') h stays kind k =
+      let e = s.transfer.end in
       let l = leaves_by from bytes e turn _ _ h.decoded (is_complete e.position.phase) refl k h.acts in
       record { files_after = l.files; commits = l.commits }
   served_leaves (Source left) (Sink draft') h stays kind k = absurd kind

@@ -1,8 +1,6 @@
 pub mod Standing
 pub mod KnownSteps
 pub mod Measured
-pub mod HeldLemmas
-pub mod OwnedLemmas
 pub mod OneLemmas
 pub mod StrangerLemmas
 pub mod SampleDeliveries
@@ -13,8 +11,6 @@ pub mod ServerLemmas
 pub mod FileLemmas
 pub mod ServerTurns
 pub mod DraftLemmas
-pub mod PortLemmas
-pub mod EndsByPort
 pub mod ClientLemmas
 pub mod StepLemmas
 pub mod UnansweredLemmas
@@ -23,15 +19,12 @@ pub mod WorldKeeps
 pub mod WorldRuns
 pub mod WorldSafe
 pub mod RoomLemmas
-pub mod ServerEndLemmas
-pub mod SimulationLemmas
+pub mod HostEnds
+pub mod PlayerLemmas
+pub mod ServedLemmas
 pub mod PlayLemmas
-pub mod DatagramLemmas
 pub mod OpenedLemmas
-pub mod StoredLemmas
 pub mod ArrivalLemmas
-pub mod RefusingLemmas
-pub mod RepeatedLemmas
 pub mod TermsKept
 pub mod RepeatingLemmas
 pub mod AskingLemmas

@@ -30,7 +30,7 @@ use Rattle.tftp_player.specs.WorldSteps.{FilesAfter, OpeningStep, ServiceStep, T
 use Rattle.tftp_player.specs.declared.datagram.Datagram.{Datagram}
 use Rattle.tftp_player.specs.declared.event.Event.TheVariants.{Deliver, Timeout}
 use Rattle.tftp_player.specs.declared.report.Report.{Report}
-use Rattle.tftp_player.proofs.EndsByPort.{transfers-set}
+use Rattle.tftp_player.proofs.HostEnds.{transfers-set}
 use Rattle.tftp_player.proofs.ErrorsKnown.{length_set}
 use Rattle.tftp_player.proofs.LossyCounts.{active, left_of}
 use Rattle.tftp_player.proofs.LossyPairs.{Transfer, server}

@@ -1,5 +1,5 @@
 -- The datagram of a turn fits the capacity that was reserved before it. For `Client::on_datagram` and
--- ServerEndLemmas.
+-- ServedLemmas.
 use Rattle.std.proofs.Common.{◌≡◌, ◌≤◌, ℕ, Bool, true, false, List, [], ◌∷◌, length, Option, Some, None, Result, Ok}
 use Rattle.std.proofs.Common.{Err, refl, sym, ap, subst, arith}
 use Rattle.std.specs.Prelude.{◌==◌, ◌+◌, ◌/◌, ◌*◌, max, nat_lt, nat_le, is_none, is_some, option_map, ◌&&◌}

@@ -1,5 +1,5 @@
 -- What the server's request port did is what the world has of it, for a store in memory. For four other files.
-use Rattle.std.proofs.Common.{◌≡◌, ◌≢◌, ℕ, ◌*◌, ◌<◌, Bool, true, false, List, [], ◌∷◌, length, get_or, take, drop, min}
+use Rattle.std.proofs.Common.{◌≡◌, ◌≢◌, ℕ, ◌*◌, ◌<◌, Bool, cond, true, false, List, [], ◌∷◌, length, get_or, take, drop, min}
 use Rattle.std.proofs.Common.{Option, Some, None, Result, Ok, Err, refl, sym, ap, ◌∙◌, subst, arith, inl, inr}
 use Rattle.std.specs.Prelude.{◌&&◌, not, is_some, IfErr, if◌then◌else◌, nat_lt}
 use Rattle.std.proofs.lemmas.Bool.{true≢false, ltb-true, eq-eqb}
@@ -28,27 +28,33 @@ use Rattle.tftp_file.specs.declared.fault.FileFault.{FileFault}
 use Rattle.tftp_file.specs.declared.fault.FileFault.TheVariants as file_faults
 use Rattle.tftp_file.specs.declared.fault.StoreFault.{StoreFault}
 use Rattle.tftp_file.specs.declared.fault.StoreFault.TheVariants as store_faults
+use Rattle.tftp_file.specs.declared.files.Files.{Files}
 use Rattle.tftp_file.specs.declared.files.Files.TheVariants.{Source, Sink}
 use Rattle.tftp_ends.specs.declared.error_reply.ErrorReply.{ErrorReply}
 use Rattle.tftp_ends.specs.declared.error_reply.ErrorReply.TheVariants.{FileExists, FileNotFound, FileTooLarge}
-use Rattle.tftp_ends.specs.End.{EndState}
+use Rattle.tftp_ends.specs.End.{EndState, is_sender}
 use Rattle.tftp_ends.specs.Opening.{ServesRead, serving_read, serving_write}
 use Rattle.tftp_ends.specs.Action.{Decodes}
-use Rattle.tftp_ends.specs.Step.{block_length, result_count_is}
-use Rattle.tftp_server.specs.Request.{Came, Nothing, Error_reply, A_transfer, Goes, Left, RequestStep, Sent, Taken}
+use Rattle.tftp_ends.specs.Step.{block_length, error_bytes, result_count_is}
+use Rattle.tftp_server.specs.Request.{Came, Nothing, Error_reply, A_transfer, Goes, Left, Sent, Taken}
 use Rattle.tftp_server.specs.Request.{left_by, opened_length}
+use Rattle.tftp_server.specs.State.{at, with_new, without}
 use Rattle.tftp_store.specs.Memory.{MayRefuseBegin, MayRefuseOpen, memory_meaning}
 use Rattle.tftp_store.specs.Store.{Stored, Drafted, Opens, Begins, is_taken, measured, new_draft}
 use Rattle.tftp_store.specs.declared.store.Opening.{Opening}
 use Rattle.tftp_rules.specs.Machine.{Endpoint}
 use Rattle.tftp_rules.specs.OpenEnds.{OpenEnd}
+use Rattle.tftp_rules.proofs.Entries.{at_same, lookup-insert_same, numbers}
 use Rattle.tftp_rules.proofs.WaitingMoves.{agreed_size}
 use Rattle.tftp_player.specs.World.{WorldState, StoredFile, file_at, in_the_way}
 use Rattle.tftp_player.specs.Openings.{sending_end, receiving_end}
 use Rattle.tftp_server.specs.Port.{Ask, Ignores, Refuses, Reads, Writes, Service, Silent, Refused, Sends, Takes}
 use Rattle.tftp_server.specs.Port.{accept_reply, asks, by_draft, by_file, by_length}
 use Rattle.tftp_player.specs.Requests.{begun_of, open_transfers, opened_of, served, service}
-use Rattle.tftp_player.specs.ServerEnd.{PlayedServer, ServerTransfer}
+use Rattle.tftp_player.specs.ServerEnd.{PlayedServer, ServerTransfer, file_sent}
+use Rattle.tftp_player.specs.Answer.{AnswerOpens, AnswerSends, AnswersAs, IsServerOf, opening_end, released_end}
+use Rattle.tftp_player.specs.declared.ends.asking.Answer.{Answer}
+use Rattle.tftp_player.specs.declared.server_end.ServerEnd.{ServerEnd}
 use Rattle.tftp_player.proofs.WorldKeeps.{answered_values}
 use Rattle.tftp_player.proofs.Measured.{measured_whole}
 
@@ -152,7 +158,7 @@ PortLeft = Left Stored (List ℕ) Drafted
 abbrev pub PortCame : Type 0
 PortCame = Came Stored (List ℕ) Drafted
 
-abbrev port_left : PortCame → PortAsking → PortLeft
+abbrev pub port_left : PortCame → PortAsking → PortLeft
 port_left came asking = left_by came asking.old asking.from asking.tid
 
 -- the port did what the world's service is
@@ -168,15 +174,6 @@ PortDid w (Takes path mode agreed) asking result =
     result
     ≡ port_left
     (A_transfer (held_receiver (receiving_end w asking.from asking.bytes mode path agreed)) asking.old.store) asking
-
--- the server's configuration, its files and the number of its transfers are the world's
-pub record IsServerOf (w : WorldState) (server : PlayedServer) : Type 0 where
-  pub files : server.store.files ≡ w.files
-  pub limits : server.config.limits ≡ w.limits
-  pub retries : server.config.retries ≡ w.retries
-  pub cap : server.config.cap ≡ w.cap
-  pub overwrite : server.config.overwrite ≡ w.overwrite
-  pub count : length server.held ≡ open_transfers w.ends
 
 module _ (w : WorldState) (asking : PortAsking) (came : PortCame) (s : IsServerOf w asking.old)
     (max : IsBlockSize w.limits.max_block) where
@@ -327,7 +324,7 @@ module _ (w : WorldState) (asking : PortAsking) (came : PortCame) (s : IsServerO
       ∙ ap (λ (files : List StoredFile). is_some (in_the_way w.overwrite (file_at files path))) s.files)
 
   -- the port's request of its store has the result that it has in the world
-  port_did : (ask : Ask) → Goes memory_meaning memory_source asking.old asking.from asking.bytes ask came →
+  pub port_did : (ask : Ask) → Goes memory_meaning memory_source asking.old asking.from asking.bytes ask came →
       Did (served w ask)
   port_did Ignores h = ap (λ (c : PortCame). port_left c asking) h
   port_did (Refuses reply) h = refused reply h
@@ -337,23 +334,124 @@ module _ (w : WorldState) (asking : PortAsking) (came : PortCame) (s : IsServerO
       by_begun path mode agreed h.store h.draft (in_the_way w.overwrite (file_at w.files path)) (is_in_the_way path)
       h.begins h.refused h.goes_on
 
--- the port's step at a datagram is that of the world's server
+-- what the port decided by these tests, and carried out, is what the world's server does
 pub request_did :
-    (w : WorldState) (asking : PortAsking) (result : PortLeft) (s : IsServerOf w asking.old)
-    (max : IsBlockSize w.limits.max_block) (decoded : Option Packet) → Decodes asking.bytes decoded →
-    (h : RequestStep memory_meaning memory_source asking.old asking.from asking.bytes asking.tid result) →
-    PortDid w (service w h.repeated asking.bytes decoded) asking result
-request_did w asking result s max decoded says h =
+    (w : WorldState) (asking : PortAsking) (came : PortCame) (s : IsServerOf w asking.old)
+    (max : IsBlockSize w.limits.max_block) (count : ℕ) (repeated : Bool) (ask : Ask) (said decoded : Option Packet) →
+    count ≡ open_transfers w.ends → Decodes asking.bytes said → Decodes asking.bytes decoded →
+    ask ≡ asks asking.old.config.cap count repeated asking.old.config.limits asking.bytes said →
+    Goes memory_meaning memory_source asking.old asking.from asking.bytes ask came →
+    PortDid w (service w repeated asking.bytes decoded) asking (port_left came asking)
+request_did w asking came s max count repeated ask said decoded counts says spells is goes =
     let bytes = asking.bytes in
-    let repeated = h.repeated in
-    let same : asks asking.old.config.cap (length asking.old.held) repeated asking.old.config.limits bytes h.decoded
-    ≡ asks w.cap (open_transfers w.ends) repeated w.limits bytes decoded =
-    ap (λ (p : Option Packet).
-    asks asking.old.config.cap (length asking.old.held) repeated asking.old.config.limits bytes p)
-    (says_one bytes h.decoded decoded h.says says)
-    ∙ (ap (λ (n : ℕ). asks n (length asking.old.held) repeated asking.old.config.limits bytes decoded) s.cap
-    ∙ (ap (λ (n : ℕ). asks w.cap n repeated asking.old.config.limits bytes decoded) s.count
-    ∙ ap (λ (l : Limits). asks w.cap (open_transfers w.ends) repeated l bytes decoded) s.limits)) in
-    subst (λ (r : PortLeft). PortDid w (service w repeated bytes decoded) asking r) (sym h.left)
-    (port_did w asking h.came s max (asks w.cap (open_transfers w.ends) repeated w.limits bytes decoded)
-    (subst (λ (a : Ask). Goes memory_meaning memory_source asking.old asking.from asking.bytes a h.came) same h.goes))
+    let same : ask ≡ asks w.cap (open_transfers w.ends) repeated w.limits bytes decoded =
+    is
+    ∙ (ap (λ (p : Option Packet). asks asking.old.config.cap count repeated asking.old.config.limits bytes p)
+    (says_one bytes said decoded says spells)
+    ∙ (ap (λ (n : ℕ). asks n count repeated asking.old.config.limits bytes decoded) s.cap
+    ∙ (ap (λ (n : ℕ). asks w.cap n repeated asking.old.config.limits bytes decoded) counts
+    ∙ ap (λ (l : Limits). asks w.cap (open_transfers w.ends) repeated l bytes decoded) s.limits))) in
+    port_did w asking came s max (asks w.cap (open_transfers w.ends) repeated w.limits bytes decoded)
+    (subst (λ (a : Ask). Goes memory_meaning memory_source asking.old asking.from asking.bytes a came) same goes)
+
+-- ---- what is released of it
+-- the end of the transfer that was released, if one was
+abbrev pub released : Option ServerTransfer → List StoredFile → Option ServerEnd
+released None files = None
+released (Some transfer) files = Some (released_end transfer files)
+
+sends_file :
+    (w : WorldState) (from : Endpoint) (bytes : List ℕ) (mode : Mode) (path file : List ℕ) (agreed : List Known) →
+    is_sender (sending_end w from bytes mode path file agreed).state.role.side ≡ true
+sends_file w from bytes mode path file [] = refl
+sends_file w from bytes mode path file (known ∷ agreed) = refl
+
+stores_file :
+    (w : WorldState) (from : Endpoint) (bytes : List ℕ) (mode : Mode) (path : List ℕ) (agreed : List Known) →
+    is_sender (receiving_end w from bytes mode path agreed).state.role.side ≡ false
+stores_file w from bytes mode path [] = refl
+stores_file w from bytes mode path (known ∷ agreed) = refl
+
+module _ (w : WorldState) (asking : PortAsking) (result : PortLeft) (empty : asking.old.held ≡ []) where
+  abbrev own : ℕ
+  own = asking.tid
+
+  -- a new transfer is the only one
+  one_found : (h : ServerTransfer) → at own (with_new own h asking.old.held) ≡ Some h
+  one_found h = lookup-insert_same numbers own h asking.old.held
+
+  none_left : (h : ServerTransfer) → without own (with_new own h asking.old.held) ≡ asking.old.held
+  none_left h =
+      ap (λ (hs : List (ℕ × ServerTransfer)). without own (with_new own h hs)) empty
+      ∙ (ap (λ (b : Bool). cond b [] ((own, h) ∷ [])) (at_same numbers own own refl) ∙ sym empty)
+
+  nothing_left : without own asking.old.held ≡ asking.old.held
+  nothing_left = ap (without own) empty ∙ sym empty
+
+  abbrev Left_as : PortLeft → Type 0
+  Left_as r = record r.new { held = without own r.new.held } ≡ asking.old
+
+  -- after the release the server is as it was
+  pub port_returns : (what : Service) → PortDid w what asking result → Left_as result
+  port_returns Silent h =
+      subst Left_as (sym h) (ap (λ (hs : List (ℕ × ServerTransfer)). record asking.old { held = hs }) nothing_left)
+  port_returns (Refused reply) h =
+      subst Left_as (sym h) (ap (λ (hs : List (ℕ × ServerTransfer)). record asking.old { held = hs }) nothing_left)
+  port_returns (Sends path mode count agreed) h =
+      subst Left_as (sym h.2)
+      (ap (λ (hs : List (ℕ × ServerTransfer)). record asking.old { held = hs })
+      (none_left (held_sender (sending_end w asking.from asking.bytes mode path h.0 agreed))))
+  port_returns (Takes path mode agreed) h =
+      subst Left_as (sym h)
+      (ap (λ (hs : List (ℕ × ServerTransfer)). record asking.old { held = hs })
+      (none_left (held_receiver (receiving_end w asking.from asking.bytes mode path agreed))))
+
+  module _ (answer : Answer) (to : answer.to ≡ result.opened.to) (bytes : answer.bytes.items ≡ result.sent)
+      (opened : answer.opened ≡ released (at own result.new.held) w.files) where
+    sends_so : (reply : Option Endpoint) (sent : List ℕ) → result.opened.to ≡ reply → result.sent ≡ sent →
+        result.new.held ≡ asking.old.held → AnswerSends reply sent answer
+    sends_so reply sent a b c = record {
+      to = to ∙ a;
+      bytes = bytes ∙ b;
+      opened =
+          opened ∙ ap (λ (hs : List (ℕ × ServerTransfer)). released (at own hs) w.files) (c ∙ empty);
+    }
+
+    opens_so : (x : OpenEnd) (h : ServerTransfer) (files : Files (List ℕ) Drafted) →
+        result ≡ port_left (A_transfer h asking.old.store) asking → h ≡ (opening_end x files).transfer →
+        file_sent (is_sender x.state.role.side) (file_at w.files x.path) ≡ x.file →
+        AnswerOpens x files asking.from answer
+    opens_so x h files is same file = record {
+      to = to ∙ ap (λ (r : PortLeft). r.opened.to) is;
+      bytes = bytes ∙ (ap (λ (r : PortLeft). r.sent) is
+          ∙ ap (λ (t : ServerTransfer). t.end.position.last_sent) same);
+      opened =
+          opened
+          ∙ (ap (λ (r : PortLeft). released (at own r.new.held) w.files) is
+          ∙ (ap (λ (o : Option ServerTransfer). released o w.files) (one_found h)
+          ∙ (ap (λ (t : ServerTransfer). Some (released_end t w.files)) same
+          ∙ ap (λ (f : List ℕ). Some (record (opening_end x files) { file = f })) file)));
+    }
+
+    -- and the answer is that of the world's server
+    pub port_answers : (what : Service) → PortDid w what asking result → AnswersAs what w asking.from asking.bytes answer
+    port_answers Silent h =
+        sends_so None [] (ap (λ (r : PortLeft). r.opened.to) h) (ap (λ (r : PortLeft). r.sent) h)
+        (ap (λ (r : PortLeft). r.new.held) h)
+    port_answers (Refused reply) h =
+        sends_so (Some asking.from) (error_bytes reply) (ap (λ (r : PortLeft). r.opened.to) h)
+        (ap (λ (r : PortLeft). r.sent) h) (ap (λ (r : PortLeft). r.new.held) h)
+    port_answers (Sends path mode count agreed) h =
+        let x = sending_end w asking.from asking.bytes mode path h.0 agreed in (
+          h.0,
+          h.1,
+          opens_so x (held_sender x) (Source x.left) h.2 refl
+              (ap (λ (b : Bool). file_sent b (file_at w.files path))
+              (sends_file w asking.from asking.bytes mode path h.0 agreed)
+              ∙ ap (file_sent true) h.1),
+        )
+    port_answers (Takes path mode agreed) h =
+        let x = receiving_end w asking.from asking.bytes mode path agreed in
+        opens_so x (held_receiver x) (Sink new_draft) h refl
+        (ap (λ (b : Bool). file_sent b (file_at w.files path))
+        (stores_file w asking.from asking.bytes mode path agreed))

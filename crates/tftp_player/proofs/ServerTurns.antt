@@ -1,5 +1,4 @@
--- A turn of a transfer that the server holds, in the words of the world's ends. For DatagramLemmas, DraftLemmas and
--- StepLemmas.
+-- A turn of a transfer, in the words of the world's ends. For DraftLemmas, ServedLemmas and StepLemmas.
 use Rattle.std.proofs.Common.{◌≡◌, ℕ, Bool, true, false, List, refl, sym, ap, ◌∙◌, subst, inl, inr}
 use Rattle.std.specs.Prelude.{◌&&◌, not, if◌then◌else◌}
 use Rattle.std.proofs.lemmas.Option.{same_Some}
@@ -22,7 +21,6 @@ use Rattle.tftp_rules.specs.OpenEnds.{OpenEnd, holding_of, files_of, with_files,
 use Rattle.tftp_player.specs.World.{StoredFile, file_at, in_the_way}
 use Rattle.tftp_player.specs.WorldSteps.{EndStep, may_refuse_append, may_refuse_commit, FilesAfter, world_sink}
 use Rattle.tftp_player.proofs.FileLemmas.{not_taken, is_in_the_way}
-use Rattle.tftp_player.proofs.SimulationLemmas.{held_files}
 
 -- ---- an end that commits nothing changes no file
 none_new : (b : Bool) → (not b && b) ≡ false
@@ -114,6 +112,11 @@ sources = record {
   must = λ s want. (λ h. h, λ h. h);
   gives = λ s s' piece gave. gave;
 }
+
+-- the files of a transfer, as its end in the world has them
+abbrev pub held_files : Bool → Files (List ℕ) Drafted → Files (List ℕ) Holding
+held_files refuses (Source left) = Source left
+held_files refuses (Sink draft) = Sink (record { bytes = draft.bytes; committed = draft.committed; refuses = refuses })
 
 -- a step of the transfer is a step of the end
 module _ (from : Endpoint) (bytes : List ℕ) (e : EndState) (store store' : Stored) (path path' : List ℕ)

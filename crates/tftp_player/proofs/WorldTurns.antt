@@ -133,9 +133,9 @@ ports_set w k x y ports at same j z i = elim (slice_get-set_cases w.ends k j y z
 ]
 
 -- so has an end that opens at the next port
-ports_push : (w : WorldState) (x : OpenEnd) → HasPorts w → x.address.port ≡ 1024 + length w.ends →
-    HasPorts (record w { ends = w.ends ++ Open_end x ∷ [] })
-ports_push w x ports port j z i = elim (slice_get-push_cases w.ends j (Open_end x) z i) [
+pub ports_push : (w : WorldState) (x : WorldEnd) → HasPorts w → (end_address x).port ≡ 1024 + length w.ends →
+    HasPorts (record w { ends = w.ends ++ x ∷ [] })
+ports_push w x ports port j z i = elim (slice_get-push_cases w.ends j x z i) [
   | inl h ↦ ports j z h
   | inr h ↦ ap (λ (u : WorldEnd). (end_address u).port) h.1 ∙ (port ∙ ap (λ (n : ℕ). 1024 + n) (sym h.0))
 ]
@@ -397,7 +397,7 @@ opening_keeps first strangers w v ok x report p spells shown own port still kept
             sent = sent_then first strangers w ok x.address own reply (m ∷ []) r;
             only = only_then first strangers w ok x.address own reply (m ∷ []) r;
             speakers = speakers_then first strangers w ok x.address own reply (m ∷ []) r;
-            ports = ports_push w x ok.ports port;
+            ports = ports_push w (Open_end x) ok.ports port;
             max_block = ok.max_block;
             ends = λ j z i. elim (slice_get-push_cases w.ends j (Open_end x) z i) [
               | inl h ↦

@@ -6,11 +6,10 @@ use Rattle.tftp_rules.specs.Machine.{Endpoint}
 use Rattle.tftp_rules.specs.Machine.{Elsewhere as Far}
 use Rattle.tftp_player.specs.ServerEnd.{PlayedServer}
 use Rattle.tftp_player.specs.Simulation.{world_of}
-use Rattle.tftp_player.specs.World.{WorldState}
+use Rattle.tftp_player.specs.World.{WorldState, WorldEnd}
 use Rattle.tftp_player.specs.WorldSteps.{Delivery, LacksPort}
 use Rattle.tftp_player.specs.declared.datagram.Datagram.{Datagram}
 use Rattle.tftp_player.specs.declared.effect.Effect.{Effect}
-use Rattle.tftp_player.specs.declared.player.Player.{Player}
 use Rattle.tftp_player.specs.declared.event.Event.{Event}
 use Rattle.tftp_player.specs.declared.event.Event.TheVariants.{Stray}
 use Rattle.tftp_player.specs.declared.fault.WorldFault.{WorldFault}
@@ -22,32 +21,29 @@ ArrivalRefuses w to NoPort = LacksPort w to
 ArrivalRefuses w to Memory = LacksPort w to → ⊥
 ArrivalRefuses w to fault = ⊥
 
--- the result of a datagram at the request port, for every list of sent datagrams
-abbrev pub EndsAsk : Endpoint → List ℕ → PlayedServer → PlayedServer → List Player → List Player
-    → Effect → Type 0
-EndsAsk from bytes before after players players' effect =
-    (sent : List Datagram)
-    → Delivery (world_of before.config sent before players) from request_port bytes
-    (report_by sent effect)
-    (world_of before.config (sent ++ said_by effect.from effect.to effect.bytes) after players')
-
 -- the result of a datagram, for every list of sent datagrams
-abbrev pub EndsDelivery : Endpoint → Endpoint → List ℕ → PlayedServer → PlayedServer → List Player
-    → List Player → Effect → Type 0
-EndsDelivery from to bytes before after players players' effect =
+abbrev pub EndsDelivery : Endpoint → Endpoint → List ℕ → PlayedServer → PlayedServer
+    → List WorldEnd → List WorldEnd → Effect → Type 0
+EndsDelivery from to bytes before after ends ends' effect =
     (sent : List Datagram)
-    → Delivery (world_of before.config sent before players) from to bytes (report_by sent effect)
-    (world_of before.config (sent ++ said_by effect.from effect.to effect.bytes) after players')
+    → Delivery (world_of before.config sent before ends) from to bytes (report_by sent effect)
+    (world_of before.config (sent ++ said_by effect.from effect.to effect.bytes) after ends')
+
+-- the result of a datagram at the request port, for every list of sent datagrams
+abbrev pub EndsAsk : Endpoint → List ℕ → PlayedServer → PlayedServer → List WorldEnd
+    → List WorldEnd → Effect → Type 0
+EndsAsk from bytes before after ends ends' effect =
+    EndsDelivery from request_port bytes before after ends ends' effect
 
 -- no port is left for an end that the datagram could open
-abbrev pub EndsLackPort : Endpoint → List Player → Type 0
-EndsLackPort to players = (to ≡ request_port) × (65535 < 1024 + length players)
+abbrev pub EndsLackPort : Endpoint → List WorldEnd → Type 0
+EndsLackPort to ends = (to ≡ request_port) × (65535 < 1024 + length ends)
 
 -- why it is refused
-abbrev pub EndsRefuse : Endpoint → List Player → WorldFault → Type 0
-EndsRefuse to players NoPort = EndsLackPort to players
-EndsRefuse to players Memory = EndsLackPort to players → ⊥
-EndsRefuse to players fault = ⊥
+abbrev pub EndsRefuse : Endpoint → List WorldEnd → WorldFault → Type 0
+EndsRefuse to ends NoPort = EndsLackPort to ends
+EndsRefuse to ends Memory = EndsLackPort to ends → ⊥
+EndsRefuse to ends fault = ⊥
 
 -- the event can be played: the sender of a stray is at neither host
 abbrev pub IsPlayable : Event → Type 0

@@ -10,8 +10,7 @@ use Rattle.tftp_file.specs.declared.files.Files.TheVariants.{Source, Sink}
 use Rattle.tftp_file.specs.Sink.{Holding}
 use Rattle.tftp_ends.specs.declared.fault.OpenFault.{OpenFault}
 use Rattle.tftp_ends.specs.declared.fault.OpenFault.TheVariants as opening
-use Rattle.tftp_ends.specs.declared.record.Record.{Record}
-use Rattle.tftp_ends.specs.End.{EndState, record_of, outcome_of}
+use Rattle.tftp_ends.specs.End.{EndState, outcome_of}
 use Rattle.tftp_ends.specs.Files.{AreSame}
 use Rattle.tftp_ends.specs.Opening.{request_of}
 use Rattle.tftp_ends.specs.Step.{Turn, after_turn}
@@ -47,18 +46,17 @@ holding_in (Sink holding) = holding
 
 -- a client made this step; `files` is its file after it
 pub record ClientTurns (port : ℕ) (old new : PlayedClient) (turn : Turn)
-    (files : Files (List ℕ) Holding) (effect : Effect) (r : Record) : Type 0 where
+    (files : Files (List ℕ) Holding) (effect : Effect) : Type 0 where
   pub effects : effect ≡ effect_of (client_at port) turn
-  pub recorded : r ≡ record_of (after_turn old.end turn)
   pub client : new ≡ record old { end = after_turn old.end turn; files = files }
 
 -- a client handled a datagram
 pub record ClientDatagramStep (port : ℕ) (from : Endpoint) (bytes : List ℕ) (old new : PlayedClient)
-    (effect : Effect) (r : Record) : Type 0 where
+    (effect : Effect) : Type 0 where
   pub turn : Turn
   pub steps : EndStep true None from bytes old.end old.files turn new.files
   pub kind : AreSame (λ (a b : List ℕ). ⊤) (λ (a b : Holding). ⊤) old.files new.files
-  pub turns : ClientTurns port old new turn new.files effect r
+  pub turns : ClientTurns port old new turn new.files effect
 
 -- a client that has sent a read request
 abbrev pub asking_client : EndState → PlayedClient

@@ -12,9 +12,10 @@ pub mod Effect
 pub mod Room
 pub mod Clients
 pub mod ServerEnd
-pub mod Requested
 pub mod Played
+pub mod EndSteps
 pub mod Simulation
+pub mod Answer
 pub mod Arriving
 pub mod Settling
 pub mod Strangers

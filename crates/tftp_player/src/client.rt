@@ -159,10 +159,10 @@ impl Client {
         port: u16,
         from: Endpoint,
         bytes: &[u8],
-    ) -> Result<(Effect, Record), WorldFault>
+    ) -> Result<Effect, WorldFault>
         requires { is_some (outcome_of self.old.end.position.phase) ≡ false }
-        ensures steps { IfOk result (λ r.
-            ClientDatagramStep port from bytes.now self.old self.new r.0 r.1) }
+        ensures steps { IfOk result
+            (ClientDatagramStep port from bytes.now self.old self.new) }
         ensures memory { IfErr result (λ fault. fault ≡ WorldFault.Memory) }
         ensures err { OnErr result (self.new ≡ self.old) }
     {
@@ -173,7 +173,7 @@ impl Client {
         match self.end.handle_datagram(&mut self.files, from, bytes) {
             Ok((step, outgoing)) => {
                 let out = copied(out, self.end.bytes_of(outgoing));
-                Ok((effect_of(client_at(port), step, out), self.end.record()))
+                Ok(effect_of(client_at(port), step, out))
             }
             Err(EndFault::Memory) => Err(WorldFault::Memory),
             Err(EndFault::Closed) => unreachable!(),
@@ -181,14 +181,10 @@ impl Client {
     }
 
     /// Handles a timeout, while it is open.
-    pub(crate) fn on_timeout(
-        &mut self,
-        alloc: Global,
-        port: u16,
-    ) -> Result<(Effect, Record), WorldFault>
+    pub(crate) fn on_timeout(&mut self, alloc: Global, port: u16) -> Result<Effect, WorldFault>
         requires { is_some (outcome_of self.old.end.position.phase) ≡ false }
-        ensures turns { IfOk result (λ r.
-            ClientTurns port self.old self.new (timeout_turn self.old.end) self.old.files r.0 r.1) }
+        ensures turns { IfOk result (ClientTurns port self.old self.new
+            (timeout_turn self.old.end) self.old.files) }
         ensures memory { IfErr result (λ fault. fault ≡ WorldFault.Memory) }
         ensures err { OnErr result (self.new ≡ self.old) }
     {
@@ -198,7 +194,7 @@ impl Client {
         match self.end.handle_timeout() {
             Ok((step, outgoing)) => {
                 let out = copied(out, self.end.bytes_of(outgoing));
-                Ok((effect_of(client_at(port), step, out), self.end.record()))
+                Ok(effect_of(client_at(port), step, out))
             }
             Err(_) => unreachable!(),
         }

@@ -1,24 +1,25 @@
-//! The ends of a world, and the server that plays some of them.
+//! The ends of a world, and the server that they ask.
 
 mod arriving;
+mod asking;
 
-ghost use Rattle.std.specs.Prelude.{◌≡◌, ◌<◌, ◌+◌, ◌++◌, ◌∷◌, [], true, length, slice_get, ◌≤◌};
+ghost use Rattle.std.specs.Prelude.{◌≡◌, ◌<◌, ◌+◌, ◌++◌, ◌∷◌, [], true, length, ◌≤◌};
 ghost use Rattle.std.specs.Prelude.{◌⊎◌, IfSome, IfNone, IfOk, IfErr, OnOk, OnErr};
 ghost use Rattle.tftp_ends.specs.End.{is_client};
-ghost use Rattle.tftp_player.specs.Simulation.{AreConsistent, AreAsBefore, EndsTimeoutStep};
-ghost use Rattle.tftp_player.specs.Simulation.{ends_of};
-ghost use Rattle.tftp_player.specs.Simulation.{record_closed};
-ghost use Rattle.tftp_player.specs.declared.player.Player.TheVariants as players;
+ghost use Rattle.tftp_player.specs.Played.{client_end};
+ghost use Rattle.tftp_player.specs.Simulation.{AreConsistent, AreAsBefore, EndsTimeOut};
+ghost use Rattle.tftp_player.specs.World.{standing};
 
 use crate::client::Client;
-use crate::effect::{Effect, no_effect};
+use crate::effect::Effect;
 use crate::fault::WorldFault;
 use crate::player::Player;
 use std::alloc::Global;
 use tftp_ends::Record;
 use tftp_server::{MemStore, Server};
 
-/// The server, every end that was opened, and the record of each.
+/// The server, every end that was opened, and the record of each. The server holds no transfer:
+/// each is with its end.
 #[derive(Drop)]
 pub(crate) struct Ends {
     pub(crate) alloc: Global,
@@ -65,10 +66,10 @@ impl Ends {
     /// Adds a client at the next port.
     pub(crate) fn enter(&mut self, port: u16, client: Client) -> Result<(), WorldFault>
         requires consistent { AreConsistent self.old }
-        requires port { port ≡ 1024 + length (ends_of self.old.server self.old.players.items) }
+        requires port { port ≡ 1024 + length self.old.players.items }
         requires client { is_client client.end.role.side ≡ true }
         ensures enters { OnOk result (self.new.players.items
-            ≡ self.old.players.items ++ players.Client client ∷ []) }
+            ≡ self.old.players.items ++ standing (client_end port client) ∷ []) }
         ensures consistent { AreConsistent self.new }
         ensures server { self.new.server ≡ self.old.server }
         ensures memory { IfErr result (λ fault. fault ≡ WorldFault.Memory) }
@@ -80,8 +81,9 @@ impl Ends {
         let Ok(()) = self.records.reserve(1) else {
             return Err(WorldFault::Memory);
         };
-        self.records.push_reserved((port, client.record()));
-        self.players.push_reserved(Player::Client(client));
+        let player = Player::of_client(port, client);
+        self.records.push_reserved((port, player.record()));
+        self.players.push_reserved(player);
         Ok(())
     }
 
@@ -89,33 +91,20 @@ impl Ends {
     pub(crate) fn on_timeout(&mut self, index: usize, port: u16) -> Result<Effect, WorldFault>
         requires consistent { AreConsistent self.old }
         requires index { (index < length self.old.players.items) × (port ≡ 1024 + index) }
-        ensures times_out { IfOk result (λ effect.
-            EndsTimeoutStep index self.old.server self.new.server self.old.players.items
-            self.new.players.items effect) }
+        ensures times_out { IfOk result (EndsTimeOut index self.old.players.items
+            self.new.players.items) }
         ensures consistent { AreConsistent self.new }
+        ensures server { self.new.server ≡ self.old.server }
         ensures memory { IfErr result (λ fault. fault ≡ WorldFault.Memory) }
         ensures err { OnErr result (AreAsBefore self.old self.new) }
     {
         let player = &mut self.players[index];
-        if is_recorded_closed(&self.records, index) {
-            return Ok(no_effect(self.alloc, player.address(port)));
-        }
-        match player.on_timeout(self.alloc, &mut self.server, port) {
-            Ok((effect, record)) => {
-                self.records[index] = (port, record);
+        match player.on_timeout(self.alloc) {
+            Ok(effect) => {
+                self.records[index] = (port, player.record());
                 Ok(effect)
             }
             Err(fault) => Err(fault),
         }
-    }
-}
-
-/// Whether the record at this index is that of a closed end.
-pub(crate) fn is_recorded_closed(records: &Vec<(u16, Record)>, index: usize) -> bool
-    ensures { result ≡ record_closed (slice_get records.now.items index) }
-{
-    match records.get(index) {
-        Some((_, record)) => record.outcome.is_some(),
-        None => true,
     }
 }

@@ -15,6 +15,7 @@ mod event;
 mod fault;
 mod hosts;
 pub mod laws;
+mod played_end;
 mod player;
 mod random;
 mod report;

@@ -1,110 +1,140 @@
-//! An end of a world, a client or the server's.
+//! An end of a world at its port.
 
-ghost use Rattle.std.specs.Prelude.{◌≡◌, false, option_map, IfOk, IfErr, OnErr};
-ghost use Rattle.tftp_player.specs.Played.{PlayerKept, PlayerTimeoutStep, PlayerDatagramStep};
-ghost use Rattle.tftp_player.specs.Played.{has_ended, address_of, armed_player, stored_of};
-ghost use Rattle.tftp_player.specs.Played.{committed_of};
+ghost use Rattle.std.specs.Prelude.{◌≡◌, ◌↔◌, false, true, option_map, IfOk, IfErr, IsTrue, OnErr};
+ghost use Rattle.tftp_ends.specs.End.{is_client};
+ghost use Rattle.tftp_wire.specs.Borrowed.{owned};
+ghost use Rattle.tftp_player.specs.EndSteps.{EndTimesOut, EndTakes};
+ghost use Rattle.tftp_player.specs.Played.{client_end, served_end};
+ghost use Rattle.tftp_player.specs.Requests.{is_transfer, Repeats};
+ghost use Rattle.tftp_player.specs.ServerEnd.{ServerEndKept};
+ghost use Rattle.tftp_player.specs.Simulation.{stored_in};
+ghost use Rattle.tftp_player.specs.World.{end_address, end_committed, end_record, standing};
+ghost use Rattle.tftp_player.specs.WorldSteps.{armed_end};
 
 use crate::client::Client;
 use crate::effect::Effect;
 use crate::fault::WorldFault;
-use crate::hosts::{client_at, server_at};
+use crate::played_end::PlayedEnd;
 use crate::server_end::ServerEnd;
 use std::alloc::Global;
+use std::marker::Model;
 use tftp_ends::{Endpoint, Record};
 use tftp_server::{MemStore, Server};
+use tftp_wire::PacketRef;
 
-/// An end that was opened.
+/// An end that was opened. Its model is the end of the world.
 #[derive(Drop)]
-pub(crate) enum Player {
-    /// A client, which is played here.
-    Client(Client),
-    /// A server's end, which the server plays while it is open.
-    Server(ServerEnd),
+pub(crate) struct Player {
+    port: u16,
+    end: PlayedEnd,
+}
+
+impl Model for Player {
+    ghost use Rattle.tftp_player.specs.World.{WorldEnd};
+    ghost use Rattle.tftp_player.specs.Played.{stands, IsPlayed};
+
+    ghost Value = { WorldEnd };
+
+    ghost view = { λ p. stands p.port p.end };
+
+    ghost invariant = { λ p. IsPlayed p.end };
 }
 
 impl Player {
-    pub(crate) fn address(&self, port: u16) -> Endpoint
-        ensures { result ≡ address_of port self.now }
+    /// A client at this port.
+    pub(crate) fn of_client(port: u16, client: Client) -> Player
+        requires { is_client client.end.role.side ≡ true }
+        ensures { result ≡ standing (client_end port client) }
     {
-        match self {
-            Player::Client(_) => client_at(port),
-            Player::Server(_) => server_at(port),
+        Player {
+            port,
+            end: PlayedEnd::Client(client),
         }
     }
 
-    /// Handles a timeout, while it is open.
-    pub(crate) fn on_timeout(
-        &mut self,
-        alloc: Global,
-        server: &mut Server<MemStore>,
-        port: u16,
-    ) -> Result<(Effect, Record), WorldFault>
-        requires kept { PlayerKept port server.old.held self.old }
-        requires open { has_ended self.old ≡ false }
-        ensures turns { IfOk result (λ r.
-            PlayerTimeoutStep port self.old self.new server.old server.new r.0 r.1) }
+    /// An end of the server at this port.
+    pub(crate) fn of_server(port: u16, served: ServerEnd) -> Player
+        requires { ServerEndKept served }
+        ensures { result ≡ standing (served_end port served) }
+    {
+        Player {
+            port,
+            end: PlayedEnd::Server(served),
+        }
+    }
+
+    pub(crate) fn record(&self) -> Record
+        ensures { result ≡ end_record self.now }
+    {
+        self.end.record()
+    }
+
+    pub(crate) fn address(&self) -> Endpoint
+        ensures { result ≡ end_address self.now }
+    {
+        self.end.address(self.port)
+    }
+
+    /// Handles a timeout. A closed end does nothing.
+    pub(crate) fn on_timeout(&mut self, alloc: Global) -> Result<Effect, WorldFault>
+        ensures turns { IfOk result (EndTimesOut self.old self.new) }
         ensures memory { IfErr result (λ fault. fault ≡ WorldFault.Memory) }
-        ensures err { OnErr result ((self.new ≡ self.old) × (server.new ≡ server.old)) }
+        ensures err { OnErr result (self.new ≡ self.old) }
     {
-        match self {
-            Player::Client(client) => client.on_timeout(alloc, port),
-            Player::Server(served) => served.on_timeout(alloc, server, port),
-        }
+        self.end.on_timeout(alloc, self.port)
     }
 
-    /// Handles a datagram, while it is open.
+    /// Handles a datagram. A closed end does nothing.
     pub(crate) fn on_datagram(
         &mut self,
         alloc: Global,
         server: &mut Server<MemStore>,
-        port: u16,
         from: Endpoint,
         bytes: &[u8],
-    ) -> Result<(Effect, Record), WorldFault>
-        requires kept { PlayerKept port server.old.held self.old }
-        requires open { has_ended self.old ≡ false }
-        requires quiet { server.old.store.refuses ≡ false }
-        ensures steps { IfOk result (λ r.
-            PlayerDatagramStep port from bytes.now self.old self.new server.old server.new r.0
-            r.1) }
+    ) -> Result<Effect, WorldFault>
+        requires { server.old.store.refuses ≡ false }
+        ensures takes { IfOk result (EndTakes server.old.config.overwrite from bytes.now
+            self.old self.new server.old.store.files server.new.store.files) }
+        ensures rest { server.new ≡ record server.old { store = server.new.store } }
+        ensures quiet { server.new.store.refuses ≡ false }
         ensures memory { IfErr result (λ fault. fault ≡ WorldFault.Memory) }
         ensures err { OnErr result ((self.new ≡ self.old) × (server.new ≡ server.old)) }
     {
-        match self {
-            Player::Client(client) => client.on_datagram(alloc, port, from, bytes),
-            Player::Server(served) => served.on_datagram(alloc, server, port, from, bytes),
-        }
+        self.end.on_datagram(alloc, server, self.port, from, bytes)
     }
 
     /// Sets its next append or commit to be refused, if it is an open receiver.
-    pub(crate) fn refuse_next(&mut self, server: &Server<MemStore>, port: u16)
-        requires { PlayerKept port server.now.held self.old }
-        ensures { self.new ≡ armed_player port server.now.held self.old }
+    pub(crate) fn refuse_next(&mut self)
+        ensures { self.new ≡ armed_end self.old }
     {
-        match self {
-            Player::Client(client) => client.refuse_next(),
-            Player::Server(served) => served.refuse_next(server, port),
-        }
+        self.end.refuse_next();
     }
 
     /// What a receiver has stored.
-    pub(crate) fn stored<'a>(&'a self, server: &'a Server<MemStore>, port: u16) -> Option<&'a [u8]>
-        ensures { option_map (λ bytes. bytes.now) result ≡ stored_of port server.now.held self.now }
+    pub(crate) fn stored(&self) -> Option<&[u8]>
+        ensures { option_map (λ bytes. bytes.now) result ≡ stored_in self.now }
     {
-        match self {
-            Player::Client(client) => client.stored(),
-            Player::Server(served) => served.stored(server, port),
-        }
+        self.end.stored()
     }
 
     /// Whether a receiver has committed what it stored.
-    pub(crate) fn committed(&self, server: &Server<MemStore>, port: u16) -> bool
-        ensures { result ≡ committed_of port server.now.held self.now }
+    pub(crate) fn committed(&self) -> bool
+        ensures { result ≡ end_committed self.now }
     {
-        match self {
-            Player::Client(client) => client.committed(),
-            Player::Server(served) => served.committed(server, port),
-        }
+        self.end.committed()
+    }
+
+    /// Whether it is an open end of the server.
+    pub(crate) fn is_transfer(&self) -> bool
+        ensures { result ≡ is_transfer self.now }
+    {
+        self.end.is_transfer()
+    }
+
+    /// Whether it is an open end of the server that was requested from `from` by this packet.
+    pub(crate) fn repeats(&self, from: Endpoint, packet: &PacketRef<'_>) -> bool
+        ensures { IsTrue result ↔ Repeats from (owned packet.now) self.now }
+    {
+        self.end.repeats(from, packet)
     }
 }

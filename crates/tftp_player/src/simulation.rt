@@ -99,7 +99,7 @@ impl Simulation {
     {
         match self.ends.index_of(port) {
             None => None,
-            Some(index) => self.ends.players[index].stored(&self.ends.server, port),
+            Some(index) => self.ends.players[index].stored(),
         }
     }
 
@@ -108,7 +108,7 @@ impl Simulation {
     {
         match self.ends.index_of(port) {
             None => false,
-            Some(index) => self.ends.players[index].committed(&self.ends.server, port),
+            Some(index) => self.ends.players[index].committed(),
         }
     }
 
@@ -168,7 +168,7 @@ impl Simulation {
             return Err(WorldFault::NoSuchEnd);
         };
         let player = &mut self.ends.players[index];
-        player.refuse_next(&self.ends.server, port);
+        player.refuse_next();
         Ok(Report {
             added: None,
             closed: None,

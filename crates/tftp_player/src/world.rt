@@ -142,9 +142,9 @@ impl World {
     /// be numbered; `Memory` if it is out of memory. The sender of a stray is foreign
     /// ([`World::is_foreign`]).
     ///
-    /// It copies a datagram's bytes once, since an end retains the last one that it sent; a look-up
-    /// takes a time logarithmic in the open transfers. A file is never copied: the server and the
-    /// ends that send it share its bytes.
+    /// It copies a datagram's bytes once, since an end retains the last one that it sent; a request
+    /// is compared with that of each open transfer. A file is never copied: the server and the ends
+    /// that send it share its bytes.
     pub fn apply(&mut self, event: Event) -> Result<Report, WorldFault>
         requires { IsPlayable event }
         // the step of the event

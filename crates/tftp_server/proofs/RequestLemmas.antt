@@ -39,7 +39,7 @@ use Rattle.tftp_server.specs.Port.{Ask, Ignores, Refuses, asks, by_packet, by_re
 use Rattle.tftp_server.specs.Port.{begin_reply}
 use Rattle.tftp_server.specs.Request.{Acts, Admits, CarriesOut, Came, Error_reply, A_transfer, IsRequest, AsksToWrite}
 use Rattle.tftp_server.specs.Request.{ask_of, came_to, decided_bytes, left_by}
-use Rattle.tftp_server.specs.Shortage.{NamesAPath}
+use Rattle.tftp_server.specs.Shortage.{NamesAPath, NamesNewPath}
 use Rattle.tftp_server.specs.State.{TransferState, ServerState, IsRepeated, with_new}
 use Rattle.tftp_store.specs.Store.{StoreMeaning, Begins}
 
@@ -124,67 +124,72 @@ pub repeats_in : {S F D : Type 0} (old seen : ServerState S F D) (from : Endpoin
 repeats_in {S = S} {F = F} {D = D} old seen from repeated decoded is h =
     subst (λ (s : ServerState S F D). IsRepeated repeated from decoded s.held) is h
 
-module _ {S F D : Type 0} (old : ServerState S F D) (from : Endpoint) (bytes : List ℕ) where
-  -- the tests of the name in a request, in this state of the server
-  abbrev pub named_now : Kind → Request → Ask
-  named_now kind request = named old.config.cap (length old.held) old.config.limits kind request
+module _ (cap count : ℕ) (limits : Limits) (bytes : List ℕ) (kind : Kind) (request : Request) (decoded : Option Packet)
+    (repeated : Bool) (is : IsRequest decoded (Some (kind, request))) (new : repeated ≡ false) where
+  -- a request that is no repeat is decided by its name
+  named_asks : has_error_opcode bytes ≡ false →
+      named cap count limits kind request ≡ asks cap count repeated limits bytes decoded
+  named_asks test =
+      ap (λ (b : Bool). by_repeat b (named cap count limits kind request)) (sym new)
+      ∙ asks_named cap count limits bytes (Some (kind, request)) decoded repeated test is
 
-  -- the tests of a name are those of the datagram
-  admits_named : (kind : Kind) (request : Request) (decoded : Option Packet) (repeated : Bool) (ask : Ask) →
-      has_error_opcode bytes ≡ false → Decodes bytes decoded → IsRequest decoded (Some (kind, request)) →
-      IsRepeated repeated from decoded old.held → repeated ≡ false → ask ≡ named_now kind request →
-      Admits old from bytes ask
-  admits_named kind request decoded repeated ask test says is repeats new h =
-      record {
-        decoded = decoded;
-        says = says;
-        repeated = repeated;
-        repeats = repeats;
-        asks_for =
-            h ∙ (ap (λ (b : Bool). by_repeat b (named_now kind request)) (sym new)
-            ∙ asks_named old.config.cap (length old.held) old.config.limits bytes (Some (kind, request)) decoded
-            repeated test is);
-      }
+  -- so is the action for it
+  pub asked_by_name : {E : Type 0} (r : Result PortAction E) → has_error_opcode bytes ≡ false →
+      IfOk r (λ asked. ask_of asked ≡ named cap count limits kind request) →
+      IfOk r (λ asked. ask_of asked ≡ asks cap count repeated limits bytes decoded)
+  asked_by_name (Ok asked) test h = h ∙ named_asks test
+  asked_by_name (Err fault) test h = tt
 
-  -- a request that is no repeat is decided by its name first
-  pub asked_by_name : {E : Type 0} (kind : Kind) (request : Request) (decoded : Option Packet) (repeated : Bool)
-      (r : Result PortAction E) → has_error_opcode bytes ≡ false → Decodes bytes decoded →
-      IsRequest decoded (Some (kind, request)) →
-      IsRepeated repeated from decoded old.held → repeated ≡ false →
-      IfOk r (λ asked. ask_of asked ≡ named_now kind request) → IfOk r (λ asked. Admits old from bytes (ask_of asked))
-  asked_by_name kind request decoded repeated (Ok asked) test says is repeats new h =
-      admits_named kind request decoded repeated (ask_of asked) test says is repeats new h
-  asked_by_name kind request decoded repeated (Err fault) test says is repeats new h = tt
-
-  -- and when they are out of memory, the datagram is not one to ignore
-  pub acts_by_name : {T E : Type 0} (kind : Kind) (request : Request) (decoded : Option Packet) (repeated : Bool)
-      (r : Result T E) → has_error_opcode bytes ≡ false → Decodes bytes decoded →
-      IsRequest decoded (Some (kind, request)) →
-      IsRepeated repeated from decoded old.held → repeated ≡ false → OnErr r (Acts old from bytes)
-  acts_by_name kind request decoded repeated (Ok done) test says is repeats new = tt
-  acts_by_name kind request decoded repeated (Err fault) test says is repeats new = (
-    named_now kind request,
-    admits_named kind request decoded repeated (named_now kind request) test says is repeats new refl,
-    name_acts old.config.cap (length old.held) (by_kind kind request.mode request.options old.config.limits)
-        (kind_acts kind request.mode request.options old.config.limits) (path_of_name request.name),
-  )
+  -- and when its path is out of memory, the datagram is not one to ignore
+  pub acts_by_name : {T E : Type 0} (r : Result T E) → has_error_opcode bytes ≡ false →
+      OnErr r (asks cap count repeated limits bytes decoded ≢ Ignores)
+  acts_by_name (Ok done) test = tt
+  acts_by_name (Err fault) test = λ e.
+      name_acts cap count (by_kind kind request.mode request.options limits)
+      (kind_acts kind request.mode request.options limits) (path_of_name request.name) (named_asks test ∙ e)
 
   -- and its name is a path
-  pub names_a_path : {T E : Type 0} (kind : Kind) (request : Request) (decoded : Option Packet) (repeated : Bool)
-      (r : Result T E) → Decodes bytes decoded → IsRequest decoded (Some (kind, request)) →
-      IsRepeated repeated from decoded old.held → repeated ≡ false → OnErr r (IsOk (path_of_name request.name)) →
+  pub names_a_path : {T E : Type 0} (r : Result T E) → OnErr r (IsOk (path_of_name request.name)) →
+      OnErr r (NamesNewPath repeated decoded)
+  names_a_path (Ok done) h = tt
+  names_a_path (Err fault) h = record { new = new; kind = kind; request = request; is = is; path = h }
+
+-- the same for the transfers in the table of a server
+module _ {S F D : Type 0} (old : ServerState S F D) (from : Endpoint) (bytes : List ℕ) (decoded : Option Packet)
+    (repeated : Bool) (says : Decodes bytes decoded) (repeats : IsRepeated repeated from decoded old.held) where
+  abbrev asked_now : Ask
+  asked_now = asks old.config.cap (length old.held) repeated old.config.limits bytes decoded
+
+  admits_by : (ask : Ask) → ask ≡ asked_now → Admits old from bytes ask
+  admits_by ask h = record {
+    decoded = decoded;
+    says = says;
+    repeated = repeated;
+    repeats = repeats;
+    asks_for = h;
+  }
+
+  pub admits_so : {E : Type 0} (r : Result PortAction E) → IfOk r (λ asked. ask_of asked ≡ asked_now) →
+      IfOk r (λ asked. Admits old from bytes (ask_of asked))
+  admits_so (Ok asked) h = admits_by (ask_of asked) h
+  admits_so (Err fault) h = tt
+
+  pub acts_so : {T E : Type 0} (r : Result T E) → OnErr r (asked_now ≢ Ignores) → OnErr r (Acts old from bytes)
+  acts_so (Ok done) h = tt
+  acts_so (Err fault) h = (asked_now, admits_by asked_now refl, h)
+
+  pub names_so : {T E : Type 0} (r : Result T E) → OnErr r (NamesNewPath repeated decoded) →
       OnErr r (NamesAPath old from bytes)
-  names_a_path kind request decoded repeated (Ok done) says is repeats new h = tt
-  names_a_path kind request decoded repeated (Err fault) says is repeats new h =
-      record {
-        decoded = decoded;
-        says = says;
-        fresh = subst (λ (b : Bool). IsRepeated b from decoded old.held) new repeats;
-        kind = kind;
-        request = request;
-        is = is;
-        path = h;
-      }
+  names_so (Ok done) h = tt
+  names_so (Err fault) h = record {
+    decoded = decoded;
+    says = says;
+    fresh = subst (λ (b : Bool). IsRepeated b from decoded old.held) h.new repeats;
+    kind = h.kind;
+    request = h.request;
+    is = h.is;
+    path = h.path;
+  }
 
 module _ {S F D : Type 0} (meaning : StoreMeaning S D) (sources : SourceMeaning F) (old : ServerState S F D)
     (from : Endpoint) (bytes : List ℕ) where

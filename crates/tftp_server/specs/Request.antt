@@ -23,7 +23,9 @@ use Rattle.tftp_ends.specs.End.{EndState}
 use Rattle.tftp_ends.specs.Opening.{ServesRead, CannotStart, serving_write}
 use Rattle.tftp_ends.specs.Action.{Decodes}
 use Rattle.tftp_ends.specs.Step.{error_bytes}
+use Rattle.tftp_server.specs.declared.config.Config.{Config}
 use Rattle.tftp_server.specs.declared.opened.Opened.{Opened}
+use Rattle.tftp_server.specs.declared.server.admission.Occupancy.{Occupancy}
 use Rattle.tftp_server.specs.declared.server.admission.PortAction.{PortAction}
 use Rattle.tftp_server.specs.declared.server.admission.PortAction.TheVariants as actions
 use Rattle.tftp_server.specs.declared.server.request.Decision.{Decision}
@@ -91,6 +93,12 @@ module _ {S F D : Type 0} (old : ServerState S F D) (from : Endpoint) (bytes : L
   -- the datagram is not ignored: the port answers it or asks its store
   abbrev pub Acts : Type 0
   Acts = (ask : Ask) × Admits ask × (ask ≢ Ignores)
+
+-- what the request port decides for a datagram that finds these transfers, before it asks its store
+abbrev pub AdmitsBeside : Config → Occupancy → List ℕ → Ask → Type 0
+AdmitsBeside config occupancy bytes ask =
+    (decoded : Option Packet) × Decodes bytes decoded
+    × (ask ≡ asks config.cap occupancy.count occupancy.is_repeated config.limits bytes decoded)
 
 module _ {S F D : Type 0} (meaning : StoreMeaning S D) (sources : SourceMeaning F)
     (old : ServerState S F D) (from : Endpoint) (bytes : List ℕ) where

@@ -54,6 +54,14 @@ module _ {S F D : Type 0} (meaning : StoreMeaning S D) (sources : SourceMeaning 
 
 -- ---- a datagram to the request port
 
+-- the packet is a request that is no repeat, and its name is a path
+pub record NamesNewPath (repeated : Bool) (decoded : Option Packet) : Type 0 where
+  pub new : repeated ≡ false
+  pub kind : Kind
+  pub request : Request
+  pub is : IsRequest decoded (Some (kind, request))
+  pub path : IsOk (path_of_name request.name)
+
 -- it is a new request, and there is no memory for the path that it names
 pub record NamesAPath {S F D : Type 0} (old : ServerState S F D) (from : Endpoint)
     (bytes : List ℕ) : Type 0 where

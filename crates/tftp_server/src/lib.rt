@@ -20,5 +20,6 @@ pub use config::Config;
 pub use fault::ServerFault;
 pub use open_transfers::OpenTransfers;
 pub use opened::Opened;
-pub use server::{Admission, Server};
+pub use server::{Admission, Occupancy, Server};
 pub use tftp_store::{FaultStore, MemDraft, MemStore, OpenedSource, Opening, Store};
+pub use transfer::Transfer;

@@ -7,30 +7,34 @@ mod reply;
 mod request;
 
 ghost use Rattle.std.specs.Prelude.{◌≡◌, ◌↔◌, ◌++◌, vec_capacity, vec_len, [], length};
-ghost use Rattle.std.specs.Prelude.{option_copied, option_map, is_some, if◌then◌else◌, false};
+ghost use Rattle.std.specs.Prelude.{option_copied, option_map, is_some, if◌then◌else◌, false, true};
+ghost use Rattle.std.specs.Prelude.{Option};
 ghost use Rattle.std.specs.Prelude.{IfOk, IfErr, IsErrOf, OnOk, OnErr};
 ghost use Rattle.std.specs.Map.{keys_of};
 ghost use Rattle.std.specs.Borrow.{Lends, sem};
 ghost use Rattle.tftp_ends.specs.End.{record_of};
 ghost use Rattle.tftp_ends.specs.Shortage.{AppendsNothing, HasNoRoom};
-ghost use Rattle.tftp_ends.specs.Step.{lent};
+ghost use Rattle.tftp_ends.specs.Action.{Decodes, datagram_action};
+ghost use Rattle.tftp_ends.specs.Step.{lent, UsesFile};
 ghost use Rattle.tftp_server.specs.Config.{IsConfig};
 ghost use Rattle.tftp_server.specs.Shortage.{LacksMemoryAt, TimeoutLacksMemory};
-ghost use Rattle.tftp_server.specs.State.{at, draft_at, is_open, open_records, taken_of, without};
+ghost use Rattle.tftp_server.specs.State.{at, draft_at, is_closed, is_open, open_records, taken_of};
+ghost use Rattle.tftp_server.specs.State.{without};
 ghost use Rattle.tftp_server.specs.Steps.{TimesOut, TimesOutLent, TimeoutFault, TakesDatagram};
 ghost use Rattle.tftp_server.specs.Steps.{TakesDatagramLent, DatagramFault};
-ghost use Rattle.tftp_server.specs.Steps.{DatagramFaultLent, KeepsHeld};
+ghost use Rattle.tftp_server.specs.Steps.{DatagramFaultLent, KeepsHeld, StaysAs, TakesBy, lends};
+ghost use Rattle.tftp_wire.specs.declared.packet.Packet.{Packet};
 ghost use Rattle.tftp_server.specs.Work.{WorksAt};
 
 use crate::config::Config;
 use crate::fault::ServerFault;
 use crate::open_transfers::OpenTransfers;
-pub use crate::server::admission::Admission;
+pub use crate::server::admission::{Admission, Occupancy};
 use crate::table::Table;
 use crate::transfer::Transfer;
 use std::alloc::Global;
 use std::marker::Model;
-use tftp_ends::{Endpoint, Outgoing, Record, Step};
+use tftp_ends::{EndFault, Endpoint, Outgoing, Record, Step};
 use tftp_store::Store;
 
 /// A server: its configuration, its store and the transfers that it holds.
@@ -203,6 +207,34 @@ impl<S: Store> Server<S> {
         Ok(transfer.handle_datagram(&mut self.store, &self.config, from, bytes)?)
     }
 
+    /// A transfer that its caller holds ([`Server::release`]) handles a datagram from `from`, over
+    /// this server's store. [`Transfer::bytes_of`] lends the datagram to send; [`Step::to`] is its
+    /// destination.
+    ///
+    /// `Closed` if the transfer is closed; `Memory` only if a block is to be read or stored. After
+    /// a fault nothing has changed.
+    pub fn handle_for(
+        &mut self,
+        transfer: &mut Transfer<S::Source, S::Draft>,
+        from: Endpoint,
+        bytes: &[u8],
+    ) -> Result<(Step, Outgoing), EndFault>
+        ensures takes { IfOk result (λ answer. TakesBy S.meaning S.Source.meaning (lends answer.1)
+            self.old.config.overwrite from bytes.now self.old.store self.new.store transfer.old
+            transfer.new answer.0) }
+        ensures rest { self.new ≡ record self.old { store = self.new.store } }
+        ensures closed { IsErrOf result EndFault.Closed ↔ (is_closed transfer.old ≡ true) }
+        ensures unmoved { IsErrOf result EndFault.Closed
+            → (transfer.new ≡ transfer.old) × (self.new ≡ self.old) }
+        ensures memory { IsErrOf result EndFault.Memory → (decoded : Option Packet)
+            × Decodes bytes.now decoded × UsesFile (datagram_action transfer.old.end from bytes.now
+            decoded) }
+        ensures err { OnErr result (StaysAs S.meaning S.Source.meaning self.old.config.overwrite
+            self.old.store self.new.store transfer.old transfer.new) }
+    {
+        transfer.handle_datagram(&mut self.store, &self.config, from, bytes)
+    }
+
     /// The bytes of the datagram to send for the transfer at the identifier, if one is held. They
     /// are valid until the next call.
     pub fn bytes_of(&self, tid: u16, outgoing: Outgoing) -> Option<&[u8]>
@@ -268,6 +300,15 @@ impl<S: Store> Server<S> {
 }
 
 impl<S: Store + Drop> Server<S> {
+    /// Removes the transfer at the identifier from the table, if there is one, and returns it to
+    /// be held by the caller ([`Server::handle_for`]).
+    pub fn release(&mut self, tid: u16) -> Option<Transfer<S::Source, S::Draft>>
+        ensures released { result ≡ at tid self.old.held }
+        ensures rest { self.new ≡ record self.old { held = without tid self.old.held } }
+    {
+        self.table.remove(tid)
+    }
+
     /// Removes the closed transfer at the identifier from the table. Returns its record and, for a
     /// write, its draft. If no closed transfer has the identifier, nothing changes.
     pub fn take_closed(&mut self, tid: u16) -> Option<(Record, Option<S::Draft>)>

@@ -30,9 +30,12 @@ use tftp_store::Store;
 use tftp_wire::PacketRef;
 
 /// A transfer: an end with its source or its draft, the path of the file, and the datagram of the
-/// request.
+/// request. A [`Server`] opens it, and holds it unless its caller does ([`Server::release`]).
+///
+/// [`Server`]: crate::Server
+/// [`Server::release`]: crate::Server::release
 #[derive(Drop)]
-pub(crate) struct Transfer<F, D> {
+pub struct Transfer<F, D> {
     end: End,
     files: Files<F, D>,
     path: Path,
@@ -75,7 +78,7 @@ impl<F, D> Transfer<F, D> {
     }
 
     /// The record of its end.
-    pub(crate) fn record(&self) -> Record
+    pub fn record(&self) -> Record
         ensures { result ≡ record_of self.now.end }
     {
         self.end.record()
@@ -88,8 +91,15 @@ impl<F, D> Transfer<F, D> {
         self.end.record().outcome.is_some()
     }
 
+    /// The path of its file.
+    pub fn path(&self) -> &Path
+        ensures { result.now ≡ self.now.path }
+    {
+        &self.path
+    }
+
     /// Its draft, if it stores.
-    pub(crate) fn draft(&self) -> Option<&D>
+    pub fn draft(&self) -> Option<&D>
         ensures { option_copied result ≡ draft_of self.now.files }
     {
         match &self.files {
@@ -99,7 +109,7 @@ impl<F, D> Transfer<F, D> {
     }
 
     /// Whether it is open and was requested from `from` by the same packet.
-    pub(crate) fn repeats(&self, from: Endpoint, packet: &PacketRef<'_>) -> bool
+    pub fn repeats(&self, from: Endpoint, packet: &PacketRef<'_>) -> bool
         ensures { IsTrue result ↔ Repeats from (owned packet.now) self.now }
     {
         let record = self.end.record();
@@ -129,8 +139,10 @@ impl<F, D> Transfer<F, D> {
         self.end.on_timeout(out)
     }
 
-    /// As [`Transfer::on_timeout`], but [`Transfer::bytes_of`] lends the datagram.
-    pub(crate) fn handle_timeout(&mut self) -> Result<(Step, Outgoing), EndFault>
+    /// Its end handles a timeout. [`Transfer::bytes_of`] lends the datagram to send, and
+    /// [`Step::to`] is its destination. `Closed`, its one fault, if it is closed; then nothing has
+    /// changed.
+    pub fn handle_timeout(&mut self) -> Result<(Step, Outgoing), EndFault>
         ensures steps { IfOk result (λ answer. Lends self.old.end (timeout_turn self.old.end)
             self.new.end answer.0.to answer.1
             × (answer.0 ≡ reported self.old.end (timeout_turn self.old.end))
@@ -142,8 +154,8 @@ impl<F, D> Transfer<F, D> {
         self.end.handle_timeout()
     }
 
-    /// The bytes of the datagram to send.
-    pub(crate) fn bytes_of(&self, outgoing: Outgoing) -> &[u8]
+    /// The bytes of the datagram to send. They are valid until the next call.
+    pub fn bytes_of(&self, outgoing: Outgoing) -> &[u8]
         ensures { result.now ≡ lent outgoing self.now.end }
     {
         self.end.bytes_of(outgoing)

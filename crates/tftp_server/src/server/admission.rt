@@ -11,6 +11,15 @@ use tftp_file::Path;
 use tftp_negotiate::{Agreed, Kind, Limits, Refusal, accept_ref};
 use tftp_wire::{Mode, OptionsRef};
 
+/// The transfers that a request finds: what its port tests of them.
+#[derive(Clone, Copy, Debug, PartialEq, Eq)]
+pub struct Occupancy {
+    /// How many transfers are held.
+    pub count: usize,
+    /// Whether the request repeats that of an open one.
+    pub is_repeated: bool,
+}
+
 /// A datagram to the request port, and its sender.
 #[derive(Clone, Copy)]
 pub(crate) struct Incoming<'a> {

@@ -1,25 +1,26 @@
 //! The tests of a request that ask no store, in order.
 
-ghost use Rattle.std.specs.Prelude.{◌≡◌, IfOk, IfErr, OnErr, IsOk, option_map};
+ghost use Rattle.std.specs.Prelude.{◌≡◌, ◌≢◌, IfOk, IfErr, OnErr, IsOk, option_map};
 ghost use Rattle.tftp_wire.specs.Borrowed.{owned};
 ghost use Rattle.tftp_negotiate.specs.Answer.{answer};
 ghost use Rattle.tftp_negotiate.specs.Ranges.{IsBlockSize};
 ghost use Rattle.tftp_file.specs.Path.{path_of_name};
-ghost use Rattle.tftp_server.specs.Port.{by_kind, by_name, by_options, by_room};
+ghost use Rattle.tftp_server.specs.Port.{Ignores, asks, by_kind, by_name, by_options, by_room};
 ghost use Rattle.tftp_server.specs.Request.{IsRequest, ask_of, kind_and_request};
+ghost use Rattle.tftp_server.specs.Shortage.{NamesNewPath};
 
 use crate::config::Config;
 use crate::fault::ServerFault;
-use crate::server::admission::{PortAction, ReadRequest, WriteRequest};
+use crate::server::admission::{Occupancy, PortAction, ReadRequest, WriteRequest};
 use crate::server::reply::accept_reply;
 use std::alloc::Global;
 use tftp_ends::ErrorReply;
 use tftp_file::{Path, PathFault, path_of};
 use tftp_negotiate::{Kind, Limits, accept_ref};
-use tftp_wire::{PacketRef, RequestRef};
+use tftp_wire::{PacketRef, RequestRef, has_error_opcode};
 
 /// The request and its kind, if it is one.
-pub(crate) fn request_of<'a>(decoded: Option<PacketRef<'a>>) -> Option<(Kind, RequestRef<'a>)>
+fn request_of<'a>(decoded: Option<PacketRef<'a>>) -> Option<(Kind, RequestRef<'a>)>
     ensures { IsRequest (option_map owned decoded.entry) (option_map kind_and_request result) }
 {
     match decoded {
@@ -29,8 +30,41 @@ pub(crate) fn request_of<'a>(decoded: Option<PacketRef<'a>>) -> Option<(Kind, Re
     }
 }
 
+/// All of them. A datagram with the opcode of ERROR is never answered; every other that is not a
+/// request is refused.
+pub(crate) fn by_packet<'a>(
+    alloc: Global,
+    config: &Config,
+    occupancy: Occupancy,
+    bytes: &'a [u8],
+    decoded: Option<PacketRef<'a>>,
+) -> Result<PortAction<'a>, ServerFault>
+    requires { IsBlockSize config.now.limits.max_block }
+    ensures asks { IfOk result (λ action. ask_of action ≡ asks config.now.cap occupancy.count
+        occupancy.is_repeated config.now.limits bytes.now (option_map owned decoded.entry)) }
+    ensures memory { IfErr result (λ fault. fault ≡ ServerFault.Memory) }
+    ensures acts { OnErr result (asks config.now.cap occupancy.count occupancy.is_repeated
+        config.now.limits bytes.now (option_map owned decoded.entry) ≢ Ignores) }
+    ensures why { OnErr result (NamesNewPath occupancy.is_repeated
+        (option_map owned decoded.entry)) }
+{
+    let Occupancy { count, is_repeated } = occupancy;
+    if has_error_opcode(bytes) {
+        return Ok(PortAction::Nothing);
+    }
+    match request_of(decoded) {
+        Some((kind, request)) => {
+            if is_repeated {
+                return Ok(PortAction::Nothing);
+            }
+            by_name(alloc, config, count, kind, request)
+        }
+        None => Ok(PortAction::Refuse(ErrorReply::IllegalOperation)),
+    }
+}
+
 /// The name must be a path.
-pub(crate) fn by_name<'a>(
+fn by_name<'a>(
     alloc: Global,
     config: &Config,
     count: usize,

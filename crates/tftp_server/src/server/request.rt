@@ -7,9 +7,10 @@ ghost use Rattle.tftp_wire.specs.declared.packet.Packet.{Packet};
 ghost use Rattle.tftp_ends.specs.Action.{Decodes};
 ghost use Rattle.tftp_ends.specs.Opening.{serving_write};
 ghost use Rattle.tftp_server.specs.State.{IsRepeated, at};
-ghost use Rattle.tftp_server.specs.Port.{Ignores, asks, asks_store, by_file, by_length};
+ghost use Rattle.tftp_server.specs.Port.{Ask, Ignores, asks, asks_store, by_file, by_length};
 ghost use Rattle.tftp_server.specs.Port.{granted_size};
-ghost use Rattle.tftp_server.specs.Request.{Acts, Admits, AsksToRead, AsksToWrite, Came};
+ghost use Rattle.tftp_server.specs.Request.{Acts, Admits, AdmitsBeside, AsksToRead, AsksToWrite};
+ghost use Rattle.tftp_server.specs.Request.{Came};
 ghost use Rattle.tftp_server.specs.Request.{CarriesOut, RequestStep, Sent, ask_of, came_to};
 ghost use Rattle.tftp_server.specs.Request.{decided_bytes, left_by};
 ghost use Rattle.tftp_server.specs.Shortage.{AskLacksMemory, NamesAPath, ReadLacksMemory};
@@ -18,8 +19,10 @@ ghost use Rattle.tftp_server.specs.Shortage.{RequestLacksMemory, ServiceLacksMem
 use crate::fault::ServerFault;
 use crate::opened::Opened;
 use crate::server::Server;
-use crate::server::admission::{Admission, Incoming, PortAction, ReadRequest, WriteRequest};
-use crate::server::port::{by_name, request_of};
+use crate::server::admission::{
+    Admission, Incoming, Occupancy, PortAction, ReadRequest, WriteRequest,
+};
+use crate::server::port::by_packet;
 use crate::server::reply::{
     accept_reply, begin_refused, open_refused, refuse, refuse_in_room, serve_refused,
 };
@@ -31,7 +34,6 @@ use tftp_ends::{End, Endpoint, ErrorReply, MAX_ERROR, ReadService, decode_packet
 use tftp_file::Files;
 use tftp_negotiate::Agreed;
 use tftp_store::{Opening, Store};
-use tftp_wire::has_error_opcode;
 
 /// The decision for a request.
 #[derive(Drop)]
@@ -97,8 +99,7 @@ impl<S: Store> Server<S> {
         }
     }
 
-    /// The tests that ask no store. A datagram with the opcode of ERROR is never answered; every
-    /// other that is not a request is refused.
+    /// The tests that ask no store, by the transfers in the table.
     fn decide<'a>(&self, from: Endpoint, bytes: &'a [u8]) -> Result<PortAction<'a>, ServerFault>
         ensures asks { IfOk result (λ action. Admits self.now from bytes.now (ask_of action)) }
         ensures memory { IfErr result (λ fault. fault ≡ ServerFault.Memory) }
@@ -106,18 +107,36 @@ impl<S: Store> Server<S> {
         ensures why { OnErr result (NamesAPath self.now from bytes.now) }
     {
         let decoded = decode_packet(bytes);
-        let is_repeated = self.table.is_repeated(from, &decoded);
-        if has_error_opcode(bytes) {
-            return Ok(PortAction::Nothing);
-        }
-        match request_of(decoded) {
-            Some((kind, request)) => {
-                if is_repeated {
-                    return Ok(PortAction::Nothing);
-                }
-                by_name(self.alloc, &self.config, self.table.len(), kind, request)
-            }
-            None => Ok(PortAction::Refuse(ErrorReply::IllegalOperation)),
+        let occupancy = Occupancy {
+            count: self.table.len(),
+            is_repeated: self.table.is_repeated(from, &decoded),
+        };
+        by_packet(self.alloc, &self.config, occupancy, bytes, decoded)
+    }
+
+    /// As [`Server::admit`], for a caller that holds the transfers itself ([`Server::release`]):
+    /// `occupancy` is what the datagram finds of them.
+    pub fn admit_beside<'a>(
+        &self,
+        occupancy: Occupancy,
+        from: Endpoint,
+        bytes: &'a [u8],
+    ) -> Result<Admission<'a>, ServerFault>
+        ensures admits { IfOk result (λ admission.
+            AdmitsBeside self.now.config occupancy bytes.now admission.ask) }
+        ensures from { IfOk result (λ admission. admission.from ≡ from) }
+        ensures bytes { IfOk result (λ admission. admission.bytes ≡ bytes.now) }
+        ensures memory { IfErr result (λ fault. fault ≡ ServerFault.Memory) }
+        ensures acts { OnErr result ((ask : Ask)
+            × AdmitsBeside self.now.config occupancy bytes.now ask × (ask ≢ Ignores)) }
+    {
+        let decoded = decode_packet(bytes);
+        match by_packet(self.alloc, &self.config, occupancy, bytes, decoded) {
+            Ok(action) => Ok(Admission {
+                incoming: Incoming { from, bytes },
+                action,
+            }),
+            Err(_) => Err(ServerFault::Memory),
         }
     }
 

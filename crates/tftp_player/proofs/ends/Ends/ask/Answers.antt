@@ -1,77 +1,85 @@
--- What the request port does is what it does in the world, and an end that opens is recorded.
-use Rattle.std.proofs.Common.{refl, ◌≡◌, ◌∙◌, ap, sym, arith}
+-- What the request port answers is what it does in the world, and an end that opens is recorded.
+use Rattle.std.proofs.Common.{◌∙◌, [], ◌∷◌, ◌++◌, List, Option, None, ap, sym, subst}
+use Rattle.tftp_wire.specs.declared.packet.Packet.{Packet}
+use Rattle.tftp_ends.specs.Action.{Decodes}
+use Rattle.tftp_rules.specs.Hosts.{request_port}
+use Rattle.tftp_rules.specs.Machine.{Endpoint}
+use Rattle.tftp_player.specs.Arriving.{EndsAsk}
+use Rattle.tftp_player.specs.Played.{served_end}
+use Rattle.tftp_player.specs.Requests.{IsRepeated, open_transfers}
 use Rattle.tftp_player.specs.ServerEnd.{PlayedServer}
-use Rattle.tftp_player.proofs.AskingLemmas.{opened_requested, opened_recorded, opened_consistent, opened_asks}
-use Rattle.tftp_player.proofs.AskingLemmas.{not_opened_same, quietly, quietly_consistent}
+use Rattle.tftp_player.specs.World.{WorldEnd, end_address}
+use Rattle.tftp_player.proofs.AskingLemmas.{not_opened_asks, opened_kept, opened_asks}
+use Rattle.tftp_player.proofs.HostEnds.{pushed_so}
+use Rattle.tftp_player.proofs.Standing.{standing_address}
 use Rattle.tftp_player.proofs.ends.Ends.ask.Goals as goal
 
-pub returns-in_default-tid-clause-config : goal.returns-in_default-tid-clause-config
-returns-in_default-tid-clause-config c =
-    let same : c.on_request.new.self ≡ c.args.self.now.server =
-    not_opened_same c.args.from c.args.bytes.now c.args.self.now.server c.args.self.now.players.items
-    c.args.self.now.records.items _ c.in-Some.port c.requires.consistent c.requires.block refl c.in-Some.ensures.some
-    c.in-Some.ensures.fits (λ k. omega (arith, c.type_inv.bytes k))
-    c.on_request.new.self c.in-Ok-on_request.opened c.in-Ok-on_request.ensures.steps.0
-    c.in-Ok-on_request.ensures.steps.2 c.in_default-tid.is in
-    ap (λ (s : PlayedServer). s.config) same
+pub returns-in_default-opened-clause-asks : goal.returns-in_default-opened-clause-asks
+returns-in_default-opened-clause-asks c =
+    subst
+    (λ (v : PlayedServer).
+    EndsAsk c.args.from c.args.bytes.now c.args.self.now.server v c.args.self.now.players.items
+    c.reserve.new.self.items
+    (record { from = request_port; to = c.in-Ok-ask_server.answer.to; bytes = c.from-bytes.result; closed = None }))
+    (sym c.ask_server.ensures.server)
+    (not_opened_asks c.args.from c.args.bytes.now c.args.self.now.server c.args.self.now.players.items
+    c.occupancy_of-occupancy.result c.in-Some.port c.in-Some.ensures.some c.in-Some.ensures.fits
+    (c.occupancy_of-occupancy.ensures.count ∙ ap open_transfers (c.deref.ensures.value ∙ c.in-Ok.ensures.items))
+    (subst
+    (λ (es : List WorldEnd). (decoded : Option Packet) × Decodes c.args.bytes.now decoded
+    × IsRepeated c.occupancy_of-occupancy.result.is_repeated c.args.from decoded es)
+    (c.deref.ensures.value ∙ c.in-Ok.ensures.items) c.occupancy_of-occupancy.ensures.repeated)
+    c.in-Ok-ask_server.answer c.in-Ok-ask_server.ensures.answers
+    c.reserve.new.self.items c.from-bytes.result c.in_default-opened.is c.in-Ok.ensures.items c.from-bytes.ensures)
 
-pub returns-in_default-tid-clause-asks : goal.returns-in_default-tid-clause-asks
-returns-in_default-tid-clause-asks c =
-    quietly c.args.from c.args.bytes.now c.args.self.now.server c.args.self.now.players.items
-    c.args.self.now.records.items _ c.in-Some.port c.requires.consistent c.requires.block refl c.in-Some.ensures.some
-    c.in-Some.ensures.fits (λ k. omega (arith, c.type_inv.bytes k))
-    c.on_request.new.self c.in-Ok-on_request.opened c.in-Ok-on_request.ensures.steps.0
-    c.in-Ok-on_request.ensures.steps.2 c.in_default-tid.is
-    c.reserve.new.self.items c.new-out.result.items c.from.result c.in-Ok.ensures.items c.new-out.ensures.items
-    (c.from.ensures ∙ c.in-Ok-on_request.ensures.steps.1)
-
-pub returns-in_default-tid-clause-consistent : goal.returns-in_default-tid-clause-consistent
-returns-in_default-tid-clause-consistent c =
-    quietly_consistent c.args.from c.args.bytes.now c.args.self.now.server c.args.self.now.players.items
-    c.args.self.now.records.items _ c.in-Some.port c.requires.consistent c.requires.block refl c.in-Some.ensures.some
-    c.in-Some.ensures.fits (λ k. omega (arith, c.type_inv.bytes k))
-    c.on_request.new.self c.in-Ok-on_request.opened c.in-Ok-on_request.ensures.steps.0
-    c.in-Ok-on_request.ensures.steps.2 c.in_default-tid.is
-    c.reserve.new.self.items c.reserve-2.new.self.items c.in-Ok.ensures.items c.in-Ok-reserve.ensures.items
-
-pub unreachable-requires : goal.unreachable-requires
-unreachable-requires c =
-    opened_requested c.args.from c.args.bytes.now c.args.self.now.server c.args.self.now.players.items
-    c.args.self.now.records.items _ c.in-Some.port c.requires.consistent c.requires.block refl c.in-Some.ensures.some
-    c.in-Some.ensures.fits (λ k. omega (arith, c.type_inv.bytes k))
-    c.on_request.new.self c.in-Ok-on_request.opened c.in-Ok-on_request.ensures.steps.0
-    c.in-Ok-on_request.ensures.steps.2 c.in-Some-tid.field-0 c.in-Some-tid.is c.in-Ok-admitted_end.admitted
-    c.in-Ok-admitted_end.ensures c.in_default-admitted.is
-
-pub unreachable-requires-in_default-record : goal.unreachable-requires-in_default-record
-unreachable-requires-in_default-record c =
-    opened_recorded c.args.from c.args.bytes.now c.args.self.now.server c.args.self.now.players.items
-    c.args.self.now.records.items _ c.in-Some.port c.requires.consistent c.requires.block refl c.in-Some.ensures.some
-    c.in-Some.ensures.fits (λ k. omega (arith, c.type_inv.bytes k))
-    c.on_request.new.self c.in-Ok-on_request.opened c.in-Ok-on_request.ensures.steps.0
-    c.in-Ok-on_request.ensures.steps.2 c.in-Some-tid.field-0 c.in-Some-tid.is c.in-Ok-admitted_end.admitted
-    c.in-Ok-admitted_end.ensures c.record.result c.record.ensures c.in_default-record.is
-
-pub returns-clause-consistent : goal.returns-clause-consistent
-returns-clause-consistent c =
-    opened_consistent c.args.from c.args.bytes.now c.args.self.now.server c.args.self.now.players.items
-    c.args.self.now.records.items _ c.in-Some.port c.requires.consistent c.requires.block refl c.in-Some.ensures.some
-    c.in-Some.ensures.fits (λ k. omega (arith, c.type_inv.bytes k))
-    c.on_request.new.self c.in-Ok-on_request.opened c.in-Ok-on_request.ensures.steps.0
-    c.in-Ok-on_request.ensures.steps.2 c.in-Some-tid.field-0 c.in-Some-tid.is c.in-Ok-admitted_end.admitted
-    c.in-Ok-admitted_end.ensures
-    c.in-Some-admitted.served c.in-Some-record.record c.reserve.new.self.items _ c.reserve-2.new.self.items _
-    c.in-Some-admitted.is (sym c.in-Some-record.is ∙ c.record.ensures) c.in-Ok.ensures.items
-    c.push_reserved-2.ensures.items c.in-Ok-reserve.ensures.items c.push_reserved.ensures.items
+pub of_server-player-requires : goal.of_server-player-requires
+of_server-player-requires c =
+    opened_kept c.args.from c.args.bytes.now c.args.self.now.server c.args.self.now.players.items
+    c.occupancy_of-occupancy.result c.in-Some.port c.in-Some.ensures.some c.in-Some.ensures.fits
+    (c.occupancy_of-occupancy.ensures.count ∙ ap open_transfers (c.deref.ensures.value ∙ c.in-Ok.ensures.items))
+    (subst
+    (λ (es : List WorldEnd). (decoded : Option Packet) × Decodes c.args.bytes.now decoded
+    × IsRepeated c.occupancy_of-occupancy.result.is_repeated c.args.from decoded es)
+    (c.deref.ensures.value ∙ c.in-Ok.ensures.items) c.occupancy_of-occupancy.ensures.repeated)
+    c.in-Ok-ask_server.answer c.in-Ok-ask_server.ensures.answers
+    c.in-Some-opened.served c.in-Some-opened.is
 
 pub returns-clause-asks : goal.returns-clause-asks
 returns-clause-asks c =
-    opened_asks c.args.from c.args.bytes.now c.args.self.now.server c.args.self.now.players.items
-    c.args.self.now.records.items _ c.in-Some.port c.requires.consistent c.requires.block refl c.in-Some.ensures.some
-    c.in-Some.ensures.fits (λ k. omega (arith, c.type_inv.bytes k))
-    c.on_request.new.self c.in-Ok-on_request.opened c.in-Ok-on_request.ensures.steps.0
-    c.in-Ok-on_request.ensures.steps.2 c.in-Some-tid.field-0 c.in-Some-tid.is c.in-Ok-admitted_end.admitted
-    c.in-Ok-admitted_end.ensures
-    c.in-Some-admitted.served c.server_at.result c.reserve.new.self.items _ c.new-out.result.items _
-    c.in-Some-admitted.is c.server_at.ensures c.in-Ok.ensures.items c.push_reserved-2.ensures.items
-    c.new-out.ensures.items (c.from-2.ensures ∙ c.in-Ok-on_request.ensures.steps.1)
+    subst
+    (λ (v : PlayedServer).
+    EndsAsk c.args.from c.args.bytes.now c.args.self.now.server v c.args.self.now.players.items
+    c.push_reserved-2.new.self.items
+    (record {
+      from = c.server_at.result;
+      to = c.in-Ok-ask_server.answer.to;
+      bytes = c.from-bytes.result;
+      closed = None;
+    }))
+    (sym c.ask_server.ensures.server)
+    (opened_asks c.args.from c.args.bytes.now c.args.self.now.server c.args.self.now.players.items
+    c.occupancy_of-occupancy.result c.in-Some.port c.in-Some.ensures.some c.in-Some.ensures.fits
+    (c.occupancy_of-occupancy.ensures.count ∙ ap open_transfers (c.deref.ensures.value ∙ c.in-Ok.ensures.items))
+    (subst
+    (λ (es : List WorldEnd). (decoded : Option Packet) × Decodes c.args.bytes.now decoded
+    × IsRepeated c.occupancy_of-occupancy.result.is_repeated c.args.from decoded es)
+    (c.deref.ensures.value ∙ c.in-Ok.ensures.items) c.occupancy_of-occupancy.ensures.repeated)
+    c.in-Ok-ask_server.answer c.in-Ok-ask_server.ensures.answers
+    c.in-Some-opened.served c.server_at.result c.push_reserved-2.new.self.items c.from-bytes.result
+    c.in-Some-opened.is c.server_at.ensures
+    (c.push_reserved-2.ensures.items
+    ∙ (ap (λ (es : List WorldEnd). es ++ c.of_server-player.result ∷ []) c.in-Ok.ensures.items
+    ∙ ap (λ (y : WorldEnd). c.args.self.now.players.items ++ y ∷ []) c.of_server-player.ensures)) c.from-bytes.ensures)
+
+pub returns-clause-consistent : goal.returns-clause-consistent
+returns-clause-consistent c =
+    pushed_so c.args.self.now.server c.ask_server.new.server c.args.self.now.players.items
+    c.args.self.now.records.items c.requires.consistent
+    (ap (λ (s : PlayedServer). s.held) c.ask_server.ensures.server)
+    (ap (λ (s : PlayedServer). s.store.refuses) c.ask_server.ensures.server ∙ c.requires.consistent.quiet)
+    c.in-Some.port c.of_server-player.result c.record.result c.reserve.new.self.items _ c.reserve-2.new.self.items _
+    c.in-Some.ensures.some
+    (ap (λ (x : WorldEnd). (end_address x).port) c.of_server-player.ensures
+    ∙ ap (λ (a : Endpoint). a.port) (standing_address (served_end c.in-Some.port c.in-Some-opened.served)))
+    c.record.ensures c.in-Ok.ensures.items c.push_reserved-2.ensures.items c.in-Ok-reserve.ensures.items
+    c.push_reserved.ensures.items

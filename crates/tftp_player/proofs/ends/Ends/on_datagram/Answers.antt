@@ -1,57 +1,64 @@
--- A datagram is a step of the end at its index, a client's or the server's.
-use Rattle.std.proofs.Common.{◌<◌, length, rules}
-use Rattle.tftp_player.proofs.PlayLemmas.{read_kept, read_open, records_within}
-use Rattle.tftp_player.proofs.DatagramLemmas.{step_away, step_closed, step_open, step_keeps_stage}
+-- A datagram is a step of the end at its index, if that is its destination.
+use Rattle.std.proofs.Common.{◌<◌, ◌∙◌, length, refl, rules, subst, sym, ap, inl, inr}
+use Rattle.std.specs.Prelude.{ℕ, slice_set}
+use Rattle.tftp_player.specs.ServerEnd.{PlayedServer}
+use Rattle.tftp_player.specs.Simulation.{ArePartsConsistent}
+use Rattle.tftp_player.proofs.HostEnds.{list_get, moved_consistent, records_within, same_set, takes_at}
 use Rattle.tftp_player.proofs.ends.Ends.on_datagram.Goals as goal
-
-pub on_datagram-requires-clause-kept : goal.on_datagram-requires-clause-kept
-on_datagram-requires-clause-kept c =
-    read_kept c.args.self.now.server c.args.self.now.players.items c.args.self.now.records.items c.args.index
-    c.args.to.port c.index_mut-player.result.now c.requires.consistent c.requires.index c.index_mut-player.ensures.value
-
-pub on_datagram-requires-clause-open : goal.on_datagram-requires-clause-open
-on_datagram-requires-clause-open c =
-    read_open c.args.self.now.server c.args.self.now.players.items c.args.self.now.records.items c.args.index
-    c.args.to.port c.index_mut-player.result.now c.requires.consistent c.requires.index c.index_mut-player.ensures.value
-    c.is_recorded_closed.result c.is_recorded_closed.ensures c.if-is_recorded_closed.false
 
 pub index_mut-requires : goal.index_mut-requires
 index_mut-requires c =
     let within : c.args.index < length c.args.self.now.records.items =
     records_within c.args.self.now.server c.args.self.now.players.items c.args.self.now.records.items c.args.index
-    c.args.to.port c.index_mut-player.result.now c.requires.consistent c.requires.index c.index_mut-player.ensures.value in
+    c.requires.consistent c.requires.index.0 in
     search rules
-
-pub returns-in-Ok-clause-consistent : goal.returns-in-Ok-clause-consistent
-returns-in-Ok-clause-consistent c =
-    step_keeps_stage c.args.self.now.server c.args.self.now.players.items c.args.self.now.records.items c.args.index
-    c.args.from c.args.to c.args.bytes.now c.index_mut-player.result.now c.requires.consistent c.requires.index
-    c.index_mut-player.ensures.value
-    c.is_recorded_closed.result c.on_datagram.new.self c.on_datagram.new.server c.in-Ok.effect c.in-Ok.record
-    c.is_recorded_closed.ensures c.if-is_recorded_closed.false c.in-Ok.ensures.steps
 
 pub returns-then-differs-clause-steps : goal.returns-then-differs-clause-steps
 returns-then-differs-clause-steps c =
-    step_away c.args.self.now.server c.args.self.now.players.items c.args.self.now.records.items c.args.index
-    c.args.from c.args.to c.args.bytes.now c.index_mut-player.result.now c.requires.consistent c.requires.index
-    c.index_mut-player.ensures.value
-    c.address-here.result c.no_effect.result c.address-here.ensures (c.differs.ensures.differs c.if-differs.true)
-    c.no_effect.ensures
-
-pub returns-then-is_recorded_closed-clause-steps : goal.returns-then-is_recorded_closed-clause-steps
-returns-then-is_recorded_closed-clause-steps c =
-    step_closed c.args.self.now.server c.args.self.now.players.items c.args.self.now.records.items c.args.index
-    c.args.from c.args.to c.args.bytes.now c.index_mut-player.result.now c.requires.consistent c.requires.index
-    c.index_mut-player.ensures.value
-    c.address-here.result c.is_recorded_closed.result c.no_effect-then-is_recorded_closed.result c.address-here.ensures
-    (c.differs.ensures.same c.if-differs.false)
-    c.is_recorded_closed.ensures c.if-is_recorded_closed.true c.no_effect-then-is_recorded_closed.ensures
+    let there =
+    list_get c.args.self.now.players.items c.args.index c.index_mut-player.result.now c.requires.index.0
+    c.index_mut-player.ensures.value in
+    record {
+      end = c.index_mut-player.result.now;
+      found = there;
+      comes = inl (
+        (λ same. c.differs.ensures.differs c.if-differs.true (c.address.ensures ∙ same)),
+        record {
+          effects = c.no_effect.ensures;
+          next = same_set c.args.self.now.players.items c.args.index c.index_mut-player.result.now there;
+          stays = refl;
+        },
+      );
+      config = refl;
+    }
 
 pub returns-in-Ok-clause-steps : goal.returns-in-Ok-clause-steps
-returns-in-Ok-clause-steps c =
-    step_open c.args.self.now.server c.args.self.now.players.items c.args.self.now.records.items c.args.index
-    c.args.from c.args.to c.args.bytes.now c.index_mut-player.result.now c.requires.consistent c.requires.index
-    c.index_mut-player.ensures.value
-    c.address-here.result c.is_recorded_closed.result c.on_datagram.new.self c.on_datagram.new.server c.in-Ok.effect
-    c.in-Ok.record c.address-here.ensures (c.differs.ensures.same c.if-differs.false)
-    c.is_recorded_closed.ensures c.if-is_recorded_closed.false c.in-Ok.ensures.steps
+returns-in-Ok-clause-steps c = record {
+  end = c.index_mut-player.result.now;
+  found =
+      list_get c.args.self.now.players.items c.args.index c.index_mut-player.result.now c.requires.index.0
+      c.index_mut-player.ensures.value;
+  comes = inr (
+    sym c.address.ensures ∙ c.differs.ensures.same c.if-differs.false,
+    record { next = c.on_datagram.new.self; takes = c.in-Ok.ensures.takes; is = refl },
+  );
+  config = ap (λ (s : PlayedServer). s.config) c.on_datagram.ensures.rest;
+}
+
+pub returns-in-Ok-clause-consistent : goal.returns-in-Ok-clause-consistent
+returns-in-Ok-clause-consistent c =
+    subst
+    (λ (n : ℕ).
+    ArePartsConsistent c.on_datagram.new.server
+    (slice_set c.args.self.now.players.items c.args.index c.on_datagram.new.self)
+    (slice_set c.args.self.now.records.items c.args.index (n, c.record.result))) (sym c.requires.index.1)
+    (moved_consistent c.args.self.now.server c.on_datagram.new.server c.args.self.now.players.items
+    c.args.self.now.records.items c.requires.consistent
+    (ap (λ (s : PlayedServer). s.held) c.on_datagram.ensures.rest) c.on_datagram.ensures.quiet c.args.index
+    c.index_mut-player.result.now c.on_datagram.new.self c.record.result
+    (list_get c.args.self.now.players.items c.args.index c.index_mut-player.result.now c.requires.index.0
+    c.index_mut-player.ensures.value)
+    (takes_at c.args.self.now.server.config.overwrite c.args.from c.args.bytes.now c.index_mut-player.result.now
+    c.on_datagram.new.self c.args.self.now.server.store.files c.on_datagram.new.server.store.files c.in-Ok.effect
+    c.in-Ok.ensures.takes)
+    c.record.ensures)

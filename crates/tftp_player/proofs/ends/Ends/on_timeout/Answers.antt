@@ -1,44 +1,38 @@
--- A timeout is a step of the end at its index, a client's or the server's.
-use Rattle.std.proofs.Common.{◌<◌, length, rules}
-use Rattle.tftp_player.proofs.PlayLemmas.{read_kept, read_open, records_within, stays_consistent, times_out_consistent}
-use Rattle.tftp_player.proofs.PlayLemmas.{times_out_keeps}
+-- A timeout is a step of the end at its index.
+use Rattle.std.proofs.Common.{◌<◌, length, refl, rules, subst, sym}
+use Rattle.std.specs.Prelude.{ℕ, slice_set}
+use Rattle.tftp_player.specs.Simulation.{ArePartsConsistent}
+use Rattle.tftp_player.proofs.HostEnds.{list_get, moved_consistent, records_within, stays_at}
 use Rattle.tftp_player.proofs.ends.Ends.on_timeout.Goals as goal
-
-pub returns-then-is_recorded_closed-clause-times_out : goal.returns-then-is_recorded_closed-clause-times_out
-returns-then-is_recorded_closed-clause-times_out c =
-    stays_consistent c.args.self.now.server c.args.self.now.players.items c.args.self.now.records.items c.args.index
-    c.args.port c.index_mut-player.result.now c.requires.consistent c.requires.index c.index_mut-player.ensures.value
-    c.is_recorded_closed.result c.address.result _ c.is_recorded_closed.ensures c.if-is_recorded_closed.true
-    c.address.ensures c.no_effect.ensures
-
-pub on_timeout-requires-clause-kept : goal.on_timeout-requires-clause-kept
-on_timeout-requires-clause-kept c =
-    read_kept c.args.self.now.server c.args.self.now.players.items c.args.self.now.records.items c.args.index
-    c.args.port c.index_mut-player.result.now c.requires.consistent c.requires.index c.index_mut-player.ensures.value
-
-pub on_timeout-requires-clause-open : goal.on_timeout-requires-clause-open
-on_timeout-requires-clause-open c =
-    read_open c.args.self.now.server c.args.self.now.players.items c.args.self.now.records.items c.args.index
-    c.args.port c.index_mut-player.result.now c.requires.consistent c.requires.index c.index_mut-player.ensures.value
-    c.is_recorded_closed.result c.is_recorded_closed.ensures c.if-is_recorded_closed.false
 
 pub index_mut-requires : goal.index_mut-requires
 index_mut-requires c =
     let within : c.args.index < length c.args.self.now.records.items =
     records_within c.args.self.now.server c.args.self.now.players.items c.args.self.now.records.items c.args.index
-    c.args.port c.index_mut-player.result.now c.requires.consistent c.requires.index c.index_mut-player.ensures.value in
+    c.requires.consistent c.requires.index.0 in
     search rules
 
 pub returns-in-Ok-clause-times_out : goal.returns-in-Ok-clause-times_out
-returns-in-Ok-clause-times_out c =
-    times_out_consistent c.args.self.now.server c.args.self.now.players.items c.args.self.now.records.items c.args.index
-    c.args.port c.index_mut-player.result.now c.requires.consistent c.requires.index c.index_mut-player.ensures.value
-    c.is_recorded_closed.result c.on_timeout.new.self c.on_timeout.new.server c.in-Ok.effect c.in-Ok.record
-    c.is_recorded_closed.ensures c.if-is_recorded_closed.false c.in-Ok.ensures.turns
+returns-in-Ok-clause-times_out c = record {
+  end = c.index_mut-player.result.now;
+  next = c.on_timeout.new.self;
+  found =
+      list_get c.args.self.now.players.items c.args.index c.index_mut-player.result.now c.requires.index.0
+      c.index_mut-player.ensures.value;
+  times_out = c.in-Ok.ensures.turns;
+  is = refl;
+}
 
 pub returns-in-Ok-clause-consistent : goal.returns-in-Ok-clause-consistent
 returns-in-Ok-clause-consistent c =
-    times_out_keeps c.args.self.now.server c.args.self.now.players.items c.args.self.now.records.items c.args.index
-    c.args.port c.index_mut-player.result.now c.requires.consistent c.requires.index c.index_mut-player.ensures.value
-    c.is_recorded_closed.result c.on_timeout.new.self c.on_timeout.new.server c.in-Ok.effect c.in-Ok.record
-    c.is_recorded_closed.ensures c.if-is_recorded_closed.false c.in-Ok.ensures.turns
+    subst
+    (λ (n : ℕ).
+    ArePartsConsistent c.args.self.now.server (slice_set c.args.self.now.players.items c.args.index c.on_timeout.new.self)
+    (slice_set c.args.self.now.records.items c.args.index (n, c.record.result))) (sym c.requires.index.1)
+    (moved_consistent c.args.self.now.server c.args.self.now.server c.args.self.now.players.items
+    c.args.self.now.records.items c.requires.consistent refl c.requires.consistent.quiet c.args.index
+    c.index_mut-player.result.now c.on_timeout.new.self c.record.result
+    (list_get c.args.self.now.players.items c.args.index c.index_mut-player.result.now c.requires.index.0
+    c.index_mut-player.ensures.value)
+    (stays_at c.index_mut-player.result.now c.on_timeout.new.self c.in-Ok.effect c.in-Ok.ensures.turns)
+    c.record.ensures)

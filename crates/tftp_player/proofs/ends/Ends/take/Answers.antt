@@ -18,7 +18,7 @@ returns-in-Some-clause-arrives c =
     (λ effect h.
     step_arrives c.args.from c.args.to c.args.bytes.now c.args.self.now.server c.on_datagram.new.self.server
     c.args.self.now.players.items c.on_datagram.new.self.players.items effect
-    (c.differs.ensures.differs c.if-not-differs.false) c.requires.consistent.kept
+    (c.differs.ensures.differs c.if-not-differs.false) c.requires.consistent.ports
     c.in-Some.index c.in-Some.ensures.some.0 h)
     c.on_datagram.ensures.steps
 
@@ -26,5 +26,5 @@ pub returns-in-None-clause-arrives : goal.returns-in-None-clause-arrives
 returns-in-None-clause-arrives c =
     nobody_arrives c.args.from c.args.to c.args.bytes.now c.args.self.now.server c.args.self.now.server
     c.args.self.now.players.items c.args.self.now.players.items c.no_effect.result
-    (c.differs.ensures.differs c.if-not-differs.false) c.requires.consistent.kept
-    _ refl c.in-None.ensures.none refl refl c.no_effect.ensures
+    (c.differs.ensures.differs c.if-not-differs.false) c.requires.consistent.ports
+    c.in-None.ensures.none refl refl c.no_effect.ensures

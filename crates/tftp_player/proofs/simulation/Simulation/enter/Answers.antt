@@ -12,5 +12,5 @@ returns-in-Ok-enter-clause-enters c =
     entered c.self.inside.config c.self.inside.sent.items c.reserve.new.self.items _ c.self.inside.ends.server
     c.enter.new.self.server c.self.inside.ends.players.items c.enter.new.self.players.items c.args.self.now
     c.args.client c.args.effect c.args.port c.write_down.result
-    c.self.view_is c.requires.port c.in-Ok-enter.ensures.server c.in-Ok-enter.ensures.enters c.in-Ok.ensures.items
+    c.self.view_is c.in-Ok-enter.ensures.server c.in-Ok-enter.ensures.enters c.in-Ok.ensures.items
     c.write_down.ensures.sent c.write_down.ensures.report

@@ -1,51 +1,42 @@
 -- The end at the port is set to refuse, if there is one.
-use Rattle.std.proofs.Common.{refl, sym, subst}
+use Rattle.std.proofs.Common.{sym, subst}
 use Rattle.std.specs.Prelude.{slice_set}
 use Rattle.tftp_player.specs.Simulation.{ArePartsConsistent, world_of}
 use Rattle.tftp_player.specs.declared.event.Event.TheVariants.{RefuseStore}
-use Rattle.tftp_player.specs.declared.player.Player.{Player}
-use Rattle.tftp_player.specs.World.{WorldState, no_report}
+use Rattle.tftp_player.specs.World.{WorldEnd, WorldState, no_report}
 use Rattle.tftp_player.specs.WorldSteps.{NoneAt, WorldStep}
-use Rattle.tftp_player.proofs.PlayLemmas.{none_here, read_kept}
-use Rattle.tftp_player.proofs.RefusingLemmas.{refused_step, refused_consistent}
+use Rattle.tftp_player.proofs.HostEnds.{list_get}
+use Rattle.tftp_player.proofs.PlayLemmas.{armed_step, armed_consistent}
 use Rattle.tftp_player.proofs.simulation.Simulation.refuse_store.Goals as goal
 
 pub returns-in_default-clause-refused : goal.returns-in_default-clause-refused
 returns-in_default-clause-refused c =
-    subst (λ (w : WorldState). NoneAt w c.args.port) c.self.view_is
-    (none_here c.self.inside.ends.server c.self.inside.ends.players.items _ c.args.port refl c.in_default.ensures.none)
-
-pub refuse_next-requires : goal.refuse_next-requires
-refuse_next-requires c =
-    read_kept c.self.inside.ends.server c.self.inside.ends.players.items c.self.inside.ends.records.items
-    c.in-Some.index c.args.port c.index_mut-player.result.now c.self.invariant.1 (
-      c.in-Some.ensures.some.1,
-      c.in-Some.ensures.some.0,
-    ) c.index_mut-player.ensures.value
+    subst (λ (w : WorldState). NoneAt w c.args.port) c.self.view_is c.in_default.ensures.none
 
 pub invariant_of-self : goal.invariant_of-self
 invariant_of-self c = (
   c.self.invariant.0,
   subst
-      (λ (q : Player).
-      ArePartsConsistent c.self.inside.ends.server (slice_set c.self.inside.ends.players.items c.in-Some.index q)
+      (λ (y : WorldEnd).
+      ArePartsConsistent c.self.inside.ends.server (slice_set c.self.inside.ends.players.items c.in-Some.index y)
       c.self.inside.ends.records.items) (sym c.refuse_next.ensures)
-      (refused_consistent c.self.inside.config c.self.inside.sent.items c.self.inside.ends.server
-      c.self.inside.ends.players.items c.self.inside.ends.records.items c.args.self.now c.self.view_is
-      c.self.invariant.1
-      c.args.port c.in-Some.index c.index_mut-player.result.now c.in-Some.ensures.some.1 c.in-Some.ensures.some.0
-      c.index_mut-player.ensures.value),
+      (armed_consistent c.self.inside.config c.self.inside.sent.items c.self.inside.ends.server
+      c.self.inside.ends.players.items c.args.self.now c.self.view_is c.args.port c.in-Some.index
+      c.index_mut-player.result.now
+      (list_get c.self.inside.ends.players.items c.in-Some.index c.index_mut-player.result.now
+      c.in-Some.ensures.some.1 c.index_mut-player.ensures.value) c.self.inside.ends.records.items c.self.invariant.1),
   c.self.invariant.2,
 )
 
 pub returns-clause-steps : goal.returns-clause-steps
 returns-clause-steps c =
     subst
-    (λ (q : Player).
+    (λ (y : WorldEnd).
     WorldStep c.args.self.now (RefuseStore c.args.port) no_report
     (world_of c.self.inside.config c.self.inside.sent.items c.self.inside.ends.server
-    (slice_set c.self.inside.ends.players.items c.in-Some.index q))) (sym c.refuse_next.ensures)
-    (refused_step c.self.inside.config c.self.inside.sent.items c.self.inside.ends.server
-    c.self.inside.ends.players.items c.self.inside.ends.records.items c.args.self.now c.self.view_is c.self.invariant.1
-    c.args.port c.in-Some.index c.index_mut-player.result.now c.in-Some.ensures.some.1 c.in-Some.ensures.some.0
-    c.index_mut-player.ensures.value)
+    (slice_set c.self.inside.ends.players.items c.in-Some.index y))) (sym c.refuse_next.ensures)
+    (armed_step c.self.inside.config c.self.inside.sent.items c.self.inside.ends.server
+    c.self.inside.ends.players.items c.args.self.now c.self.view_is c.args.port c.in-Some.index
+    c.index_mut-player.result.now
+    (list_get c.self.inside.ends.players.items c.in-Some.index c.index_mut-player.result.now
+    c.in-Some.ensures.some.1 c.index_mut-player.ensures.value) c.in-Some.ensures.some.0)

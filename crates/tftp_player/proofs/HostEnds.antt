@@ -1,0 +1,151 @@
+-- The ends of a world as a list, with their records, and what a step of one end leaves. For `Ends`' calls and five other
+-- files.
+use Rattle.std.proofs.Common.{◌≡◌, ℕ, zero, suc, ◌+◌, ◌<◌, Bool, true, false, List, [], ◌∷◌, ◌++◌, length, set, Some, None}
+use Rattle.std.proofs.Common.{cond, refl, sym, ap, ◌∙◌, subst, arith}
+use Rattle.std.specs.Prelude.{count_by, slice_get, slice_set, slice_index_or}
+use Rattle.std.proofs.lemmas.List.Sums.{sum_by-cons}
+use Rattle.std.proofs.lemmas.Option.{same_Some, slice_get_read}
+use Rattle.tftp_ends.specs.declared.record.Record.{Record}
+use Rattle.tftp_rules.specs.OpenEnds.{end_after, files_of}
+use Rattle.tftp_rules.specs.Machine.{Endpoint}
+use Rattle.tftp_ends.specs.Step.{timeout_turn}
+use Rattle.tftp_player.specs.EndSteps.{EndTimesOut, EndTakes}
+use Rattle.tftp_player.specs.Played.{records_from}
+use Rattle.tftp_player.specs.Requests.{is_transfer, open_transfers}
+use Rattle.tftp_player.specs.ServerEnd.{PlayedServer}
+use Rattle.tftp_player.specs.Simulation.{ArePartsConsistent, world_of}
+use Rattle.tftp_player.specs.World.{StoredFile, WorldEnd, Open_end, Closed_end, end_address, end_record}
+use Rattle.tftp_player.specs.declared.effect.Effect.{Effect}
+use Rattle.tftp_player.proofs.Standing.{standing_address}
+use Rattle.tftp_player.proofs.WorldTurns.{ports_set, ports_push}
+
+-- what an index reads
+pub list_get : {A : Type 0} (xs : List A) (k : ℕ) (x : A) → k < length xs → x ≡ slice_index_or xs k x →
+    slice_get xs k ≡ Some x
+list_get xs k x within e = slice_get_read xs (length xs) k x refl within e
+
+-- an element that is written where it is
+pub same_set : {A : Type 0} (xs : List A) (k : ℕ) (x : A) → slice_get xs k ≡ Some x → slice_set xs k x ≡ xs
+same_set [] k x e = refl
+same_set (y ∷ xs) zero x e = ap (λ z. z ∷ xs) (sym (same_Some y x e))
+same_set (y ∷ xs) (suc k) x e = ap (λ zs. y ∷ zs) (same_set xs k x e)
+
+-- ---- how many ends of the server are open
+abbrev one_if : Bool → ℕ
+one_if true = 1
+one_if false = 0
+
+one_if_is : (b : Bool) → cond b 1 0 ≡ one_if b
+one_if_is true = refl
+one_if_is false = refl
+
+count_one : {X : Type 0} (test : X → Bool) (x : X) (xs : List X) →
+    count_by test (x ∷ xs) ≡ one_if (test x) + count_by test xs
+count_one test x xs =
+    sum_by-cons (λ y. cond (test y) 1 0) x xs ∙ ap (λ (n : ℕ). n + count_by test xs) (one_if_is (test x))
+
+count_set : {X : Type 0} (test : X → Bool) (xs : List X) (k : ℕ) (x y : X) → slice_get xs k ≡ Some x →
+    count_by test (set xs k y) + one_if (test x) ≡ count_by test xs + one_if (test y)
+count_set {X = X} test [] k x y e = absurd (let f : None ≡ Some x = e in cc)
+count_set {X = X} test (z ∷ xs) zero x y e =
+    let same : one_if (test z) ≡ one_if (test x) = ap (λ (v : X). one_if (test v)) (same_Some z x e) in
+    omega (arith, count_one test y xs, count_one test z xs, same)
+count_set {X = X} test (z ∷ xs) (suc k) x y e =
+    omega (arith, count_one test z (set xs k y), count_one test z xs, count_set test xs k x y e)
+
+-- an end that stays an open transfer, or stays none, leaves the count
+pub transfers-set : (ends : List WorldEnd) (k : ℕ) (x y : WorldEnd) → slice_get ends k ≡ Some x →
+    is_transfer y ≡ is_transfer x → open_transfers (slice_set ends k y) ≡ open_transfers ends
+transfers-set ends k x y e same =
+    let one : one_if (is_transfer y) ≡ one_if (is_transfer x) = ap one_if same in
+    omega (arith, count_set is_transfer ends k x y e, one)
+
+-- ---- the records
+records_length : (port : ℕ) (ends : List WorldEnd) → length (records_from port ends) ≡ length ends
+records_length port [] = refl
+records_length port (x ∷ ends) = ap suc (records_length (port + 1) ends)
+
+-- a new end at an index has its record there
+pub records_set : (port : ℕ) (ends : List WorldEnd) (k : ℕ) (y : WorldEnd) →
+    records_from port (slice_set ends k y) ≡ slice_set (records_from port ends) k (port + k, end_record y)
+records_set port [] k y = refl
+records_set port (x ∷ ends) zero y =
+    let here : port ≡ port + zero = omega arith in
+    ap (λ (n : ℕ). (n, end_record y) ∷ records_from (port + 1) ends) here
+records_set port (x ∷ ends) (suc k) y =
+    let there : port + 1 + k ≡ port + suc k = omega arith in
+    ap (λ (rs : List (ℕ × Record)). (port, end_record x) ∷ rs) (records_set (port + 1) ends k y)
+    ∙ ap (λ (n : ℕ). (port, end_record x) ∷ slice_set (records_from (port + 1) ends) k (n, end_record y)) there
+
+-- one more end has its record
+records_push : (port : ℕ) (ends : List WorldEnd) (x : WorldEnd) →
+    records_from port (ends ++ x ∷ []) ≡ records_from port ends ++ (port + length ends, end_record x) ∷ []
+records_push port [] x = let here : port ≡ port + zero = omega arith in ap (λ (n : ℕ). (n, end_record x) ∷ []) here
+records_push port (y ∷ ends) x =
+    let there : port + 1 + length ends ≡ port + suc (length ends) = omega arith in
+    ap (λ (rs : List (ℕ × Record)). (port, end_record y) ∷ rs) (records_push (port + 1) ends x)
+    ∙ ap (λ (n : ℕ). (port, end_record y) ∷ (records_from (port + 1) ends ++ (n, end_record x) ∷ [])) there
+
+-- ---- a step of one end
+-- an end stays at its endpoint in a timeout, and in a datagram
+pub stays_at : (x y : WorldEnd) (effect : Effect) → EndTimesOut x y effect → end_address y ≡ end_address x
+stays_at (Open_end x) y effect t =
+    ap end_address t.next ∙ standing_address (end_after x (timeout_turn x.state) (files_of x))
+stays_at (Closed_end x) y effect t = ap end_address t.next
+
+pub takes_at : (overwrite : Bool) (from : Endpoint) (bytes : List ℕ) (x y : WorldEnd) (files files' : List StoredFile)
+    (effect : Effect) → EndTakes overwrite from bytes x y files files' effect → end_address y ≡ end_address x
+takes_at overwrite from bytes (Open_end x) y files files' effect t =
+    ap end_address t.turns.next ∙ standing_address (end_after x t.turn t.held)
+takes_at overwrite from bytes (Closed_end x) y files files' effect t = ap end_address t.0.next
+
+module _ (before after : PlayedServer) (ends : List WorldEnd) (records : List (ℕ × Record))
+    (consistent : ArePartsConsistent before ends records) (empty : after.held ≡ before.held)
+    (quiet : after.store.refuses ≡ false) where
+  -- the ends are consistent after a step of one
+  pub moved_consistent : (index : ℕ) (x y : WorldEnd) (r : Record) → slice_get ends index ≡ Some x →
+      end_address y ≡ end_address x → r ≡ end_record y →
+      ArePartsConsistent after (slice_set ends index y) (slice_set records index (1024 + index, r))
+  moved_consistent index x y r there same is = record {
+    recorded =
+        ap (λ (rs : List (ℕ × Record)). slice_set rs index (1024 + index, r)) consistent.recorded
+        ∙ (ap (λ (q : Record). slice_set (records_from 1024 ends) index (1024 + index, q)) is
+        ∙ sym (records_set 1024 ends index y));
+    ports = ports_set (world_of before.config [] before ends) index x y consistent.ports there same;
+    empty = empty ∙ consistent.empty;
+    quiet = quiet;
+  }
+
+  -- and with one more
+  pub pushed_consistent : (port : ℕ) (x : WorldEnd) (r : Record) → port ≡ 1024 + length ends →
+      (end_address x).port ≡ port → r ≡ end_record x →
+      ArePartsConsistent after (ends ++ x ∷ []) (records ++ (port, r) ∷ [])
+  pushed_consistent port x r next at is = record {
+    recorded =
+        ap (λ (rs : List (ℕ × Record)). rs ++ (port, r) ∷ []) consistent.recorded
+        ∙ (ap (λ (n : ℕ). records_from 1024 ends ++ (n, r) ∷ []) next
+        ∙ (ap (λ (q : Record). records_from 1024 ends ++ (1024 + length ends, q) ∷ []) is
+        ∙ sym (records_push 1024 ends x)));
+    ports = ports_push (world_of before.config [] before ends) x consistent.ports (at ∙ next);
+    empty = empty ∙ consistent.empty;
+    quiet = quiet;
+  }
+
+  -- the same, by equations
+  pub pushed_so : (port : ℕ) (x : WorldEnd) (r : Record) (ends0 ends1 : List WorldEnd)
+      (records0 records1 : List (ℕ × Record)) → port ≡ 1024 + length ends → (end_address x).port ≡ port →
+      r ≡ end_record x → ends0 ≡ ends → ends1 ≡ ends0 ++ x ∷ [] → records0 ≡ records →
+      records1 ≡ records0 ++ (port, r) ∷ [] → ArePartsConsistent after ends1 records1
+  pushed_so port x r ends0 ends1 records0 records1 next at is a b c d =
+      subst (λ (es : List WorldEnd). ArePartsConsistent after es records1)
+      (sym (b ∙ ap (λ (es : List WorldEnd). es ++ x ∷ []) a))
+      (subst (ArePartsConsistent after (ends ++ x ∷ []))
+      (sym (d ∙ ap (λ (rs : List (ℕ × Record)). rs ++ (port, r) ∷ []) c))
+      (pushed_consistent port x r next at is))
+
+-- each end has its record
+pub records_within : (server : PlayedServer) (ends : List WorldEnd) (records : List (ℕ × Record)) (index : ℕ) →
+    ArePartsConsistent server ends records → index < length ends → index < length records
+records_within server ends records index consistent within =
+    let n : length records ≡ length ends = ap length consistent.recorded ∙ records_length 1024 ends in
+    omega (arith, within, n)
