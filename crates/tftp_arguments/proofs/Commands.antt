@@ -12,7 +12,7 @@ use Rattle.clap.specs.declared.builder.command.Command.TheOpen.{Command-F}
 use Rattle.clap.specs.declared.builder.command.Command.TheViews.{out-Command as fields_of}
 use Rattle.clap.proofs.WalkLemmas.{first_value-rows, one_text-rows}
 use Rattle.tftp_arguments.specs.Commands.{CommandsGrow, MatchesAreRows}
-use Rattle.tftp_arguments.specs.Read.{Reads, text_of}
+use Rattle.tftp_arguments.specs.Read.{ReadWords, value_text}
 use Rattle.tftp_arguments.specs.Rules.{HasRule, IsApp}
 
 changed : {app : App} {old new : Command} (change : App → App) (fields : Command-F Command)
@@ -45,6 +45,6 @@ pub matches_are_rows : MatchesAreRows
 matches_are_rows m =
     let Reader : Type 0 = List ℕ → Option (List ℕ) in
     let f = found_of m in
-    let of_word : Reader → Reads = λ w. record { word = w; text = text_of m } in
-    let of_text : Reader → Reads = λ t. record { word = λ id. first_of id (rows_of f); text = t } in
+    let of_word : Reader → ReadWords = λ w. record { word = w; text = value_text m } in
+    let of_text : Reader → ReadWords = λ t. record { word = λ id. first_of id (rows_of f); text = t } in
     ap of_word (fun_ext (first_value-rows f)) ∙ ap of_text (fun_ext (one_text-rows f))

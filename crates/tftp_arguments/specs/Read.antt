@@ -7,20 +7,20 @@ use Rattle.clap.specs.Walk.{Row, first_of, one_of}
 use Rattle.clap.specs.declared.parser.matches.ArgMatches.{ArgMatches}
 
 -- what was read of an option
-abbrev pub text_of : ArgMatches → List ℕ → Option (List ℕ)
-text_of matches id = one_text (found_of matches) id
+abbrev pub value_text : ArgMatches → List ℕ → Option (List ℕ)
+value_text matches id = one_text (found_of matches) id
 
 -- what was read of each argument: its word, and the text of its flag or number
-pub record Reads : Type 0 where
+pub record ReadWords : Type 0 where
   pub word : List ℕ → Option (List ℕ)
   pub text : List ℕ → Option (List ℕ)
 
 -- what was read of the matches
-abbrev pub read_of : ArgMatches → Reads
-read_of matches = record { word = first_value (found_of matches); text = text_of matches }
+abbrev pub read_of : ArgMatches → ReadWords
+read_of matches = record { word = first_value (found_of matches); text = value_text matches }
 
 -- what was read of the rows of a parse
-abbrev pub read_in : List Row → Reads
+abbrev pub read_in : List Row → ReadWords
 read_in rows = record { word = λ id. first_of id rows; text = λ id. one_of id rows }
 
 -- a flag that is read so: it is not set without the option

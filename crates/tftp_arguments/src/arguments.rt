@@ -3,7 +3,7 @@
 ghost use Rattle.std.specs.Prelude.{◌≡◌, ◌≤◌};
 ghost use Rattle.clap.specs.Values.{kind_of};
 ghost use Rattle.tftp_arguments.specs.Fault.{HasStatus, IsZeroForText};
-ghost use Rattle.tftp_arguments.specs.Read.{IsFlag, text_of};
+ghost use Rattle.tftp_arguments.specs.Read.{IsFlag, value_text};
 ghost use Rattle.tftp_arguments.specs.Rules.{HasRule, flag_rule, number_rule, word_rule};
 
 use clap::builder::ValueParser;
@@ -129,7 +129,7 @@ pub fn flag<'a>(alloc: Global, name: &'a str, help: &'a str) -> Arg<'a>
 
 /// Whether an option without a value is set.
 pub fn is_set(matches: &ArgMatches<'_>, name: &str) -> bool
-    ensures { IsFlag (text_of matches.now name.now) result }
+    ensures { IsFlag (value_text matches.now name.now) result }
 {
     matches.get_flag(name)
 }

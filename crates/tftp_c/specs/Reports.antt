@@ -29,7 +29,7 @@ SendsReply (Some reply) buffer event = Sends (Some reply.to) reply.bytes buffer 
 -- how an end closed, or 0
 abbrev pub outcome_number : Option Outcome → ℕ
 outcome_number None = 0
-outcome_number (Some outcome) = outcomes.number_of outcome
+outcome_number (Some outcome) = outcomes.number_of_outcome outcome
 
 -- the code of the ERROR of the peer that closed an end, or 0
 abbrev pub error_code : Outcome → ℕ

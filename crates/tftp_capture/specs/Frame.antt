@@ -13,9 +13,9 @@ use Rattle.tftp_capture.specs.declared.link.Link.{Link}
 use Rattle.tftp_capture.specs.declared.link.Link.TheVariants.{Ethernet, Cooked, Cooked2, Raw, Loopback, Other}
 
 -- a reader gives the value that is wanted, seen by `view`, or the fault that is
-abbrev pub Gives : {T U E : Type 0} → (T → U) → Result U E → Result T E → Type 0
-Gives view wanted (Ok x) = wanted ≡ Ok (view x)
-Gives view wanted (Err e) = wanted ≡ Err e
+abbrev pub IsWanted : {T U E : Type 0} → (T → U) → Result U E → Result T E → Type 0
+IsWanted view wanted (Ok x) = wanted ≡ Ok (view x)
+IsWanted view wanted (Err e) = wanted ≡ Err e
 
 -- the bytes behind a reference
 abbrev pub borrowed : Bor (List ℕ) → List ℕ
@@ -85,13 +85,13 @@ family frame =
     else Err faults.NotIpv4
 
 -- the IP packet in a frame
-abbrev pub packet_of : Link → List ℕ → Result (List ℕ) FrameFault
-packet_of Ethernet frame = typed 12 14 frame
-packet_of Cooked frame = typed 14 16 frame
-packet_of Cooked2 frame = typed 0 20 frame
-packet_of Raw frame = Ok frame
-packet_of Loopback frame = family frame
-packet_of Other frame = Err faults.Link
+abbrev pub ip_packet : Link → List ℕ → Result (List ℕ) FrameFault
+ip_packet Ethernet frame = typed 12 14 frame
+ip_packet Cooked frame = typed 14 16 frame
+ip_packet Cooked2 frame = typed 0 20 frame
+ip_packet Raw frame = Ok frame
+ip_packet Loopback frame = family frame
+ip_packet Other frame = Err faults.Link
 
 -- what a packet carries: its body, as far as the frame has it, and the body's size by the header
 pub record Body : Type 0 where
@@ -166,7 +166,7 @@ packet_datagram (Err fault) = Err fault
 
 -- the UDP datagram of a frame, or its first fault
 abbrev pub datagram_of : Link → List ℕ → Result Udp FrameFault
-datagram_of link frame = packet_datagram (packet_of link frame)
+datagram_of link frame = packet_datagram (ip_packet link frame)
 
 -- what a reader of packets returns
 abbrev pub carried_view : Carried → Body

@@ -1,7 +1,7 @@
 //! The UDP datagram of a frame (RFC 768).
 
 ghost use Rattle.std.specs.Prelude.{◌≡◌, IfOk, IfErr, IsOkAnd, Ok, Err};
-ghost use Rattle.tftp_capture.specs.Frame.{Gives, Udp, datagram_of, udp_of, udp_view, carried_view};
+ghost use Rattle.tftp_capture.specs.Frame.{IsWanted, Udp, datagram_of, udp_of, udp_view, carried_view};
 
 use crate::fault::FrameFault;
 use crate::ip::{Carried, carried_by};
@@ -39,7 +39,7 @@ pub fn read_datagram(link: Link, frame: &[u8]) -> Result<Datagram<'_>, FrameFaul
 }
 
 fn read_frame(link: Link, frame: &[u8]) -> Result<Datagram<'_>, FrameFault>
-    ensures { Gives udp_view (datagram_of link frame.now) result }
+    ensures { IsWanted udp_view (datagram_of link frame.now) result }
 {
     let packet = match packet_in(link, frame) {
         Ok(packet) => packet,
@@ -53,7 +53,7 @@ fn read_frame(link: Link, frame: &[u8]) -> Result<Datagram<'_>, FrameFault>
 
 /// The datagram that a packet carries.
 fn read_udp(carried: Carried<'_>) -> Result<Datagram<'_>, FrameFault>
-    ensures { Gives udp_view (udp_of (carried_view carried.entry)) result }
+    ensures { IsWanted udp_view (udp_of (carried_view carried.entry)) result }
 {
     let body = carried.body;
     if body.len() < HEADER {

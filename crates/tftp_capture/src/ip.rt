@@ -2,7 +2,7 @@
 
 ghost use Rattle.std.specs.Prelude.{◌≡◌, ◌+◌, ◌≤◌, length};
 ghost use Rattle.std.specs.Net.Addr.{ipv4_octets};
-ghost use Rattle.tftp_capture.specs.Frame.{Gives, carried_of, carried_view, octets_at};
+ghost use Rattle.tftp_capture.specs.Frame.{IsWanted, carried_of, carried_view, octets_at};
 
 use crate::fault::FrameFault;
 use crate::number::{after, big_pair, first};
@@ -29,7 +29,7 @@ pub(crate) struct Carried<'f> {
 
 /// What a packet carries of UDP.
 pub(crate) fn carried_by(packet: &[u8]) -> Result<Carried<'_>, FrameFault>
-    ensures { Gives carried_view (carried_of packet.now) result }
+    ensures { IsWanted carried_view (carried_of packet.now) result }
 {
     if packet.len() < SHORTEST {
         return Err(FrameFault::Short);

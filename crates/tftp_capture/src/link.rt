@@ -1,7 +1,7 @@
 //! The header of a link: where the IPv4 packet of a frame begins.
 
 ghost use Rattle.std.specs.Prelude.{◌≡◌, ◌+◌, ◌≤◌};
-ghost use Rattle.tftp_capture.specs.Frame.{Gives, borrowed, packet_of, typed, family, untagged};
+ghost use Rattle.tftp_capture.specs.Frame.{IsWanted, borrowed, ip_packet, typed, family, untagged};
 ghost use Rattle.tftp_capture.specs.Frame.{tagged, twice_tagged, is_tag, link_of};
 
 use crate::fault::FrameFault;
@@ -45,7 +45,7 @@ impl Link {
 
 /// The IP packet in a frame.
 pub(crate) fn packet_in(link: Link, frame: &[u8]) -> Result<&[u8], FrameFault>
-    ensures { Gives borrowed (packet_of link frame.now) result }
+    ensures { IsWanted borrowed (ip_packet link frame.now) result }
 {
     match link {
         Link::Ethernet => packet_by_type(frame, 12, 14),
@@ -60,7 +60,7 @@ pub(crate) fn packet_in(link: Link, frame: &[u8]) -> Result<&[u8], FrameFault>
 /// The packet that begins at `start`, in a frame that has the packet's type at `at`.
 fn packet_by_type(frame: &[u8], at: usize, start: usize) -> Result<&[u8], FrameFault>
     requires { at + 2 ≤ start }
-    ensures { Gives borrowed (typed at start frame.now) result }
+    ensures { IsWanted borrowed (typed at start frame.now) result }
 {
     if frame.len() < start {
         return Err(FrameFault::Short);
@@ -70,7 +70,7 @@ fn packet_by_type(frame: &[u8], at: usize, start: usize) -> Result<&[u8], FrameF
 
 /// What is left of a frame after at most two tags.
 fn after_two_tags(kind: u16, rest: &[u8]) -> Result<&[u8], FrameFault>
-    ensures { Gives borrowed (twice_tagged kind rest.now) result }
+    ensures { IsWanted borrowed (twice_tagged kind rest.now) result }
 {
     if !is_tag(kind) {
         return untagged(kind, rest);
@@ -83,7 +83,7 @@ fn after_two_tags(kind: u16, rest: &[u8]) -> Result<&[u8], FrameFault>
 
 /// What is left of a frame after at most one tag.
 fn after_tag(kind: u16, rest: &[u8]) -> Result<&[u8], FrameFault>
-    ensures { Gives borrowed (tagged kind rest.now) result }
+    ensures { IsWanted borrowed (tagged kind rest.now) result }
 {
     if !is_tag(kind) {
         return untagged(kind, rest);
@@ -96,7 +96,7 @@ fn after_tag(kind: u16, rest: &[u8]) -> Result<&[u8], FrameFault>
 
 /// The packet after all tags.
 fn untagged(kind: u16, rest: &[u8]) -> Result<&[u8], FrameFault>
-    ensures { Gives borrowed (untagged kind rest.now) result }
+    ensures { IsWanted borrowed (untagged kind rest.now) result }
 {
     if kind == IPV4 {
         Ok(rest)
@@ -114,7 +114,7 @@ fn is_tag(kind: u16) -> bool
 
 /// The packet after an address family, whose byte order is that of the host that captured.
 fn packet_by_family(frame: &[u8]) -> Result<&[u8], FrameFault>
-    ensures { Gives borrowed (family frame.now) result }
+    ensures { IsWanted borrowed (family frame.now) result }
 {
     if frame.len() < 4 {
         return Err(FrameFault::Short);

@@ -8,7 +8,7 @@ use Rattle.tftp_disk.specs.DiskTrace.DiskEvent.{Folder_synced, Linked, Looked, R
 use Rattle.tftp_disk.specs.NamedFolder.{SyncsFolder}
 use Rattle.tftp_disk.specs.declared.found.Found.{Found}
 use Rattle.tftp_disk.specs.declared.disk_file.DiskFolder.{DiskFolder}
-use Rattle.tftp_client.specs.Fetched.{AreOwn, FindsNothing, IsAbsent, IsBarred, IsNamed, IsOwn, Keeps, KeepsOne, LosesName}
+use Rattle.tftp_client.specs.Fetched.{AreOwn, FindsNothing, IsAbsent, IsBarred, IsNamed, IsOwnCall, Keeps, KeepsOne, LosesName}
 use Rattle.tftp_client.specs.Fetched.{KeepsPlace, MayRename, Paths, WasUnlinked}
 
 pub same_changes : (paths : Paths) (before after : List DiskEvent) → after ≡ before → Keeps paths before after
@@ -19,7 +19,7 @@ same_changes paths before after same =
       barred = λ barred. subst (λ (events : List DiskEvent). IsBarred paths.local events) (sym same) barred;
     }
 
-pub own_change : (paths : Paths) (event : DiskEvent) (before after : List DiskEvent) → IsOwn paths event before
+pub own_change : (paths : Paths) (event : DiskEvent) (before after : List DiskEvent) → IsOwnCall paths event before
     → after ≡ event ∷ before → Keeps paths before after
 own_change paths event before after is same =
     record {

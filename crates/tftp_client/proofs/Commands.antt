@@ -14,7 +14,7 @@ use Rattle.clap.specs.declared.parser.matches.ArgMatches.{ArgMatches}
 use Rattle.clap.specs.declared.parser.matches.ArgMatches.TheViews.{out-SubCommand}
 use Rattle.clap.specs.declared.parser.matches.SubCommand.{SubCommand}
 use Rattle.tftp_negotiate.specs.declared.known.Kind.{Kind}
-use Rattle.tftp_arguments.specs.Read.{Reads, read_in, read_of}
+use Rattle.tftp_arguments.specs.Read.{ReadWords, read_in, read_of}
 use Rattle.tftp_arguments.specs.Rules.{IsApp}
 use Rattle.tftp_arguments.proofs.Commands.{matches_are_rows}
 use Rattle.tftp_client.specs.declared.transfer.Job.{Job}
@@ -43,7 +43,7 @@ subcommand_added {below = below} {old = old} {sub = sub} is under adds =
 -- the job of these matches, by their rows
 pub by_rows : {kind : Kind} (m : ArgMatches) {job : Job} → NamesJob kind (read_of m) job
     → NamesJob kind (read_in (rows_of (found_of m))) job
-by_rows {kind} m {job} = subst (λ (read : Reads). NamesJob kind read job) (matches_are_rows m)
+by_rows {kind} m {job} = subst (λ (read : ReadWords). NamesJob kind read job) (matches_are_rows m)
 
 module _ {Z : Type 0} where
   -- the subcommand that was met

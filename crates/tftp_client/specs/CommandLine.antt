@@ -6,7 +6,7 @@ use Rattle.tftp_negotiate.specs.declared.asked.Asked.{Asked}
 use Rattle.tftp_negotiate.specs.declared.known.Kind.{Kind}
 use Rattle.tftp_negotiate.specs.declared.known.Kind.TheVariants.{Read, Write}
 use Rattle.tftp_disk.specs.declared.existing.Existing.TheVariants.{Refused, Replaced}
-use Rattle.tftp_arguments.specs.Read.{IsChosen, IsFlag, IsNumber, Reads}
+use Rattle.tftp_arguments.specs.Read.{IsChosen, IsFlag, IsNumber, ReadWords}
 use Rattle.tftp_sockets.specs.Address.{Names}
 use Rattle.tftp_client.specs.declared.command_line.CommandLine.{CommandLine}
 use Rattle.tftp_client.specs.declared.command_line.CommandLine.TheVariants.{Run, Exit}
@@ -18,13 +18,13 @@ kind_named word = if bytes_eq word (codes "put") then Write else Read
 
 -- the options that were requested; the length of a file by 0
 -- (RFC 2349, "Transfer Size Option Specification")
-pub record AsksAs (read : Reads) (asked : Asked) : Type 0 where
+pub record AsksAs (read : ReadWords) (asked : Asked) : Type 0 where
   pub blksize : IsNumber 16 (read.text (codes "blksize")) asked.blksize
   pub timeout : IsNumber 8 (read.text (codes "timeout")) asked.timeout
   pub tsize : IsChosen (read.text (codes "tsize")) (Some 0) None asked.tsize
 
 -- the job has this direction, and the names, the endpoint, the mode and the options that were read
-pub record NamesJob (kind : Kind) (read : Reads) (job : Job) : Type 0 where
+pub record NamesJob (kind : Kind) (read : ReadWords) (job : Job) : Type 0 where
   pub kind_is : job.kind ≡ kind
   pub name : read.word (codes "NAME") ≡ Some job.name.now
   pub local : read.word (codes "LOCAL") ≡ Some job.local.now

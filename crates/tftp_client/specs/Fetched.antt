@@ -144,19 +144,19 @@ HasUnsyncedName paths before =
 -- a call, after those, that changes no other name than those of the file: that under which it is
 -- written is made and removed; its own is given, and removed only if it was new and could not be
 -- synced
-abbrev pub IsOwn : Paths → DiskEvent → List DiskEvent → Type 0
-IsOwn paths (Made path answer) before = path ≡ paths.part
-IsOwn paths (Removed path answer) before =
+abbrev pub IsOwnCall : Paths → DiskEvent → List DiskEvent → Type 0
+IsOwnCall paths (Made path answer) before = path ≡ paths.part
+IsOwnCall paths (Removed path answer) before =
     (path ≡ paths.part) ⊎ ((path ≡ paths.local) × HasUnsyncedName paths before)
-IsOwn paths (Linked file from to answer) before = (from ≡ paths.part) × (to ≡ paths.local)
-IsOwn paths (Renamed file from to answer) before =
+IsOwnCall paths (Linked file from to answer) before = (from ≡ paths.part) × (to ≡ paths.local)
+IsOwnCall paths (Renamed file from to answer) before =
     (from ≡ paths.part) × (to ≡ paths.local) × MayRename paths before
-IsOwn paths event before = ⊤
+IsOwnCall paths event before = ⊤
 
 -- all these calls are such
 abbrev pub AreOwn : Paths → List DiskEvent → Type 0
 AreOwn paths [] = ⊤
-AreOwn paths (event ∷ events) = IsOwn paths event events × AreOwn paths events
+AreOwn paths (event ∷ events) = IsOwnCall paths event events × AreOwn paths events
 
 -- ---- what stays
 -- the calls from the one list to the other are of no other file, what was named stays named, and a

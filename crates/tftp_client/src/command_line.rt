@@ -6,7 +6,7 @@ ghost use Rattle.clap.specs.Simple.{App, subcommand_rows_of};
 ghost use Rattle.tftp_wire.specs.declared.mode.Mode.TheVariants.{Octet, Netascii};
 ghost use Rattle.tftp_disk.specs.declared.existing.Existing.TheVariants.{Refused, Replaced};
 ghost use Rattle.tftp_arguments.specs.Fault.{AskForText};
-ghost use Rattle.tftp_arguments.specs.Read.{IsChosen, read_of, text_of};
+ghost use Rattle.tftp_arguments.specs.Read.{IsChosen, read_of, value_text};
 ghost use Rattle.tftp_arguments.specs.Rules.{HasRule, IsApp, by_default, within, word_rule};
 ghost use Rattle.tftp_sockets.specs.Address.{Names};
 ghost use Rattle.tftp_client.specs.CommandLine.{AsksAs, IfExit, IfRun, NamesJob, kind_named};
@@ -195,7 +195,7 @@ fn server_in(word: &str) -> Option<Endpoint>
 
 /// What becomes of a LOCAL that exists.
 fn existing(matches: &ArgMatches<'_>) -> Existing
-    ensures { IsChosen (text_of matches.now (codes "replace")) Replaced Refused result }
+    ensures { IsChosen (value_text matches.now (codes "replace")) Replaced Refused result }
 {
     if is_set(matches, "replace") {
         Existing::Replaced
@@ -214,7 +214,7 @@ fn progress(matches: &ArgMatches<'_>, errors: ErrorOutput) -> Progress {
 
 /// Whether a receiver dallies.
 fn dallies(matches: &ArgMatches<'_>) -> bool
-    ensures { IsChosen (text_of matches.now (codes "no-dally")) false true result }
+    ensures { IsChosen (value_text matches.now (codes "no-dally")) false true result }
 {
     if is_set(matches, "no-dally") {
         false
@@ -225,7 +225,7 @@ fn dallies(matches: &ArgMatches<'_>) -> bool
 
 /// The transfer mode.
 fn mode(matches: &ArgMatches<'_>) -> Mode
-    ensures { IsChosen (text_of matches.now (codes "netascii")) Netascii Octet result }
+    ensures { IsChosen (value_text matches.now (codes "netascii")) Netascii Octet result }
 {
     if is_set(matches, "netascii") {
         Mode::Netascii
@@ -247,7 +247,7 @@ fn asked(matches: &ArgMatches<'_>) -> Asked
 
 /// The value of a requested `tsize`.
 fn asked_length(matches: &ArgMatches<'_>) -> Option<u64>
-    ensures { IsChosen (text_of matches.now (codes "tsize")) (Some 0) None result }
+    ensures { IsChosen (value_text matches.now (codes "tsize")) (Some 0) None result }
 {
     if is_set(matches, "tsize") {
         Some(0)

@@ -11,7 +11,7 @@ use Rattle.clap.specs.Walk.{Row, row_of, rows_of}
 use Rattle.clap.specs.declared.parser.matches.Found.{Found}
 use Rattle.clap.proofs.WalkLemmas.{find-map}
 use Rattle.clap.specs.declared.parser.matches.ArgMatches.{ArgMatches}
-use Rattle.tftp_arguments.specs.Read.{Reads, read_in, read_of}
+use Rattle.tftp_arguments.specs.Read.{ReadWords, read_in, read_of}
 use Rattle.tftp_arguments.proofs.Commands.{matches_are_rows}
 use Rattle.tftp_daemon.specs.CommandLine.{NamesInRows, NamesServer, words_in, words_of}
 use Rattle.tftp_daemon.specs.Words.{tftpd_app}
@@ -44,4 +44,4 @@ pub by_rows : (m : ArgMatches) {config : DaemonConfig}
 by_rows m {config} names =
     subst (λ (listens : List (List ℕ)). NamesServer (read_in (rows_of (found_of m))) listens config)
     (words_by_rows (found_of m) (codes "listen"))
-    (subst (λ (read : Reads). NamesServer read (words_of (found_of m) (codes "listen")) config) (matches_are_rows m) names)
+    (subst (λ (read : ReadWords). NamesServer read (words_of (found_of m) (codes "listen")) config) (matches_are_rows m) names)

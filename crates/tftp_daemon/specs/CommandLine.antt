@@ -9,7 +9,7 @@ use Rattle.clap.specs.Walk.{Row}
 use Rattle.clap.specs.declared.parser.matches.Found.{Found}
 use Rattle.tftp_ends.specs.declared.endpoint.Endpoint.{Endpoint}
 use Rattle.tftp_server.specs.declared.config.Config.{Config}
-use Rattle.tftp_arguments.specs.Read.{IsFlag, IsNumber, Reads, read_in}
+use Rattle.tftp_arguments.specs.Read.{IsFlag, IsNumber, ReadWords, read_in}
 use Rattle.tftp_sockets.specs.Address.{Names}
 use Rattle.tftp_loop.specs.declared.port_order.PortRange.{PortRange}
 use Rattle.tftp_loop.specs.declared.serving.Ending.{Ending}
@@ -21,7 +21,7 @@ use Rattle.tftp_daemon.specs.declared.listen.Listen.{Listen}
 use Rattle.tftp_daemon.specs.declared.listen.Listen.TheVariants.{At, Handed}
 
 -- the limits of transfers, as they were read
-pub record ConfiguresAs (read : Reads) (config : Config) : Type 0 where
+pub record ConfiguresAs (read : ReadWords) (config : Config) : Type 0 where
   pub max_block : IsNumber 16 (read.text (codes "max-block")) (Some config.limits.max_block)
   pub max_file : IsNumber 64 (read.text (codes "max-file")) (Some config.limits.max_file)
   pub retries : IsNumber 8 (read.text (codes "retries")) (Some config.retries)
@@ -29,7 +29,7 @@ pub record ConfiguresAs (read : Reads) (config : Config) : Type 0 where
   pub overwrite : IsFlag (read.text (codes "overwrite")) config.overwrite
 
 -- when the server ends, as it was read: never, or after so many closed transfers or waits
-pub data EndsAs (read : Reads) (ending : Ending) : Type 0 where
+pub data EndsAs (read : ReadWords) (ending : Ending) : Type 0 where
   Never : IsFlag (read.text (codes "forever")) true
       → ending.transfers ≡ 18446744073709551615 → ending.rounds ≡ 18446744073709551615
       → EndsAs read ending
@@ -80,24 +80,24 @@ abbrev pub IsApart : Endpoint → List Endpoint → Type 0
 IsApart at others = AllByRecursion (λ other. other ≢ at) others
 
 -- no two of these are the same
-abbrev pub AreApart : List Endpoint → Type 0
-AreApart [] = Unit {0}
-AreApart (at ∷ others) = IsApart at others × AreApart others
+abbrev pub AllDistinct : List Endpoint → Type 0
+AllDistinct [] = Unit {0}
+AllDistinct (at ∷ others) = IsApart at others × AllDistinct others
 
 -- no endpoint stands twice, of that where requests arrive and these others
 abbrev pub HasApart : Listen → List Endpoint → Type 0
-HasApart (At at) others = IsApart at others × AreApart others
-HasApart Handed others = AreApart others
+HasApart (At at) others = IsApart at others × AllDistinct others
+HasApart Handed others = AllDistinct others
 
 -- how many servers there are, and which this is, as they were read
-pub record NamesInstance (read : Reads) (instance : Instance) : Type 0 where
+pub record NamesInstance (read : ReadWords) (instance : Instance) : Type 0 where
   pub servers : IsNumber 8 (read.text (codes "servers")) (Some instance.servers)
   pub server : IsNumber 8 (read.text (codes "server")) instance.server
 
 -- the configuration has the folder, the address, the ports, the limits, the age, the end, the flags
 -- and the number of servers that were read, and which of several it is; and where `--listen` was
 -- given again, with these words, the addresses of the words behind the first, none of them twice
-pub record NamesServer (read : Reads) (listens : List (List ℕ)) (config : DaemonConfig) : Type 0
+pub record NamesServer (read : ReadWords) (listens : List (List ℕ)) (config : DaemonConfig) : Type 0
   where
     pub root : read.word (codes "ROOT") ≡ Some config.root.now
     pub listen : (word : List ℕ) × (read.word (codes "listen") ≡ Some word)

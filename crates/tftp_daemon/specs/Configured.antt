@@ -25,9 +25,9 @@ use Rattle.tftp_folder.specs.Uploads.{path_below, path_of_folder}
 use Rattle.tftp_folder.specs.declared.folder_store.FolderStore.{FolderStore}
 
 -- the status of the program: 0, or 2 for a fault
-abbrev pub status_of : {A E : Type 0} → Result A E → ℕ
-status_of (Ok done) = 0
-status_of (Err fault) = 2
+abbrev pub daemon_status : {A E : Type 0} → Result A E → ℕ
+daemon_status (Ok done) = 0
+daemon_status (Err fault) = 2
 
 -- the request port is where the words say: at their address and port, or at the socket that was
 -- handed over, which has a port
@@ -79,7 +79,7 @@ module _ {B G H W F D : Type 0} (meaning : StoreMeaning (FolderStore B G H W) D)
     pub record RunsService (service : LoopConfig) (server : ServerState (FolderStore B G H W) F D)
         (status : ℕ) (before after : List SocketEvent) : Type 0 where
       pub result : Result (Unit {0}) LoopFault
-      pub is_status : status ≡ status_of result
+      pub is_status : status ≡ daemon_status result
       pub serves : RunsServer meaning sources service server result before after
 
 module _ {B G H W F D : Type 0} (log : B → List DiskEvent) (start : List DiskEvent) where

@@ -10,7 +10,7 @@ ghost use Rattle.tftp_folder.specs.Inside.{StaysInside};
 ghost use Rattle.tftp_folder.specs.Opened.{IsRootOf};
 ghost use Rattle.tftp_daemon.specs.Configured.{IsOfSeveral, IsServerOf, IsUploads, ListensAt};
 ghost use Rattle.tftp_daemon.specs.Configured.{MayServe, RunsService, drafts_in, servers_of};
-ghost use Rattle.tftp_daemon.specs.Configured.{service_at, status_of};
+ghost use Rattle.tftp_daemon.specs.Configured.{service_at, daemon_status};
 ghost use Rattle.tftp_daemon.specs.Supervised.{MaySupervise, Supervised};
 
 use crate::drain_file::DrainFile;
@@ -159,11 +159,11 @@ pub(crate) fn serve<P: Print + ErrorLines + Clock + Supervise, D: Disk, N: Serve
     input: Input,
 ) -> Result<(), DaemonFault>
     requires { IsConfig config.now.config }
-    ensures status { status_of result ≤ 2 }
+    ensures status { daemon_status result ≤ 2 }
     ensures runs { MayServe D.log (D.log disk) ⟦<FolderStore<D> as Store>⟧.meaning
         ⟦<FolderSource<D::View> as Source>⟧.meaning
-        config.now (status_of result) (N.log net.old.net) (N.log net.new.net) }
-    ensures several { MaySupervise P.supervised config.now (status_of result) }
+        config.now (daemon_status result) (N.log net.old.net) (N.log net.new.net) }
+    ensures several { MaySupervise P.supervised config.now (daemon_status result) }
 {
     if config.is_of_several() {
         return supervise_checked(rt, alloc, disk, config, input);
@@ -199,10 +199,10 @@ fn serve_alone<D: Disk, N: ServerUdp + Eprint>(
     requires valid { IsConfig config.now.config }
     requires alone { config.now.instance.servers ≤ 1 }
     requires at_one_address { config.now.others.items ≡ [] }
-    ensures status { status_of result ≤ 2 }
+    ensures status { daemon_status result ≤ 2 }
     ensures runs { MayServe D.log (D.log disk) ⟦<FolderStore<D> as Store>⟧.meaning
         ⟦<FolderSource<D::View> as Source>⟧.meaning
-        config.now (status_of result) (N.log net.old.net) (N.log net.new.net) }
+        config.now (daemon_status result) (N.log net.old.net) (N.log net.new.net) }
 {
     set_log(net, alloc, config);
     match config.listen {
@@ -236,10 +236,10 @@ fn serve_handed<D: Disk, N: ServerUdp + Eprint>(
     requires alone { config.now.instance.servers ≤ 1 }
     requires at_one_address { config.now.others.items ≡ [] }
     requires handed { config.now.listen ≡ Listen.Handed }
-    ensures status { status_of result ≤ 2 }
+    ensures status { daemon_status result ≤ 2 }
     ensures runs { MayServe D.log (D.log disk) ⟦<FolderStore<D> as Store>⟧.meaning
         ⟦<FolderSource<D::View> as Source>⟧.meaning
-        config.now (status_of result) (N.log net.old.net) (N.log net.new.net) }
+        config.now (daemon_status result) (N.log net.old.net) (N.log net.new.net) }
 {
     match HandedSocket::new(input) {
         Ok(socket) => {
@@ -281,10 +281,10 @@ fn serve_at<D: Disk, N: ServerUdp + Eprint>(
     requires alone { config.now.instance.servers ≤ 1 }
     requires at_one_address { config.now.others.items ≡ [] }
     requires listens { ListensAt config.now.listen at }
-    ensures status { status_of result ≤ 2 }
+    ensures status { daemon_status result ≤ 2 }
     ensures runs { MayServe D.log (D.log disk) ⟦<FolderStore<D> as Store>⟧.meaning
         ⟦<FolderSource<D::View> as Source>⟧.meaning
-        config.now (status_of result) (N.log net.old.net) (N.log net.new.net) }
+        config.now (daemon_status result) (N.log net.old.net) (N.log net.new.net) }
 {
     let signal = DrainFile::new(disk.view(), config.drain);
     match open_server(disk, alloc, config) {
@@ -383,7 +383,7 @@ fn serve_loop<D: Disk, N: ServerUdp + Eprint, G: DrainSignal>(
     signal: &G,
 ) -> Result<(), DaemonFault>
     ensures { RunsService ⟦<FolderStore<D> as Store>⟧.meaning
-        ⟦<FolderSource<D::View> as Source>⟧.meaning service.now server (status_of result)
+        ⟦<FolderSource<D::View> as Source>⟧.meaning service.now server (daemon_status result)
         (N.log net.old.net) (N.log net.new.net) }
 {
     match tftp_loop::serve(net, alloc, server, service, signal) {

@@ -1,7 +1,7 @@
 //! Where the requests of a server arrive.
 
 ghost use Rattle.std.specs.Prelude.{◌≡◌, ◌≢◌, IfSome, true};
-ghost use Rattle.tftp_daemon.specs.CommandLine.{AreApart, HasApart, IsApart, NamesListen};
+ghost use Rattle.tftp_daemon.specs.CommandLine.{AllDistinct, HasApart, IsApart, NamesListen};
 
 use std::fmt;
 use tftp_ends::Endpoint;
@@ -52,7 +52,7 @@ pub(crate) fn has_apart(listen: Listen, others: &[Endpoint]) -> bool
 
 /// Whether no two of these endpoints are the same.
 fn are_apart(endpoints: &[Endpoint]) -> bool
-    ensures { result ≡ true → AreApart endpoints.now }
+    ensures { result ≡ true → AllDistinct endpoints.now }
 {
     match endpoints {
         [at, others @ ..] => is_apart(*at, others) && are_apart(others),

@@ -3,7 +3,7 @@
 ghost use Rattle.std.specs.Prelude.{◌≡◌, ◌≤◌, map};
 ghost use Rattle.tftp_server.specs.Config.{IsConfig};
 ghost use Rattle.tftp_daemon.specs.CommandLine.{IfExit, IfRun};
-ghost use Rattle.tftp_daemon.specs.Configured.{MayServe, ServesWords, status_of};
+ghost use Rattle.tftp_daemon.specs.Configured.{MayServe, ServesWords, daemon_status};
 ghost use Rattle.tftp_daemon.specs.Supervised.{MaySupervise, SupervisesWords};
 
 use crate::command_line::{CommandLine, Texts, read_words};
@@ -179,7 +179,7 @@ fn report<R: ErrorLines>(
     config: &DaemonConfig<'_>,
     served: std::result::Result<(), DaemonFault>,
 ) -> u8
-    ensures { result ≡ status_of served }
+    ensures { result ≡ daemon_status served }
 {
     match served {
         Ok(()) => 0,

@@ -9,7 +9,7 @@ use Rattle.tftp_wire.specs.declared.mode.Mode.TheVariants as mode
 use Rattle.tftp_file.specs.Netascii.{wire_byte, wire_text, netascii_text}
 use Rattle.tftp_disk.specs.DiskTrace.{DiskEvent}
 use Rattle.tftp_disk.specs.DiskTrace.DiskEvent.{Given}
-use Rattle.tftp_disk.specs.Given.{Reads}
+use Rattle.tftp_disk.specs.Given.{GaveBytes}
 use Rattle.tftp_disk.specs.DiskSource.{pending, source_calls, source_mode, AppendsRead, GivesPiece, HoldsAhead, Passes}
 use Rattle.tftp_disk.specs.declared.disk_file.DiskFile.{DiskFile}
 use Rattle.tftp_disk.specs.declared.disk_source.DiskSource.{DiskSource}
@@ -125,7 +125,7 @@ module _ {F : Type 0} where
         mode = same_mode;
         bytes = [];
         reads =
-            subst (λ (events : List DiskEvent). Reads (source_calls before) events [])
+            subst (λ (events : List DiskEvent). GaveBytes (source_calls before) events [])
             (sym (ap (λ (f : DiskFile F). f.trace.events) file)) (reads_nothing (source_calls before));
         text = λ sound. (
           sym error ∙ sound,
@@ -149,7 +149,7 @@ module _ {F : Type 0} where
         mode = same_mode;
         bytes = p.bytes;
         reads =
-            subst (λ (events : List DiskEvent). Reads (source_calls before) events p.bytes)
+            subst (λ (events : List DiskEvent). GaveBytes (source_calls before) events p.bytes)
             (sym (ap (λ (f : DiskFile F). f.trace.events) file)) p.reads;
         text = λ none. (
           sym error ∙ none,

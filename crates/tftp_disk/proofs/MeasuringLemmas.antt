@@ -5,7 +5,7 @@ use Rattle.std.proofs.lemmas.Bool.Decides.{nat_tests}
 use Rattle.std.proofs.lemmas.Grind.{flat_map-append}
 use Rattle.tftp_disk.specs.DiskTrace.{DiskEvent}
 use Rattle.tftp_disk.specs.DiskTrace.DiskEvent.{Given}
-use Rattle.tftp_disk.specs.Given.{Reads}
+use Rattle.tftp_disk.specs.Given.{GaveBytes}
 use Rattle.tftp_file.specs.Length.{up_to}
 use Rattle.tftp_file.specs.Netascii.{netascii_text, wire_byte}
 use Rattle.tftp_file.specs.declared.length.TheConstants.{MAX_WIRE}
@@ -31,7 +31,7 @@ text_length (x ∷ xs) =
 -- these calls read so many bytes, whose text is so long in netascii
 pub record Counted (before after : List DiskEvent) (total : TextLength) : Type 0 where
   pub bytes : List ℕ
-  pub reads : Reads before after bytes
+  pub reads : GaveBytes before after bytes
   pub count : total.bytes ≡ length bytes
   pub wire : total.wire_bytes ≡ length (netascii_text bytes)
 

@@ -5,25 +5,25 @@ use Rattle.std.proofs.lemmas.Grind.{common_steps}
 use Rattle.std.proofs.lemmas.List.{drop-take, drop-drop, length-take, length-drop, take_all}
 use Rattle.tftp_disk.specs.DiskTrace.{DiskEvent}
 use Rattle.tftp_disk.specs.DiskTrace.DiskEvent.{Given}
-use Rattle.tftp_disk.specs.Given.{given, opened_at, examined, passed, Reads}
+use Rattle.tftp_disk.specs.Given.{given, opened_at, examined, passed, GaveBytes}
 use Rattle.tftp_disk.specs.ReadBuffer.{Refills}
 use Rattle.tftp_disk.specs.DiskSourceLaws.{no_text}
 use Rattle.tftp_file.specs.Netascii.{wire_text}
 use Rattle.tftp_wire.specs.declared.mode.Mode.{Mode}
 
 -- no calls read no bytes
-pub reads_nothing : (events : List DiskEvent) → Reads events events []
+pub reads_nothing : (events : List DiskEvent) → GaveBytes events events []
 reads_nothing events = record { place = refl; found = refl; pass = refl; more = sym (append-nil (given events)) }
 
 -- a read returned these bytes
 pub reads_given : (before after : List DiskEvent) (bytes : List ℕ) → after ≡ Given bytes ∷ before
-    → Reads before after bytes
+    → GaveBytes before after bytes
 reads_given before after bytes noted =
     record { place = ap opened_at noted; found = ap examined noted; pass = ap passed noted; more = ap given noted }
 
 -- reads after reads
-pub reads_more : (before between after : List DiskEvent) (first second : List ℕ) → Reads before between first
-    → Reads between after second → Reads before after (first ++ second)
+pub reads_more : (before between after : List DiskEvent) (first second : List ℕ) → GaveBytes before between first
+    → GaveBytes between after second → GaveBytes before after (first ++ second)
 reads_more before between after first second p q = record {
   place = q.place ∙ p.place;
   found = q.found ∙ p.found;

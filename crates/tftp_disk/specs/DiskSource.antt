@@ -6,7 +6,7 @@ use Rattle.tftp_file.specs.Block.{IsPrefixOf}
 use Rattle.tftp_file.specs.Netascii.{wire_text}
 use Rattle.tftp_disk.specs.DiskTrace.{DiskEvent}
 use Rattle.tftp_disk.specs.DiskTrace.DiskEvent.{Given}
-use Rattle.tftp_disk.specs.Given.{given, Reads}
+use Rattle.tftp_disk.specs.Given.{given, GaveBytes}
 use Rattle.tftp_disk.specs.declared.disk_source.DiskSource.{DiskSource}
 
 -- these calls read bytes: a piece was appended to a buffer, and what is left of what was left
@@ -14,7 +14,7 @@ use Rattle.tftp_disk.specs.declared.disk_source.DiskSource.{DiskSource}
 pub record Passes (mode : Mode) (left left_after : List ℕ) (before after : List DiskEvent)
     (old new : List ℕ) (count : ℕ) : Type 0 where
   pub bytes : List ℕ
-  pub reads : Reads before after bytes
+  pub reads : GaveBytes before after bytes
   pub piece : List ℕ
   pub appended : new ≡ old ++ piece
   pub long : length piece ≡ count
@@ -33,7 +33,7 @@ pub record AppendsRead (before after : List DiskEvent) (old new : List ℕ) (cou
 pub record HoldsAhead (mode : Mode) (left ahead left_after : List ℕ) (before after : List DiskEvent)
     : Type 0 where
   pub bytes : List ℕ
-  pub reads : Reads before after bytes
+  pub reads : GaveBytes before after bytes
   pub text : left ++ wire_text mode bytes ≡ ahead ++ left_after
 
 module _ {F : Type 0} where
@@ -69,7 +69,7 @@ module _ {F : Type 0} where
       : Type 0 where
     pub mode : source_mode after ≡ source_mode before
     pub bytes : List ℕ
-    pub reads : Reads (source_calls before) (source_calls after) bytes
+    pub reads : GaveBytes (source_calls before) (source_calls after) bytes
     pub text : source_error after ≡ None → (source_error before ≡ None)
         × (pending before ++ wire_text (source_mode before) bytes ≡ piece ++ pending after)
     pub none : IsSome (source_error after) → piece ≡ []

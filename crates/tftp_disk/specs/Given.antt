@@ -62,7 +62,7 @@ passed (event ∷ events) = passed events
 
 -- calls on an open file that read these bytes: the file is the same, and what was said of it and
 -- the pass over it too
-pub record Reads (before after : List DiskEvent) (bytes : List ℕ) : Type 0 where
+pub record GaveBytes (before after : List DiskEvent) (bytes : List ℕ) : Type 0 where
   pub place : opened_at after ≡ opened_at before
   pub found : examined after ≡ examined before
   pub pass : passed after ≡ passed before

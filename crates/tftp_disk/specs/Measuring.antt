@@ -7,7 +7,7 @@ use Rattle.tftp_file.specs.Netascii.{wire_text}
 use Rattle.tftp_file.specs.declared.length.TheConstants.{MAX_WIRE}
 use Rattle.tftp_disk.specs.DiskTrace.{DiskEvent}
 use Rattle.tftp_disk.specs.DiskTrace.DiskEvent.{Not_given}
-use Rattle.tftp_disk.specs.Given.{IsAtEnd, Reads, examined, opened_at}
+use Rattle.tftp_disk.specs.Given.{IsAtEnd, GaveBytes, examined, opened_at}
 use Rattle.tftp_disk.specs.declared.disk_file.DiskFile.{DiskFile}
 use Rattle.tftp_disk.specs.declared.measuring.TextLength.{TextLength}
 
@@ -28,7 +28,7 @@ IsNotGiven calls error = (before : List DiskEvent) × (calls ≡ Not_given error
 -- one read counted its bytes, and so much wire text in netascii: none only at the end of the file
 pub record CountsChunk (before after : List DiskEvent) (counted : TextLength) : Type 0 where
   pub bytes : List ℕ
-  pub reads : Reads before after bytes
+  pub reads : GaveBytes before after bytes
   pub count : counted.bytes ≡ length bytes
   pub wire : counted.wire_bytes ≡ length (wire_text Netascii bytes)
   pub end : counted.wire_bytes ≡ 0 → IsAtEnd after
@@ -37,7 +37,7 @@ pub record CountsChunk (before after : List DiskEvent) (counted : TextLength) : 
 -- and the length of their text in netascii
 pub record CountsPass (before after : List DiskEvent) (counted : Option TextLength) : Type 0 where
   pub bytes : List ℕ
-  pub reads : Reads before after bytes
+  pub reads : GaveBytes before after bytes
   pub count : IfSome counted (λ text. text.bytes ≡ length bytes)
   pub wire : option_map (λ text. text.wire_bytes) counted
       ≡ up_to MAX_WIRE (length (wire_text Netascii bytes))

@@ -53,9 +53,9 @@ pub(crate) enum DiskEventRef<'a> {
 
 impl<'a> Kind<DiskEventRef<'a>> for DiskEvents {
     ghost use Rattle.std.specs.Prelude.{◌∷◌};
-    ghost use Rattle.tftp_disk.specs.DiskEventRef.{event_of};
+    ghost use Rattle.tftp_disk.specs.DiskEventRef.{disk_event};
 
-    ghost after = { λ event events. event_of event ∷ events };
+    ghost after = { λ event events. disk_event event ∷ events };
 }
 
 /// The answer of a call without its value.

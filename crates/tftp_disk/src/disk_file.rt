@@ -4,7 +4,7 @@
 //! No field is public, so that no other crate can exchange the trace of a file.
 
 ghost use Rattle.std.specs.Prelude.{◌≡◌, ◌∷◌, [], IfOk};
-ghost use Rattle.tftp_disk.specs.DiskEventRef.{event_of};
+ghost use Rattle.tftp_disk.specs.DiskEventRef.{disk_event};
 ghost use Rattle.tftp_disk.specs.DiskTrace.{done};
 
 mod calls;
@@ -24,7 +24,7 @@ impl<F> DiskFile<F> {
     /// The open file that the system returned, if it did. Its trace begins with this event.
     pub(crate) fn of(opened: io::Result<F>, event: &DiskEventRef<'_>) -> io::Result<DiskFile<F>>
         ensures same { done result ≡ done opened }
-        ensures begins { IfOk result (λ file. file.trace.events ≡ event_of event.now ∷ []) }
+        ensures begins { IfOk result (λ file. file.trace.events ≡ disk_event event.now ∷ []) }
     {
         match opened {
             Ok(file) => {
@@ -55,7 +55,7 @@ impl<F> DiskFolder<F> {
     /// The open folder that the system returned, if it did. Its trace begins with this event.
     pub(crate) fn of(opened: io::Result<F>, event: &DiskEventRef<'_>) -> io::Result<DiskFolder<F>>
         ensures same { done result ≡ done opened }
-        ensures begins { IfOk result (λ folder. folder.trace.events ≡ event_of event.now ∷ []) }
+        ensures begins { IfOk result (λ folder. folder.trace.events ≡ disk_event event.now ∷ []) }
     {
         match opened {
             Ok(file) => {

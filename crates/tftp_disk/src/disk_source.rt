@@ -3,7 +3,7 @@
 ghost use Rattle.std.specs.Prelude.{◌≡◌, ◌≤◌, ◌<◌, ◌+◌, ◌++◌, [], Ok, Err, IfOk, OnErr, ◌∷◌};
 ghost use Rattle.std.specs.Prelude.{length, take, drop, replicate, vec_len, vec_capacity};
 ghost use Rattle.tftp_disk.specs.DiskTrace.DiskEvent.{Given};
-ghost use Rattle.tftp_disk.specs.Given.{Reads, IsAtEnd};
+ghost use Rattle.tftp_disk.specs.Given.{GaveBytes, IsAtEnd};
 ghost use Rattle.tftp_disk.specs.ReadBuffer.{ReadsSome};
 ghost use Rattle.tftp_disk.specs.DiskSource.{Passes, AppendsRead, IsUnread};
 ghost use Rattle.tftp_disk.specs.DiskSource.{source_calls, source_error};

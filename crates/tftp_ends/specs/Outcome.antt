@@ -9,16 +9,16 @@ use Rattle.tftp_ends.specs.declared.outcome.Outcome.TheVariants.{StoreFault, Sou
 use Rattle.tftp_ends.specs.declared.outcome.Outcome.TheVariants.{NotNetascii}
 
 -- the number of an outcome
-abbrev pub number_of : Outcome → ℕ
-number_of Complete = 1
-number_of TimedOut = 2
-number_of (PeerError code) = 3
-number_of Illegal = 4
-number_of (Refused refusal) = 5
-number_of TooLarge = 6
-number_of StoreFault = 7
-number_of SourceFault = 8
-number_of NotNetascii = 9
+abbrev pub number_of_outcome : Outcome → ℕ
+number_of_outcome Complete = 1
+number_of_outcome TimedOut = 2
+number_of_outcome (PeerError code) = 3
+number_of_outcome Illegal = 4
+number_of_outcome (Refused refusal) = 5
+number_of_outcome TooLarge = 6
+number_of_outcome StoreFault = 7
+number_of_outcome SourceFault = 8
+number_of_outcome NotNetascii = 9
 
 -- the word for a refused OACK
 abbrev pub refusal_word : Refusal → List ℕ

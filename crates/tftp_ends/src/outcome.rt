@@ -1,7 +1,7 @@
 //! How a transfer ended.
 
 ghost use Rattle.std.specs.Prelude.{◌≡◌};
-ghost use Rattle.tftp_ends.specs.Outcome.{number_of, refusal_word};
+ghost use Rattle.tftp_ends.specs.Outcome.{number_of_outcome, refusal_word};
 
 use std::fmt;
 use tftp_negotiate::Refusal;
@@ -32,7 +32,7 @@ pub enum Outcome {
 impl Outcome {
     /// The number of the outcome, 1 to 9.
     pub fn number(self) -> u8
-        ensures { result ≡ number_of self }
+        ensures { result ≡ number_of_outcome self }
     {
         match self {
             Outcome::Complete => 1,

@@ -23,7 +23,7 @@ use Rattle.tftp_loop.specs.Steps.LoopStep.{Waited, At_port, Request_received, No
 use Rattle.tftp_loop.specs.Steps.LoopStep.{Request_noted}
 use Rattle.tftp_loop.specs.Steps.LoopStep.{Request_answered, Request_lost, Clock_read, Store_set, Transfer_closed}
 use Rattle.tftp_loop.specs.Steps.LoopStep.{Drain_begun}
-use Rattle.tftp_loop.specs.MayWait.{AreApart}
+use Rattle.tftp_loop.specs.MayWait.{HavePortsApart}
 use Rattle.tftp_loop.proofs.Drained.{answered_drained, either_drained, other_drained, port_drained, replied_drained}
 use Rattle.tftp_loop.proofs.LoopStays.{all_appended, all_removed, all_set, other_port}
 use Rattle.tftp_loop.proofs.NoteLemmas.{note_drained}
@@ -172,7 +172,7 @@ module _ {S F D : Type 0} (meaning : StoreMeaning S D) (sources : SourceMeaning 
 
   -- a step of the loop leaves each port marked, drained or left for a while
   pub step_looked : (s t : LoopState S F D) → LoopStep meaning sources s t
-      → All (λ (timer : Timer). timer.port ≢ s.requests) s.timers → AreApart s.timers → AreLooked s → AreLooked t
+      → All (λ (timer : Timer). timer.port ≢ s.requests) s.timers → HavePortsApart s.timers → AreLooked s → AreLooked t
   step_looked s t (Waited d) own apart looked =
       let read = Watched d.watch ∷ s.events in
       let after = Quiet (Woke d.ports) ∷ Quiet (Slept d.millis) ∷ read in

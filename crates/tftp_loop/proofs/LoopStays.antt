@@ -24,7 +24,7 @@ use Rattle.tftp_loop.specs.Steps.LoopStep.{Transfer_closed}
 use Rattle.tftp_loop.specs.Steps.LoopStep.{Drain_begun}
 use Rattle.tftp_loop.specs.Steps.{reads_requests}
 use Rattle.tftp_loop.specs.LoopStates.{IsWork, Works, Work_by}
-use Rattle.tftp_loop.specs.MayWait.{AreApart, AreKept, AreTried, IsHeld, IsRead, KeepsTries}
+use Rattle.tftp_loop.specs.MayWait.{HavePortsApart, AreKept, AreTried, IsHeld, IsRead, KeepsTries}
 use Rattle.tftp_loop.proofs.ListLemmas.{set_long}
 use Rattle.tftp_loop.proofs.NoteLemmas.{note_tried}
 use Rattle.tftp_loop.proofs.PortStays.{StaysAt, or_right, own_receive, looks_first, replied_tries, stays_at}
@@ -53,8 +53,8 @@ set_ports timers i timer next within is same k d h =
 
 -- timers stay of different ports if one is replaced by one of the same port
 pub set_apart : (timers : List Timer) (i : ℕ) (timer next : Timer) → i < length timers →
-    timer ≡ slice_index_or timers i timer → next.port ≡ timer.port → AreApart timers →
-    AreApart (slice_set timers i next)
+    timer ≡ slice_index_or timers i timer → next.port ≡ timer.port → HavePortsApart timers →
+    HavePortsApart (slice_set timers i next)
 set_apart timers i timer next within is same apart j k d e hj hk h =
     let long = set_long timers i next in
     let hj' : j < length timers = omega (arith, long, hj) in
@@ -63,7 +63,7 @@ set_apart timers i timer next within is same apart j k d e hj hk h =
     ∙ (h ∙ set_ports timers i timer next within is same k e hk'))
 
 -- two timers at two indices have two ports
-pub other_port : (timers : List Timer) (i : ℕ) (timer : Timer) (k : ℕ) (d : Timer) → AreApart timers →
+pub other_port : (timers : List Timer) (i : ℕ) (timer : Timer) (k : ℕ) (d : Timer) → HavePortsApart timers →
     i < length timers → timer ≡ slice_index_or timers i timer → k < length timers
     → (k ≡ i → ⊥) → port_at timers k d ≡ timer.port → ⊥
 other_port timers i timer k d apart within is h other same =
@@ -77,8 +77,8 @@ which_same n a b j k i hj hk (inr x) (inl y) e = let f = x.1 in let g = y.1 in a
 which_same n a b j k i hj hk (inr x) (inr y) e = sym x.1 ∙ (e ∙ y.1)
 
 -- and if one is removed
-pub removed_apart_timers : (timers : List Timer) (i : ℕ) (timer : Timer) → i < length timers → AreApart timers →
-    AreApart (swap_remove timers i timer)
+pub removed_apart_timers : (timers : List Timer) (i : ℕ) (timer : Timer) → i < length timers → HavePortsApart timers →
+    HavePortsApart (swap_remove timers i timer)
 removed_apart_timers timers i timer within apart j k d e hj hk h =
     let a = was_at timers i timer j d within hj in
     let b = was_at timers i timer k e within hk in
@@ -91,8 +91,8 @@ removed_apart_timers timers i timer within apart j k d e hj hk h =
 
 -- and if one of a new port is added
 pub appended_apart : (timers : List Timer) (timer : Timer) →
-    ((k : ℕ) (d : Timer) → k < length timers → port_at timers k d ≡ timer.port → ⊥) → AreApart timers →
-    AreApart (timers ++ timer ∷ [])
+    ((k : ℕ) (d : Timer) → k < length timers → port_at timers k d ≡ timer.port → ⊥) → HavePortsApart timers →
+    HavePortsApart (timers ++ timer ∷ [])
 appended_apart timers timer fresh apart j k d e hj hk h =
     let long = appended_long timers timer in
     elim (cases_eq j (length timers)) [

@@ -27,7 +27,7 @@ use Rattle.tftp_loop.specs.Steps.LoopStep.{Request_noted, Request_answered, Requ
 use Rattle.tftp_loop.specs.Steps.LoopStep.{Transfer_closed}
 use Rattle.tftp_loop.specs.Steps.LoopStep.{Drain_begun}
 use Rattle.tftp_loop.specs.Reported.{GoesOn, Goes_by, HasTimer, IsNoWait}
-use Rattle.tftp_loop.specs.MayWait.{AreApart, AreKept, KeepsTries}
+use Rattle.tftp_loop.specs.MayWait.{HavePortsApart, AreKept, KeepsTries}
 use Rattle.tftp_loop.proofs.ListLemmas.{map_at, set_long}
 use Rattle.tftp_loop.proofs.LoopStays.{some_none}
 use Rattle.tftp_loop.proofs.NoteLemmas.{note_tried}
@@ -122,7 +122,7 @@ module _ {S F D : Type 0} (meaning : StoreMeaning S D) (sources : SourceMeaning 
 
   step_at : (port : ℕ) (s : LoopState S F D) (index : ℕ) (timer : Timer) (next : PortState S F D) →
       index < length s.timers → timer ≡ slice_index_or s.timers index timer
-      → PortStep meaning sources s.now (port_state s timer) next → AreApart s.timers → IsDue port s →
+      → PortStep meaning sources s.now (port_state s timer) next → HavePortsApart s.timers → IsDue port s →
       Reads port (record s {
         server = next.server;
         timers = slice_set s.timers index next.timer;

@@ -34,7 +34,7 @@ use Rattle.tftp_server.specs.declared.fault.ServerFault.TheVariants.{TidInUse, M
 use Rattle.tftp_loop.specs.declared.reserved.TheConstants.{LONGEST_ANSWER}
 use Rattle.tftp_loop.specs.LoopStates.{RoomFor, IsAdmission}
 use Rattle.tftp_loop.specs.MayOpen.{LacksMemoryToOpen}
-use Rattle.tftp_loop.specs.MayWait.{AreApart, AreKept, IsHeld}
+use Rattle.tftp_loop.specs.MayWait.{HavePortsApart, AreKept, IsHeld}
 use Rattle.tftp_loop.specs.Steps.{Timer}
 use Rattle.tftp_loop.proofs.RequestRuns.{admits_set}
 use Rattle.tftp_loop.proofs.Tables.{compares}
@@ -144,7 +144,7 @@ first_apart p (t ∷ timers) apart = (
   first_apart p timers (λ k d h. apart (suc k) d (omega (arith, h))),
 )
 
-keys_apart : (timers : List Timer) → AreApart timers → IsDistinct same_key (map (λ (t : Timer). t.port) timers)
+keys_apart : (timers : List Timer) → HavePortsApart timers → IsDistinct same_key (map (λ (t : Timer). t.port) timers)
 unfolding IsDistinct
 keys_apart [] apart = tt
 keys_apart (t ∷ timers) apart = (

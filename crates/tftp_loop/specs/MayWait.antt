@@ -86,8 +86,8 @@ UnlessClosed statuses.Unfinished P = P
 UnlessClosed statuses.Closed P = ⊤
 
 -- no two timers have one port
-abbrev pub AreApart : List Timer → Type 0
-AreApart timers =
+abbrev pub HavePortsApart : List Timer → Type 0
+HavePortsApart timers =
     (j k : ℕ) (d e : Timer) → j < length timers → k < length timers
     → (slice_index_or timers j d).port ≡ (slice_index_or timers k e).port → j ≡ k
 
@@ -99,7 +99,7 @@ module _ {F D : Type 0} where
 
   -- each transfer has one timer, which no other has
   pub record AreKept (held : List (ℕ × TransferState F D)) (timers : List Timer) : Type 0 where
-    pub apart : AreApart timers
+    pub apart : HavePortsApart timers
     pub each : All (IsHeld held) timers
 
   -- no transfer at the port has closed

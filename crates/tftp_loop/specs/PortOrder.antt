@@ -10,8 +10,8 @@ abbrev pub ports_of : PortRange → List ℕ
 ports_of range = range_with_len range.first (range.last - range.first) ++ range.last ∷ []
 
 -- how many ports a range has
-abbrev pub count_of : PortRange → ℕ
-count_of range = (range.last - range.first) + 1
+abbrev pub port_count : PortRange → ℕ
+port_count range = (range.last - range.first) + 1
 
 -- a range of ports that a socket can be bound to: 0 stands for any port
 abbrev pub IsRange : PortRange → Type 0

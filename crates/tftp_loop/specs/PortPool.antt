@@ -6,7 +6,7 @@ use Rattle.tftp_sockets.specs.Trace.SocketEvent.{Quiet}
 use Rattle.tftp_sockets.specs.Trace.QuietEvent.{New_socket, No_socket}
 use Rattle.tftp_sockets.specs.Quiet.{is_among}
 use Rattle.tftp_sockets.specs.declared.sockets.ServerSocket.{ServerSocket}
-use Rattle.tftp_loop.specs.PortOrder.{HasPorts, IsOneOf, count_of, ports_of}
+use Rattle.tftp_loop.specs.PortOrder.{HasPorts, IsOneOf, port_count, ports_of}
 use Rattle.tftp_loop.specs.declared.port_order.PortOrder.{PortOrder}
 use Rattle.tftp_loop.specs.Run.{Run}
 use Rattle.tftp_loop.specs.declared.port_order.PortRange.{PortRange}
@@ -33,7 +33,7 @@ IsPool order = IfSome order HasPorts
 -- there is one
 abbrev pub most_of : ℕ → Option PortRange → ℕ
 most_of cap None = cap
-most_of cap (Some range) = min (count_of range) cap
+most_of cap (Some range) = min (port_count range) cap
 
 -- from one trace to the other no socket could be bound to a port, one of the range, if there is
 -- one

@@ -2,7 +2,7 @@
 
 ghost use Rattle.std.specs.Prelude.{◌≡◌, ◌≤◌, [], length, IfOk, MatchOption};
 ghost use Rattle.tftp_loop.specs.PortOrder.{IsOrderOf, UsesNext, coming, coming_from};
-ghost use Rattle.tftp_loop.specs.PortOrder.{count_of, ports_of};
+ghost use Rattle.tftp_loop.specs.PortOrder.{port_count, ports_of};
 
 use rand::seq::SliceRandom;
 use std::alloc::{AllocError, Global};
@@ -19,7 +19,7 @@ pub struct PortRange {
 impl PortRange {
     /// The number of ports.
     pub(crate) fn len(self) -> usize
-        ensures { result ≡ count_of self }
+        ensures { result ≡ port_count self }
     {
         usize::from(self.last.saturating_sub(self.first)) + 1
     }

@@ -13,7 +13,7 @@ use Rattle.tftp_rules.specs.OpenEnds.{OpenEnd, files_of, end_after}
 use Rattle.tftp_player.specs.Clients.{left_in, holding_in, no_holding}
 use Rattle.tftp_player.specs.Clients.{ClientTurns, ClientDatagramStep}
 use Rattle.tftp_player.specs.EndSteps.{EndTurns, EndHandles, EndTakes}
-use Rattle.tftp_player.specs.Played.{client_end, played_end, state_of, stands, IsPlayed}
+use Rattle.tftp_player.specs.Played.{client_end, played_end, played_state, stands, IsPlayed}
 use Rattle.tftp_player.specs.PlayedClient.{PlayedClient}
 use Rattle.tftp_player.specs.World.{StoredFile, WorldEnd, standing}
 use Rattle.tftp_player.specs.World.{file_at, in_the_way}
@@ -26,7 +26,7 @@ use Rattle.tftp_player.proofs.StepLemmas.{client_files as client_commits}
 
 -- ---- an end, by whether it is open
 -- what is recorded says whether it is
-pub ended_as : (port : ℕ) (p : PlayedEnd) (r : Record) (b : Bool) → r ≡ record_of (state_of p) → is_some r.outcome ≡ b →
+pub ended_as : (port : ℕ) (p : PlayedEnd) (r : Record) (b : Bool) → r ≡ record_of (played_state p) → is_some r.outcome ≡ b →
     is_some (outcome_of (played_end port p).state.position.phase) ≡ b
 ended_as port (Client c) r b is e = ap (λ (q : Record). is_some q.outcome) (sym is) ∙ e
 ended_as port (Server s) r b is e = ap (λ (q : Record). is_some q.outcome) (sym is) ∙ e

@@ -50,9 +50,9 @@ played_end port (Client c) = client_end port c
 played_end port (Server s) = served_end port s
 
 -- the state of either
-abbrev pub state_of : PlayedEnd → EndState
-state_of (Client c) = c.end
-state_of (Server s) = s.transfer.end
+abbrev pub played_state : PlayedEnd → EndState
+played_state (Client c) = c.end
+played_state (Server s) = s.transfer.end
 
 -- the end of the world at this port
 abbrev pub stands : ℕ → PlayedEnd → WorldEnd

@@ -4,7 +4,7 @@ ghost use Rattle.std.specs.Prelude.{◌≡◌, ◌↔◌, false, option_map, ℕ
 ghost use Rattle.tftp_ends.specs.End.{record_of};
 ghost use Rattle.tftp_wire.specs.Borrowed.{owned};
 ghost use Rattle.tftp_player.specs.EndSteps.{EndTimesOut, EndTakes};
-ghost use Rattle.tftp_player.specs.Played.{played_end, state_of, stands, IsPlayed};
+ghost use Rattle.tftp_player.specs.Played.{played_end, played_state, stands, IsPlayed};
 ghost use Rattle.tftp_player.specs.Requests.{is_transfer, Repeats};
 ghost use Rattle.tftp_player.specs.Simulation.{stored_in};
 ghost use Rattle.tftp_player.specs.World.{end_committed};
@@ -31,7 +31,7 @@ pub(crate) enum PlayedEnd {
 
 impl PlayedEnd {
     pub(crate) fn record(&self) -> Record
-        ensures { result ≡ record_of (state_of self.now) }
+        ensures { result ≡ record_of (played_state self.now) }
     {
         match self {
             PlayedEnd::Client(client) => client.record(),

@@ -32,7 +32,7 @@ use Rattle.tftp_promises.specs.AnyFiles.{IsEnd, ProgramEnd, ServesClient, client
 use Rattle.tftp_promises.specs.ClientRuns.{moved_in}
 use Rattle.tftp_promises.specs.Openings.{ArePortsFresh}
 use Rattle.tftp_promises.specs.Order.{Programs, requests_at, ClientOf}
-use Rattle.tftp_promises.specs.Programs.{ClientOpens, To_read, To_write, client_at, name_of, packet_of}
+use Rattle.tftp_promises.specs.Programs.{ClientOpens, To_read, To_write, client_at, name_of, request_packet}
 use Rattle.tftp_promises.specs.Network.{HasOpened, joined}
 use Rattle.tftp_promises.specs.Snapshots.{Has_asked, all_of}
 use Rattle.tftp_promises.proofs.Invariant.{ClientKept, IsKept, TransferKept}
@@ -82,7 +82,7 @@ module _ {G K : Type 0} {inputs : SourceMeaning G} {outputs : SinkMeaning K} {to
   wire_of (To_write opens) = request_of opens.name opens.mode opens.asked
 
   packet_is : (opens : ClientOpens inputs outputs to first file) →
-      packet_of opens ≡ requested (writes opens) (wire_of opens)
+      request_packet opens ≡ requested (writes opens) (wire_of opens)
   packet_is (To_read opens) = refl
   packet_is (To_write opens) = refl
 

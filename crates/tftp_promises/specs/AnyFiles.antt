@@ -22,7 +22,7 @@ use Rattle.tftp_promises.specs.Moved.{Moved}
 use Rattle.tftp_promises.specs.Openings.{moved_at, opened_at}
 use Rattle.tftp_promises.specs.Order.{Programs, IsStranger, ClientOf}
 use Rattle.tftp_promises.specs.Programs.{endpoint, client_at, name_of}
-use Rattle.tftp_promises.specs.Programs.{packet_of}
+use Rattle.tftp_promises.specs.Programs.{request_packet}
 use Rattle.tftp_promises.specs.Network.{HasOpened}
 
 -- an end in the end state of the traces: its endpoint, its state, and what moved between its file
@@ -101,7 +101,7 @@ module _ {S F D G K : Type 0} {stores : StoreMeaning S D} {sources : SourceMeani
     pub peer : peer_of (transfer_end transfer p) ≡ Some (client_at client)
     -- one of the two sends, and the other receives
     pub other : is_sender transfer.end.role.side ≡ not (is_sender client.last.end.role.side)
-    pub asked : Spells (packet_of client.opens) transfer.request
+    pub asked : Spells (request_packet client.opens) transfer.request
     pub path : path_of_name (name_of client.opens) ≡ Ok transfer.path
 
   -- the server opened the transfer for this path, as its store answered then, and in this role

@@ -13,10 +13,10 @@ use Rattle.tftp_loop.specs.Steps.{LoopState, LoopStep, Transfer_closed, at_start
 use Rattle.tftp_loop.specs.declared.serving.LoopConfig.{LoopConfig}
 
 -- the printed lines of a trace, the newest first
-abbrev pub lines_of : List SocketEvent → List (List ℕ)
-lines_of [] = []
-lines_of (Printed line ∷ events) = line ∷ lines_of events
-lines_of (event ∷ events) = lines_of events
+abbrev pub printed_lines : List SocketEvent → List (List ℕ)
+printed_lines [] = []
+printed_lines (Printed line ∷ events) = line ∷ printed_lines events
+printed_lines (event ∷ events) = printed_lines events
 
 module _ {S F D : Type 0} {stores : StoreMeaning S D} {sources : SourceMeaning F} where
   -- the line of the transfer that a step removes, with its port, the port of its timer's peer and
@@ -40,4 +40,4 @@ module _ {S F D : Type 0} where
       (config : LoopConfig) (port reading : ℕ) (first : ServerState S F D)
       (before : List SocketEvent) (now : LoopState S F D)
       (run : Run (LoopStep stores sources) (at_start config port first reading before) now)
-      → lines_of now.events ≡ closed_lines run ++ lines_of before
+      → printed_lines now.events ≡ closed_lines run ++ printed_lines before

@@ -150,8 +150,8 @@ name_of (To_read opens) = opens.name
 name_of (To_write opens) = opens.name
 
 -- its request
-abbrev pub packet_of : {G K : Type 0} {inputs : SourceMeaning G} {outputs : SinkMeaning K}
+abbrev pub request_packet : {G K : Type 0} {inputs : SourceMeaning G} {outputs : SinkMeaning K}
     {to : Endpoint} {first : EndState} {file : Files G K}
     → ClientOpens inputs outputs to first file → Packet
-packet_of (To_read opens) = Read (request_of opens.name opens.mode opens.asked)
-packet_of (To_write opens) = Write (request_of opens.name opens.mode opens.asked)
+request_packet (To_read opens) = Read (request_of opens.name opens.mode opens.asked)
+request_packet (To_write opens) = Write (request_of opens.name opens.mode opens.asked)

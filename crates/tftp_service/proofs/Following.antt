@@ -9,24 +9,24 @@ use Rattle.std.proofs.lemmas.Bool.Decides.{nat_tests}
 use Rattle.std.proofs.lemmas.List.{append-nil, length-set, get_or-set_same, get_or-set_other}
 use Rattle.std.proofs.lemmas.List.Elements.{All-append, All-nil}
 use Rattle.tftp_service.specs.Lines.{HasNoEnd, all_marked, ended, first_passed, has_any, line_passed, marked, passed}
-use Rattle.tftp_service.specs.Lines.{text_of, with_first}
+use Rattle.tftp_service.specs.Lines.{ended_lines, with_first}
 use Rattle.tftp_service.specs.ProcessEvent.{AllSucceeded, HasSucceeded, ProcessEvent}
 use Rattle.tftp_service.specs.ProcessEvent.{after_print, given_by, printed_in, started_in}
 use Rattle.tftp_service.specs.ProcessEvent.ProcessEvent.{Started, Gave, Closed, Ended, Printed}
 use Rattle.tftp_service.specs.Output.{lines_in}
-use Rattle.tftp_service.specs.PassedOn.{AlwaysPassedOn, PassedOn, ServerLine, first_lines, lines_of, print_of}
-use Rattle.tftp_service.specs.Watching.{EachServer, GoesOn, IsCounted, IsKnown, IsStarting, IsWatching, OnlyStarts, Reads}
-use Rattle.tftp_service.specs.Watching.Reads.{Given, Finished}
+use Rattle.tftp_service.specs.PassedOn.{AlwaysPassedOn, PassedOn, ServerLine, first_lines, lines_at, print_of}
+use Rattle.tftp_service.specs.Watching.{EachServer, GoesOn, IsCounted, IsKnown, IsStarting, IsWatching, OnlyStarts, ReadsOutput}
+use Rattle.tftp_service.specs.Watching.ReadsOutput.{Given, Finished}
 use Rattle.tftp_service.specs.declared.output.Output.{Output}
 use Rattle.tftp_service.specs.declared.supervisor.WatchedServer.{WatchedServer}
 use Rattle.tftp_service.specs.declared.supervisor.Supervisor.{Supervisor}
 use Rattle.tftp_service.proofs.Passing.{any_more}
 
 -- ---- lines of one server behind those of all
-text_of-append : (xs ys : List (List ℕ)) → text_of (xs ++ ys) ≡ text_of xs ++ text_of ys
-text_of-append [] ys = refl
-text_of-append (x ∷ xs) ys =
-    ap (λ (t : List ℕ). ended x ++ t) (text_of-append xs ys) ∙ sym (append_assoc (ended x) (text_of xs) (text_of ys))
+ended_lines-append : (xs ys : List (List ℕ)) → ended_lines (xs ++ ys) ≡ ended_lines xs ++ ended_lines ys
+ended_lines-append [] ys = refl
+ended_lines-append (x ∷ xs) ys =
+    ap (λ (t : List ℕ). ended x ++ t) (ended_lines-append xs ys) ∙ sym (append_assoc (ended x) (ended_lines xs) (ended_lines ys))
 
 abbrev new_line : ℕ → List ℕ → ServerLine
 new_line server line = record { server = server; line = line }
@@ -36,39 +36,39 @@ with_lines server [] before = before
 with_lines server (line ∷ lines) before = with_lines server lines (new_line server line ∷ before)
 
 own_line : (server same : ℕ) (line : List ℕ) (before : List ServerLine) → (server == same) ≡ true
-    → lines_of same (new_line server line ∷ before) ≡ lines_of same before ++ line ∷ []
+    → lines_at same (new_line server line ∷ before) ≡ lines_at same before ++ line ∷ []
 own_line server same line before is = rw (is) refl
 
 own_lines : (server same : ℕ) (lines : List (List ℕ)) (before : List ServerLine) → (server == same) ≡ true
-    → lines_of same (with_lines server lines before) ≡ lines_of same before ++ lines
-own_lines server same [] before is = sym (append-nil (lines_of same before))
+    → lines_at same (with_lines server lines before) ≡ lines_at same before ++ lines
+own_lines server same [] before is = sym (append-nil (lines_at same before))
 own_lines server same (line ∷ lines) before is =
     own_lines server same lines (new_line server line ∷ before) is
     ∙ ap (λ (ls : List (List ℕ)). ls ++ lines) (own_line server same line before is)
-    ∙ append_assoc (lines_of same before) (line ∷ []) lines
+    ∙ append_assoc (lines_at same before) (line ∷ []) lines
 
 other_lines : (server other : ℕ) (lines : List (List ℕ)) (before : List ServerLine) → (server == other) ≡ false
-    → lines_of other (with_lines server lines before) ≡ lines_of other before
+    → lines_at other (with_lines server lines before) ≡ lines_at other before
 other_lines server other [] before apart = refl
 other_lines server other (line ∷ lines) before apart =
-    let next : lines_of other (new_line server line ∷ before) ≡ lines_of other before = rw (apart) refl in
+    let next : lines_at other (new_line server line ∷ before) ≡ lines_at other before = rw (apart) refl in
     other_lines server other lines (new_line server line ∷ before) apart ∙ next
 
 has_own : (server : ℕ) (line : List ℕ) (before : List ServerLine)
-    → has_any (lines_of server (new_line server line ∷ before)) ≡ true
+    → has_any (lines_at server (new_line server line ∷ before)) ≡ true
 has_own server line before =
     ap (λ (ls : List (List ℕ)). has_any ls) (own_line server server line before (eq-eqb server server refl))
-    ∙ any_more false (lines_of server before) line
+    ∙ any_more false (lines_at server before) line
 
 -- the first lines after one more of this server
 first_step : (server : ℕ) (line : List ℕ) (before : List ServerLine) (own : Bool)
-    → has_any (lines_of server before) ≡ own
+    → has_any (lines_at server before) ≡ own
     → first_lines (new_line server line ∷ before) ≡ with_first (first_lines before) own (line ∷ [])
 first_step server line before own is =
     ap (λ (b : Bool). with_first (first_lines before) b (line ∷ [])) is
 
 first_kept : (server : ℕ) (lines : List (List ℕ)) (before : List ServerLine)
-    → has_any (lines_of server before) ≡ true → first_lines (with_lines server lines before) ≡ first_lines before
+    → has_any (lines_at server before) ≡ true → first_lines (with_lines server lines before) ≡ first_lines before
 first_kept server [] before own = refl
 first_kept server (line ∷ lines) before own =
     first_kept server lines (new_line server line ∷ before) (has_own server line before)
@@ -76,10 +76,10 @@ first_kept server (line ∷ lines) before own =
 
 first_with : (server : ℕ) (lines : List (List ℕ)) (before : List ServerLine)
     → first_lines (with_lines server lines before)
-    ≡ with_first (first_lines before) (has_any (lines_of server before)) lines
-first_with server lines before = by (has_any (lines_of server before)) refl lines
+    ≡ with_first (first_lines before) (has_any (lines_at server before)) lines
+first_with server lines before = by (has_any (lines_at server before)) refl lines
   where
-    by : (own : Bool) → has_any (lines_of server before) ≡ own → (ls : List (List ℕ))
+    by : (own : Bool) → has_any (lines_at server before) ≡ own → (ls : List (List ℕ))
         → first_lines (with_lines server ls before) ≡ with_first (first_lines before) own ls
     by true is ls = first_kept server ls before is
     by false is [] = refl
@@ -89,7 +89,7 @@ first_with server lines before = by (has_any (lines_of server before)) refl line
 
 -- ---- what is printed of them
 marked_with : (server : ℕ) (lines : List (List ℕ)) (before : List ServerLine)
-    → has_any (lines_of server before) ≡ true
+    → has_any (lines_at server before) ≡ true
     → print_of (with_lines server lines before) ≡ print_of before ++ all_marked server lines
 marked_with server [] before own = sym (append-nil (print_of before))
 marked_with server (line ∷ lines) before own =
@@ -100,10 +100,10 @@ marked_with server (line ∷ lines) before own =
 
 printed_with : (server : ℕ) (lines : List (List ℕ)) (before : List ServerLine)
     → print_of (with_lines server lines before)
-    ≡ print_of before ++ passed (first_lines before) (has_any (lines_of server before)) server lines
-printed_with server lines before = by (has_any (lines_of server before)) refl lines
+    ≡ print_of before ++ passed (first_lines before) (has_any (lines_at server before)) server lines
+printed_with server lines before = by (has_any (lines_at server before)) refl lines
   where
-    by : (own : Bool) → has_any (lines_of server before) ≡ own → (ls : List (List ℕ))
+    by : (own : Bool) → has_any (lines_at server before) ≡ own → (ls : List (List ℕ))
         → print_of (with_lines server ls before) ≡ print_of before ++ passed (first_lines before) own server ls
     by true is ls = marked_with server ls before is
     by false is [] = sym (append-nil (print_of before))
@@ -160,43 +160,43 @@ with_start server start starts other = if server == other then start else starts
 
 given_more : (events : List ProcessEvent) (lines : List ServerLine) (starts : ℕ → List ℕ) (server : ℕ) (bytes : List ℕ)
     (more : List (List ℕ)) (start : List ℕ)
-    → ((j : ℕ) → given_by j events ≡ text_of (lines_of j lines) ++ starts j)
-    → starts server ++ bytes ≡ text_of more ++ start
+    → ((j : ℕ) → given_by j events ≡ ended_lines (lines_at j lines) ++ starts j)
+    → starts server ++ bytes ≡ ended_lines more ++ start
     → (j : ℕ) → given_by j (Gave server bytes ∷ events)
-    ≡ text_of (lines_of j (with_lines server more lines)) ++ with_start server start starts j
+    ≡ ended_lines (lines_at j (with_lines server more lines)) ++ with_start server start starts j
 given_more events lines starts server bytes more start given taken j = by (server == j) refl
   where
     by : (b : Bool) → (server == j) ≡ b → given_by j (Gave server bytes ∷ events)
-        ≡ text_of (lines_of j (with_lines server more lines)) ++ with_start server start starts j
+        ≡ ended_lines (lines_at j (with_lines server more lines)) ++ with_start server start starts j
     by true is =
         let same : server ≡ j = eqb-true server j is in
         let own = own_lines server j more lines is in
         let left : given_by j (Gave server bytes ∷ events) ≡ given_by j events ++ bytes = rw (is) refl in
         let right : with_start server start starts j ≡ start = rw (is) refl in
         left ∙ ap (λ (t : List ℕ). t ++ bytes) (given j)
-        ∙ append_assoc (text_of (lines_of j lines)) (starts j) bytes
-        ∙ ap (λ (k : ℕ). text_of (lines_of j lines) ++ (starts k ++ bytes)) (sym same)
-        ∙ ap (λ (t : List ℕ). text_of (lines_of j lines) ++ t) taken
-        ∙ sym (append_assoc (text_of (lines_of j lines)) (text_of more) start)
-        ∙ ap (λ (t : List ℕ). t ++ start) (sym (text_of-append (lines_of j lines) more))
-        ∙ ap (λ (ls : List (List ℕ)). text_of ls ++ start) (sym own)
-        ∙ ap (λ (t : List ℕ). text_of (lines_of j (with_lines server more lines)) ++ t) (sym right)
+        ∙ append_assoc (ended_lines (lines_at j lines)) (starts j) bytes
+        ∙ ap (λ (k : ℕ). ended_lines (lines_at j lines) ++ (starts k ++ bytes)) (sym same)
+        ∙ ap (λ (t : List ℕ). ended_lines (lines_at j lines) ++ t) taken
+        ∙ sym (append_assoc (ended_lines (lines_at j lines)) (ended_lines more) start)
+        ∙ ap (λ (t : List ℕ). t ++ start) (sym (ended_lines-append (lines_at j lines) more))
+        ∙ ap (λ (ls : List (List ℕ)). ended_lines ls ++ start) (sym own)
+        ∙ ap (λ (t : List ℕ). ended_lines (lines_at j (with_lines server more lines)) ++ t) (sym right)
     by false is =
         let apart = other_lines server j more lines is in
         let left : given_by j (Gave server bytes ∷ events) ≡ given_by j events = rw (is) refl in
         let right : with_start server start starts j ≡ starts j = rw (is) refl in
         left ∙ given j
-        ∙ ap (λ (ls : List (List ℕ)). text_of ls ++ starts j) (sym apart)
-        ∙ ap (λ (t : List ℕ). text_of (lines_of j (with_lines server more lines)) ++ t) (sym right)
+        ∙ ap (λ (ls : List (List ℕ)). ended_lines ls ++ starts j) (sym apart)
+        ∙ ap (λ (t : List ℕ). ended_lines (lines_at j (with_lines server more lines)) ++ t) (sym right)
 
 whole_more : (server : ℕ) (more : List (List ℕ)) (lines : List ServerLine) → All HasNoEnd more
-    → ((j : ℕ) → All HasNoEnd (lines_of j lines)) → (j : ℕ) → All HasNoEnd (lines_of j (with_lines server more lines))
+    → ((j : ℕ) → All HasNoEnd (lines_at j lines)) → (j : ℕ) → All HasNoEnd (lines_at j (with_lines server more lines))
 whole_more server more lines whole each j = by (server == j) refl
   where
-    by : (b : Bool) → (server == j) ≡ b → All HasNoEnd (lines_of j (with_lines server more lines))
+    by : (b : Bool) → (server == j) ≡ b → All HasNoEnd (lines_at j (with_lines server more lines))
     by true is =
         subst (λ (ls : List (List ℕ)). All HasNoEnd ls) (sym (own_lines server j more lines is))
-        (All-append HasNoEnd (lines_of j lines) more (each j) whole)
+        (All-append HasNoEnd (lines_at j lines) more (each j) whole)
     by false is =
         subst (λ (ls : List (List ℕ)). All HasNoEnd ls) (sym (other_lines server j more lines is)) (each j)
 
@@ -246,8 +246,8 @@ passed_nothing events only = record {
 -- bytes of a server were read, and passed on
 abbrev passed_gave : (events after : List ProcessEvent) (w : PassedOn events) (server : ℕ) (bytes : List ℕ)
     (more : List (List ℕ)) (start out : List ℕ) → after ≡ after_print out (Gave server bytes ∷ events)
-    → w.begun server ++ bytes ≡ text_of more ++ start → All HasNoEnd more → HasNoEnd start
-    → out ≡ passed (first_lines w.lines) (has_any (lines_of server w.lines)) server more → PassedOn after
+    → w.begun server ++ bytes ≡ ended_lines more ++ start → All HasNoEnd more → HasNoEnd start
+    → out ≡ passed (first_lines w.lines) (has_any (lines_at server w.lines)) server more → PassedOn after
 passed_gave events after w server bytes more start out noted taken whole unended is = record {
   lines = with_lines server more w.lines;
   begun = with_start server start w.begun;
@@ -326,7 +326,7 @@ module _ (events after : List ProcessEvent) (lines : List ServerLine) (starts : 
         has_printed =
             printed ∙ ap (λ (o : Output). o.has_printed || has_any more) (sym is)
             ∙ ap (λ (b : Bool). b || has_any more) known.has_printed
-            ∙ sym (any-append (lines_of number lines) more)
+            ∙ sym (any-append (lines_at number lines) more)
             ∙ ap (λ (ls : List (List ℕ)). has_any ls) (sym (own_lines old.server number more lines yes));
         ended = λ now. ends_so number (known.ended (sym same ∙ now));
       }
@@ -394,18 +394,18 @@ pub watched_on : (before after : List ProcessEvent) (old new : Supervisor) (inde
     (middle : List ProcessEvent) (out : List ℕ) → IsWatching before old → index < length old.servers.items
     → process ≡ slice_index_or old.servers.items index process
     → new.servers.items ≡ slice_set old.servers.items index next → new.count ≡ old.count
-    → Reads (lines_in old.announced.items) (lines_in new.announced.items) process next before middle out
+    → ReadsOutput (lines_in old.announced.items) (lines_in new.announced.items) process next before middle out
     → after ≡ after_print out middle → IsWatching after new
 watched_on before after old new index process next middle out w within is set count (Given bytes noted passes same) ends =
     let known : IsKnown before w.passed.lines w.passed.begun (index + 1) process =
     subst (IsKnown before w.passed.lines w.passed.begun (index + 1)) (sym is) (w.each index process within) in
     let events : after ≡ after_print out (Gave process.output.server bytes ∷ before) =
     ends ∙ ap (after_print out) noted in
-    let has : process.output.has_printed ≡ has_any (lines_of process.output.server w.passed.lines) =
-    known.has_printed ∙ ap (λ (n : ℕ). has_any (lines_of n w.passed.lines)) (sym known.server) in
-    let taken : w.passed.begun process.output.server ++ bytes ≡ text_of passes.lines ++ next.output.begun.items =
+    let has : process.output.has_printed ≡ has_any (lines_at process.output.server w.passed.lines) =
+    known.has_printed ∙ ap (λ (n : ℕ). has_any (lines_at n w.passed.lines)) (sym known.server) in
+    let taken : w.passed.begun process.output.server ++ bytes ≡ ended_lines passes.lines ++ next.output.begun.items =
     ap (λ (t : List ℕ). t ++ bytes) (sym (known.begun ∙ ap w.passed.begun (sym known.server))) ∙ passes.taken in
-    let printed : out ≡ passed (first_lines w.passed.lines) (has_any (lines_of process.output.server w.passed.lines))
+    let printed : out ≡ passed (first_lines w.passed.lines) (has_any (lines_at process.output.server w.passed.lines))
     process.output.server passes.lines =
     passes.out_is
     ∙ ap (λ (first : List (List ℕ)). passed first process.output.has_printed process.output.server passes.lines)

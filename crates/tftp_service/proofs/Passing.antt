@@ -5,16 +5,16 @@ use Rattle.std.proofs.lemmas.List.{append-nil}
 use Rattle.std.proofs.lemmas.List.Elements.{All-append, All-nil}
 use Rattle.std.proofs.lemmas.Grind.{common_steps}
 use Rattle.tftp_service.specs.Lines.{HasNoEnd, all_marked, ended, first_passed, has_any, line_passed, marked, passed}
-use Rattle.tftp_service.specs.Lines.{text_of, with_first}
+use Rattle.tftp_service.specs.Lines.{ended_lines, with_first}
 use Rattle.tftp_service.specs.Output.{PassesOn, Takes}
 use Rattle.tftp_service.specs.Output.Takes.{Begins, Ends}
 use Rattle.tftp_service.specs.declared.output.Output.{Output}
 
 -- the text of one more line
-text_more : (lines : List (List ℕ)) (line : List ℕ) → text_of (lines ++ line ∷ []) ≡ text_of lines ++ ended line
+text_more : (lines : List (List ℕ)) (line : List ℕ) → ended_lines (lines ++ line ∷ []) ≡ ended_lines lines ++ ended line
 text_more [] line = append-nil (ended line)
 text_more (first ∷ lines) line =
-    ap (λ (t : List ℕ). ended first ++ t) (text_more lines line) ∙ sym (append_assoc (ended first) (text_of lines) (ended line))
+    ap (λ (t : List ℕ). ended first ++ t) (text_more lines line) ∙ sym (append_assoc (ended first) (ended_lines lines) (ended line))
 
 marked_more : (server : ℕ) (lines : List (List ℕ)) (line : List ℕ)
     → all_marked server (lines ++ line ∷ []) ≡ all_marked server lines ++ marked server line
@@ -83,8 +83,8 @@ passes_more announced said announces bytes byte old middle new before after pass
   lines = passes.lines;
   taken =
       sym (append_assoc old.begun.items bytes (byte ∷ [])) ∙ ap (λ (t : List ℕ). t ++ byte ∷ []) passes.taken
-      ∙ append_assoc (text_of passes.lines) middle.begun.items (byte ∷ [])
-      ∙ ap (λ (t : List ℕ). text_of passes.lines ++ t) (sym begun);
+      ∙ append_assoc (ended_lines passes.lines) middle.begun.items (byte ∷ [])
+      ∙ ap (λ (t : List ℕ). ended_lines passes.lines ++ t) (sym begun);
   whole = passes.whole;
   begun =
       subst HasNoEnd (sym begun)
@@ -98,11 +98,11 @@ passes_more announced said announces bytes byte old middle new before after pass
   lines = passes.lines ++ middle.begun.items ∷ [];
   taken =
       sym (append_assoc old.begun.items bytes (byte ∷ [])) ∙ ap (λ (t : List ℕ). t ++ byte ∷ []) passes.taken
-      ∙ append_assoc (text_of passes.lines) middle.begun.items (byte ∷ [])
-      ∙ ap (λ (b : ℕ). text_of passes.lines ++ (middle.begun.items ++ b ∷ [])) is
+      ∙ append_assoc (ended_lines passes.lines) middle.begun.items (byte ∷ [])
+      ∙ ap (λ (b : ℕ). ended_lines passes.lines ++ (middle.begun.items ++ b ∷ [])) is
       ∙ sym (text_more passes.lines middle.begun.items)
-      ∙ sym (append-nil (text_of (passes.lines ++ middle.begun.items ∷ [])))
-      ∙ ap (λ (t : List ℕ). text_of (passes.lines ++ middle.begun.items ∷ []) ++ t) (sym begun);
+      ∙ sym (append-nil (ended_lines (passes.lines ++ middle.begun.items ∷ [])))
+      ∙ ap (λ (t : List ℕ). ended_lines (passes.lines ++ middle.begun.items ∷ []) ++ t) (sym begun);
   whole = All-append HasNoEnd passes.lines (middle.begun.items ∷ []) passes.whole (grind (arith, common_steps, passes.begun));
   begun = subst HasNoEnd (sym begun) (All-nil (λ (b : ℕ). b ≢ 10));
   out_is =

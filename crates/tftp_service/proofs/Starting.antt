@@ -10,8 +10,8 @@ use Rattle.std.proofs.lemmas.List.{length-map, map-append, take_all, take_more, 
 use Rattle.tftp_service.specs.ProcessEvent.{AllSucceeded, EachEnded, ProcessEvent, StartsFirst, WasEnded}
 use Rattle.tftp_service.specs.ProcessEvent.{started_in}
 use Rattle.tftp_service.specs.ProcessEvent.ProcessEvent.{Started, Closed, Ended}
-use Rattle.tftp_service.specs.Watching.{GoesOn, Reads}
-use Rattle.tftp_service.specs.Watching.Reads.{Finished}
+use Rattle.tftp_service.specs.Watching.{GoesOn, ReadsOutput}
+use Rattle.tftp_service.specs.Watching.ReadsOutput.{Finished}
 use Rattle.tftp_service.specs.declared.supervisor.WatchedServer.{WatchedServer}
 use Rattle.tftp_service.proofs.Following.{earlier, newest}
 
@@ -101,7 +101,7 @@ pub finished_so : {A E : Type 0} (result : Result A E) (announced : List (List �
     → OnOk result ((status : ExitStatus) × (exit_code status ≡ Some (pos 0))
     × (after ≡ Ended old.output.server (Ok status) ∷ closed))
     → closed ≡ Closed old.output.server ∷ before → new.output ≡ old.output → out ≡ []
-    → OnOk result (Reads announced announced old new before after out)
+    → OnOk result (ReadsOutput announced announced old new before after out)
 finished_so (Ok value) announced old new before closed after out ends noted same none =
     Finished ends.0 ends.1
     (ends.2 ∙ ap (λ (events : List ProcessEvent). Ended old.output.server (Ok ends.0) ∷ events) noted) same none refl

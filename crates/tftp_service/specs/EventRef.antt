@@ -7,9 +7,9 @@ use Rattle.tftp_service.specs.declared.system.event_ref.EventRef.{EventRef}
 use Rattle.tftp_service.specs.declared.system.event_ref.EventRef.TheVariants as refs
 
 -- the event of these values
-abbrev pub event_of : EventRef → ProcessEvent
-event_of (refs.Started line) = Started (map string_bytes line.now)
-event_of (refs.Gave server bytes) = Gave server bytes.now
-event_of (refs.Closed server) = Closed server
-event_of (refs.Ended server answer) = Ended server answer
-event_of (refs.Printed text) = Printed text.now
+abbrev pub process_event : EventRef → ProcessEvent
+process_event (refs.Started line) = Started (map string_bytes line.now)
+process_event (refs.Gave server bytes) = Gave server bytes.now
+process_event (refs.Closed server) = Closed server
+process_event (refs.Ended server answer) = Ended server answer
+process_event (refs.Printed text) = Printed text.now

@@ -10,9 +10,9 @@ abbrev pub ended : List ℕ → List ℕ
 ended line = line ++ 10 ∷ []
 
 -- the text of lines
-abbrev pub text_of : List (List ℕ) → List ℕ
-text_of [] = []
-text_of (line ∷ lines) = ended line ++ text_of lines
+abbrev pub ended_lines : List (List ℕ) → List ℕ
+ended_lines [] = []
+ended_lines (line ∷ lines) = ended line ++ ended_lines lines
 
 -- no line ends in a text
 abbrev pub HasNoEnd : List ℕ → Type 0

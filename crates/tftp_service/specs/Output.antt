@@ -1,7 +1,7 @@
 -- What a server has printed so far, and what is passed on of it (ours).
 use Rattle.std.specs.Prelude.{ℕ, ◌≡◌, ◌≢◌, ◌||◌, Bool, true, List, [], ◌∷◌, ◌++◌, All, map}
 use Rattle.std.specs.declared.vec.Vec.{Vec}
-use Rattle.tftp_service.specs.Lines.{HasNoEnd, has_any, line_passed, passed, text_of}
+use Rattle.tftp_service.specs.Lines.{HasNoEnd, has_any, line_passed, passed, ended_lines}
 use Rattle.tftp_service.specs.Lines.{with_first}
 use Rattle.tftp_service.specs.declared.output.Output.{Output}
 
@@ -14,7 +14,7 @@ lines_in lines = map (λ line. line.items) lines
 pub record PassesOn (announced announces : List (List ℕ)) (bytes : List ℕ) (old new : Output)
     (out : List ℕ) : Type 0 where
   pub lines : List (List ℕ)
-  pub taken : old.begun.items ++ bytes ≡ text_of lines ++ new.begun.items
+  pub taken : old.begun.items ++ bytes ≡ ended_lines lines ++ new.begun.items
   pub whole : All HasNoEnd lines
   pub begun : HasNoEnd new.begun.items
   pub out_is : out ≡ passed announced old.has_printed old.server lines

@@ -1,7 +1,7 @@
 -- What is printed of the lines of several servers (ours).
 use Rattle.std.specs.Prelude.{ℕ, ◌≡◌, ◌==◌, Bool, true, false, List, [], ◌∷◌, ◌++◌, All}
 use Rattle.std.specs.Prelude.{if◌then◌else◌}
-use Rattle.tftp_service.specs.Lines.{HasNoEnd, has_any, line_passed, text_of, with_first}
+use Rattle.tftp_service.specs.Lines.{HasNoEnd, has_any, line_passed, ended_lines, with_first}
 use Rattle.tftp_service.specs.ProcessEvent.{ProcessEvent, given_by, printed_in}
 use Rattle.tftp_service.specs.ProcessEvent.ProcessEvent.{Started, Gave, Closed, Ended, Printed}
 
@@ -11,17 +11,17 @@ pub record ServerLine : Type 0 where
   pub line : List ℕ
 
 -- the lines of one server, in their order, among those of all, of which the newest stands first
-abbrev pub lines_of : ℕ → List ServerLine → List (List ℕ)
-lines_of server [] = []
-lines_of server (newest ∷ before) =
-    if newest.server == server then lines_of server before ++ newest.line ∷ []
-    else lines_of server before
+abbrev pub lines_at : ℕ → List ServerLine → List (List ℕ)
+lines_at server [] = []
+lines_at server (newest ∷ before) =
+    if newest.server == server then lines_at server before ++ newest.line ∷ []
+    else lines_at server before
 
 -- the first lines of the servers
 abbrev pub first_lines : List ServerLine → List (List ℕ)
 first_lines [] = []
 first_lines (newest ∷ before) =
-    with_first (first_lines before) (has_any (lines_of newest.server before)) (newest.line ∷ [])
+    with_first (first_lines before) (has_any (lines_at newest.server before)) (newest.line ∷ [])
 
 -- what is printed of these lines: the first of a server, as it is, except one that was the first of
 -- another before; and each other one with its server
@@ -29,7 +29,7 @@ abbrev pub print_of : List ServerLine → List ℕ
 print_of [] = []
 print_of (newest ∷ before) =
     print_of before
-    ++ line_passed (first_lines before) (has_any (lines_of newest.server before)) newest.server
+    ++ line_passed (first_lines before) (has_any (lines_at newest.server before)) newest.server
     newest.line
 
 -- what was printed is what is printed of some lines; and what each server gave is its lines, whole
@@ -38,8 +38,8 @@ pub record PassedOn (events : List ProcessEvent) : Type 0 where
   pub lines : List ServerLine
   pub begun : ℕ → List ℕ
   pub given : (server : ℕ)
-      → given_by server events ≡ text_of (lines_of server lines) ++ begun server
-  pub whole : (server : ℕ) → All HasNoEnd (lines_of server lines)
+      → given_by server events ≡ ended_lines (lines_at server lines) ++ begun server
+  pub whole : (server : ℕ) → All HasNoEnd (lines_at server lines)
   pub unended : (server : ℕ) → HasNoEnd (begun server)
   pub printed : printed_in events ≡ print_of lines
 

@@ -8,7 +8,7 @@ use Rattle.tftp_service.specs.Output.{PassesOn, lines_in}
 use Rattle.tftp_service.specs.ProcessEvent.{HasSucceeded, ProcessEvent, started_in}
 use Rattle.tftp_service.specs.ProcessEvent.ProcessEvent.{Started, Gave, Closed, Ended, Printed}
 use Rattle.tftp_service.specs.PassedOn.{AlwaysPassedOn, PassedOn, ServerLine}
-use Rattle.tftp_service.specs.PassedOn.{first_lines, lines_of}
+use Rattle.tftp_service.specs.PassedOn.{first_lines, lines_at}
 use Rattle.tftp_service.specs.declared.supervisor.WatchedServer.{WatchedServer}
 use Rattle.tftp_service.specs.declared.supervisor.Supervisor.{Supervisor}
 
@@ -24,7 +24,7 @@ pub record IsKnown (events : List ProcessEvent) (lines : List ServerLine) (start
     (number : ℕ) (watched : WatchedServer) : Type 0 where
   pub server : watched.output.server ≡ number
   pub begun : watched.output.begun.items ≡ starts number
-  pub has_printed : watched.output.has_printed ≡ has_any (lines_of number lines)
+  pub has_printed : watched.output.has_printed ≡ has_any (lines_at number lines)
   pub ended : watched.has_ended ≡ true → HasSucceeded number events
 
 -- each server, counted from 1
@@ -69,13 +69,13 @@ pub record GoesOn (before after : List ProcessEvent) : Type 0 where
 -- the output of a server was read once: it gave bytes, and `out` is what is printed of them, or it
 -- is closed, and the server ended with the status 0; and what the first lines of servers were,
 -- before and after
-pub data Reads (announced announces : List (List ℕ)) (old new : WatchedServer)
+pub data ReadsOutput (announced announces : List (List ℕ)) (old new : WatchedServer)
     (before after : List ProcessEvent) (out : List ℕ) : Type 0 where
   Given : (bytes : List ℕ) → after ≡ Gave old.output.server bytes ∷ before
       → PassesOn announced announces bytes old.output new.output out
       → new.has_ended ≡ old.has_ended
-      → Reads announced announces old new before after out
+      → ReadsOutput announced announces old new before after out
   Finished : (status : ExitStatus) → exit_code status ≡ Some (pos 0)
       → after ≡ Ended old.output.server (Ok status) ∷ Closed old.output.server ∷ before
       → new.output ≡ old.output → out ≡ [] → announces ≡ announced
-      → Reads announced announces old new before after out
+      → ReadsOutput announced announces old new before after out

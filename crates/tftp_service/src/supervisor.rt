@@ -11,7 +11,7 @@ ghost use Rattle.tftp_service.specs.PassedOn.{AlwaysPassedOn, PassedOn};
 ghost use Rattle.tftp_service.specs.ProcessEvent.{AllSucceeded, EachEnded, IsStarted};
 ghost use Rattle.tftp_service.specs.ProcessEvent.{StartsFirst, after_print, started_in};
 ghost use Rattle.tftp_service.specs.ProcessEvent.ProcessEvent.{Closed, Ended, Started};
-ghost use Rattle.tftp_service.specs.Watching.{GoesOn, IsCounted, IsStarting, IsWatching, Reads};
+ghost use Rattle.tftp_service.specs.Watching.{GoesOn, IsCounted, IsStarting, IsWatching, ReadsOutput};
 
 use crate::output::Output;
 use crate::processes::ServerProcesses;
@@ -239,7 +239,7 @@ fn read_of<P: ServerProcesses>(
     requires is_started { IsStarted server.old.output.server (P.log processes.old) }
     requires passed { PassedOn (P.log processes.old) }
     requires always { AlwaysPassedOn (P.log processes.old) }
-    ensures ok { OnOk result (Reads (lines_in announced.old.items)
+    ensures ok { OnOk result (ReadsOutput (lines_in announced.old.items)
         (lines_in announced.new.items) server.old server.new (P.log processes.old)
         (P.log processes.new) out.new.items) }
     ensures goes_on { GoesOn (P.log processes.old) (P.log processes.new) }

@@ -42,5 +42,5 @@ abbrev pub input_shown : List ℕ → List ℕ
 input_shown input = flat_map (λ line. line_shown (strip_last 13 line) ++ 10 ∷ []) (lines_of input)
 
 -- the status, if all could be read and written
-abbrev pub status_of : List ℕ → ℕ
-status_of input = if are_packets input then 0 else 1
+abbrev pub shown_status : List ℕ → ℕ
+shown_status input = if are_packets input then 0 else 1

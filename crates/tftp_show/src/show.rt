@@ -11,7 +11,7 @@ ghost use Rattle.std.specs.Io.KnownBytes.{Appends};
 ghost use Rattle.std.specs.String.{string_bytes};
 ghost use Rattle.hex.specs.Hex.{decode_of};
 ghost use Rattle.tftp_show.specs.Show.{line_shown, spells_packet, are_packets, input_shown};
-ghost use Rattle.tftp_show.specs.Show.{status_of};
+ghost use Rattle.tftp_show.specs.Show.{shown_status};
 
 use crate::show::data::line_of_data;
 use crate::show::digits::{decode_digits, is_hex};
@@ -32,7 +32,7 @@ pub(crate) const LONGEST_LINE: usize = 2 * 65_507 + 2;
 /// run was out of memory. Memory is bounded by the longest line.
 pub fn show_run<R: Read + Drop, W: Write + Drop>(alloc: Global, input: R, output: W) -> u8
     ensures bound { result ≤ 2 }
-    ensures known { IfSome (R.remaining input) (λ all. (result ≡ status_of all) ⊎ (result ≡ 2)) }
+    ensures known { IfSome (R.remaining input) (λ all. (result ≡ shown_status all) ⊎ (result ≡ 2)) }
 {
     show_reported(alloc, input, output, io::sink())
 }
@@ -46,7 +46,7 @@ pub fn show_reported<R: Read + Drop, W: Write + Drop, E: Write + Drop>(
     mut errors: E,
 ) -> u8
     ensures bound { result ≤ 2 }
-    ensures known { IfSome (R.remaining input) (λ all. (result ≡ status_of all) ⊎ (result ≡ 2)) }
+    ensures known { IfSome (R.remaining input) (λ all. (result ≡ shown_status all) ⊎ (result ≡ 2)) }
 {
     match show_buffered(alloc, input, output) {
         Ok(true) => 0,

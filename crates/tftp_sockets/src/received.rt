@@ -5,7 +5,7 @@ ghost use Rattle.std.specs.IoError.{error_kind};
 ghost use Rattle.tftp_sockets.specs.Receipt.{FindsNothing, Fits, receive_event};
 ghost use Rattle.tftp_lines.specs.ClientOutcome.{end_text};
 ghost use Rattle.tftp_sockets.specs.EventRef.{event_of};
-ghost use Rattle.tftp_sockets.specs.Output.{taken};
+ghost use Rattle.tftp_sockets.specs.Output.{line_taken};
 ghost use Rattle.tftp_sockets.specs.Trace.{QuietEvent, looked};
 ghost use Rattle.tftp_sockets.specs.Trace.SocketEvent.{Printed, Quiet};
 ghost use Rattle.tftp_sockets.specs.Trace.QuietEvent.{New_socket, No_socket};
@@ -108,7 +108,7 @@ pub(crate) fn note_end(
     printed: io::Result<()>,
 ) -> io::Result<()>
     ensures same { result ≡ printed }
-    ensures noted { trace.new.events ≡ Printed (taken printed (end_text end))
+    ensures noted { trace.new.events ≡ Printed (line_taken printed (end_text end))
         ∷ trace.old.events }
 {
     match printed {

@@ -43,7 +43,7 @@ pub trait ClientUdp: Udp {
     ghost use Rattle.tftp_lines.specs.ClientOutcome.{end_text};
     ghost use Rattle.tftp_sockets.specs.Trace.SocketEvent.{Sent, Watched, Printed as Line, Quiet};
     ghost use Rattle.tftp_sockets.specs.Trace.QuietEvent.{Slept};
-    ghost use Rattle.tftp_sockets.specs.Output.{taken};
+    ghost use Rattle.tftp_sockets.specs.Output.{line_taken};
     ghost use Rattle.tftp_sockets.specs.Receipt.{Fits, receive_event};
     ghost use Rattle.tftp_sockets.specs.Watch.{later_by};
     ghost use Rattle.tftp_sockets.specs.declared.address.TheConstants.{DATAGRAM_BUFFER};
@@ -79,7 +79,7 @@ pub trait ClientUdp: Udp {
     /// Prints how `tftp` ended, on standard output. If the system refuses the line, an empty one is
     /// noted.
     fn print_end(&mut self, end: ClientOutcome) -> io::Result<()>
-        ensures { Self.log self.new ≡ Line (taken result (end_text end)) ∷ Self.log self.old };
+        ensures { Self.log self.new ≡ Line (line_taken result (end_text end)) ∷ Self.log self.old };
 }
 
 /// The UDP sockets of a server, its waits, its clock and its lines.

@@ -108,27 +108,27 @@ abbrev pub total : (Entry → Option ℕ) → List Entry → ℕ
 total adds [] = 0
 total adds (entry ∷ before) = plus (adds entry) (total adds before)
 
-abbrev pub count_of : (Entry → Option ℕ) → List Entry → ℕ
-count_of adds noted = saturated (total adds noted)
+abbrev pub saturated_count : (Entry → Option ℕ) → List Entry → ℕ
+saturated_count adds noted = saturated (total adds noted)
 
 abbrev pub outcomes_of : Direction → List Entry → OutcomeCounts
 outcomes_of way noted = record {
-  complete = count_of (ends_by way Complete) noted;
-  timed_out = count_of (ends_by way Timed_out) noted;
-  peer_error = count_of (ends_by way Peer_error) noted;
-  illegal = count_of (ends_by way Illegal) noted;
-  refused = count_of (ends_by way Refused) noted;
-  too_large = count_of (ends_by way Too_large) noted;
-  store_fault = count_of (ends_by way Store_fault) noted;
-  source_fault = count_of (ends_by way Source_fault) noted;
-  not_netascii = count_of (ends_by way Not_netascii) noted;
+  complete = saturated_count (ends_by way Complete) noted;
+  timed_out = saturated_count (ends_by way Timed_out) noted;
+  peer_error = saturated_count (ends_by way Peer_error) noted;
+  illegal = saturated_count (ends_by way Illegal) noted;
+  refused = saturated_count (ends_by way Refused) noted;
+  too_large = saturated_count (ends_by way Too_large) noted;
+  store_fault = saturated_count (ends_by way Store_fault) noted;
+  source_fault = saturated_count (ends_by way Source_fault) noted;
+  not_netascii = saturated_count (ends_by way Not_netascii) noted;
 }
 
 abbrev pub transfers_of : Direction → List Entry → TransferCounts
 transfers_of way noted = record {
-  opened = count_of (opened_by way) noted;
-  closed = count_of (closed_by way) noted;
-  bytes = count_of (bytes_by way) noted;
+  opened = saturated_count (opened_by way) noted;
+  closed = saturated_count (closed_by way) noted;
+  bytes = saturated_count (bytes_by way) noted;
   outcomes = outcomes_of way noted;
 }
 
@@ -136,14 +136,14 @@ transfers_of way noted = record {
 abbrev pub counts_of : List Entry → Counts
 counts_of noted = record {
   requests = record {
-    refused = count_of refused_by noted;
-    busy = count_of busy_by noted;
-    ignored = count_of ignored_by noted;
-    lost = count_of lost_by noted;
+    refused = saturated_count refused_by noted;
+    busy = saturated_count busy_by noted;
+    ignored = saturated_count ignored_by noted;
+    lost = saturated_count lost_by noted;
   };
   reads = transfers_of Read noted;
   writes = transfers_of Write noted;
-  again = count_of again_by noted;
+  again = saturated_count again_by noted;
 }
 
 -- ---- one entry more

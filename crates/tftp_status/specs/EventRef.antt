@@ -5,6 +5,6 @@ use Rattle.tftp_status.specs.declared.event_ref.EventRef.{EventRef}
 use Rattle.tftp_status.specs.declared.event_ref.EventRef.TheVariants as refs
 
 -- the event of these values
-abbrev pub event_of : EventRef → StatusEvent
-event_of (refs.Told entry) = Told entry
-event_of (refs.Handed text) = Handed text.now
+abbrev pub status_event : EventRef → StatusEvent
+status_event (refs.Told entry) = Told entry
+status_event (refs.Handed text) = Handed text.now

@@ -27,19 +27,19 @@ pub record Status : Type 0 where
 
 -- the call changes nothing but the file and its temporary file: that one is made and removed, and
 -- gets the name of the file
-abbrev pub IsOwn : List ℕ → List ℕ → DiskEvent → Type 0
-IsOwn file draft (Made path answer) = path ≡ draft
-IsOwn file draft (Removed path answer) = path ≡ draft
-IsOwn file draft (Renamed state from to answer) = (from ≡ draft) × (to ≡ file)
-IsOwn file draft (Linked state from to answer) = ⊥
-IsOwn file draft (Tried path answer) = ⊥
-IsOwn file draft (Folder_opened path answer) = ⊥
-IsOwn file draft (Folder_synced path answer) = ⊥
-IsOwn file draft event = ⊤
+abbrev pub IsStatusCall : List ℕ → List ℕ → DiskEvent → Type 0
+IsStatusCall file draft (Made path answer) = path ≡ draft
+IsStatusCall file draft (Removed path answer) = path ≡ draft
+IsStatusCall file draft (Renamed state from to answer) = (from ≡ draft) × (to ≡ file)
+IsStatusCall file draft (Linked state from to answer) = ⊥
+IsStatusCall file draft (Tried path answer) = ⊥
+IsStatusCall file draft (Folder_opened path answer) = ⊥
+IsStatusCall file draft (Folder_synced path answer) = ⊥
+IsStatusCall file draft event = ⊤
 
 abbrev pub AllOwn : List ℕ → List ℕ → List DiskEvent → Type 0
 AllOwn file draft [] = ⊤
-AllOwn file draft (event ∷ events) = IsOwn file draft event × AllOwn file draft events
+AllOwn file draft (event ∷ events) = IsStatusCall file draft event × AllOwn file draft events
 
 -- the bytes of each file that was renamed
 abbrev pub renamed_in : List DiskEvent → List (List ℕ)

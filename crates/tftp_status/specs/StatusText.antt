@@ -47,8 +47,8 @@ sample_text name label of server value =
     ++ (codes "=\""
     ++ (of ++ (codes "\"" ++ (more_label server ++ (codes "} " ++ (decimal value ++ codes "\n"))))))))
 
-abbrev pub text_of : Sample → List ℕ
-text_of sample =
+abbrev pub sample_line : Sample → List ℕ
+sample_line sample =
     sample_text sample.name.now sample.label.now sample.of.now sample.server sample.value
 
 -- ---- the metrics

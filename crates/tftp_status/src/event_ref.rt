@@ -15,7 +15,7 @@ pub(crate) enum EventRef<'a> {
 
 impl<'a> Kind<EventRef<'a>> for StatusEvents {
     ghost use Rattle.std.specs.Prelude.{◌∷◌};
-    ghost use Rattle.tftp_status.specs.EventRef.{event_of};
+    ghost use Rattle.tftp_status.specs.EventRef.{status_event};
 
-    ghost after = { λ event events. event_of event ∷ events };
+    ghost after = { λ event events. status_event event ∷ events };
 }

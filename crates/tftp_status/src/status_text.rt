@@ -1,7 +1,7 @@
 //! The text of a status file, in the format that Prometheus reads.
 
 ghost use Rattle.std.specs.Prelude.{◌≡◌, codes};
-ghost use Rattle.tftp_status.specs.StatusText.{closed_of, closed_text, sample_text, text_of};
+ghost use Rattle.tftp_status.specs.StatusText.{closed_of, closed_text, sample_text, sample_line};
 
 use crate::counts::{Counts, OutcomeCounts};
 use std::fmt;
@@ -194,7 +194,7 @@ impl fmt::Display for Sample<'_> {
 
 /// A sample of the datagrams to the request port, with this answer.
 fn answer<'a>(of: &'a str, server: Option<u8>, value: u64) -> Sample<'a>
-    ensures { text_of result
+    ensures { sample_line result
         ≡ sample_text (codes "tftpd_requests_total") (codes "answer") of.now server value }
 {
     Sample {
@@ -372,7 +372,7 @@ impl fmt::Display for Amounts {
 
 /// A sample of a metric by the direction of transfers.
 fn direction<'a>(name: &'a str, way: &'a str, server: Option<u8>, value: u64) -> Sample<'a>
-    ensures { text_of result
+    ensures { sample_line result
         ≡ sample_text name.now (codes "direction") way.now server value }
 {
     Sample {
@@ -386,7 +386,7 @@ fn direction<'a>(name: &'a str, way: &'a str, server: Option<u8>, value: u64) ->
 
 /// A sample of the datagrams.
 fn moved<'a>(way: &'a str, server: Option<u8>, value: u64) -> Sample<'a>
-    ensures { text_of result
+    ensures { sample_line result
         ≡ sample_text (codes "tftpd_datagrams_total") (codes "way") way.now server value }
 {
     Sample {

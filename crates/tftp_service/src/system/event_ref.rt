@@ -22,7 +22,7 @@ pub(super) enum EventRef<'a> {
 
 impl<'a> Kind<EventRef<'a>> for ProcessEvents {
     ghost use Rattle.std.specs.Prelude.{◌∷◌};
-    ghost use Rattle.tftp_service.specs.EventRef.{event_of};
+    ghost use Rattle.tftp_service.specs.EventRef.{process_event};
 
-    ghost after = { λ event events. event_of event ∷ events };
+    ghost after = { λ event events. process_event event ∷ events };
 }

@@ -2,19 +2,19 @@
 use Rattle.std.proofs.Common.{ap, sym}
 use Rattle.std.specs.Prelude.{Result}
 use Rattle.tftp_loop.specs.declared.serving.LoopFault.{LoopFault}
-use Rattle.tftp_daemon.specs.Configured.{status_of}
+use Rattle.tftp_daemon.specs.Configured.{daemon_status}
 use Rattle.tftp_daemon.proofs.daemon.serve_loop.Goals as goal
 
 pub returns-in-Ok : goal.returns-in-Ok
 returns-in-Ok g c = record {
   result = c.serve.result;
-  is_status = ap (λ (r : Result (Unit {0}) LoopFault). status_of r) (sym c.in-Ok.is);
+  is_status = ap (λ (r : Result (Unit {0}) LoopFault). daemon_status r) (sym c.in-Ok.is);
   serves = c.serve.ensures;
 }
 
 pub returns-in-Err : goal.returns-in-Err
 returns-in-Err g c = record {
   result = c.serve.result;
-  is_status = ap (λ (r : Result (Unit {0}) LoopFault). status_of r) (sym c.in-Err.is);
+  is_status = ap (λ (r : Result (Unit {0}) LoopFault). daemon_status r) (sym c.in-Err.is);
   serves = c.serve.ensures;
 }

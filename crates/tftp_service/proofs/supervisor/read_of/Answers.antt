@@ -1,6 +1,6 @@
 -- The output gave bytes, which were passed on, or it is closed.
 use Rattle.std.proofs.Common.{refl}
-use Rattle.tftp_service.specs.Watching.Reads.{Given}
+use Rattle.tftp_service.specs.Watching.ReadsOutput.{Given}
 use Rattle.tftp_service.specs.Output.{lines_in}
 use Rattle.tftp_service.proofs.Starting.{finished_so}
 use Rattle.tftp_service.proofs.supervisor.read_of.Goals as goal

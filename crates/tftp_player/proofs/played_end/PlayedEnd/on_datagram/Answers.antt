@@ -2,7 +2,7 @@
 use Rattle.std.proofs.Common.{◌∙◌, sym, subst, ap, false}
 use Rattle.std.proofs.lemmas.Result.{IfOk-weaker}
 use Rattle.tftp_ends.specs.End.{record_of}
-use Rattle.tftp_player.specs.Played.{state_of, IsPlayed}
+use Rattle.tftp_player.specs.Played.{played_state, IsPlayed}
 use Rattle.tftp_player.specs.declared.played_end.PlayedEnd.{PlayedEnd}
 use Rattle.tftp_player.specs.declared.played_end.PlayedEnd.TheVariants.{Client, Server}
 use Rattle.tftp_player.proofs.PlayerLemmas.{client_takes, ended_as}
@@ -17,7 +17,7 @@ returns-in-Client-clause-takes c =
     client_takes c.args.port c.in-Client.client c.on_datagram.new.self effect
     (subst IsPlayed c.in-Client.is c.requires.kept)
     (ended_as c.args.port (Client c.in-Client.client) c.record.result false
-    (c.record.ensures ∙ ap (λ (p : PlayedEnd). record_of (state_of p)) c.in-Client.is)
+    (c.record.ensures ∙ ap (λ (p : PlayedEnd). record_of (played_state p)) c.in-Client.is)
     (sym c.is_some.ensures ∙ c.if-is_some.false))
     c.args.from c.args.bytes.now t c.args.server.now.config.overwrite c.args.server.now.store.files)
     c.on_datagram.ensures.steps)
@@ -28,7 +28,7 @@ returns-in-Server-clause-kept c =
     c.args.server.now c.on_datagram-in-Server.new.server c.on_datagram-in-Server.result
     (subst IsPlayed c.in-Server.is c.requires.kept)
     (ended_as c.args.port (Server c.in-Server.served) c.record.result false
-    (c.record.ensures ∙ ap (λ (p : PlayedEnd). record_of (state_of p)) c.in-Server.is)
+    (c.record.ensures ∙ ap (λ (p : PlayedEnd). record_of (played_state p)) c.in-Server.is)
     (sym c.is_some.ensures ∙ c.if-is_some.false))
     c.on_datagram-in-Server.ensures.takes c.on_datagram-in-Server.ensures.err
 
@@ -40,7 +40,7 @@ returns-in-Server-clause-takes c =
     served_takes c.args.port c.in-Server.served c.on_datagram-in-Server.new.self effect
     (subst IsPlayed c.in-Server.is c.requires.kept)
     (ended_as c.args.port (Server c.in-Server.served) c.record.result false
-    (c.record.ensures ∙ ap (λ (p : PlayedEnd). record_of (state_of p)) c.in-Server.is)
+    (c.record.ensures ∙ ap (λ (p : PlayedEnd). record_of (played_state p)) c.in-Server.is)
     (sym c.is_some.ensures ∙ c.if-is_some.false))
     c.args.from c.args.bytes.now c.args.server.now c.on_datagram-in-Server.new.server t)
     c.on_datagram-in-Server.ensures.takes)
