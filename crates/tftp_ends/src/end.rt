@@ -327,6 +327,7 @@ impl End {
     }
 
     /// The bytes of the datagram to send, until the next call.
+    #[inline(never)]
     pub fn bytes_of(&self, outgoing: Outgoing) -> &[u8]
         ensures { result.now ≡ lent outgoing self.now }
     {
