@@ -7,3 +7,4 @@ pub mod Changes
 pub mod Servers
 pub mod Supervised
 pub mod Sent
+pub mod Reports
