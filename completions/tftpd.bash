@@ -5,19 +5,23 @@ _tftpd() {
     COMPREPLY=()
     options='--listen --requests-only --ports --max-block --max-file --retries --cap --per-client --longest
          --overwrite --read-only --uploads --transfers --rounds --forever --drain --servers --server --log --log-time
-         --help -h --version -V'
+         --status --help -h --version -V'
     case $3 in
     --listen)
         mapfile -t COMPREPLY < <(compgen -W stdin -- "$2")
         return
         ;;
-    --drain)
+    --drain | --status)
         compopt -o filenames 2> /dev/null
         mapfile -t COMPREPLY < <(compgen -f -- "$2")
         return
         ;;
+    --servers)
+        mapfile -t COMPREPLY < <(compgen -W auto -- "$2")
+        return
+        ;;
     --ports | --max-block | --max-file | --retries | --cap | --per-client | --longest | --uploads | --transfers | \
-        --rounds | --servers | --server)
+        --rounds | --server)
         return
         ;;
     esac

@@ -18,10 +18,11 @@ _arguments \
   '(--forever)--rounds=[end after so many waits]:waits:' \
   '(--transfers --rounds)--forever[end by no count of transfers or waits]' \
   '--drain=[file whose appearance ends it once no transfer is open]:file:_files' \
-  '(--server)--servers=[servers that are started at each port]:servers, 1 to 64:' \
+  '(--server)--servers=[servers that are started at each port]:servers, 1 to 64, or auto:(auto)' \
   '(--servers)--server=[which of several servers this is]:server, 1 to 64:' \
   '--log[write a line for each request and each close]' \
   '--log-time[begin each line of the log with its time]' \
+  '--status=[file for what the server has counted]:file:_files' \
   '(-h --help)'{-h,--help}'[print help]' \
   '(-V --version)'{-V,--version}'[print version]' \
   '1:folder whose files are served:_files -/'

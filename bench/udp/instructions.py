@@ -1,5 +1,7 @@
 #!/usr/bin/env python3
-"""The instructions of tftpd a block of 512 bytes, by callgrind: instructions.py TFTPD [TFTPD..]
+"""The instructions of tftpd a block of 512 bytes, by callgrind: instructions.py TFTPD [TFTPD..] [-- WORD..]
+
+The words behind `--` are passed to the server, too, as `--status FILE`.
 
 Gets of one length less gets of a shorter one, divided by the blocks between: one client alone; one beside 63 that asked
 and send no more; 64 at once. Instructions of the kernel are not counted, so other work on the machine does not matter.
@@ -49,11 +51,11 @@ def get(ends) -> None:
                 chosen.unregister(key.fileobj)
 
 
-def counted(tftpd, room, blocks, silent, clients) -> int:
+def counted(tftpd, room, blocks, silent, clients, more) -> int:
     """The instructions of a server from its start to its end, of which `clients` get a file of so many blocks."""
     port, log = free_port(), f"{room}/log"
     words = ["valgrind", "--tool=callgrind", f"--log-file={log}", f"--callgrind-out-file={room}/out"]
-    words += [tftpd, f"{room}/served", "--listen", f"{HOST}:{port}", "--cap", "64", "--transfers", str(clients)]
+    words += [tftpd, f"{room}/served", "--listen", f"{HOST}:{port}", "--cap", "64", "--transfers", str(clients), *more]
     server = subprocess.Popen(words, stdout=subprocess.PIPE)
     server.stdout.readline()
     quiet = []
@@ -66,13 +68,16 @@ def counted(tftpd, room, blocks, silent, clients) -> int:
 
 
 def main() -> None:
+    words = sys.argv[1:]
+    at = words.index("--") if "--" in words else len(words)
+    tftpds, more = words[:at], words[at + 1:]
     with tempfile.TemporaryDirectory() as room:
         Path(room, "served").mkdir()
         for blocks in [SHORT, LONG]:
             Path(room, "served", str(blocks)).write_bytes(os.urandom(blocks * BLOCK - 1))
         for title, silent, clients in [("alone", 0, 1), ("beside 63 silent", 63, 1), ("64 at once", 0, 64)]:
-            for tftpd in sys.argv[1:]:
-                short, long = (counted(os.path.abspath(tftpd), room, n, silent, clients) for n in [SHORT, LONG])
+            for tftpd in tftpds:
+                short, long = (counted(os.path.abspath(tftpd), room, n, silent, clients, more) for n in [SHORT, LONG])
                 print(f"{title}: {tftpd}: {(long - short) / (LONG - SHORT) / clients:,.0f} instructions a block")
 
 

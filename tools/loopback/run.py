@@ -34,6 +34,7 @@ import served_folder
 import server_alone
 import server_loop
 import several_servers
+import status
 from scene import Scene
 from servers import NOT_OF_SEVERAL
 from lib.addresses import own_network
@@ -44,7 +45,7 @@ HERE = Path(__file__).resolve()
 # of one server each
 OF_SERVERS = [both_programs, server_alone, server_loop, served_folder, served_disk, options, handed_over, draining,
               requests_only]
-MODULES = [*OF_SERVERS, client_alone, command_lines, several_servers, repeated_requests, at_length]
+MODULES = [*OF_SERVERS, client_alone, command_lines, several_servers, status, repeated_requests, at_length]
 TESTS_AT_LEAST = 230
 AT_ONCE = 8
 # The most tests that are run again; none where LOOPBACK_ONCE is in the environment, as where a fault is to be noticed

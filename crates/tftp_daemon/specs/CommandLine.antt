@@ -1,5 +1,5 @@
 -- The server that the words of a command line configure, as they were read (own).
-use Rattle.std.specs.Prelude.{ℕ, ◌≡◌, ◌≢◌, ◌≤◌, true, false, List, [], ◌∷◌, ◌++◌, codes, drop}
+use Rattle.std.specs.Prelude.{ℕ, ◌≡◌, ◌≢◌, ◌≤◌, ◌⊎◌, true, false, List, [], ◌∷◌, ◌++◌, codes, drop}
 use Rattle.std.specs.Prelude.{Option, Some, None, find, option_map}
 use Rattle.std.specs.List.{AllByRecursion}
 use Rattle.std.specs.Option.{option_map_or}
@@ -89,9 +89,15 @@ abbrev pub HasApart : Listen → List Endpoint → Type 0
 HasApart (At at) others = IsApart at others × AllDistinct others
 HasApart Handed others = AllDistinct others
 
+-- how many servers there are at each address, as a word names them: by their number, or `auto`, for
+-- as many as the process has processors
+abbrev pub ServersAs : Option (List ℕ) → ℕ → Type 0
+ServersAs None servers = ⊥
+ServersAs (Some word) servers = (word ≡ codes "auto") ⊎ IsNumber 8 (Some word) (Some servers)
+
 -- how many servers there are, and which this is, as they were read
 pub record NamesInstance (read : ReadWords) (instance : Instance) : Type 0 where
-  pub servers : IsNumber 8 (read.text (codes "servers")) (Some instance.servers)
+  pub servers : ServersAs (read.word (codes "servers")) instance.servers
   pub server : IsNumber 8 (read.text (codes "server")) instance.server
 
 -- the configuration has the folder, the address, the ports, the limits, the age, the end, the flags
@@ -113,6 +119,7 @@ pub record NamesServer (read : ReadWords) (listens : List (List ℕ)) (config : 
     pub longest : IsNumber 32 (read.text (codes "longest")) config.longest
     pub ending : EndsAs read config.ending
     pub drain : read.word (codes "drain") ≡ option_map (λ path. path.now) config.drain
+    pub status : read.word (codes "status") ≡ option_map (λ path. path.now) config.status
     pub logs : IsFlag (read.text (codes "log")) config.logs
     pub log_times : IsFlag (read.text (codes "log-time")) config.log_times
     pub instance : NamesInstance read config.instance

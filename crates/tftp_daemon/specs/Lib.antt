@@ -8,3 +8,4 @@ pub mod Changes
 pub mod Servers
 pub mod Supervised
 pub mod Sent
+pub mod Reports

@@ -43,6 +43,8 @@ pub record IsServer (config : DaemonConfig) (server : ℕ) (own : DaemonConfig) 
   pub longest : own.longest ≡ config.longest
   pub drain : option_map (λ path. path.now) own.drain
       ≡ option_map (λ path. path.now) config.drain
+  pub status : option_map (λ path. path.now) own.status
+      ≡ option_map (λ path. path.now) config.status
   pub logs : own.logs ≡ config.logs
   pub log_times : own.log_times ≡ config.log_times
 

@@ -73,12 +73,14 @@ with_ending app =
 -- with the number of servers, and which of them it is
 abbrev pub with_servers : App → App
 with_servers app =
-    with_rule (with_rule app (by_default (codes "1") (within (codes "servers") 1 64)))
+    with_rule (with_rule app (by_default (codes "1") (option_rule (codes "servers"))))
     (within (codes "server") 1 64)
 
--- with what is logged
+-- with what is logged, and what is counted
 abbrev pub with_log : App → App
-with_log app = with_rule (with_rule app (flag_rule (codes "log"))) (flag_rule (codes "log-time"))
+with_log app =
+    with_rule (with_rule (with_rule app (flag_rule (codes "log"))) (flag_rule (codes "log-time")))
+    (option_rule (codes "status"))
 
 -- `tftpd` without arguments
 abbrev pub bare_app : App

@@ -12,8 +12,8 @@ ghost use Rattle.tftp_arguments.specs.Fault.{AskForText};
 ghost use Rattle.tftp_arguments.specs.Read.{IsNumber, read_of};
 ghost use Rattle.tftp_arguments.specs.Rules.{HasRule, IsApp, by_default, flag_rule, within};
 ghost use Rattle.tftp_daemon.specs.CommandLine.{ConfiguresAs, EndsAs, IfExit, IfRun, NameEndpoints};
-ghost use Rattle.tftp_daemon.specs.CommandLine.{NamesInRows, NamesInstance, NamesPorts, NamesServer};
-ghost use Rattle.tftp_daemon.specs.CommandLine.{PortsAs, words_of};
+ghost use Rattle.tftp_daemon.specs.CommandLine.{NamesInRows, NamesPorts, NamesServer};
+ghost use Rattle.tftp_daemon.specs.CommandLine.{PortsAs, ServersAs, words_of};
 ghost use Rattle.tftp_daemon.specs.Words.{WordsConfigure, any_number, bare_app};
 ghost use Rattle.tftp_daemon.specs.Words.{option_rule, repeated, tftpd_app, with_ending, with_limits};
 ghost use Rattle.tftp_daemon.specs.Words.{with_folder_and_ports, with_log, with_servers, with_writes};
@@ -22,12 +22,15 @@ use crate::daemon::{DaemonConfig, Instance};
 use crate::error_output::ErrorOutput;
 use crate::listen::{Listen, has_apart};
 use crate::shown::Shown;
+use crate::status::{draft_of, is_drain, names_file};
+use crate::surroundings::Surroundings;
 use anyhow::Result;
 use clap::error::ErrorKind;
 use clap::parser::ValueSource;
 use clap::{Arg, ArgAction, ArgMatches, Command, value_parser};
 use std::alloc::{AllocError, Global};
 use std::convert::AsStr;
+use std::path::Path;
 use tftp_arguments::{VERSION, flag, is_set, number, print_usage, word};
 use tftp_ends::Endpoint;
 use tftp_loop::{Ending, PortRange};
@@ -51,10 +54,10 @@ const FOREVER_ROUNDS: &str =
     "the argument '--forever' cannot be used with '--rounds <1..4294967295>'";
 
 const SERVERS_SERVER: &str =
-    "the argument '--servers <1..64>' cannot be used with '--server <1..64>'";
+    "the argument '--servers <1..64|auto>' cannot be used with '--server <1..64>'";
 
 /// An option that another one needs.
-const SERVERS_FOREVER: &str = "more than one of '--servers <1..64>' needs '--forever'";
+const SERVERS_FOREVER: &str = "more than one of '--servers <1..64|auto>' needs '--forever'";
 
 const LISTEN_FOREVER: &str = "more than one '--listen <ADDR:PORT|stdin>' needs '--forever'";
 
@@ -64,7 +67,7 @@ const LISTEN_STDIN: &str =
 const LISTEN_TWICE: &str = "two of '--listen <ADDR:PORT|stdin>' are the same address";
 
 const MANY_SERVERS: &str =
-    "'--listen <ADDR:PORT|stdin>' and '--servers <1..64>' ask for more than 64 servers";
+    "'--listen <ADDR:PORT|stdin>' and '--servers <1..64|auto>' ask for more than 64 servers";
 
 const SERVER_STDIN: &str = "the argument '--server <1..64>' needs '--listen stdin'";
 
@@ -79,7 +82,16 @@ const NO_ADDRESS: &str =
 
 const NO_PORTS: &str = "for '--ports <A:B>': not two ports from 1 to 65535, the lower first";
 
+const NO_SERVERS: &str = "for '--servers <1..64|auto>': neither a number from 1 to 64 nor 'auto'";
+
 const FEW_PORTS: &str = "for '--ports <A:B>': fewer ports than servers";
+
+const NO_STATUS: &str = "for '--status <FILE>': no name of a file";
+
+const STATUS_DRAIN: &str =
+    "for '--status <FILE>': it, or '~' behind it, is the file of '--drain <FILE>'";
+
+const STATUS_ROOT: &str = "for '--status <FILE>': in ROOT or below it";
 
 const LISTEN: &str = "listen";
 
@@ -101,6 +113,8 @@ const FOREVER: &str = "forever";
 
 const DRAIN: &str = "drain";
 
+const STATUS: &str = "status";
+
 const SERVERS: &str = "servers";
 
 const SERVER: &str = "server";
@@ -110,7 +124,7 @@ const LOG: &str = "log";
 const LOG_TIME: &str = "log-time";
 
 /// The most servers of one command line.
-const MOST_SERVERS: usize = 64;
+const MOST_SERVERS: u8 = 64;
 
 /// What a command line has the program do.
 #[derive(Drop)]
@@ -127,7 +141,7 @@ pub(crate) fn read_words<'a, P: Print + Eprint, S: AsStr>(
     alloc: Global,
     texts: &'a Texts,
     words: &'a [S],
-    errors: ErrorOutput,
+    surroundings: Surroundings,
 ) -> Result<CommandLine<'a>>
     ensures valid { IfOk result (λ line. IfRun line (λ config. IsConfig config.config)) }
     ensures names { IfOk result (λ line. IfRun line (WordsConfigure (map S.text words.now))) }
@@ -136,7 +150,7 @@ pub(crate) fn read_words<'a, P: Print + Eprint, S: AsStr>(
         → AskForText tftpd_app (map S.text words.now))) }
 {
     match command(alloc, texts) {
-        Ok(mut command) => match_words(rt, alloc, &mut command, words, errors),
+        Ok(mut command) => match_words(rt, alloc, &mut command, words, surroundings),
         Err(error) => Err(error),
     }
 }
@@ -147,7 +161,7 @@ fn match_words<'a, P: Print + Eprint, S: AsStr>(
     alloc: Global,
     command: &mut Command<'a>,
     words: &'a [S],
-    errors: ErrorOutput,
+    surroundings: Surroundings,
 ) -> Result<CommandLine<'a>>
     requires { IsApp tftpd_app command.old }
     ensures valid { IfOk result (λ line. IfRun line (λ config. IsConfig config.config)) }
@@ -157,7 +171,7 @@ fn match_words<'a, P: Print + Eprint, S: AsStr>(
         → AskForText tftpd_app (map S.text words.now))) }
 {
     match command.try_get_matches_from_mut(words) {
-        Ok(matches) => read_matches(rt, alloc, command, &matches, errors),
+        Ok(matches) => read_matches(rt, alloc, command, &matches, surroundings),
         Err(error) => Ok(CommandLine::Exit(print_usage(rt, &error))),
     }
 }
@@ -168,18 +182,27 @@ fn read_matches<'a, P: Print + Eprint>(
     alloc: Global,
     command: &mut Command<'a>,
     matches: &ArgMatches<'a>,
-    errors: ErrorOutput,
+    surroundings: Surroundings,
 ) -> Result<CommandLine<'a>>
     ensures valid { IfOk result (λ line. IfRun line (λ config. IsConfig config.config)) }
     ensures names { IfOk result (λ line. IfRun line
         (NamesInRows (rows_of (found_of matches.now)))) }
     ensures status { IfOk result (λ line. IfExit line (λ status. status ≡ 2)) }
 {
-    if let Some(message) = excluded(matches) {
+    let Some(servers) = servers_each(matches, surroundings.processors) else {
+        let word = matches.get_str(SERVERS);
+        let status = report_invalid(rt, alloc, command, word, NO_SERVERS)?;
+        return Ok(CommandLine::Exit(status));
+    };
+    if let Some(message) = excluded(matches, servers) {
         let status = report_conflict(rt, command, message)?;
         return Ok(CommandLine::Exit(status));
     }
-    let ports = match port_range(matches) {
+    if let Some(no) = faulty_status(alloc, matches)? {
+        let status = report_invalid(rt, alloc, command, matches.get_str(STATUS), no.why())?;
+        return Ok(CommandLine::Exit(status));
+    }
+    let ports = match port_range(matches, servers) {
         Ok(ports) => ports,
         Err(NoPorts(why)) => {
             let word = matches.get_str(PORTS);
@@ -187,7 +210,7 @@ fn read_matches<'a, P: Print + Eprint>(
             return Ok(CommandLine::Exit(status));
         }
     };
-    match read_service(alloc, matches, ports, errors)? {
+    match read_service(alloc, matches, ports, servers, surroundings.errors)? {
         Some(service) => Ok(CommandLine::Run(service)),
         None => {
             let status = report_addresses(rt, alloc, command, matches)?;
@@ -198,7 +221,7 @@ fn read_matches<'a, P: Print + Eprint>(
 
 /// Two options that were given and are not used together, if there are any. `clap` would look at
 /// this too, but then its contract would say nothing of the words that it refuses.
-fn excluded(matches: &ArgMatches<'_>) -> Option<&'static str> {
+fn excluded(matches: &ArgMatches<'_>, each: u8) -> Option<&'static str> {
     if is_set(matches, FOREVER) {
         if is_given(matches, TRANSFERS) {
             return Some(FOREVER_TRANSFERS);
@@ -213,15 +236,15 @@ fn excluded(matches: &ArgMatches<'_>) -> Option<&'static str> {
     if is_set(matches, LOG_TIME) && !is_set(matches, LOG) {
         return Some(LOG_TIME_LOG);
     }
-    excluded_of_servers(matches)
+    excluded_of_servers(matches, each)
 }
 
 /// As [`excluded`], of the options for several servers.
-fn excluded_of_servers(matches: &ArgMatches<'_>) -> Option<&'static str> {
-    if let Some(message) = excluded_of_addresses(matches) {
+fn excluded_of_servers(matches: &ArgMatches<'_>, each: u8) -> Option<&'static str> {
+    if let Some(message) = excluded_of_addresses(matches, each) {
         return Some(message);
     }
-    if servers_each(matches) > 1 {
+    if each > 1 {
         if is_given(matches, SERVER) {
             return Some(SERVERS_SERVER);
         }
@@ -236,7 +259,7 @@ fn excluded_of_servers(matches: &ArgMatches<'_>) -> Option<&'static str> {
 }
 
 /// As [`excluded`], of several addresses.
-fn excluded_of_addresses(matches: &ArgMatches<'_>) -> Option<&'static str> {
+fn excluded_of_addresses(matches: &ArgMatches<'_>, each: u8) -> Option<&'static str> {
     let words = listen_words(matches);
     if words.len() < 2 {
         return None;
@@ -244,7 +267,7 @@ fn excluded_of_addresses(matches: &ArgMatches<'_>) -> Option<&'static str> {
     if words.iter().any(|word| *word == "stdin") {
         return Some(LISTEN_STDIN);
     }
-    if server_count(matches) > MOST_SERVERS {
+    if server_count(matches, each) > usize::from(MOST_SERVERS) {
         return Some(MANY_SERVERS);
     }
     if is_set(matches, FOREVER) {
@@ -272,19 +295,85 @@ fn faulty_address<'a>(matches: &ArgMatches<'a>) -> Option<&'a str> {
     None
 }
 
-/// The number of servers that are to start at each address.
-fn servers_each(matches: &ArgMatches<'_>) -> u8 {
-    matches.get_one::<u8>(SERVERS).unwrap_or(1)
+/// The number of servers that are to start at each address, if the word of `--servers` is one.
+fn servers_each(matches: &ArgMatches<'_>, processors: u8) -> Option<u8>
+    ensures { IfSome result (ServersAs (first_value (found_of matches.now) (codes "servers"))) }
+{
+    servers_in(matches.get_str(SERVERS)?, processors)
 }
 
-/// The number of servers that are to start.
-fn server_count(matches: &ArgMatches<'_>) -> usize {
-    usize::from(servers_each(matches)).saturating_mul(listen_words(matches).len())
+/// The number of servers in a word, from 1 to 64, or that of the processors for `auto`; else `None`.
+fn servers_in(word: &str, processors: u8) -> Option<u8>
+    ensures { IfSome result (ServersAs (Some word.now)) }
+{
+    match word {
+        "auto" => Some(processors.clamp(1, MOST_SERVERS)),
+        _ => number_of_servers(word),
+    }
+}
+
+/// The number in a word, from 1 to 64; else `None`.
+fn number_of_servers(word: &str) -> Option<u8>
+    ensures { IfSome result (λ servers. IsNumber 8 (Some word.now) (Some servers)) }
+{
+    match word.parse::<u8>() {
+        Ok(servers) if servers > 0 && servers <= MOST_SERVERS => Some(servers),
+        _ => None,
+    }
+}
+
+/// The number of servers that are to start, so many at each address.
+fn server_count(matches: &ArgMatches<'_>, each: u8) -> usize {
+    usize::from(each).saturating_mul(listen_words(matches).len())
 }
 
 /// Whether an option is among the words, and has not its default.
 fn is_given(matches: &ArgMatches<'_>, name: &str) -> bool {
     matches.value_source(name) == Some(ValueSource::CommandLine)
+}
+
+/// Why a word is no file for `--status`.
+#[derive(Clone, Copy)]
+enum NoStatus {
+    /// It is no name of a file.
+    Name,
+    /// It or its temporary file is that of `--drain`.
+    Drain,
+    /// It is the root, or below it.
+    InRoot,
+}
+
+impl NoStatus {
+    fn why(self) -> &'static str {
+        match self {
+            NoStatus::Name => NO_STATUS,
+            NoStatus::Drain => STATUS_DRAIN,
+            NoStatus::InRoot => STATUS_ROOT,
+        }
+    }
+}
+
+/// Why the word of `--status` is no file for it, if it is none. Where links lead is not asked here.
+fn faulty_status(alloc: Global, matches: &ArgMatches<'_>) -> Result<Option<NoStatus>, AllocError> {
+    let Some(file) = matches.get_str(STATUS) else {
+        return Ok(None);
+    };
+    if !names_file(file) {
+        return Ok(Some(NoStatus::Name));
+    }
+    let draft = draft_of(alloc, file)?;
+    if is_drain(matches.get_str(DRAIN), file, draft.as_str()) {
+        return Ok(Some(NoStatus::Drain));
+    }
+    if is_in_root(file, matches.get_str("ROOT").unwrap_or("")) {
+        return Ok(Some(NoStatus::InRoot));
+    }
+    Ok(None)
+}
+
+/// Whether a path is that of the folder that is served, or below it, by its words.
+fn is_in_root(file: &str, root: &str) -> bool {
+    Path::new(file).starts_with(root)
 }
 
 /// Reports two options that are not used together.
@@ -335,7 +424,10 @@ fn report_invalid<P: Print + Eprint>(
 struct NoPorts(&'static str);
 
 /// The ports of transfers, or `None` if the system chooses.
-fn port_range(matches: &ArgMatches<'_>) -> std::result::Result<Option<PortRange>, NoPorts>
+fn port_range(
+    matches: &ArgMatches<'_>,
+    servers: u8,
+) -> std::result::Result<Option<PortRange>, NoPorts>
     ensures { IfOk result (PortsAs (first_value (found_of matches.now) (codes "ports"))) }
 {
     let Some(word) = matches.get_str(PORTS) else {
@@ -343,7 +435,7 @@ fn port_range(matches: &ArgMatches<'_>) -> std::result::Result<Option<PortRange>
     };
     match ports_in(word) {
         Some(range) => {
-            if has_fewer(range, server_count(matches)) {
+            if has_fewer(range, server_count(matches, servers)) {
                 return Err(NoPorts(FEW_PORTS));
             }
             Ok(Some(range))
@@ -393,9 +485,11 @@ fn read_service<'a>(
     alloc: Global,
     matches: &ArgMatches<'a>,
     ports: Option<PortRange>,
+    servers: u8,
     errors: ErrorOutput,
 ) -> Result<Option<DaemonConfig<'a>>, AllocError>
-    requires { PortsAs (first_value (found_of matches.now) (codes "ports")) ports }
+    requires ports { PortsAs (first_value (found_of matches.now) (codes "ports")) ports }
+    requires servers { ServersAs (first_value (found_of matches.now) (codes "servers")) servers }
     ensures valid { IfOk result (λ read. IfSome read (λ config. IsConfig config.config)) }
     ensures names { IfOk result (λ read. IfSome read (NamesServer (read_of matches.now)
         (words_of (found_of matches.now) (codes "listen")))) }
@@ -404,7 +498,7 @@ fn read_service<'a>(
     let Some(others) = read else {
         return Ok(None);
     };
-    Ok(service(matches, ports, others, errors))
+    Ok(service(matches, ports, servers, others, errors))
 }
 
 /// The addresses of all words but the first, or `None` if one is invalid.
@@ -438,10 +532,12 @@ fn endpoints_in(alloc: Global, words: &[&str]) -> Result<Option<Vec<Endpoint>>, 
 fn service<'a>(
     matches: &ArgMatches<'a>,
     ports: Option<PortRange>,
+    servers: u8,
     others: Vec<Endpoint>,
     errors: ErrorOutput,
 ) -> Option<DaemonConfig<'a>>
     requires ports { PortsAs (first_value (found_of matches.now) (codes "ports")) ports }
+    requires servers { ServersAs (first_value (found_of matches.now) (codes "servers")) servers }
     requires others { NameEndpoints
         (drop 1 (words_of (found_of matches.now) (codes "listen"))) others.items }
     ensures valid { IfSome result (λ config. IsConfig config.config) }
@@ -455,7 +551,6 @@ fn service<'a>(
     }
     let config = config(matches)?;
     let ending = ending(matches)?;
-    let instance = instance(matches)?;
     Some(DaemonConfig {
         root,
         config,
@@ -469,20 +564,14 @@ fn service<'a>(
         ending,
         longest: matches.get_one::<u32>(LONGEST),
         drain: matches.get_str(DRAIN),
+        status: matches.get_str(STATUS),
         logs: is_set(matches, LOG),
         log_times: is_set(matches, LOG_TIME),
-        instance,
+        instance: Instance {
+            servers,
+            server: matches.get_one::<u8>(SERVER),
+        },
         has_priority: errors.has_priority(),
-    })
-}
-
-/// How many servers there are, and which this is.
-fn instance(matches: &ArgMatches<'_>) -> Option<Instance>
-    ensures { IfSome result (NamesInstance (read_of matches.now)) }
-{
-    Some(Instance {
-        servers: matches.get_one::<u8>(SERVERS)?,
-        server: matches.get_one::<u8>(SERVER),
     })
 }
 
@@ -804,14 +893,13 @@ fn with_servers<'a>(alloc: Global, command: Command<'a>) -> Result<Command<'a>>
 
 /// The argument for the number of servers.
 fn servers<'a>(alloc: Global) -> Arg<'a>
-    ensures { HasRule (by_default (codes "1") (within (codes "servers") 1 64)) result }
+    ensures { HasRule (by_default (codes "1") (option_rule (codes "servers"))) result }
 {
-    let servers = number(
+    let servers = option(
         alloc,
         SERVERS,
-        "1..64",
-        value_parser!(u8).range(1..=64),
-        "Starts so many servers at one request port, for as many processors; with --forever",
+        "1..64|auto",
+        "Starts so many servers at one request port, for as many processors, or one for each; with --forever",
     );
     servers.default_value("1")
 }
@@ -829,7 +917,7 @@ fn server<'a>(alloc: Global) -> Arg<'a>
     )
 }
 
-/// Adds what is logged.
+/// Adds what is logged, and what is counted.
 fn with_log<'a>(alloc: Global, command: Command<'a>) -> Result<Command<'a>>
     ensures { (app : App) → IsApp app command.entry → IfOk result (IsApp (with_log app)) }
 {
@@ -844,5 +932,12 @@ fn with_log<'a>(alloc: Global, command: Command<'a>) -> Result<Command<'a>>
         LOG_TIME,
         "Begins each line of --log with its time in UTC, to the millisecond",
     );
-    Ok(command.arg(log_time)?)
+    let command = command.arg(log_time)?;
+    let status = option(
+        alloc,
+        STATUS,
+        "FILE",
+        "Writes what the server has counted to this file, once a second at most, for Prometheus and people",
+    );
+    Ok(command.arg(status)?)
 }

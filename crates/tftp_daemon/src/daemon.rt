@@ -16,6 +16,7 @@ ghost use Rattle.tftp_daemon.specs.Supervised.{MaySupervise, Supervised};
 use crate::drain_file::DrainFile;
 use crate::listen::Listen;
 use crate::servers::supervise;
+use crate::status::{begin_reports, check_place};
 use std::alloc::{AllocError, Global};
 use std::io::{self, ErrorKind};
 use std::process::ExitStatus;
@@ -29,6 +30,7 @@ use tftp_loop::{Ending, LoopConfig, LoopFault, PortRange};
 use tftp_server::{Config, Server, Store};
 use tftp_service::{HandedFault, HandedSocket, HandedUdp, Input, Supervise};
 use tftp_sockets::{DrainSignal, ErrorLines, ServerUdp};
+use tftp_status::Counted;
 
 /// The configuration of `tftpd`.
 #[derive(Drop)]
@@ -58,6 +60,8 @@ pub(crate) struct DaemonConfig<'a> {
     pub(crate) longest: Option<u32>,
     /// The file that has the server drain once it is there; `None` if none does.
     pub(crate) drain: Option<&'a str>,
+    /// The file of the counts, with the server's number if it is one of several; `None` for none.
+    pub(crate) status: Option<&'a str>,
     /// Whether there is a log.
     pub(crate) logs: bool,
     /// Whether each line of the log begins with its time.
@@ -124,6 +128,8 @@ pub(crate) enum DaemonFault {
     Root(Reason),
     /// The folder of uploads cannot take writes, for this reason.
     Uploads(Reason),
+    /// The status file cannot be where it is to be, for this reason.
+    Status(StatusFault),
     /// Standard input is no request port, for this reason.
     Handed(HandedFault),
     /// Out of memory.
@@ -142,6 +148,15 @@ pub(crate) enum DaemonFault {
     Words,
 }
 
+/// Why a status file cannot be where it is to be.
+#[derive(Clone, Copy)]
+pub(crate) enum StatusFault {
+    /// It would be in the root or below it.
+    InRoot,
+    /// It or its temporary file would be the file that has the server drain.
+    Drain,
+}
+
 impl From<AllocError> for DaemonFault {
     fn from(_: AllocError) -> DaemonFault {
         DaemonFault::Memory
@@ -154,7 +169,7 @@ pub(crate) fn serve<P: Print + ErrorLines + Clock + Supervise, D: Disk, N: Serve
     rt: &P,
     alloc: Global,
     disk: D,
-    net: &mut HandedUdp<N>,
+    net: &mut Counted<HandedUdp<N>, D>,
     config: &DaemonConfig<'_>,
     input: Input,
 ) -> Result<(), DaemonFault>
@@ -162,13 +177,28 @@ pub(crate) fn serve<P: Print + ErrorLines + Clock + Supervise, D: Disk, N: Serve
     ensures status { daemon_status result ≤ 2 }
     ensures runs { MayServe D.log (D.log disk) ⟦<FolderStore<D> as Store>⟧.meaning
         ⟦<FolderSource<D::View> as Source>⟧.meaning
-        config.now (daemon_status result) (N.log net.old.net) (N.log net.new.net) }
+        config.now (daemon_status result) (N.log net.old.net.net) (N.log net.new.net.net) }
     ensures several { MaySupervise P.supervised config.now (daemon_status result) }
 {
+    if let Err(fault) = check_status(&disk, alloc, config) {
+        return Err(fault);
+    }
     if config.is_of_several() {
         return supervise_checked(rt, alloc, disk, config, input);
     }
     serve_alone(alloc, disk, net, config, input)
+}
+
+/// Refuses a status file in the folder of a configuration. Without one it asks nothing.
+fn check_status<D: Disk>(
+    disk: &D,
+    alloc: Global,
+    config: &DaemonConfig<'_>,
+) -> Result<(), DaemonFault> {
+    match config.status {
+        Some(file) => check_place(&mut disk.view(), alloc, config.root, file),
+        None => Ok(()),
+    }
 }
 
 /// Supervises several servers, if the folder can be served: else each of them would say so.
@@ -192,7 +222,7 @@ fn supervise_checked<P: Print + Eprint + Clock + Supervise, D: Disk>(
 fn serve_alone<D: Disk, N: ServerUdp + Eprint>(
     alloc: Global,
     disk: D,
-    net: &mut HandedUdp<N>,
+    net: &mut Counted<HandedUdp<N>, D>,
     config: &DaemonConfig<'_>,
     input: Input,
 ) -> Result<(), DaemonFault>
@@ -202,9 +232,31 @@ fn serve_alone<D: Disk, N: ServerUdp + Eprint>(
     ensures status { daemon_status result ≤ 2 }
     ensures runs { MayServe D.log (D.log disk) ⟦<FolderStore<D> as Store>⟧.meaning
         ⟦<FolderSource<D::View> as Source>⟧.meaning
-        config.now (daemon_status result) (N.log net.old.net) (N.log net.new.net) }
+        config.now (daemon_status result) (N.log net.old.net.net) (N.log net.new.net.net) }
 {
-    set_log(net, alloc, config);
+    set_log(&mut net.net, alloc, config);
+    match begin_reports(net, alloc, config) {
+        Ok(()) => serve_where_asked(alloc, disk, net, config, input),
+        Err(fault) => Err(fault),
+    }
+}
+
+/// Serves where requests arrive.
+fn serve_where_asked<D: Disk, N: ServerUdp + Eprint>(
+    alloc: Global,
+    disk: D,
+    net: &mut Counted<HandedUdp<N>, D>,
+    config: &DaemonConfig<'_>,
+    input: Input,
+) -> Result<(), DaemonFault>
+    requires valid { IsConfig config.now.config }
+    requires alone { config.now.instance.servers ≤ 1 }
+    requires at_one_address { config.now.others.items ≡ [] }
+    ensures status { daemon_status result ≤ 2 }
+    ensures runs { MayServe D.log (D.log disk) ⟦<FolderStore<D> as Store>⟧.meaning
+        ⟦<FolderSource<D::View> as Source>⟧.meaning
+        config.now (daemon_status result) (N.log net.old.net.net) (N.log net.new.net.net) }
+{
     match config.listen {
         Listen::At(at) => {
             drop(input);
@@ -228,7 +280,7 @@ fn set_log<N: ServerUdp>(net: &mut HandedUdp<N>, alloc: Global, config: &DaemonC
 fn serve_handed<D: Disk, N: ServerUdp + Eprint>(
     alloc: Global,
     disk: D,
-    net: &mut HandedUdp<N>,
+    net: &mut Counted<HandedUdp<N>, D>,
     config: &DaemonConfig<'_>,
     input: Input,
 ) -> Result<(), DaemonFault>
@@ -239,12 +291,12 @@ fn serve_handed<D: Disk, N: ServerUdp + Eprint>(
     ensures status { daemon_status result ≤ 2 }
     ensures runs { MayServe D.log (D.log disk) ⟦<FolderStore<D> as Store>⟧.meaning
         ⟦<FolderSource<D::View> as Source>⟧.meaning
-        config.now (daemon_status result) (N.log net.old.net) (N.log net.new.net) }
+        config.now (daemon_status result) (N.log net.old.net.net) (N.log net.new.net.net) }
 {
     match HandedSocket::new(input) {
         Ok(socket) => {
             let at = socket.endpoint();
-            match hand_over(net, alloc, config, socket) {
+            match hand_over(&mut net.net, alloc, config, socket) {
                 Ok(()) => serve_at(alloc, disk, net, config, at),
                 Err(error) => Err(DaemonFault::Loop(LoopFault::Socket(reason_of(&error)))),
             }
@@ -273,7 +325,7 @@ fn hand_over<N: ServerUdp>(
 fn serve_at<D: Disk, N: ServerUdp + Eprint>(
     alloc: Global,
     disk: D,
-    net: &mut HandedUdp<N>,
+    net: &mut Counted<HandedUdp<N>, D>,
     config: &DaemonConfig<'_>,
     at: Endpoint,
 ) -> Result<(), DaemonFault>
@@ -284,7 +336,7 @@ fn serve_at<D: Disk, N: ServerUdp + Eprint>(
     ensures status { daemon_status result ≤ 2 }
     ensures runs { MayServe D.log (D.log disk) ⟦<FolderStore<D> as Store>⟧.meaning
         ⟦<FolderSource<D::View> as Source>⟧.meaning
-        config.now (daemon_status result) (N.log net.old.net) (N.log net.new.net) }
+        config.now (daemon_status result) (N.log net.old.net.net) (N.log net.new.net.net) }
 {
     let signal = DrainFile::new(disk.view(), config.drain);
     match open_server(disk, alloc, config) {
@@ -376,7 +428,7 @@ fn fault_of(error: &io::Error, other: DaemonFault) -> DaemonFault {
 
 /// Serves from the request port.
 fn serve_loop<D: Disk, N: ServerUdp + Eprint, G: DrainSignal>(
-    net: &mut HandedUdp<N>,
+    net: &mut Counted<HandedUdp<N>, D>,
     alloc: Global,
     server: Server<FolderStore<D>>,
     service: &LoopConfig,
@@ -384,7 +436,7 @@ fn serve_loop<D: Disk, N: ServerUdp + Eprint, G: DrainSignal>(
 ) -> Result<(), DaemonFault>
     ensures { RunsService ⟦<FolderStore<D> as Store>⟧.meaning
         ⟦<FolderSource<D::View> as Source>⟧.meaning service.now server (daemon_status result)
-        (N.log net.old.net) (N.log net.new.net) }
+        (N.log net.old.net.net) (N.log net.new.net.net) }
 {
     match tftp_loop::serve(net, alloc, server, service, signal) {
         Ok(()) => Ok(()),

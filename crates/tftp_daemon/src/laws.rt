@@ -55,7 +55,8 @@ pub fn each_draft_has_its_port<D: Disk>()
 /// that clients can spell, and what got such a name may lose it. No other file is made, named,
 /// replaced or removed, whatever datagrams come and whatever the system answers. Each path that the
 /// store passes to the system, even to look at a file, is textually the root or below it. The one
-/// exception is ROOT as the operator wrote it, before it is resolved.
+/// exception is ROOT as the operator wrote it, before it is resolved. The disk of `--status` is another
+/// one.
 ///
 /// The calls that open a file are recorded apart: in the trace of the source, if the opening
 /// succeeds. They change nothing, and use such paths only (`OpensSource` of `tftp_folder`). For an
@@ -67,7 +68,9 @@ pub fn a_run_stays_within_its_limits<D: Disk>()
     keeps_within_its_limits::<D>();
 }
 
-/// A run with `--read-only` among its arguments changes nothing on the disk.
+/// A run with `--read-only` among its arguments changes nothing on the disk of its store. The file of
+/// `--status` is changed by a second disk, whose trace has that file and its temporary one alone
+/// (`KeepsCounts` of `tftp_status`).
 pub fn a_read_only_run_changes_nothing<D: Disk>()
     ensures { ReadOnlyRunChangesNothing D.log ⟦<FolderStore<D> as Store>⟧.meaning
         ⟦<FolderSource<D::View> as Source>⟧.meaning }

@@ -9,9 +9,13 @@ mod drain_file;
 mod error_output;
 pub mod laws;
 mod listen;
+mod processors;
 mod program;
 mod servers;
 mod shown;
+mod status;
+mod surroundings;
 
 pub use error_output::ErrorOutput;
 pub use program::{tftpd_command, tftpd_on, tftpd_words};
+pub use surroundings::Surroundings;

@@ -1,15 +1,15 @@
 //! Runs `tftpd` by a command line.
 
-ghost use Rattle.std.specs.Prelude.{◌≡◌, ◌≤◌, map};
+ghost use Rattle.std.specs.Prelude.{◌≡◌, ◌≤◌, [], map};
 ghost use Rattle.tftp_server.specs.Config.{IsConfig};
 ghost use Rattle.tftp_daemon.specs.CommandLine.{IfExit, IfRun};
 ghost use Rattle.tftp_daemon.specs.Configured.{MayServe, ServesWords, daemon_status};
 ghost use Rattle.tftp_daemon.specs.Supervised.{MaySupervise, SupervisesWords};
 
 use crate::command_line::{CommandLine, Texts, read_words};
-use crate::daemon::{DaemonConfig, DaemonFault, serve};
-use crate::error_output::ErrorOutput;
+use crate::daemon::{DaemonConfig, DaemonFault, StatusFault, serve};
 use crate::shown::Shown;
+use crate::surroundings::Surroundings;
 use std::alloc::Global;
 use std::convert::AsStr;
 use std::net::Net;
@@ -26,6 +26,7 @@ use tftp_loop::LoopFault;
 use tftp_server::Store;
 use tftp_service::{HandedUdp, Input, Supervise};
 use tftp_sockets::{ErrorLines, ServerUdp, SystemUdp, WholeLines};
+use tftp_status::Counted;
 
 /// Runs `tftpd` with the program's own command line, and this standard input, and returns its status.
 ///
@@ -55,16 +56,49 @@ pub fn tftpd_words<
 >(rt: &R, words: &[S], input: Input) -> u8
     ensures { result ≤ 2 }
 {
-    let mut net = HandedUdp::new(SystemUdp::new(rt));
-    let disk = SystemDisk::new(rt);
+    let net = HandedUdp::new(SystemUdp::new(rt));
+    let disks = Disks {
+        served: SystemDisk::new(rt),
+        counts: SystemDisk::new(rt),
+    };
+    let surroundings = Surroundings::of(rt, words);
+    tftpd_over(rt, rt.alloc(), disks, net, words, input, surroundings)
+}
+
+/// The disks of a program: for the folder that it serves, and for what it has counted.
+#[derive(Drop)]
+struct Disks<D> {
+    served: D,
+    counts: D,
+}
+
+/// As [`tftpd_words`], over these disks and a network.
+fn tftpd_over<
+    P: Print + ErrorLines + Clock + Supervise,
+    D: Disk,
+    N: ServerUdp + Eprint + Drop,
+    S: AsStr,
+>(
+    rt: &P,
+    alloc: Global,
+    disks: Disks<D>,
+    net: HandedUdp<N>,
+    words: &[S],
+    input: Input,
+    surroundings: Surroundings,
+) -> u8
+    requires { D.log disks.counts ≡ [] }
+    ensures { result ≤ 2 }
+{
+    let mut net = Counted::new(net, disks.counts);
     tftpd_on(
         rt,
-        rt.alloc(),
-        disk,
+        alloc,
+        disks.served,
         &mut net,
         words,
         input,
-        ErrorOutput::of(rt),
+        surroundings,
     )
 }
 
@@ -81,19 +115,19 @@ pub fn tftpd_on<
     rt: &P,
     alloc: Global,
     disk: D,
-    net: &mut HandedUdp<N>,
+    net: &mut Counted<HandedUdp<N>, D>,
     words: &[S],
     input: Input,
-    errors: ErrorOutput,
+    surroundings: Surroundings,
 ) -> u8
     ensures status { result ≤ 2 }
     ensures runs { ServesWords D.log (D.log disk) ⟦<FolderStore<D> as Store>⟧.meaning
         ⟦<FolderSource<D::View> as Source>⟧.meaning (map S.text words.now) result
-        (N.log net.old.net) (N.log net.new.net) }
+        (N.log net.old.net.net) (N.log net.new.net.net) }
     ensures several { SupervisesWords P.supervised (map S.text words.now) result }
 {
     match Texts::new(alloc) {
-        Ok(texts) => serve_texts(rt, alloc, disk, net, &texts, words, input, errors),
+        Ok(texts) => serve_texts(rt, alloc, disk, net, &texts, words, input, surroundings),
         Err(_) => print_no_memory(rt, "tftpd"),
     }
 }
@@ -109,19 +143,19 @@ fn serve_texts<
     rt: &P,
     alloc: Global,
     disk: D,
-    net: &mut HandedUdp<N>,
+    net: &mut Counted<HandedUdp<N>, D>,
     texts: &'a Texts,
     words: &'a [S],
     input: Input,
-    errors: ErrorOutput,
+    surroundings: Surroundings,
 ) -> u8
     ensures status { result ≤ 2 }
     ensures runs { ServesWords D.log (D.log disk) ⟦<FolderStore<D> as Store>⟧.meaning
         ⟦<FolderSource<D::View> as Source>⟧.meaning (map S.text words.now) result
-        (N.log net.old.net) (N.log net.new.net) }
+        (N.log net.old.net.net) (N.log net.new.net.net) }
     ensures several { SupervisesWords P.supervised (map S.text words.now) result }
 {
-    match read_words(rt, alloc, texts, words, errors) {
+    match read_words(rt, alloc, texts, words, surroundings) {
         Ok(line) => serve_command_line(rt, alloc, disk, net, &line, input),
         Err(_) => print_no_memory(rt, "tftpd"),
     }
@@ -132,7 +166,7 @@ fn serve_command_line<P: Print + ErrorLines + Clock + Supervise, D: Disk, N: Ser
     rt: &P,
     alloc: Global,
     disk: D,
-    net: &mut HandedUdp<N>,
+    net: &mut Counted<HandedUdp<N>, D>,
     line: &CommandLine<'_>,
     input: Input,
 ) -> u8
@@ -142,9 +176,9 @@ fn serve_command_line<P: Print + ErrorLines + Clock + Supervise, D: Disk, N: Ser
     ensures same { IfExit line.now (λ status. result ≡ status) }
     ensures runs { IfRun line.now (λ config. MayServe D.log (D.log disk)
         ⟦<FolderStore<D> as Store>⟧.meaning ⟦<FolderSource<D::View> as Source>⟧.meaning config
-        result (N.log net.old.net) (N.log net.new.net)) }
+        result (N.log net.old.net.net) (N.log net.new.net.net)) }
     ensures several { IfRun line.now (λ config. MaySupervise P.supervised config result) }
-    ensures none { IfExit line.now (λ _. N.log net.new.net ≡ N.log net.old.net) }
+    ensures none { IfExit line.now (λ _. N.log net.new.net.net ≡ N.log net.old.net.net) }
 {
     match line {
         CommandLine::Run(config) => serve_config(rt, alloc, disk, net, config, input),
@@ -157,15 +191,15 @@ fn serve_config<P: Print + ErrorLines + Clock + Supervise, D: Disk, N: ServerUdp
     rt: &P,
     alloc: Global,
     disk: D,
-    net: &mut HandedUdp<N>,
+    net: &mut Counted<HandedUdp<N>, D>,
     config: &DaemonConfig<'_>,
     input: Input,
 ) -> u8
     requires { IsConfig config.now.config }
     ensures status { result ≤ 2 }
     ensures runs { MayServe D.log (D.log disk) ⟦<FolderStore<D> as Store>⟧.meaning
-        ⟦<FolderSource<D::View> as Source>⟧.meaning config.now result (N.log net.old.net)
-        (N.log net.new.net) }
+        ⟦<FolderSource<D::View> as Source>⟧.meaning config.now result (N.log net.old.net.net)
+        (N.log net.new.net.net) }
     ensures several { MaySupervise P.supervised config.now result }
 {
     let served = serve(rt, alloc, disk, net, config, input);
@@ -229,6 +263,10 @@ fn print_fault<R: Eprint>(
         DaemonFault::Uploads(reason) => {
             print_uploads(rt, mark, config.uploads.unwrap_or(""), reason)
         }
+        DaemonFault::Status(fault) => {
+            let file = Shown(config.status.unwrap_or(""));
+            eprintln!(rt; "{mark}tftpd: --status {file}: {}", why_not(fault))
+        }
         DaemonFault::Loop(LoopFault::Socket(reason)) => {
             eprintln!(rt; "{mark}tftpd: {}: {reason}", config.listen)
         }
@@ -257,7 +295,7 @@ fn print_fault<R: Eprint>(
 /// The name of a fault.
 fn name_of(fault: DaemonFault) -> &'static str {
     match fault {
-        DaemonFault::Root(_) | DaemonFault::Uploads(_) => "file fault",
+        DaemonFault::Root(_) | DaemonFault::Uploads(_) | DaemonFault::Status(_) => "file fault",
         DaemonFault::Handed(_) | DaemonFault::Bind(..) | DaemonFault::Loop(LoopFault::Socket(_)) =>
             { "socket fault" }
         DaemonFault::Loop(LoopFault::Output | LoopFault::NoReader) => "output fault",
@@ -266,6 +304,14 @@ fn name_of(fault: DaemonFault) -> &'static str {
         | DaemonFault::Server(..)
         | DaemonFault::Words => "server fault",
         DaemonFault::Memory | DaemonFault::Loop(LoopFault::Memory) => "out of memory",
+    }
+}
+
+/// Why a status file cannot be where it is to be.
+fn why_not(fault: StatusFault) -> &'static str {
+    match fault {
+        StatusFault::InRoot => "in ROOT or below it",
+        StatusFault::Drain => "of this server it would be the file of --drain",
     }
 }
 

@@ -11,6 +11,7 @@ use crate::command_line::{CommandLine, Texts, read_words};
 use crate::daemon::{DaemonConfig, DaemonFault};
 use crate::error_output::ErrorOutput;
 use crate::listen::Listen;
+use crate::surroundings::Surroundings;
 use std::alloc::{AllocError, Global};
 use std::convert::AsStr;
 use std::io::{self, ErrorKind};
@@ -200,7 +201,11 @@ fn names<P: Print + Eprint>(
     ensures { IsTrue result → NamesServerOf config.now server
         (map ⟦<String as AsStr>⟧.text words.now) }
 {
-    match read_words(rt, alloc, texts, words, ErrorOutput::Other) {
+    let surroundings = Surroundings {
+        errors: ErrorOutput::Other,
+        processors: 1,
+    };
+    match read_words(rt, alloc, texts, words, surroundings) {
         Ok(CommandLine::Run(own)) => is_server(&own, config, server),
         _ => false,
     }
@@ -228,6 +233,9 @@ fn words_of(
     }
     if let Some(path) = config.drain {
         add(&mut words, format!(in alloc; "--drain={path}")?)?;
+    }
+    if let Some(path) = config.status {
+        add(&mut words, format!(in alloc; "--status={path}")?)?;
     }
     add(&mut words, format!(in alloc; "--forever")?)?;
     if config.logs {
@@ -345,17 +353,21 @@ fn is_instance(own: &DaemonConfig<'_>, server: u8) -> bool
     }
 }
 
-/// Whether the folders of two configurations are the same, and the file that has them drain.
+/// Whether the folders of two configurations are the same, the file that has them drain, and that of
+/// their counts.
 fn has_same_paths(own: &DaemonConfig<'_>, config: &DaemonConfig<'_>) -> bool
     ensures root { IsTrue result → own.now.root.now ≡ config.now.root.now }
     ensures uploads { IsTrue result → option_map (λ folder. folder.now) own.now.uploads
         ≡ option_map (λ folder. folder.now) config.now.uploads }
     ensures drain { IsTrue result → option_map (λ path. path.now) own.now.drain
         ≡ option_map (λ path. path.now) config.now.drain }
+    ensures status { IsTrue result → option_map (λ path. path.now) own.now.status
+        ≡ option_map (λ path. path.now) config.now.status }
 {
     own.root == config.root
         && is_same_path(own.uploads, config.uploads)
         && is_same_path(own.drain, config.drain)
+        && is_same_path(own.status, config.status)
 }
 
 /// Whether two paths that may be given are the same.

@@ -8,10 +8,10 @@ use Rattle.tftp_daemon.specs.declared.daemon.DaemonConfig.{DaemonConfig}
 use Rattle.tftp_daemon.proofs.Commands.{by_rows}
 use Rattle.tftp_daemon.proofs.command_line.read_matches.Goals as goal
 
-pub returns-in-Some-2-clause-names : goal.returns-in-Some-2-clause-names
-returns-in-Some-2-clause-names g c =
+pub returns-in-Some-3-clause-names : goal.returns-in-Some-3-clause-names
+returns-in-Some-3-clause-names g c =
     let matches = c.args.matches.now in
     by_rows matches
     (subst (λ (read : Option DaemonConfig).
     IfSome read (NamesServer (read_of matches) (words_of (found_of matches) (codes "listen"))))
-    c.in-Some-2.is c.in_ok-service.ensures.names)
+    c.in-Some-3.is c.in_ok-service.ensures.names)

@@ -17,7 +17,8 @@ returns-clause-names c =
       longest = search rules;
       ending = search rules;
       drain = search rules;
+      status = search rules;
       logs = search rules;
       log_times = search rules;
-      instance = search rules;
+      instance = record { servers = c.requires.servers; server = search rules };
     }

@@ -1,0 +1,136 @@
+//! The file of a server's counts: where it may be, and when its reports begin.
+
+ghost use Rattle.std.specs.Prelude.{◌≡◌, ◌≢◌, false, true, None, IfOk, IfSome, OnOk};
+ghost use Rattle.std.specs.String.{string_bytes};
+ghost use Rattle.tftp_status.specs.StatusFile.{draft_of};
+ghost use Rattle.tftp_daemon.specs.Reports.{IsOwnFile, IsReported, LooksOutside, folder_of, or_here};
+
+use crate::daemon::{DaemonConfig, DaemonFault, StatusFault};
+use std::alloc::{AllocError, Global};
+use std::path::Path;
+use tftp_arguments::VERSION;
+use tftp_disk::{Disk, Looks};
+use tftp_service::HandedUdp;
+use tftp_sockets::ServerUdp;
+use tftp_status::{Counted, ReportSettings, file_of_server};
+
+/// Refuses a status file in the served folder or below it, wherever the links of both lead. A folder
+/// that cannot be resolved is none of a file that can be written by now.
+pub(crate) fn check_place<L: Looks>(
+    looks: &mut L,
+    alloc: Global,
+    root: &str,
+    file: &str,
+) -> Result<(), DaemonFault>
+    ensures { OnOk result (LooksOutside root.now (folder_of file.now) (L.log looks.old)
+        (L.log looks.new)) }
+{
+    let root = match looks.resolve(alloc, root) {
+        Ok(root) => root,
+        Err(_) => return Ok(()),
+    };
+    let folder = match looks.resolve(alloc, folder_of(file)) {
+        Ok(folder) => folder,
+        Err(_) => return Ok(()),
+    };
+    if folder.starts_with(root.as_str()) {
+        Err(DaemonFault::Status(StatusFault::InRoot))
+    } else {
+        Ok(())
+    }
+}
+
+/// The folder of a file.
+fn folder_of(file: &str) -> &str
+    ensures { result.now ≡ folder_of file.now }
+{
+    match Path::new(file).parent() {
+        Some(folder) => or_here(folder.as_str()),
+        None => ".",
+    }
+}
+
+/// A folder, which is this one if its path is empty.
+fn or_here(folder: &str) -> &str
+    ensures { result.now ≡ or_here folder.now }
+{
+    if folder.is_empty() { "." } else { folder }
+}
+
+/// Whether a path has the name of a file behind its last slash.
+pub(crate) fn names_file(path: &str) -> bool {
+    let name = match path.rsplit_once('/') {
+        Some((_, name)) => name,
+        None => path,
+    };
+    match name {
+        "" | "." | ".." => false,
+        _ => true,
+    }
+}
+
+/// Begins the reports of a server, if its configuration has a file for them: the one that it names, or
+/// of several servers the one with this server's number.
+pub(crate) fn begin_reports<D: Disk, N: ServerUdp>(
+    net: &mut Counted<HandedUdp<N>, D>,
+    alloc: Global,
+    config: &DaemonConfig<'_>,
+) -> Result<(), DaemonFault>
+    ensures net { net.new.net ≡ net.old.net }
+    ensures none { config.now.status ≡ None → net.new ≡ net.old }
+    ensures file { net.old.report ≡ None → IfSome net.new.report
+        (λ report. IsReported config.now report.status) }
+{
+    let Some(file) = config.status else {
+        return Ok(());
+    };
+    let own = own_file(alloc, file, config.instance.server)?;
+    let draft = draft_of(alloc, own.as_str())?;
+    if is_drain(config.drain, own.as_str(), draft.as_str()) {
+        return Err(DaemonFault::Status(StatusFault::Drain));
+    }
+    let settings = ReportSettings {
+        file: own.as_str(),
+        server: config.instance.server,
+        version: VERSION,
+        limit: u64::from(config.config.cap),
+        start: start_of(&net.net),
+    };
+    match net.begin_reports(alloc, settings) {
+        Ok(()) => Ok(()),
+        Err(_) => Err(DaemonFault::Memory),
+    }
+}
+
+/// The time in seconds since 1970 began in UTC; 0 if the clock cannot be read.
+fn start_of<N: ServerUdp>(net: &N) -> u64 {
+    net.utc_millis().unwrap_or(0) / 1_000
+}
+
+/// The path of a server's own file: this one, or of several servers the one with its number.
+fn own_file(alloc: Global, file: &str, server: Option<u8>) -> Result<String, AllocError>
+    ensures { IfOk result (λ own. IsOwnFile file.now server (string_bytes own)) }
+{
+    match server {
+        Some(server) => file_of_server(alloc, file, server),
+        None => String::from_str(alloc, file),
+    }
+}
+
+/// The path of the temporary file of a status file.
+pub(crate) fn draft_of(alloc: Global, file: &str) -> Result<String, AllocError>
+    ensures { IfOk result (λ draft. string_bytes draft ≡ draft_of file.now) }
+{
+    format!(in alloc; "{file}~")
+}
+
+/// Whether the file that has a server drain is this status file, or its temporary file.
+pub(crate) fn is_drain(drain: Option<&str>, file: &str, draft: &str) -> bool
+    ensures { result ≡ false → IfSome drain.entry (λ path. (path.now ≢ file.now)
+        × (path.now ≢ draft.now)) }
+{
+    match drain {
+        Some(path) => path == file || path == draft,
+        None => false,
+    }
+}

@@ -1,0 +1,209 @@
+"""The file of --status: its text while a server serves, beside its log, of several servers, and where it cannot be."""
+import os
+import re
+import threading
+import time
+from pathlib import Path
+from typing import Optional
+
+from datagrams import PATIENCE, expect, rrq, wrq
+from scene import Server
+from servers import children_of, unmarked, wait_for_servers, wait_until
+from several_servers import ended, served
+from lib.metrics import Sample, metrics, promtool_says, value
+
+# The served folder and the file that ends a server; what is counted is beside both
+ROOT, DRAIN, STATUS = "served", "drain.now", "tftpd.prom"
+# What the log says of a close
+CLOSED = re.compile(r"closed .*, (\d+) bytes, \d+ ms, (\d+) sent again, (\w+)")
+OUTCOMES = {"Complete": "complete", "TimedOut": "timed_out", "PeerError": "peer_error"}
+
+
+def read(path) -> dict[Sample, int]:
+    """The samples of a file, which is whole."""
+    text = Path(path).read_text(encoding="ascii")
+    expect(promtool_says(text), None, "what promtool says")
+    return metrics(text)
+
+
+def serve(scene, *words) -> Server:
+    """A server of the folder, which reports."""
+    drain = [] if "--drain" in words else ["--drain", DRAIN]
+    server = scene.serve("--forever", "--log", "--status", STATUS, *drain, *words, root=ROOT)
+    wait_until((scene.folder / STATUS).exists, "the first text")
+    return server
+
+
+def drained(scene, server) -> list[str]:
+    """The log of a server that is ended by its file."""
+    scene.make(DRAIN, b"")
+    log = server.output()[1]
+    expect(server.process.returncode, 0, "the status of the server")
+    return log
+
+
+def has_counted(found, log) -> None:
+    """The samples are those of the lines of a log."""
+    begins = [line.split()[0] for line in log]
+    busy = sum(line.startswith("refused ") and "(server busy)" in line for line in log)
+    expected = {"opened": begins.count("opened"), "refused": begins.count("refused") - busy, "busy": busy,
+                "ignored": begins.count("ignored"), "lost": begins.count("lost")}
+    expect({answer: value(found, "tftpd_requests_total", answer=answer) for answer in expected}, expected, "requests")
+    closed = [CLOSED.match(line) for line in log if line.startswith("closed ")]
+    outcomes = [line[3] if line else "no outcome" for line in closed]
+    expected = {name: outcomes.count(name) for name in OUTCOMES}
+    counted = {name: value(found, "tftpd_transfers_total", outcome=label) for name, label in OUTCOMES.items()}
+    expect(counted, expected, "transfers")
+    sums = [value(found, name) for name in ("tftpd_bytes_total", "tftpd_blocks_sent_again_total")]
+    expect(sums, [sum(int(line[at]) for line in closed if line) for at in (1, 2)], "bytes, and what was sent again")
+
+
+def test_a_status_file_counts_as_the_log(scene) -> None:
+    """It is there at once, without a transfer, and at the end has what the log has."""
+    scene.make(f"{ROOT}/a", b"\7" * 512 + b"ABC")
+    before = int(time.time())
+    server = serve(scene)
+    first = read(scene.folder / STATUS)
+    expect([value(first, f"tftpd_{name}_total") for name in ("requests", "transfers", "bytes")], [0, 0, 0], "the first text")
+    expect(value(first, "tftpd_transfers_limit"), 16, "the limit")
+    expect(before - 1 <= value(first, "tftpd_start_time_seconds") <= time.time(), True, "when it started")
+    for name in ["one", "two"]:
+        scene.tftp("get", server.word, "a", name, "--no-dally").completes(515)
+    scene.tftp("put", server.word, "one", "b").completes(515)
+    port = scene.port()
+    for request in [rrq("missing"), wrq("a")]:
+        port.send(request, server.address)
+        port.receive()
+    log = drained(scene, server)
+    last = read(scene.folder / STATUS)
+    has_counted(last, log)
+    expect([value(last, "tftpd_transfers_total", direction=way) for way in ("read", "write")], [2, 1], "the directions")
+    expect(value(last, "tftpd_transfers_open"), 0, "the open transfers")
+    expect((scene.folder / f"{STATUS}~").exists(), False, "whether a temporary file is left")
+
+
+def test_an_open_transfer_has_a_line(scene) -> None:
+    """With its bytes so far, and the length of the file."""
+    scene.make(f"{ROOT}/a", bytes(5_000))
+    server = serve(scene)
+    port = scene.port()
+    port.send(rrq("a", timeout=255, blksize=1000, tsize=0), server.address)
+    _, transfer = port.receive()
+    wanted = re.compile(rf"^# {transfer[1]} {port.word} RRQ a octet .*: 0 bytes of 5000, \d+ s, 0 sent again$", re.MULTILINE)
+    wait_until(lambda: wanted.search((scene.folder / STATUS).read_text()), "the line of the transfer")
+    expect(value(read(scene.folder / STATUS), "tftpd_transfers_open", direction="read"), 1, "the open transfers")
+    server.process.kill()
+
+
+def scraped(path, is_over, seen) -> Optional[str]:
+    """Reads the file again and again. Returns what was wrong once."""
+    newest: dict[Sample, int] = {}
+    while not is_over.is_set():
+        try:
+            found = metrics(path.read_text(encoding="ascii"))
+        except (OSError, ValueError) as fault:
+            return f"{type(fault).__name__}: {fault}"
+        less = [sample for sample, count in newest.items() if sample[0].endswith("_total") and found.get(sample, -1) < count]
+        if less:
+            return f"counts that went down: {less}"
+        newest = found
+        seen.append(value(found, "tftpd_requests_total", answer="opened"))
+    return None
+
+
+def test_no_scrape_has_half_a_file(scene) -> None:
+    """While 64 gets run at once and the server stops."""
+    scene.make(f"{ROOT}/a", bytes(400_000))
+    server = serve(scene, "--cap", "64")
+    is_over, said, seen = threading.Event(), [], []
+    scraper = threading.Thread(target=lambda: said.append(scraped(scene.folder / STATUS, is_over, seen)))
+    scraper.start()
+    try:
+        gets = [scene.tftp("get", server.word, "a", f"got{number}", "--no-dally") for number in range(64)]
+        for get in gets:
+            get.completes(400_000)
+        log = drained(scene, server)
+    finally:
+        is_over.set()
+        scraper.join()
+    expect(said, [None], "what a scrape had")
+    expect(len(seen) > 100, True, f"whether {len(seen)} scrapes are many")
+    has_counted(read(scene.folder / STATUS), log)
+
+
+def test_each_of_several_servers_has_a_file(scene) -> None:
+    """Named by its number, with a label; together they have what the log has."""
+    scene.make(f"{ROOT}/a", b"ABC")
+    words = [ROOT, "--listen", f"{scene.address}:0", "--servers", "2", "--forever", "--log", "--status", STATUS, "--drain", DRAIN]
+    server = served(scene.start("tftpd", words), 2)
+    for number in range(8):
+        scene.tftp("get", server.word, "a", f"got{number}", "--no-dally").completes(3)
+    scene.make(DRAIN, b"")
+    status, _, log = ended(server)
+    expect(status, 0, "the status of the supervisor")
+    found = {}
+    for number in ("1", "2"):
+        own = read(scene.folder / f"tftpd.{number}.prom")
+        expect({dict(labels).get("server") for _, labels in own}, {number}, "the labels")
+        found.update(own)
+    has_counted(found, [unmarked(line) for line in log])
+    expect((scene.folder / STATUS).exists(), False, "whether there is a file of all")
+
+
+def test_a_status_file_that_cannot_be_written(scene) -> None:
+    """That is said once, nothing stops, and it is written once it can be."""
+    scene.make(f"{ROOT}/a", b"ABC")
+    server = scene.serve("--forever", "--log", "--drain", DRAIN, "--status", f"later/{STATUS}", root=ROOT)
+    expect(server.log_line(), "tftpd: --status: not found", "what is said")
+    scene.tftp("get", server.word, "a", "one", "--no-dally").completes(3)
+    time.sleep(2.5)
+    scene.make_folder("later")
+    wait_until((scene.folder / "later" / STATUS).exists, "a text")
+    log = drained(scene, server)
+    expect([line for line in log if "--status" in line], [], "what is said again")
+    has_counted(read(scene.folder / "later" / STATUS), log)
+
+
+def test_words_of_a_status_file(scene) -> None:
+    """No name, or a place that it may not have."""
+    scene.make_folder(ROOT)
+    scene.make_folder(f"{ROOT}/below")
+    os.symlink(f"{ROOT}/below", scene.folder / "link")
+    for words in [["--status", ""], ["--status", "folder/"], ["--status", ".."], ["--status", ROOT],
+                  ["--status", f"{ROOT}/a.prom"], ["--status", f"{ROOT}//below/a.prom"],
+                  ["--status", "a", "--drain", "a"], ["--status", "a", "--drain", "a~"]]:
+        said = refused(scene, words)
+        expect(said.startswith("error: invalid value '") and "for '--status <FILE>'" in said, True, f"{words}: {said}")
+    for words in [["--status", "link/a.prom"], ["--status", f"{scene.folder}/{ROOT}/a.prom"],
+                  ["--status", "link/a.prom", "--servers", "2", "--forever"]]:
+        said = f"tftpd: file fault\ntftpd: --status {words[1]}: in ROOT or below it\n"
+        expect(refused(scene, words), said, f"what is said of {words}")
+    # (the first server may listen by then)
+    words = ["--status", "a.prom", "--drain", "a.2.prom", "--servers", "2", "--forever"]
+    said = refused(scene, words, printed=r"(listening .*\n)?")
+    expect("of this server it would be the file of --drain" in said, True, f"what is said of a server's file: {said}")
+    expect([name for name in scene.files() if name != "a.1.prom"], [], "the files")
+
+
+def refused(scene, words, printed="") -> str:
+    """What a server says that does not start, and prints no more than this."""
+    process = scene.start("tftpd", [ROOT, "--listen", f"{scene.address}:0", *words])
+    output, errors = (text.decode() for text in process.communicate(timeout=PATIENCE))
+    expect((process.returncode, bool(re.fullmatch(printed, output))), (2, True), f"how {words} ends, with {output!r}")
+    return errors
+
+
+def test_as_many_servers_as_processors(scene) -> None:
+    """Those that the process may run on."""
+    scene.make_folder(ROOT)
+    mine = sorted(os.sched_getaffinity(0))
+    for count in {1, len(mine)}:
+        words = [ROOT, "--listen", f"{scene.address}:0", "--servers", "auto", "--forever"]
+        process = scene.start("tftpd", words, preexec_fn=lambda: os.sched_setaffinity(0, mine[:count]))
+        Server(process)
+        if count > 1:
+            wait_for_servers(process, count)
+        expect(len(children_of(process)), count if count > 1 else 0, "the servers")
+        process.kill()
+    expect(refused(scene, ["--servers", "some"]).split("\n")[0],
+           "error: invalid value 'some' for '--servers <1..64|auto>': neither a number from 1 to 64 nor 'auto'", "the words")
