@@ -89,6 +89,7 @@ config = record {
   ending = record { transfers = 1; rounds = 1000000 };
   longest = None;
   drain = None;
+  status = None;
   logs = false;
   log_times = false;
   instance = record { servers = 1; server = None };
@@ -143,9 +144,10 @@ configured = record {
   longest = refl;
   ending = Ends_after unset refl refl;
   drain = refl;
+  status = refl;
   logs = unset;
   log_times = unset;
-  instance = record { servers = refl; server = refl };
+  instance = record { servers = inr refl; server = refl };
 }
 
 -- ---- the states
