@@ -40,12 +40,11 @@ use Rattle.tftp_ends.specs.declared.endpoint.Endpoint.{Endpoint}
 use Rattle.tftp_ends.specs.declared.error_reply.ErrorReply.{ErrorReply}
 use Rattle.tftp_ends.specs.declared.error_reply.ErrorReply.TheVariants as replies
 use Rattle.tftp_ends.specs.declared.outcome.Outcome.TheVariants as outcomes
-use Rattle.tftp_ends.specs.declared.phase.Dally.TheVariants.{Fresh, Waited}
 use Rattle.tftp_ends.specs.declared.phase.Phase.{Phase}
 use Rattle.tftp_ends.specs.declared.phase.Phase.TheVariants.{Waiting, Sending, Receiving, Dallying, Closed}
 use Rattle.tftp_ends.specs.declared.phase.Terms.{Terms}
 use Rattle.tftp_ends.specs.declared.reply.TheConstants.{MAX_ERROR}
-use Rattle.tftp_ends.specs.Action.{is_wrong_peer, garbled_response, packet_action, datagram_action, timeout_response}
+use Rattle.tftp_ends.specs.Action.{is_wrong_peer, garbled_response, packet_action, datagram_action}
 use Rattle.tftp_ends.specs.End.{EndState, is_client, is_sender, number_of, record_of, size_of, terms_of}
 use Rattle.tftp_ends.specs.ErrorReply.{error_packet}
 use Rattle.tftp_ends.specs.Files.{AreFilesOf}
@@ -54,7 +53,7 @@ use Rattle.tftp_ends.specs.Receiver.{receiver_action, next_action, dally_respons
 use Rattle.tftp_ends.specs.Sender.{sender_action}
 use Rattle.tftp_ends.specs.Step.{Turn, Reply, DatagramStep, Acts, AcksAgain, IsAck, GoesOn, Done, after, ack_bytes}
 use Rattle.tftp_ends.specs.Step.{block_length, committed_turn, commit_reply, data_bytes, error_bytes, filled_turn}
-use Rattle.tftp_ends.specs.Step.{holding, reply_bytes, response_turn, result_count_is, timeout_turn}
+use Rattle.tftp_ends.specs.Step.{holding, reply_bytes, response_turn, result_count_is}
 use Rattle.tftp_ends.specs.Text.{is_readable}
 use Rattle.tftp_ends.specs.Waiting.{reader_action, writer_action, accept_action, begin_action, begin_with_action}
 use Rattle.tftp_ends.specs.Waiting.{refusal_action, default_terms, agreed_terms}
@@ -364,29 +363,6 @@ module _ {S K : Type 0} (sources : SourceMeaning S) (sinks : SinkMeaning K) (fro
       subst (λ (b : Bool). length (reply_bytes turn.reply) ≤ (if b then block_room block else MAX_ERROR)) (sym side)
       (sink_short block (datagram_action e from bytes d.decoded) sink files' turn
       (datagram_fits block e from bytes d.decoded (known_within most e.position.phase w)) d.again d.acts)
-
--- ---- the turn of a timeout
-retransmits : (e : EndState) (b : Bool) →
-    length
-    (reply_bytes (response_turn (if b then Close outcomes.TimedOut else Retransmit) e.position.last_sent_to e).reply)
-    ≤ length e.position.last_sent
-retransmits e true = omega arith
-retransmits e false = omega arith
-
-timeout_by : (e : EndState) (phase : Phase) →
-    length
-    (reply_bytes (response_turn (timeout_response e.position.retries_left phase) e.position.last_sent_to e).reply)
-    ≤ length e.position.last_sent
-timeout_by e (Waiting asked limit) = retransmits e (e.position.retries_left == 0)
-timeout_by e (Sending terms n) = retransmits e (e.position.retries_left == 0)
-timeout_by e (Receiving terms n) = retransmits e (e.position.retries_left == 0)
-timeout_by e (Dallying terms n Fresh) = omega arith
-timeout_by e (Dallying terms n Waited) = omega arith
-timeout_by e (Closed terms n complete outcome) = retransmits e (e.position.retries_left == 0)
-
--- what a timeout sends again does, too
-pub timeout_short : (e : EndState) → length (reply_bytes (timeout_turn e).reply) ≤ length e.position.last_sent
-timeout_short e = timeout_by e e.position.phase
 
 -- ---- what a client may agree to after a turn
 module _ (most : ℕ) where

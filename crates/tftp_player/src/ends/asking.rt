@@ -1,7 +1,6 @@
 //! What the request port does in a world.
 
-ghost use Rattle.std.specs.Prelude.{◌≡◌, ◌↔◌, ◌+◌, ◌<◌, [], length, IfOk, IfErr, IsTrue, OnErr};
-ghost use Rattle.std.specs.Prelude.{Option, ℕ};
+ghost use Rattle.std.specs.Prelude.{◌≡◌, ◌↔◌, [], IfOk, IfErr, IsTrue, OnErr, Option};
 ghost use Rattle.tftp_ends.specs.Action.{Decodes};
 ghost use Rattle.tftp_negotiate.specs.Ranges.{IsBlockSize};
 ghost use Rattle.tftp_rules.specs.Hosts.{request_port};
