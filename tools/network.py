@@ -111,6 +111,14 @@ class Scene:
         self.servers.append((process, log))
         expect(process.stdout.readline()[:10], b"listening ", f"the first word of the server {words}")
 
+    def wait_for_line(self, word) -> None:
+        """Waits until the first server has logged a line that begins with this word, which may be after its answer."""
+        end = time.monotonic() + PATIENCE
+        # (the server writes at the place of this file, which a seek would move)
+        while f"\n{word} ".encode() not in os.pread(self.servers[0][1].fileno(), 1 << 20, 0):
+            expect(time.monotonic() < end, True, f"whether a line {word} is logged in time")
+            time.sleep(0.01)
+
     def stop(self) -> list[str]:
         """Stops the servers. Returns their logs."""
         logs = []
@@ -159,6 +167,7 @@ def try_unit(scene) -> None:
     words = [scene.tftp, "put", f"{SERVER}:69", __file__, "new", "--retries", "10"]
     done = subprocess.run(scene.client.words(*words), capture_output=True, text=True, timeout=PATIENCE)
     expect(done.stderr, "tftp: PeerError(2)\ntftp: the server says: access violation\n", "the answer to a write")
+    scene.wait_for_line("refused")
     # (where the host is slow a client asks again, which is ignored, or refused again in the same words)
     lines = [line for line in dict.fromkeys(scene.stop()[0]) if not line.startswith("ignored ")]
     expect([line.split()[0] for line in lines], ["listening", "opened", "closed", "refused"], "the lines of the log")
