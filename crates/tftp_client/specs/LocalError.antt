@@ -1,6 +1,7 @@
 -- Why a file here cannot be used, in words (own).
-use Rattle.std.specs.Prelude.{ℕ, List, codes}
-use Rattle.std.specs.IoError.{raw_os_error}
+use Rattle.std.specs.Prelude.{ℕ, ◌≡◌, List, codes}
+use Rattle.std.specs.IoError.{error_kind, raw_os_error}
+use Rattle.std.specs.declared.io.ErrorKind.TheVariants as kinds
 use Rattle.tftp_lines.specs.Reason.{reason_of, reason_text}
 use Rattle.tftp_client.specs.declared.local_error.LocalError.{LocalError}
 use Rattle.tftp_client.specs.declared.local_error.LocalError.TheVariants as errors
@@ -16,3 +17,8 @@ local_error_text errors.LengthUnknown = codes "length unknown"
 local_error_text errors.Unreadable = codes "cannot be read"
 local_error_text errors.TooLong = codes "file too large"
 local_error_text (errors.System error) = reason_text (reason_of (raw_os_error error))
+
+-- a call had no memory
+abbrev pub IsOutOfMemory : LocalError → Type 0
+IsOutOfMemory (errors.System error) = error_kind error ≡ kinds.OutOfMemory
+IsOutOfMemory error = ⊥

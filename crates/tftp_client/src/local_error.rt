@@ -62,9 +62,9 @@ impl From<io::Error> for LocalError {
 }
 
 impl From<AllocError> for LocalError {
-    ghost use Rattle.std.specs.Prelude.{⊤};
+    ghost use Rattle.tftp_client.specs.LocalError.{IsOutOfMemory};
 
-    ghost from_gives = { λ _ _. ⊤ };
+    ghost from_gives = { λ _ local. IsOutOfMemory local };
 
     fn from(_error: AllocError) -> LocalError {
         LocalError::System(io::Error::from(ErrorKind::OutOfMemory))

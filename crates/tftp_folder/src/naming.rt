@@ -35,6 +35,10 @@ pub(crate) enum NameFault {
 }
 
 impl From<io::Error> for NameFault {
+    ghost use Rattle.tftp_folder.specs.declared.naming.NameFault.TheVariants.{System};
+
+    ghost from_gives = { λ error fault. fault ≡ System error };
+
     fn from(error: io::Error) -> NameFault {
         NameFault::System(error)
     }
