@@ -147,7 +147,7 @@ configured = record {
   status = refl;
   logs = unset;
   log_times = unset;
-  instance = record { servers = inr refl; server = refl };
+  instance = record { servers = (inr refl, (omega arith, omega arith)); server = refl };
 }
 
 -- ---- the states

@@ -90,10 +90,12 @@ HasApart (At at) others = IsApart at others × AllDistinct others
 HasApart Handed others = AllDistinct others
 
 -- how many servers there are at each address, as a word names them: by their number, or `auto`, for
--- as many as the process has processors
+-- as many as the process has processors; and there are 1 to 64
 abbrev pub ServersAs : Option (List ℕ) → ℕ → Type 0
 ServersAs None servers = ⊥
-ServersAs (Some word) servers = (word ≡ codes "auto") ⊎ IsNumber 8 (Some word) (Some servers)
+ServersAs (Some word) servers =
+    ((word ≡ codes "auto") ⊎ IsNumber 8 (Some word) (Some servers))
+    × ((1 ≤ servers) × (servers ≤ 64))
 
 -- how many servers there are, and which this is, as they were read
 pub record NamesInstance (read : ReadWords) (instance : Instance) : Type 0 where

@@ -314,7 +314,8 @@ fn servers_in(word: &str, processors: u8) -> Option<u8>
 
 /// The number in a word, from 1 to 64; else `None`.
 fn number_of_servers(word: &str) -> Option<u8>
-    ensures { IfSome result (λ servers. IsNumber 8 (Some word.now) (Some servers)) }
+    ensures number { IfSome result (λ servers. IsNumber 8 (Some word.now) (Some servers)) }
+    ensures bounds { IfSome result (λ servers. (1 ≤ servers) × (servers ≤ 64)) }
 {
     match word.parse::<u8>() {
         Ok(servers) if servers > 0 && servers <= MOST_SERVERS => Some(servers),
