@@ -5,7 +5,8 @@
 # make test: the gate, every proof from nothing, and then what is tried of the programs that it built; with REQUIRE_ALL=1
 #   nothing may be skipped. The last line is `N passed, N failed`
 # make quick CRATE=NAME: what a change of one crate is tried by in minutes
-# make docs: writes docs/STATEMENT.md and the pictures of docs/ from the sources, and out/DEFINITIONS.md
+# make docs: writes docs/STATEMENT.md and the pictures of docs/ from the sources, and out/DEFINITIONS.md. (docs/dashboard.svg
+#   shows a trial: tools/dashboard.py --write, with a Prometheus)
 # make slips CRATES="NAME ..": tries the wrong bodies in crates/NAME/slips/, of all crates without words; with STALE=1 only
 #   such as changed since they were last refused, or whose crate did; with FEW=5 five of all, by the seed of the commit, as
 #   the gate does
@@ -39,7 +40,8 @@ SOURCES := $(shell find crates -path '*/out' -prune -o \( -name '*.rt' -o -name 
 
 # the tests of the tools; `python3 -m unittest` runs the checks, too
 TESTS := tools.tests.test_gate tools.tests.test_packages tools.tests.test_stand_ins tools.tests.test_programs \
-	tools.tests.test_rows tools.tests.test_requests tools.tests.test_slips tools.tests.test_soak
+	tools.tests.test_rows tools.tests.test_requests tools.tests.test_slips tools.tests.test_soak \
+	tools.tests.test_metrics
 # what is run behind `rt ci`, over bin/, which holds by then what `make` builds (tools/shipped.py). Each is run with a limit,
 # whatever the others come to, and once more if it fails: tools/gate.py says what was skipped, what repeated, and what failed
 CHECKS := tools/same_options.py tools/check_install.py tools/check_documents.py tools/statement.py tools/definitions.py \
@@ -47,7 +49,7 @@ CHECKS := tools/same_options.py tools/check_install.py tools/check_documents.py 
 	tools/lint.py tools/processors.py tools/walk.py \
 	'$(MAKE) --no-print-directory run' tools/statuses.py tools/captures.py tools/memory_in_turn.py tools/lost_requests.py \
 	tools/out_of_memory.py 'python3 -m unittest $(TESTS)' tools/mutants.py tools/c_library.py tools/library_abi.py \
-	tools/library_chroot.py tools/loopback/run.py tools/behaviours.py 'tools/network.py bin/tftp bin/tftpd' \
+	tools/library_chroot.py tools/dashboard.py tools/loopback/run.py tools/behaviours.py 'tools/network.py bin/tftp bin/tftpd' \
 	tools/soak/run.py 'tools/slips.py --few'
 
 .PHONY: build programs libtftp run sample tftp-show tftp-play tftp tftpd test quick docs slips install uninstall dist deb soak \

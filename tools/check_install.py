@@ -17,8 +17,8 @@ from pathlib import Path
 
 TOP = Path(__file__).resolve().parent.parent
 PROGRAMS = ["tftp", "tftpd", "tftp-show", "tftp-play"]
-COPIED = ["Makefile", "LICENSE", "SECURITY.md", "crates.txt", "completions", "debian", "docs/OPERATING.md", "examples",
-          "include", "man", "packaging", "tools"]
+COPIED = ["Makefile", "LICENSE", "SECURITY.md", "crates.txt", "completions", "debian", "docs/OPERATING.md",
+          "docs/dashboard.svg", "examples", "include", "man", "packaging", "tools"]
 LIBRARY = ["include/tftp.h", "include/tftp.hpp", "lib/libtftp.a", "lib/libtftp.so", "lib/libtftp.so.1",
            "lib/cmake/tftp/tftp-config.cmake", "lib/cmake/tftp/tftp-config-version.cmake", "lib/pkgconfig/tftp.pc",
            "man/man3/tftp.3"]
@@ -26,7 +26,8 @@ WORDS = ["PREFIX=/usr", "PROGRAM_PREFIX=x-", "MANDIR=/usr/man", "UNITDIR=/usr/un
 SHELLS = {"bash": ["bash", "-n"], "zsh": ["zsh", "-f", "-n"], "fish": ["fish", "--no-execute"]}
 PATIENCE = 600
 # what is installed with these words, but the programs and what is named for each
-DOCUMENTS = ["LICENSE", "OPERATING.md", "README.md", "SECURITY.md", "tftpd.default", "tftpd.nft"]
+DOCUMENTS = ["LICENSE", "OPERATING.md", "README.md", "SECURITY.md", "dashboard.json", "dashboard.svg", "tftpd.default",
+             "tftpd.nft", "tftpd.rules.yml"]
 MANUALS = ["man1/x-tftp.1", "man1/x-tftp-play.1", "man1/x-tftp-show.1", "man5/x-tftp-play.5", "man8/x-tftpd.8"]
 UNITS = ["x-tftpd.service", "x-tftpd@.service", "x-tftpd.socket", "x-tftpd-socket.service"]
 

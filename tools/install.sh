@@ -124,7 +124,8 @@ files() {
     done
     echo "644 $DOCDIR/tftpd.nft packaging/tftpd.nft"
     echo "644 $DOCDIR/tftpd.default $(named packaging/tftpd.default)"
-    for document in LICENSE SECURITY.md docs/OPERATING.md "$(named packaging/README.md)"; do
+    for document in LICENSE SECURITY.md docs/OPERATING.md docs/dashboard.svg examples/monitoring/tftpd.rules.yml \
+        examples/monitoring/dashboard.json "$(named packaging/README.md)"; do
         echo "644 $DOCDIR/${document##*/} $document"
     done
     library
@@ -135,7 +136,8 @@ packed() {
     for program in $programs; do echo "bin/$program"; done
     for file in bin/libtftp.a bin/libtftp.so.1; do test ! -e "$file" || echo "$file"; done
     ls -d completions/* man/*.[1-8] packaging/* include/* examples/c/*
-    echo LICENSE SECURITY.md docs/OPERATING.md examples/loopback.sh examples/packets.hex | tr ' ' '\n'
+    echo LICENSE SECURITY.md docs/OPERATING.md docs/dashboard.svg examples/monitoring/tftpd.rules.yml \
+        examples/monitoring/dashboard.json examples/loopback.sh examples/packets.hex | tr ' ' '\n'
 }
 
 case $verb in

@@ -41,7 +41,7 @@ VERSIONS = {"mypy": "mypy 1.0.1", "shellcheck": "version: 0.9.0", "pyflakes3": "
 # types of what a file imports from others are not looked at
 MYPY = ["mypy", "--explicit-package-bases", "--ignore-missing-imports", "--follow-imports=silent", "--no-error-summary"]
 # the files whose functions say the types of their parameters too
-TYPED = ["lib/*.py", "gate.py", "slips.py", "processors.py", "lint.py", "mutants.py", "out_of_memory.py"]
+TYPED = ["lib/*.py", "gate.py", "slips.py", "processors.py", "lint.py", "mutants.py", "out_of_memory.py", "dashboard.py"]
 # the folders of the others, from each of which its files import, and what needs the types of parameters to be known
 FOLDERS = ["tools", "tools/soak", "tools/loopback", "tools/rows", "tools/tests", "bench/*", "examples/python"]
 UNKNOWN = ["arg-type", "assignment", "attr-defined", "call-overload", "dict-item", "func-returns-value", "has-type", "index",

@@ -1,8 +1,9 @@
 """Reads a text in Prometheus' text format, strictly: each metric once, with its help and its type before its samples."""
 import re
-import shutil
 import subprocess
 from typing import Optional
+
+from lib.prometheus import path_of
 
 # The name and the labels of a sample, the labels by their names
 Sample = tuple[str, tuple[tuple[str, str], ...]]
@@ -66,7 +67,7 @@ def value(found: dict[Sample, int], name: str, **labels: str) -> int:
 
 def promtool_says(text: str) -> Optional[str]:
     """What `promtool check metrics` says of a text; nothing where it accepts it, or is not installed."""
-    tool = shutil.which("promtool")
+    tool = path_of("promtool")
     if not tool:
         return None
     done = subprocess.run([tool, "check", "metrics"], input=text, capture_output=True, text=True, check=False, timeout=60)

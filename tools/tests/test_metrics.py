@@ -1,14 +1,20 @@
-"""The reader of Prometheus' text format, and what examples/monitoring asks of the metrics of tftpd."""
+"""The reader of Prometheus' text format, and what examples/monitoring asks of the metrics of tftpd: the rules, and the
+dashboard with its picture."""
 import json
 import re
-import shutil
 import subprocess
+import sys
 import unittest
 from pathlib import Path
-
-from lib.metrics import MetricsFault, metrics, value
+from typing import Any, Callable
 
 TOP = Path(__file__).resolve().parents[2]
+sys.path[:0] = [str(TOP / "tools")]
+
+from lib import board_picture, grafana
+from lib.metrics import MetricsFault, metrics, value
+from lib.prometheus import Series, path_of
+
 MONITORING = TOP / "examples" / "monitoring"
 TEXT = """\
 # HELP a_total What is counted.
@@ -23,10 +29,13 @@ open 5
 METRIC = re.compile(r"tftpd_[a-z_]+")
 
 
+def dashboard() -> Any:
+    return json.loads((MONITORING / "dashboard.json").read_text())
+
+
 def asked() -> str:
     """Each expression of the rules and of the dashboard."""
-    board = json.loads((MONITORING / "dashboard.json").read_text())
-    return " ".join([*(target["expr"] for panel in board["panels"] for target in panel["targets"]),
+    return " ".join([*(target.expr for panel in grafana.panels(dashboard()) for target in panel.targets),
                      (MONITORING / "tftpd.rules.yml").read_text()])
 
 
@@ -48,11 +57,65 @@ class Metrics(unittest.TestCase):
         self.assertEqual(set(METRIC.findall(asked())) - there, set())
         self.assertEqual(there - set(METRIC.findall(asked() + (TOP / "man/tftpd.8").read_text())), set())
 
-    @unittest.skipUnless(shutil.which("promtool"), "promtool, of Debian's prometheus, is not installed")
+    @unittest.skipUnless(path_of("promtool"), "promtool, of Debian's prometheus, is not installed")
     def test_the_rules(self) -> None:
         for words in [["check", "rules", "tftpd.rules.yml"], ["test", "rules", "tftpd.rules.test.yml"]]:
-            done = subprocess.run(["promtool", *words], cwd=MONITORING, capture_output=True, text=True, check=False)
+            command = [str(path_of("promtool")), *words]
+            done = subprocess.run(command, cwd=MONITORING, capture_output=True, text=True, check=False)
             self.assertEqual(done.returncode, 0, done.stdout + done.stderr)
+
+
+# What makes a dashboard wrong, and the beginning of what is said
+WRONG: list[tuple[str, Callable[[Any], object]]] = [
+    ("schemaVersion", lambda it: it.update(schemaVersion=8)), ("uid", lambda it: it.update(uid="a b")),
+    ("time", lambda it: it.pop("time")), ("[] are for", lambda it: it["templating"]["list"].pop(0)),
+    ("variable instance", lambda it: it["templating"]["list"][1].update(datasource=None)),
+    ("two panels have the id 2", lambda it: it["panels"][0].update(id=2)),
+    ("two panels have the title 'Failed'", lambda it: it["panels"][0].update(title="Failed")),
+    ("'Servers' and 'Quiet for' overlap", lambda it: it["panels"][0]["gridPos"].update(w=4)),
+    ("panel 'Sent again': gridPos", lambda it: it["panels"][7]["gridPos"].update(w=4)),
+    ("panel 'Servers': gridPos", lambda it: it["panels"][0]["gridPos"].pop("h")),
+    ("panel 'Servers': type", lambda it: it["panels"][0].update(type="graph")),
+    ("panel 'Servers': datasource", lambda it: it["panels"][0].update(datasource="Prometheus")),
+    ("panel 'Servers': fieldConfig", lambda it: it["panels"][0]["fieldConfig"]["defaults"].update(unit="transfers")),
+    ("panel 'Servers': thresholds", lambda it: it["panels"][0]["fieldConfig"]["defaults"]["thresholds"]["steps"].clear()),
+    ("panel 'Servers': targets", lambda it: it["panels"][0]["targets"].clear()),
+    ("panel 'Servers': target 'A': instant", lambda it: it["panels"][0]["targets"][0].pop("instant")),
+    ("panel 'Servers': target 'A': no variable host", lambda it: it["panels"][0]["targets"][0].update(expr="up{a='$host'}")),
+    ("panel 'Servers': target 'a': no refId", lambda it: it["panels"][0]["targets"][0].update(refId="a")),
+]
+
+
+class Dashboard(unittest.TestCase):
+    def test_the_dashboard(self) -> None:
+        self.assertEqual(grafana.faults(dashboard()), [])
+
+    def test_what_is_no_dashboard(self) -> None:
+        for said, spoil in WRONG:
+            board = dashboard()
+            spoil(board)
+            with self.subTest(said):
+                self.assertEqual(grafana.faults(board)[0][:len(said)], said)
+
+    def test_a_query_is_filled_in(self) -> None:
+        self.assertEqual(grafana.regex_of(["a.b:9"]), r"a\\.b:9")
+        values = {"instance": grafana.regex_of(["a", "b+"]), "__range": "9s"}
+        self.assertEqual(grafana.filled('rate(x{y=~"$instance"}[${__range}])', values), r'rate(x{y=~"(a|b\\+)"}[9s])')
+        target = grafana.Target("x", "{{instance}} {{ server }}", False)
+        self.assertEqual([grafana.legend_of(target, {"instance": "a", "server": it}) for it in ["", "2"]], ["a", "a 2"])
+
+    def test_a_curve(self) -> None:
+        """It is broken where a value is missing, and has the ends of a level line alone."""
+        plot, page = board_picture.Area(0, 0, 100, 10), board_picture.Page(0, 10, 1)
+        points = [(0.0, 0.0), (1.0, 5.0), (2.0, 5.0), (3.0, 5.0), (5.0, 10.0), (8.0, 0.0), (9.0, 0.0)]
+        self.assertEqual(board_picture.path_of(Series({}, points), plot, page, 10), "M0 10L10 5L30 5M49 0h2M80 10L90 10")
+
+    def test_an_axis(self) -> None:
+        for most, unit, ticks in [(0, "short", 2), (8, "short", 5), (0.3, "ops", 4), (0.9, "percentunit", 5), (2e5, "Bps", 5)]:
+            found = board_picture.ticks_of(most, unit)
+            self.assertTrue(found[0] == 0 and found[-1] >= most and len(found) == ticks, (most, found))
+        self.assertEqual([board_picture.said(it, unit) for it, unit in [(250_000, "Bps"), (0.5, "percentunit"), (3, "ops")]],
+                         ["250 kB/s", "50%", "3 ops/s"])
 
 
 if __name__ == "__main__":
