@@ -29,9 +29,8 @@ int main(int argc, char **argv) {
     udp_send(fd, &event.to, reply, event.send_len);
     double due = now() + event.interval;
     size_t total = 0;
-    ssize_t len = 0;
     while (!event.outcome) {
-        len = udp_receive(fd, due, &from, datagram, sizeof datagram);
+        ssize_t len = udp_receive(fd, due, &from, datagram, sizeof datagram);
         if (len >= 0)
             fault = tftp_receive(&end, &from, datagram, (size_t)len, block, sizeof block, reply, sizeof reply, &event);
         else
@@ -48,7 +47,7 @@ int main(int argc, char **argv) {
         udp_send(fd, &event.to, reply, event.send_len);
         if (len < 0 || event.progress) due = now() + event.interval;
     }
-    print_outcome(&event, datagram, len > 0 ? (size_t)len : 0);
+    print_outcome(&event, datagram);
     bool good = fclose(local) == 0 && event.complete;
     printf("%s %zu\n", good ? "complete" : "failed", total);
     tftp_close(&end);

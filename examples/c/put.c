@@ -32,9 +32,8 @@ int main(int argc, char **argv) {
     }
     udp_send(fd, &event.to, reply, event.send_len);
     double due = now() + event.interval;
-    ssize_t len = 0;
     while (!event.outcome) {
-        len = udp_receive(fd, due, &from, datagram, sizeof datagram);
+        ssize_t len = udp_receive(fd, due, &from, datagram, sizeof datagram);
         if (len >= 0)
             fault = tftp_send(&end, &from, datagram, (size_t)len, file + taken, length - taken, reply,
                               sizeof reply, &event);
@@ -46,7 +45,7 @@ int main(int argc, char **argv) {
         udp_send(fd, &event.to, reply, event.send_len);
         if (len < 0 || event.progress) due = now() + event.interval;
     }
-    print_outcome(&event, datagram, len > 0 ? (size_t)len : 0);
+    print_outcome(&event, datagram);
     printf("%s %zu\n", event.complete ? "complete" : "failed", taken);
     tftp_close(&end);
     close(fd);

@@ -89,12 +89,10 @@ static inline struct tftp_endpoint udp_endpoint(const char *ip, const char *port
     return at;
 }
 
-/* The text of the peer's ERROR, which is the last datagram that a call handled. */
-static inline void print_outcome(const struct tftp_event *event, const uint8_t *datagram, size_t len) {
+/* The text of the peer's ERROR, which is the last datagram that a call handled, and ends with a NUL. */
+static inline void print_outcome(const struct tftp_event *event, const uint8_t *datagram) {
     printf("%s", tftp_stroutcome(event->outcome));
-    struct tftp_packet packet = {0};
-    if (event->outcome == TFTP_PEER_ERROR && tftp_decode(datagram, len, &packet) == 0)
-        printf(" %d (%.*s)", event->peer_code, (int)packet.body_len, (const char *)datagram + packet.body_at);
+    if (event->outcome == TFTP_PEER_ERROR) printf(" %d (%s)", event->peer_code, (const char *)datagram + TFTP_HEADER);
     printf(", block %d of %d bytes\n", event->number, event->block_size);
 }
 #endif

@@ -91,7 +91,9 @@ pub(crate) fn receive(
     match store(&mut client.end, endpoint(from), datagram, file) {
         Ok((step, outgoing, count)) => {
             let after = client.end.record();
-            client.stated = stated_after(before.peer, after.peer, datagram, client.stated);
+            if before.peer.is_none() {
+                client.stated = stated_after(before.peer, after.peer, datagram, client.stated);
+            }
             report_record(
                 &after,
                 step,

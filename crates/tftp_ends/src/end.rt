@@ -230,6 +230,18 @@ impl End {
         self.packet_action(sends, from, &decoded)
     }
 
+    /// How a receiver handles any datagram.
+    #[inline(never)]
+    fn any_action(&self, from: Endpoint, bytes: &[u8]) -> Action
+        requires { is_sender self.now.role.side ≡ false }
+        ensures action { (decoded : Option Packet) × Decodes bytes.now decoded
+            × (result ≡ datagram_action self.now from bytes.now decoded) }
+        ensures fits { ActionFits self.now result }
+        ensures bytes { BytesFit self.now bytes.now result }
+    {
+        self.datagram_action(false, from, bytes)
+    }
+
     /// What holds of every end.
     #[inline(always)]
     fn sound(&self)
@@ -289,6 +301,22 @@ impl End {
         }
     }
 
+    /// How a receiver handles a datagram. Most are of the next block: its action is not copied between
+    /// calls.
+    #[inline(always)]
+    fn action_as_receiver(&self, from: Endpoint, bytes: &[u8]) -> Action
+        requires { is_sender self.now.role.side ≡ false }
+        ensures action { (decoded : Option Packet) × Decodes bytes.now decoded
+            × (result ≡ datagram_action self.now from bytes.now decoded) }
+        ensures fits { ActionFits self.now result }
+        ensures bytes { BytesFit self.now bytes.now result }
+    {
+        match self.next_block(from, bytes) {
+            Some(action) => action,
+            None => self.any_action(from, bytes),
+        }
+    }
+
     /// How the end handles a timeout (RFC 1350, sections 2 and 6).
     fn timeout_response(&self) -> Response
         ensures response { result ≡ timeout_response self.now.position.retries_left
@@ -327,7 +355,7 @@ impl End {
     }
 
     /// The bytes of the datagram to send, until the next call.
-    #[inline(never)]
+    #[inline(always)]
     pub fn bytes_of(&self, outgoing: Outgoing) -> &[u8]
         ensures { result.now ≡ lent outgoing self.now }
     {

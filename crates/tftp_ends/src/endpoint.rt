@@ -1,6 +1,6 @@
 //! The source or destination of a datagram.
 
-ghost use Rattle.std.specs.Prelude.{◌≡◌};
+ghost use Rattle.std.specs.Prelude.{◌≡◌, ◌+◌, ◌*◌, ◌<◌};
 ghost use Rattle.tftp_ends.specs.Action.{same_address, same_endpoint};
 
 use std::fmt;
@@ -16,6 +16,15 @@ pub struct Endpoint {
     pub port: u16,
 }
 
+/// Four bytes as one number, so that two addresses are compared at once.
+#[inline(always)]
+fn word(a: u8, b: u8, c: u8, d: u8) -> u32
+    ensures value { result ≡ a + b * 256 + c * 65536 + d * 16777216 }
+    ensures bytes { (a < 256) × ((b < 256) × ((c < 256) × (d < 256))) }
+{
+    u32::from_le_bytes([a, b, c, d])
+}
+
 impl Endpoint {
     /// Whether both have the same address.
     #[inline(always)]
@@ -24,7 +33,7 @@ impl Endpoint {
     {
         let [a, b, c, d] = self.ip;
         let [e, f, g, h] = other.ip;
-        a == e && b == f && c == g && d == h
+        word(a, b, c, d) == word(e, f, g, h)
     }
 
     /// Whether both have the same address and the same port.

@@ -12,6 +12,7 @@ ghost use Rattle.tftp_file.specs.declared.netascii.NetFault.TheVariants.{LoneCr,
 use crate::lines::{CR, LF, NUL, line_byte_count, split_run};
 use std::alloc::AllocError;
 use std::marker::Model;
+use tftp_wire::append_reserved;
 use thiserror::Error;
 
 /// A fault of bytes that are not netascii (RFC 764), or out of memory.
@@ -197,7 +198,7 @@ fn append_wire(bytes: &[u8], out: &mut Vec<u8>)
     let mut left = bytes;
     while !left.is_empty() {
         let (run, rest) = split_run(left);
-        out.extend_from_slice(run).unwrap();
+        append_reserved(out, run);
         left = match rest {
             [byte, remaining @ ..] => {
                 out.push_reserved(CR);
@@ -290,7 +291,7 @@ fn append_host(text: &[u8], out: &mut Vec<u8>)
     let mut left = text;
     loop {
         let (run, rest) = split_run(left);
-        out.extend_from_slice(run).unwrap();
+        append_reserved(out, run);
         let Ok(Some((byte, remaining))) = split_pair(rest) else {
             return;
         };

@@ -49,8 +49,8 @@ pub fn append_data(out: &mut Vec<u8>, block: u16, bytes: &[u8]) -> Result<(), Al
     ensures capacity { vec_capacity out.old ≤ vec_capacity out.new }
 {
     out.reserve(HEADER + bytes.len())?;
-    put(out, &header(DATA, block));
-    put(out, bytes);
+    append_reserved(out, &header(DATA, block));
+    append_reserved(out, bytes);
     Ok(())
 }
 
@@ -63,7 +63,7 @@ pub fn append_error(out: &mut Vec<u8>, code: u16, text: &[u8]) -> Result<(), All
     ensures capacity { vec_capacity out.old ≤ vec_capacity out.new }
 {
     out.reserve(HEADER + text.len() + 1)?;
-    put(out, &header(ERROR, code));
+    append_reserved(out, &header(ERROR, code));
     put_text(out, text);
     Ok(())
 }
@@ -153,7 +153,7 @@ fn put_number(out: &mut Vec<u8>, number: u16)
 {
     let mut bytes = [0; 2];
     BigEndian::write_u16(&mut bytes, number);
-    put(out, &bytes);
+    append_reserved(out, &bytes);
 }
 
 // Inlined, the loop of each copy would be of some 300 bytes.
@@ -164,12 +164,14 @@ fn put_text(out: &mut Vec<u8>, text: &[u8])
     ensures capacity { vec_capacity out.old ≤ vec_capacity out.new }
     ensures len { vec_len out.new ≡ vec_len out.old + (length text.now + 1) }
 {
-    put(out, text);
-    put(out, &[0]);
+    append_reserved(out, text);
+    append_reserved(out, &[0]);
 }
 
+/// Appends bytes to a buffer with capacity for them. Its code is shared: each copy of bytes that is
+/// inlined has some 300 bytes.
 #[inline(never)]
-fn put(out: &mut Vec<u8>, bytes: &[u8])
+pub fn append_reserved(out: &mut Vec<u8>, bytes: &[u8])
     requires { vec_len out.old + length bytes.now ≤ vec_capacity out.old }
     ensures items { out.new.items ≡ out.old.items ++ bytes.now }
     ensures capacity { vec_capacity out.old ≤ vec_capacity out.new }

@@ -27,7 +27,7 @@ mod writer;
 
 pub use append::{
     append_ack, append_data, append_data_header, append_error, append_oack_header, append_option,
-    append_read, append_write,
+    append_read, append_reserved, append_write,
 };
 pub use bytes::Bytes;
 pub use datagram::show_datagram;

@@ -55,42 +55,6 @@ impl End {
         Ok((before.step_to(self.phase(), to), outgoing))
     }
 
-    /// A receiver handles any datagram.
-    #[inline(never)]
-    fn handle_any<K: Sink>(
-        &mut self,
-        sink: &mut K,
-        from: Endpoint,
-        bytes: &[u8],
-    ) -> Result<(Step, Outgoing), EndFault>
-        requires { is_sender self.old.role.side ≡ false }
-        ensures steps { IfOk result (λ answer. (turn : Turn)
-            × ReceiverStep K.meaning from bytes.now self.old sink.old turn sink.new
-            × Lends self.old turn self.new answer.0.to answer.1
-            × (answer.0 ≡ reported self.old turn)) }
-        ensures closed { IsErrOf result EndFault.Closed
-            ↔ IsSome (outcome_of self.old.position.phase) }
-        ensures unmoved { IsErrOf result EndFault.Closed → sink.new ≡ sink.old }
-        ensures memory { IsErrOf result EndFault.Memory
-            → HandledBy UsesFile from bytes.now self.old }
-        ensures why { IsErrOf result EndFault.Memory → ReceiverLacksMemory K.meaning
-            AppendsNothing from bytes.now self.old sink.old sink.new }
-        ensures room { IfOk result (λ answer. HandledBy
-            (FitsRoom self.old (lent answer.1 self.new)) from bytes.now self.old) }
-        ensures err { OnErr result ((self.new ≡ self.old)
-            × KeepsSink K.meaning sink.old sink.new) }
-        ensures same { K.is_same sink.old sink.new }
-        ensures side { is_sender self.new.role.side ≡ false }
-    {
-        if self.is_closed() {
-            return Err(EndFault::Closed);
-        }
-        let before = self.phase();
-        let action = self.datagram_action(false, from, bytes);
-        let (to, outgoing) = self.act_as_receiver(action, sink, from, bytes)?;
-        Ok((before.step_to(self.phase(), to), outgoing))
-    }
-
     /// As [`End::handle_datagram`], for a receiver alone: `sink` is its file.
     #[inline(always)]
     pub fn handle_datagram_as_receiver<K: Sink>(
@@ -121,11 +85,8 @@ impl End {
         if self.is_closed() {
             return Err(EndFault::Closed);
         }
-        // most datagrams are of the next block: its action is not copied between calls
-        let Some(action) = self.next_block(from, bytes) else {
-            return self.handle_any(sink, from, bytes);
-        };
         let before = self.phase();
+        let action = self.action_as_receiver(from, bytes);
         let (to, outgoing) = self.act_as_receiver(action, sink, from, bytes)?;
         Ok((before.step_to(self.phase(), to), outgoing))
     }
@@ -197,7 +158,7 @@ impl End {
             return Err(EndFault::Closed);
         }
         let before = self.phase();
-        let action = self.datagram_action(false, from, bytes);
+        let action = self.any_action(from, bytes);
         out.reserve(self.room(action))?;
         let (to, outgoing) = self.act_as_receiver(action, sink, from, bytes)?;
         self.append_outgoing(outgoing, out);
