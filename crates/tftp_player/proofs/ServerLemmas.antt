@@ -1,5 +1,5 @@
 -- What the server's request port did is what the world has of it, for a store in memory. For four other files.
-use Rattle.std.proofs.Common.{◌≡◌, ◌≢◌, ℕ, ◌*◌, ◌<◌, Bool, cond, true, false, List, [], ◌∷◌, length, get_or, take, drop, min}
+use Rattle.std.proofs.Common.{◌≡◌, ◌≢◌, ℕ, ◌*◌, ◌<◌, Bool, cond, true, false, List, [], ◌∷◌, length, take, drop, min}
 use Rattle.std.proofs.Common.{Option, Some, None, Result, Ok, Err, refl, sym, ap, ◌∙◌, subst, arith, inl, inr}
 use Rattle.std.specs.Prelude.{◌&&◌, not, is_some, IfErr, if◌then◌else◌, nat_lt}
 use Rattle.std.proofs.lemmas.Bool.{true≢false, ltb-true, eq-eqb}
@@ -9,10 +9,7 @@ use Rattle.tftp_negotiate.specs.declared.limits.TheConstants.{DEFAULT_BLOCK}
 use Rattle.tftp_wire.specs.declared.mode.Mode.{Mode}
 use Rattle.tftp_wire.specs.declared.options.RawOption.{RawOption}
 use Rattle.tftp_wire.specs.declared.packet.Packet.{Packet}
-use Rattle.tftp_wire.specs.Parts.{packet_in}
-use Rattle.tftp_wire.specs.Reading.{first_fault}
-use Rattle.tftp_wire.specs.declared.fault.PacketFault.{PacketFault}
-use Rattle.tftp_wire.proofs.SpellingLemmas.{fault_where_nothing, one_meaning, spelled_has_no_fault}
+use Rattle.tftp_wire.proofs.SpellingLemmas.{one_meaning, spelled_has_no_fault}
 use Rattle.tftp_negotiate.specs.Agreed.{size}
 use Rattle.tftp_negotiate.specs.Answer.{answer}
 use Rattle.tftp_negotiate.specs.Ranges.{IsBlockSize}
@@ -64,15 +61,6 @@ says_one bytes (Some p) (Some q) s t = ap Some (one_meaning p q bytes s t)
 says_one bytes (Some p) None s t = absurd (let f : None ≡ Some t.0 = sym (spelled_has_no_fault p bytes s) ∙ t.1 in cc)
 says_one bytes None (Some q) s t = absurd (let f : None ≡ Some s.0 = sym (spelled_has_no_fault q bytes t) ∙ s.1 in cc)
 says_one bytes None None s t = refl
-
--- and each datagram says something
-pub says_something : (bytes : List ℕ) → ((k : ℕ) → get_or bytes k 0 < 256) →
-    (decoded : Option Packet) × Decodes bytes decoded
-says_something bytes fine = by_fault (first_fault bytes) refl where
-  by_fault : (fault : Option PacketFault) → first_fault bytes ≡ fault →
-      (decoded : Option Packet) × Decodes bytes decoded
-  by_fault None e = (Some (packet_in bytes), fault_where_nothing bytes fine e)
-  by_fault (Some fault) e = (None, (fault, e))
 
 -- the first block is asked for of a text that was measured to its end
 first_want : (m n : ℕ) → m ≡ n → block_length m DEFAULT_BLOCK 1 ≡ min DEFAULT_BLOCK n

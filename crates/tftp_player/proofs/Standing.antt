@@ -1,7 +1,7 @@
 -- An end after a turn, in the world: open, or closed with its record. For ten other files.
-use Rattle.std.proofs.Common.{◌≡◌, ℕ, Bool, true, false, List, set, Option, Some, None, refl, sym, ap, ◌∙◌, subst, inl}
+use Rattle.std.proofs.Common.{◌≡◌, ℕ, true, false, List, set, Option, Some, None, refl, sym, ap, ◌∙◌, subst, inl}
 use Rattle.std.proofs.Common.{inr}
-use Rattle.std.specs.Prelude.{◌&&◌, not, is_some, slice_get}
+use Rattle.std.specs.Prelude.{not, is_some, slice_get}
 use Rattle.std.specs.List.{Contains}
 use Rattle.std.proofs.lemmas.Bool.{true≢false, cases_Bool}
 use Rattle.tftp_file.specs.Netascii.{wire_text}
@@ -11,13 +11,12 @@ use Rattle.tftp_ends.specs.declared.phase.Phase.TheVariants.{Waiting, Sending, R
 use Rattle.tftp_ends.specs.End.{is_sender, is_client, is_complete, outcome_of, record_of}
 use Rattle.tftp_rules.specs.OpenEnds.{OpenEnd, with_phase, has_failed, open_view}
 use Rattle.tftp_rules.specs.EndKept.{EndKept}
-use Rattle.tftp_player.specs.Requests.{is_transfer}
 use Rattle.tftp_rules.specs.Hosts.{two_hosts}
 use Rattle.tftp_rules.specs.Machine.{Message}
 use Rattle.tftp_rules.proofs.Refines.{shown_forgets}
 use Rattle.tftp_rules.specs.Rules.{Rule}
 use Rattle.tftp_rules.specs.Shows.{EndView, IsInService, IsShownWithin}
-use Rattle.tftp_player.specs.World.{WorldState, WorldEnd, Open_end, Closed_end, end_record, end_address, is_closed}
+use Rattle.tftp_player.specs.World.{WorldState, WorldEnd, Open_end, Closed_end, end_record, end_address}
 use Rattle.tftp_player.specs.World.{datagram, closed_end, by_outcome, standing, view_of_end, end_request, file_at}
 use Rattle.tftp_player.specs.WorldKept.{HasAsker, IsKeptIn}
 
@@ -108,29 +107,6 @@ standing_shown first views messages k d x at shown = elim (cases_Bool (is_some (
       subst (λ (v : EndView). IsShownWithin two_hosts 3 first (set views k v) messages)
       (sym (ap view_of_end (standing_open x open_now) ∙ open_is x open_now)) shown
 ]
-
--- it is closed if it has ended
-pub standing_closed : (x : OpenEnd) → is_closed (standing x) ≡ is_some (outcome_of x.state.position.phase)
-standing_closed x = by_case (outcome_of x.state.position.phase) where
-  by_case : (o : Option Outcome) → is_closed (by_outcome o x) ≡ is_some o
-  by_case None = refl
-  by_case (Some outcome) = refl
-
--- it is a transfer if it is the server's and has not ended
-pub standing_transfer : (x : OpenEnd) →
-    is_transfer (standing x) ≡ (not (is_client x.state.role.side) && not (is_some (outcome_of x.state.position.phase)))
-standing_transfer x = by_case (outcome_of x.state.position.phase) where
-  and_true : (b : Bool) → b ≡ (b && true)
-  and_true true = refl
-  and_true false = refl
-
-  and_false : (b : Bool) → false ≡ (b && false)
-  and_false true = refl
-  and_false false = refl
-
-  by_case : (o : Option Outcome) → is_transfer (by_outcome o x) ≡ (not (is_client x.state.role.side) && not (is_some o))
-  by_case None = and_true (not (is_client x.state.role.side))
-  by_case (Some outcome) = and_false (not (is_client x.state.role.side))
 
 -- a closed end has the same peer, and its path
 ended_asked : (w : WorldState) (x : OpenEnd) → HasAsker w (Open_end x) → HasAsker w (Closed_end (closed_end x))
