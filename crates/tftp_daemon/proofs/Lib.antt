@@ -5,6 +5,7 @@ mod HeldAtPorts
 mod Keeping
 mod NoneStores
 mod OwnDrafts
+mod Reporting
 mod Supervising
 mod WithinLimits
 pub mod SentFiles

@@ -9,3 +9,4 @@ pub mod Servers
 pub mod Supervised
 pub mod Sent
 pub mod Reports
+pub mod Reported

@@ -1,12 +1,12 @@
 -- The file of a server's counts, as its configuration names it (own).
-use Rattle.std.specs.Prelude.{ℕ, ◌≡◌, ◌≢◌, ◌==◌, if◌then◌else◌, length, List, [], ◌∷◌, Option, Some, None, Result, Ok, Err, IfSome}
+use Rattle.std.specs.Prelude.{ℕ, ◌≡◌, ◌≢◌, ◌==◌, if◌then◌else◌, length, List, ◌∷◌, Option, Some, None, Ok, Err, IfSome}
 use Rattle.std.specs.Prelude.{codes, option_map}
 use Rattle.std.specs.Path.{PathStartsWith, path_parent}
 use Rattle.std.specs.declared.io.Error.{Error}
 use Rattle.tftp_disk.specs.DiskTrace.{DiskEvent}
 use Rattle.tftp_disk.specs.DiskTrace.DiskEvent.{Resolved}
 use Rattle.tftp_status.specs.FileName.{IsFileOf}
-use Rattle.tftp_status.specs.StatusFile.{IsNewAt, Status, draft_of}
+use Rattle.tftp_status.specs.StatusFile.{IsNewAt, KeepsCounts, Status, draft_of}
 use Rattle.tftp_daemon.specs.declared.daemon.DaemonConfig.{DaemonConfig}
 
 -- a folder, which is this one if its path is empty
@@ -47,3 +47,14 @@ pub record IsReported (config : DaemonConfig) (status : Status) : Type 0 where
   pub is_own : IsOwnFile named config.instance.server own
   pub is_new : IsNewAt own status
   pub drains : IfSome config.drain (λ path. (path.now ≢ own) × (path.now ≢ draft_of own))
+
+-- the status file is that of the configuration: at the path that it names, as a new one is, and it
+-- keeps its counts
+pub record IsReportOf (config : DaemonConfig) (status : Status) : Type 0 where
+  pub named : List ℕ
+  pub is_named : option_map (λ file. file.now) config.status ≡ Some named
+  pub own : List ℕ
+  pub is_own : IsOwnFile named config.instance.server own
+  pub is_at : status.file ≡ own
+  pub drains : IfSome config.drain (λ path. (path.now ≢ own) × (path.now ≢ draft_of own))
+  pub keeps : KeepsCounts status

@@ -11,7 +11,9 @@ ghost use Rattle.tftp_folder.specs.Opened.{IsRootOf};
 ghost use Rattle.tftp_daemon.specs.Configured.{IsOfSeveral, IsServerOf, IsUploads, ListensAt};
 ghost use Rattle.tftp_daemon.specs.Configured.{MayServe, RunsService, drafts_in, servers_of};
 ghost use Rattle.tftp_daemon.specs.Configured.{service_at, daemon_status};
+ghost use Rattle.tftp_daemon.specs.Reports.{IsReportOf};
 ghost use Rattle.tftp_daemon.specs.Supervised.{MaySupervise, Supervised};
+ghost use Rattle.tftp_status.specs.StatusFile.{KeepsCounts};
 
 use crate::drain_file::DrainFile;
 use crate::listen::Listen;
@@ -178,6 +180,8 @@ pub(crate) fn serve<P: Print + ErrorLines + Clock + Supervise, D: Disk, N: Serve
     ensures runs { MayServe D.log (D.log disk) ⟦<FolderStore<D> as Store>⟧.meaning
         ⟦<FolderSource<D::View> as Source>⟧.meaning
         config.now (daemon_status result) (N.log net.old.net.net) (N.log net.new.net.net) }
+    ensures reports { net.old.report ≡ None → IfSome net.new.report
+        (λ report. IsReportOf config.now report.status) }
     ensures several { MaySupervise P.supervised config.now (daemon_status result) }
 {
     if let Err(fault) = check_status(&disk, alloc, config) {
@@ -233,6 +237,8 @@ fn serve_alone<D: Disk, N: ServerUdp + Eprint>(
     ensures runs { MayServe D.log (D.log disk) ⟦<FolderStore<D> as Store>⟧.meaning
         ⟦<FolderSource<D::View> as Source>⟧.meaning
         config.now (daemon_status result) (N.log net.old.net.net) (N.log net.new.net.net) }
+    ensures reports { net.old.report ≡ None → IfSome net.new.report
+        (λ report. IsReportOf config.now report.status) }
 {
     set_log(&mut net.net, alloc, config);
     match begin_reports(net, alloc, config) {
@@ -256,6 +262,8 @@ fn serve_where_asked<D: Disk, N: ServerUdp + Eprint>(
     ensures runs { MayServe D.log (D.log disk) ⟦<FolderStore<D> as Store>⟧.meaning
         ⟦<FolderSource<D::View> as Source>⟧.meaning
         config.now (daemon_status result) (N.log net.old.net.net) (N.log net.new.net.net) }
+    ensures reports { IfSome net.old.report (λ report. IsReportOf config.now report.status)
+        → IfSome net.new.report (λ report. IsReportOf config.now report.status) }
 {
     match config.listen {
         Listen::At(at) => {
@@ -292,6 +300,8 @@ fn serve_handed<D: Disk, N: ServerUdp + Eprint>(
     ensures runs { MayServe D.log (D.log disk) ⟦<FolderStore<D> as Store>⟧.meaning
         ⟦<FolderSource<D::View> as Source>⟧.meaning
         config.now (daemon_status result) (N.log net.old.net.net) (N.log net.new.net.net) }
+    ensures reports { IfSome net.old.report (λ report. IsReportOf config.now report.status)
+        → IfSome net.new.report (λ report. IsReportOf config.now report.status) }
 {
     match HandedSocket::new(input) {
         Ok(socket) => {
@@ -337,6 +347,8 @@ fn serve_at<D: Disk, N: ServerUdp + Eprint>(
     ensures runs { MayServe D.log (D.log disk) ⟦<FolderStore<D> as Store>⟧.meaning
         ⟦<FolderSource<D::View> as Source>⟧.meaning
         config.now (daemon_status result) (N.log net.old.net.net) (N.log net.new.net.net) }
+    ensures reports { IfSome net.old.report (λ report. IsReportOf config.now report.status)
+        → IfSome net.new.report (λ report. IsReportOf config.now report.status) }
 {
     let signal = DrainFile::new(disk.view(), config.drain);
     match open_server(disk, alloc, config) {
@@ -434,11 +446,16 @@ fn serve_loop<D: Disk, N: ServerUdp + Eprint, G: DrainSignal>(
     service: &LoopConfig,
     signal: &G,
 ) -> Result<(), DaemonFault>
-    ensures { RunsService ⟦<FolderStore<D> as Store>⟧.meaning
+    ensures runs { RunsService ⟦<FolderStore<D> as Store>⟧.meaning
         ⟦<FolderSource<D::View> as Source>⟧.meaning service.now server (daemon_status result)
         (N.log net.old.net.net) (N.log net.new.net.net) }
+    ensures file { option_map (λ report. report.status.file) net.new.report
+        ≡ option_map (λ report. report.status.file) net.old.report }
+    ensures keeps { IfSome net.new.report (λ report. KeepsCounts report.status) }
 {
-    match tftp_loop::serve(net, alloc, server, service, signal) {
+    let served = tftp_loop::serve(net, alloc, server, service, signal);
+    net.keeps_counts();
+    match served {
         Ok(()) => Ok(()),
         Err(fault) => Err(DaemonFault::Loop(fault)),
     }

@@ -5,6 +5,7 @@ ghost use Rattle.tftp_daemon.specs.Changes.{UploadsRunChangesBelow};
 ghost use Rattle.tftp_daemon.specs.DraftPorts.{EachDraftHasItsPort, NoTwoShareADraft};
 ghost use Rattle.tftp_daemon.specs.Leaves.{ReadOnlyRunStoresNothing, RunKeepsSettings};
 ghost use Rattle.tftp_daemon.specs.Leaves.{UploadsStayInTheirFolder};
+ghost use Rattle.tftp_daemon.specs.Reported.{RunReportsAlone};
 ghost use Rattle.tftp_daemon.specs.Sent.{OnlyAskedFilesLeave};
 ghost use Rattle.tftp_daemon.specs.Witness.{SomeServe};
 
@@ -56,7 +57,7 @@ pub fn each_draft_has_its_port<D: Disk>()
 /// replaced or removed, whatever datagrams come and whatever the system answers. Each path that the
 /// store passes to the system, even to look at a file, is textually the root or below it. The one
 /// exception is ROOT as the operator wrote it, before it is resolved. The disk of `--status` is another
-/// one.
+/// one (`a_run_reports_in_its_file_alone`).
 ///
 /// The calls that open a file are recorded apart: in the trace of the source, if the opening
 /// succeeds. They change nothing, and use such paths only (`OpensSource` of `tftp_folder`). For an
@@ -69,8 +70,7 @@ pub fn a_run_stays_within_its_limits<D: Disk>()
 }
 
 /// A run with `--read-only` among its arguments changes nothing on the disk of its store. The file of
-/// `--status` is changed by a second disk, whose trace has that file and its temporary one alone
-/// (`KeepsCounts` of `tftp_status`).
+/// `--status` is changed by a second disk (`a_run_reports_in_its_file_alone`).
 pub fn a_read_only_run_changes_nothing<D: Disk>()
     ensures { ReadOnlyRunChangesNothing D.log ⟦<FolderStore<D> as Store>⟧.meaning
         ⟦<FolderSource<D::View> as Source>⟧.meaning }
@@ -87,6 +87,14 @@ pub fn a_run_changes_its_uploads_alone<D: Disk>()
 {
     a_run_stays_within_its_limits::<D>();
 }
+
+/// On its second disk a run changes the file that its arguments name by `--status`, and the temporary
+/// file of that, alone; one of several servers has its number in the name. Each text that got the name
+/// is that of the counts of what the server had told by then. Without `--status` there is no report.
+/// Whatever the arguments, what is left of a run's report is such a one (`tftpd_on`: `reports`).
+pub fn a_run_reports_in_its_file_alone()
+    ensures { RunReportsAlone }
+{}
 
 /// Nothing of the disk leaves a server but blocks of files that were asked for: each datagram that
 /// it sends is an ERROR, an ACK, an OACK, or DATA, and goes to an endpoint that sent one before.

@@ -1,9 +1,11 @@
 //! Runs `tftpd` by a command line.
 
-ghost use Rattle.std.specs.Prelude.{◌≡◌, ◌≤◌, [], map};
+ghost use Rattle.std.specs.Prelude.{◌≡◌, ◌≤◌, [], IfSome, None, map};
 ghost use Rattle.tftp_server.specs.Config.{IsConfig};
 ghost use Rattle.tftp_daemon.specs.CommandLine.{IfExit, IfRun};
 ghost use Rattle.tftp_daemon.specs.Configured.{MayServe, ServesWords, daemon_status};
+ghost use Rattle.tftp_daemon.specs.Reported.{ReportsWords};
+ghost use Rattle.tftp_daemon.specs.Reports.{IsReportOf};
 ghost use Rattle.tftp_daemon.specs.Supervised.{MaySupervise, SupervisesWords};
 
 use crate::command_line::{CommandLine, Texts, read_words};
@@ -105,7 +107,8 @@ fn tftpd_over<
 /// As [`tftpd_words`], over a disk and a network: it does nothing over UDP, as for `--help`, or runs
 /// one server with the configuration that the words name. With a status of 0 that server served to
 /// its end, or the words ask for the help or the version, or for several servers: then their
-/// supervisor has started each of them, and each has ended with status 0.
+/// supervisor has started each of them, and each has ended with status 0. If it reports, it does so in
+/// the file that the words name (`laws::a_run_reports_in_its_file_alone`).
 pub fn tftpd_on<
     P: Print + ErrorLines + Clock + Supervise,
     D: Disk,
@@ -125,6 +128,8 @@ pub fn tftpd_on<
         ⟦<FolderSource<D::View> as Source>⟧.meaning (map S.text words.now) result
         (N.log net.old.net.net) (N.log net.new.net.net) }
     ensures several { SupervisesWords P.supervised (map S.text words.now) result }
+    ensures reports { net.old.report ≡ None → IfSome net.new.report
+        (λ report. ReportsWords (map S.text words.now) report.status) }
 {
     match Texts::new(alloc) {
         Ok(texts) => serve_texts(rt, alloc, disk, net, &texts, words, input, surroundings),
@@ -154,6 +159,8 @@ fn serve_texts<
         ⟦<FolderSource<D::View> as Source>⟧.meaning (map S.text words.now) result
         (N.log net.old.net.net) (N.log net.new.net.net) }
     ensures several { SupervisesWords P.supervised (map S.text words.now) result }
+    ensures reports { net.old.report ≡ None → IfSome net.new.report
+        (λ report. ReportsWords (map S.text words.now) report.status) }
 {
     match read_words(rt, alloc, texts, words, surroundings) {
         Ok(line) => serve_command_line(rt, alloc, disk, net, &line, input),
@@ -178,7 +185,10 @@ fn serve_command_line<P: Print + ErrorLines + Clock + Supervise, D: Disk, N: Ser
         ⟦<FolderStore<D> as Store>⟧.meaning ⟦<FolderSource<D::View> as Source>⟧.meaning config
         result (N.log net.old.net.net) (N.log net.new.net.net)) }
     ensures several { IfRun line.now (λ config. MaySupervise P.supervised config result) }
+    ensures reports { net.old.report ≡ None → IfRun line.now (λ config. IfSome net.new.report
+        (λ report. IsReportOf config report.status)) }
     ensures none { IfExit line.now (λ _. N.log net.new.net.net ≡ N.log net.old.net.net) }
+    ensures unreported { IfExit line.now (λ _. net.new.report ≡ net.old.report) }
 {
     match line {
         CommandLine::Run(config) => serve_config(rt, alloc, disk, net, config, input),
@@ -201,6 +211,8 @@ fn serve_config<P: Print + ErrorLines + Clock + Supervise, D: Disk, N: ServerUdp
         ⟦<FolderSource<D::View> as Source>⟧.meaning config.now result (N.log net.old.net.net)
         (N.log net.new.net.net) }
     ensures several { MaySupervise P.supervised config.now result }
+    ensures reports { net.old.report ≡ None → IfSome net.new.report
+        (λ report. IsReportOf config.now report.status) }
 {
     let served = serve(rt, alloc, disk, net, config, input);
     report(rt, config, served)

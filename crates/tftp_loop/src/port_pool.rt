@@ -72,6 +72,7 @@ impl PortPool {
         ensures port { IfSome result (IsOfPool self.old) }
         ensures tries { Tries self.old.range (N.log net.old) (N.log net.new) result }
         ensures told { N.told net.new ≡ N.told net.old }
+        ensures file { N.file net.new ≡ N.file net.old }
     {
         let ip = self.ip;
         match &mut self.order {
@@ -121,6 +122,7 @@ fn bind_any<N: ServerUdp>(
     ensures ip { IfSome result (λ socket. socket.ip ≡ ip) }
     ensures tries { Tries None (N.log net.old) (N.log net.new) result }
     ensures told { N.told net.new ≡ N.told net.old }
+    ensures file { N.file net.new ≡ N.file net.old }
 {
     bind_at(net, ip, 0, bind_error)
 }
@@ -139,6 +141,7 @@ fn bind_next<N: ServerUdp>(
     ensures tries { Tries (Some order.old.range) (N.log net.old) (N.log net.new) result }
     ensures turns { TriesInTurn ip order.old order.new result }
     ensures told { N.told net.new ≡ N.told net.old }
+    ensures file { N.file net.new ≡ N.file net.old }
 {
     let mut left = order.len();
     loop {
@@ -176,6 +179,7 @@ fn bind_at<N: ServerUdp>(
         IsBoundTo (record { ip = ip; port = port }) socket.ip socket.port) }
     ensures noted { N.log net.new ≡ after_bind port result (N.log net.old) }
     ensures told { N.told net.new ≡ N.told net.old }
+    ensures file { N.file net.new ≡ N.file net.old }
 {
     match net.bind_noted(Endpoint { ip, port }) {
         Ok(socket) => Some(socket),

@@ -104,6 +104,7 @@ pub(crate) fn visit_port<N: ServerUdp, S: Store>(
     ensures received { ReceivesAtMost MOST_AT_ONCE (N.log net.old) (N.log net.new) }
     ensures open { UnlessClosed result (StaysOpen (at_port server.old port.old (N.log net.old))
         (at_port server.new port.new (N.log net.new))) }
+    ensures file { N.file net.new ≡ N.file net.old }
 {
     let mut visit = PortVisit {
         server,
@@ -140,6 +141,7 @@ impl<N: ServerUdp, S: Store> PortVisit<'_, N, S> {
         ensures timed { leaves_timed (at_visit N.log self.new) self.new.now }
         ensures open { UnlessClosed result (StaysOpen (at_visit N.log self.old)
             (at_visit N.log self.new)) }
+        ensures file { N.file self.new.net.now ≡ N.file self.old.net.now }
     {
         let status = self.take_datagrams(buffer);
         if status == PortStatus::Closed {
@@ -161,6 +163,7 @@ impl<N: ServerUdp, S: Store> PortVisit<'_, N, S> {
         ensures tried { IsTried N.log self.new }
         ensures open { UnlessClosed result (StaysOpen (at_visit N.log self.old)
             (at_visit N.log self.new)) }
+        ensures file { N.file self.new.net.now ≡ N.file self.old.net.now }
     {
         for count in 0..MOST_AT_ONCE {
             match self.net.receive(&self.port.socket.udp, buffer) {
@@ -196,6 +199,7 @@ impl<N: ServerUdp, S: Store> PortVisit<'_, N, S> {
             ≡ self.old.port.now.socket.received + 1 }
         ensures open { UnlessClosed result (StaysOpen (at_visit N.log self.old)
             (at_visit N.log self.new)) }
+        ensures file { N.file self.new.net.now ≡ N.file self.old.net.now }
     {
         if self.port.socket.age_limit < self.now {
             note_received(self.port);
@@ -225,6 +229,7 @@ impl<N: ServerUdp, S: Store> PortVisit<'_, N, S> {
         ensures timed { IsTimed self.new.now (timer_of self.new.port.now) }
         ensures open { UnlessClosed result (StaysOpen (at_visit N.log self.old)
             (at_visit N.log self.new)) }
+        ensures file { N.file self.new.net.now ≡ N.file self.old.net.now }
     {
         if is_due(self.now, self.port.socket.deadline) {
             self.take_timeout()
@@ -243,6 +248,7 @@ impl<N: ServerUdp, S: Store> PortVisit<'_, N, S> {
             ≡ restarted self.new.now (timer_of self.old.port.now) }
         ensures open { UnlessClosed result (StaysOpen (at_visit N.log self.old)
             (at_visit N.log self.new)) }
+        ensures file { N.file self.new.net.now ≡ N.file self.old.net.now }
     {
         restart(self.port, self.now);
         let number = self.port.socket.udp.port();
@@ -338,6 +344,7 @@ fn time_out<N: ServerUdp, S: Store>(
         (N.log net.new) step) }
     ensures open { IsUnclosedBy result udp.now.port server.old.held server.new.held }
     ensures received { ReceivesAtMost 0 (N.log net.old) (N.log net.new) }
+    ensures file { N.file net.new ≡ N.file net.old }
 {
     let tid = udp.port();
     let Ok((step, outgoing)) = server.handle_timeout(tid) else {

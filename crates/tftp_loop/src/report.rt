@@ -66,6 +66,7 @@ pub(crate) fn log_unopened<E: Eprint>(
 pub(crate) fn count_unopened<N: ServerUdp>(net: &mut N, answer: &[u8])
     ensures events { N.log net.new ≡ N.log net.old }
     ensures told { N.told net.new ≡ and_told (unopened_entry answer.now) (N.told net.old) }
+    ensures file { N.file net.new ≡ N.file net.old }
 {
     net.count(unopened_entry(answer));
 }
@@ -88,6 +89,7 @@ pub(crate) fn count_opened<N: ServerUdp>(net: &mut N, request: &[u8])
     ensures events { N.log net.new ≡ N.log net.old }
     ensures told { N.told net.new
         ≡ and_told (Opened (direction_asked request.now)) (N.told net.old) }
+    ensures file { N.file net.new ≡ N.file net.old }
 {
     net.count(Entry::Opened(direction_asked(request)));
 }
@@ -227,6 +229,7 @@ pub(crate) fn report_close<N: ServerUdp + Eprint>(
         (N.log net.old) }
     ensures fault { IfErr result (λ fault. FailsToPrint fault (N.log net.new)) }
     ensures told { IsCloseTold closed (N.told net.old) (N.told net.new) }
+    ensures file { N.file net.new ≡ N.file net.old }
 {
     let Some(record) = closed else {
         return Ok(());
@@ -301,6 +304,7 @@ fn direction_of(side: Side) -> Direction
 pub(crate) fn report_open<N: ServerUdp>(net: &mut N, port: &TransferPort, reading: u64)
     ensures events { N.log net.new ≡ N.log net.old }
     ensures told { N.told net.new ≡ N.told net.old }
+    ensures file { N.file net.new ≡ N.file net.old }
 {
     if let Some(entry) = &port.socket.log_entry {
         net.report_open(entry.open_transfer(port.socket.udp.port(), reading));

@@ -60,6 +60,7 @@ impl<S: ServedStore<Reason> + Drop> ServerLoop<S> {
         ensures few { HasFew MOST_AT_ONCE self.old → HasFew MOST_AT_ONCE self.new }
         ensures rounds { self.new.rounds ≡ self.old.rounds }
         ensures room { HasRoom self.new }
+        ensures file { N.file net.new ≡ N.file net.old }
     {
         self.take_pending(net, request);
         if !self.reads_requests() {
@@ -80,6 +81,7 @@ impl<S: ServedStore<Reason> + Drop> ServerLoop<S> {
         ensures asked { self.new.sockets.has_received ≡ self.old.sockets.has_received }
         ensures rounds { self.new.rounds ≡ self.old.rounds }
         ensures room { HasRoom self.new }
+        ensures file { N.file net.new ≡ N.file net.old }
     {
         let Some((from, count)) = self.pending else {
             return;
@@ -98,6 +100,7 @@ impl<S: ServedStore<Reason> + Drop> ServerLoop<S> {
         ensures told { IsToldOnce (N.told net.old) (N.told net.new) }
         ensures rounds { self.new.rounds ≡ self.old.rounds }
         ensures room { HasRoom self.new }
+        ensures file { N.file net.new ≡ N.file net.old }
     {
         if self.drops(datagram.bytes) {
             self.ignore(net, datagram);
@@ -129,6 +132,7 @@ impl<S: ServedStore<Reason> + Drop> ServerLoop<S> {
         ensures few { HasFew MOST_AT_ONCE self.old → HasFew MOST_AT_ONCE self.new }
         ensures rounds { self.new.rounds ≡ self.old.rounds }
         ensures room { HasRoom self.new }
+        ensures file { N.file net.new ≡ N.file net.old }
     {
         let load = self.load();
         match net.receive_request(&self.sockets.requests, load, request) {
@@ -175,6 +179,7 @@ impl<S: ServedStore<Reason> + Drop> ServerLoop<S> {
         ensures told { IsToldUnlessKept self.new.pending (N.told net.old) (N.told net.new) }
         ensures rounds { self.new.rounds ≡ self.old.rounds }
         ensures room { HasRoom self.new }
+        ensures file { N.file net.new ≡ N.file net.old }
     {
         let bytes = &request[..count];
         if from.port == NO_PORT {
@@ -211,6 +216,7 @@ impl<S: ServedStore<Reason> + Drop> ServerLoop<S> {
     fn ignore<N: ServerUdp + Eprint>(&self, net: &mut N, datagram: Datagram<'_>)
         ensures events { N.log net.new ≡ N.log net.old }
         ensures told { N.told net.new ≡ and_told Entry.Ignored (N.told net.old) }
+        ensures file { N.file net.new ≡ N.file net.old }
     {
         net.count(Entry::Ignored);
         if self.log.is_written {
@@ -258,6 +264,7 @@ impl<S: ServedStore<Reason> + Drop> ServerLoop<S> {
         ensures told { IsToldOnce (N.told net.old) (N.told net.new) }
         ensures rounds { self.new.rounds ≡ self.old.rounds }
         ensures room { HasRoom self.new }
+        ensures file { N.file net.new ≡ N.file net.old }
     {
         match self.most_reached(datagram.from) {
             Some(most) => self.lose(net, datagram, Lost::Client(most)),
@@ -285,6 +292,7 @@ impl<S: ServedStore<Reason> + Drop> ServerLoop<S> {
         ensures told { IsToldOnce (N.told net.old) (N.told net.new) }
         ensures rounds { self.new.rounds ≡ self.old.rounds }
         ensures room { HasRoom self.new }
+        ensures file { N.file net.new ≡ N.file net.old }
     {
         let Some(bound) = self.sockets.port_for(net, &admission) else {
             self.lose(net, datagram, Lost::Port(self.sockets.bind_error()));
@@ -321,6 +329,7 @@ impl<S: ServedStore<Reason> + Drop> ServerLoop<S> {
         ensures told { IsToldOnce (N.told net.old) (N.told net.new) }
         ensures rounds { self.new.rounds ≡ self.old.rounds }
         ensures room { HasRoom self.new }
+        ensures file { N.file net.new ≡ N.file net.old }
     {
         let tid = bound.port();
         set_store(&mut self.server, &admission, tid);
@@ -350,6 +359,7 @@ impl<S: ServedStore<Reason> + Drop> ServerLoop<S> {
         ensures answers { HasAnswered datagram.entry.from opened self.old.out.items self.old
             (N.log net.old) self.new (N.log net.new) }
         ensures told { IsToldOnce (N.told net.old) (N.told net.new) }
+        ensures file { N.file net.new ≡ N.file net.old }
     {
         match opened.tid {
             Some(_) => self.begin(net, datagram, bound, opened.to),
@@ -372,6 +382,7 @@ impl<S: ServedStore<Reason> + Drop> ServerLoop<S> {
         ensures told { IsToldOnce (N.told net.old) (N.told net.new) }
         ensures rounds { self.new.rounds ≡ self.old.rounds }
         ensures room { HasRoom self.old → HasRoom self.new }
+        ensures file { N.file net.new ≡ N.file net.old }
     {
         match admission.refusal() {
             Some(reply) => self.answer(net, datagram, Some(datagram.from), reply.datagram()),
@@ -391,6 +402,7 @@ impl<S: ServedStore<Reason> + Drop> ServerLoop<S> {
         ensures answers { HasAnswered datagram.entry.from (record { tid = None; to = to })
             answer.now self.old (N.log net.old) self.new (N.log net.new) }
         ensures told { N.told net.new ≡ and_told (unopened_entry answer.now) (N.told net.old) }
+        ensures file { N.file net.new ≡ N.file net.old }
     {
         let sent = reply(net, &self.sockets.requests, to, answer);
         count_unopened(net, answer);
@@ -410,6 +422,7 @@ impl<S: ServedStore<Reason> + Drop> ServerLoop<S> {
     fn lose_for_memory<N: ServerUdp + Eprint>(&self, net: &mut N, datagram: Datagram<'_>)
         ensures events { N.log net.new ≡ Quiet Out_of_memory ∷ N.log net.old }
         ensures told { N.told net.new ≡ and_told Entry.Lost (N.told net.old) }
+        ensures file { N.file net.new ≡ N.file net.old }
     {
         net.out_of_memory();
         self.lose(net, datagram, Lost::Memory);
@@ -419,6 +432,7 @@ impl<S: ServedStore<Reason> + Drop> ServerLoop<S> {
     fn lose<N: ServerUdp + Eprint>(&self, net: &mut N, datagram: Datagram<'_>, lost: Lost)
         ensures events { N.log net.new ≡ N.log net.old }
         ensures told { N.told net.new ≡ and_told Entry.Lost (N.told net.old) }
+        ensures file { N.file net.new ≡ N.file net.old }
     {
         net.count(Entry::Lost);
         if self.log.is_written {
@@ -439,6 +453,7 @@ impl<S: ServedStore<Reason> + Drop> ServerLoop<S> {
             self.old.out.items self.old (N.log net.old) self.new (N.log net.new) }
         ensures told { N.told net.new
             ≡ and_told (unopened_entry self.old.out.items) (N.told net.old) }
+        ensures file { N.file net.new ≡ N.file net.old }
     {
         let answer = self.out.as_slice();
         let sent = reply(net, &self.sockets.requests, to, answer);
@@ -469,6 +484,7 @@ impl<S: ServedStore<Reason> + Drop> ServerLoop<S> {
             self.old.out.items self.old (N.log net.old) self.new (N.log net.new) }
         ensures told { N.told net.new
             ≡ and_told (Opened_by (direction_asked datagram.entry.bytes.now)) (N.told net.old) }
+        ensures file { N.file net.new ≡ N.file net.old }
     {
         let sent = reply(net, &bound, to, self.out.as_slice());
         count_opened(net, datagram.bytes);

@@ -161,6 +161,7 @@ impl<S: ServedStore<Reason> + Drop> ServerLoop<S> {
             (N.log net.old) request.new self.new (N.log net.new) }
         ensures end { OnOk result ((self.new.left ≡ 0) ⊎ ((self.new.rounds ≡ 0)
             ⊎ IsEmptied self.new)) }
+        ensures file { N.file net.new ≡ N.file net.old }
     {
         self.take_round(net, signal, request, datagram)?;
         while self.rounds > 0 {
@@ -201,6 +202,7 @@ impl<S: ServedStore<Reason> + Drop> ServerLoop<S> {
         ensures rounds { self.new.rounds ≡ self.old.rounds }
         ensures fault { IfErr result (λ fault. FailsToPrint fault (N.log net.new)) }
         ensures room { HasRoom self.new }
+        ensures file { N.file net.new ≡ N.file net.old }
     {
         self.look_at_signal(net, signal);
         self.pass_over(net, Pass::Ready, datagram)?;
@@ -220,6 +222,7 @@ impl<S: ServedStore<Reason> + Drop> ServerLoop<S> {
           signal_look = self.new.signal_look;
         } }
         ensures room { HasRoom self.old → HasRoom self.new }
+        ensures file { N.file net.new ≡ N.file net.old }
     {
         let Drain::Awaited = self.drain else {
             return;
@@ -280,6 +283,7 @@ impl<S: ServedStore<Reason> + Drop> ServerLoop<S> {
         ensures first { self.new.sockets.has_received ≡ false }
         ensures rounds { self.new.rounds + 1 ≡ self.old.rounds }
         ensures room { HasRoom self.old → HasRoom self.new }
+        ensures file { N.file net.new ≡ N.file net.old }
     {
         self.report_if_due(net);
         let survey = Survey::of(self.sockets.watch.now, self.ports.as_slice());
@@ -294,7 +298,8 @@ impl<S: ServedStore<Reason> + Drop> ServerLoop<S> {
 
     /// Reports the open transfers, if a report is due.
     fn report_if_due<N: ServerUdp>(&self, net: &mut N)
-        ensures { N.log net.new ≡ N.log net.old }
+        ensures events { N.log net.new ≡ N.log net.old }
+        ensures file { N.file net.new ≡ N.file net.old }
     {
         if net.is_report_due(self.sockets.watch.now) {
             self.report(net);
@@ -305,6 +310,7 @@ impl<S: ServedStore<Reason> + Drop> ServerLoop<S> {
     pub(crate) fn report<N: ServerUdp>(&self, net: &mut N)
         ensures events { N.log net.new ≡ N.log net.old }
         ensures told { N.told net.new ≡ N.told net.old }
+        ensures file { N.file net.new ≡ N.file net.old }
     {
         let reading = self.sockets.watch.reading;
         for port in self.ports.iter() {
@@ -332,6 +338,7 @@ impl<S: ServedStore<Reason> + Drop> ServerLoop<S> {
         ensures first { self.new.sockets.has_received ≡ false }
         ensures rounds { self.new.rounds + 1 ≡ self.old.rounds }
         ensures room { HasRoom self.old → HasRoom self.new }
+        ensures file { N.file net.new ≡ N.file net.old }
     {
         if net.poll_now(&mut self.sockets.poll, reports) {
             self.read_clock(net);
@@ -375,6 +382,7 @@ impl<S: ServedStore<Reason> + Drop> ServerLoop<S> {
         ensures first { self.new.sockets.has_received ≡ false }
         ensures rounds { self.new.rounds + 1 ≡ self.old.rounds }
         ensures room { HasRoom self.old → HasRoom self.new }
+        ensures file { N.file net.new ≡ N.file net.old }
     {
         self.active = survey.active;
         self.read_clock(net);
@@ -384,7 +392,8 @@ impl<S: ServedStore<Reason> + Drop> ServerLoop<S> {
 
     /// Reads the clock before a wait: the store or a file may have taken long.
     fn read_clock<N: ServerUdp>(&mut self, net: &mut N)
-        ensures { HasRead self.old (N.log net.old) self.new (N.log net.new) }
+        ensures reads { HasRead self.old (N.log net.old) self.new (N.log net.new) }
+        ensures file { N.file net.new ≡ N.file net.old }
     {
         let began = self.sockets.watch.now;
         let end = self.sockets.round_end();
@@ -395,8 +404,9 @@ impl<S: ServedStore<Reason> + Drop> ServerLoop<S> {
     /// Waits until a datagram has arrived, as long as is allowed.
     fn wait_for_ports<N: ServerUdp>(&mut self, net: &mut N, reports: &mut Reports, survey: Survey)
         requires { IsSurveyOf self.old.ports.items survey }
-        ensures { HasSlept (millis_of self.old) reports.new.ports.items self.old
+        ensures slept { HasSlept (millis_of self.old) reports.new.ports.items self.old
             (N.log net.old) self.new (N.log net.new) }
+        ensures file { N.file net.new ≡ N.file net.old }
     {
         let millis = self.millis_to_wait(survey);
         let polls = polls_before(millis, self.active, self.sockets.polls);
@@ -406,8 +416,9 @@ impl<S: ServedStore<Reason> + Drop> ServerLoop<S> {
     /// Sets the deadlines of the transfers that opened, advanced or timed out before the clock was
     /// read, marks the ports that a wait reported, counts the wait, and reads the clock.
     fn wake<N: ServerUdp>(&mut self, net: &mut N, reports: &Reports)
-        ensures { HasWoken reports.now.ports.items self.old (N.log net.old) self.new
+        ensures woken { HasWoken reports.now.ports.items self.old (N.log net.old) self.new
             (N.log net.new) }
+        ensures file { N.file net.new ≡ N.file net.old }
     {
         self.mark(reports.ports());
         self.rounds = self.rounds.saturating_sub(1);
@@ -481,6 +492,7 @@ impl<S: ServedStore<Reason> + Drop> ServerLoop<S> {
         ensures rounds { self.new.rounds ≡ self.old.rounds }
         ensures fault { IfErr result (λ fault. FailsToPrint fault (N.log net.new)) }
         ensures room { HasRoom self.old → HasRoom self.new }
+        ensures file { N.file net.new ≡ N.file net.old }
     {
         // In reverse order, because a close moves the last port to the freed index.
         let mut index = self.ports.len();
@@ -517,6 +529,7 @@ impl<S: ServedStore<Reason> + Drop> ServerLoop<S> {
         ensures rounds { self.new.rounds ≡ self.old.rounds }
         ensures fault { IfErr result (λ fault. FailsToPrint fault (N.log net.new)) }
         ensures room { HasRoom self.old → HasRoom self.new }
+        ensures file { N.file net.new ≡ N.file net.old }
     {
         if index >= self.ports.len() {
             return Ok(());
@@ -548,6 +561,7 @@ impl<S: ServedStore<Reason> + Drop> ServerLoop<S> {
         ensures rounds { self.new.rounds ≡ self.old.rounds }
         ensures fault { IfErr result (λ fault. FailsToPrint fault (N.log net.new)) }
         ensures room { HasRoom self.old → HasRoom self.new }
+        ensures file { N.file net.new ≡ N.file net.old }
     {
         let port = &self.ports[index];
         let closed = record_of_closed(&mut self.server, port.socket.udp.port());
@@ -570,6 +584,7 @@ impl<S: ServedStore<Reason> + Drop> ServerLoop<S> {
         ensures closes { ClosesPort index closed self.old (N.log net.old) self.new
             (N.log net.new) }
         ensures fault { IfErr result (λ fault. FailsToPrint fault (N.log net.new)) }
+        ensures file { N.file net.new ≡ N.file net.old }
     {
         self.left -= 1;
         let port = self.ports.swap_remove(index);

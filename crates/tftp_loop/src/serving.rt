@@ -88,8 +88,9 @@ pub fn serve<N: ServerUdp + Eprint, S: ServedStore<Reason> + Drop, D: DrainSigna
     config: &LoopConfig,
     signal: &D,
 ) -> Result<(), LoopFault>
-    ensures { RunsServer S.meaning S.Source.meaning config.now server result (N.log net.old)
+    ensures runs { RunsServer S.meaning S.Source.meaning config.now server result (N.log net.old)
         (N.log net.new) }
+    ensures file { N.file net.new ≡ N.file net.old }
 {
     match Sockets::bind(&*net, alloc, config) {
         Ok(sockets) => listen(net, alloc, server, sockets, config, signal),
@@ -111,9 +112,10 @@ fn listen<N: ServerUdp + Eprint, S: ServedStore<Reason> + Drop, D: DrainSignal>(
     requires marked { sockets.is_ready ≡ true }
     requires asked { sockets.has_received ≡ false }
     requires range { sockets.pool.range ≡ config.now.ports }
-    ensures { RunsServerFrom S.meaning S.Source.meaning config.now sockets.requests.port server
+    ensures runs { RunsServerFrom S.meaning S.Source.meaning config.now sockets.requests.port server
         result (listening sockets.requests.ip sockets.requests.port (N.log net.old))
         (N.log net.new) }
+    ensures file { N.file net.new ≡ N.file net.old }
 {
     let line = Printed::Listening(sockets.listening());
     match net.print_line(line) {
@@ -139,8 +141,9 @@ fn run<N: ServerUdp + Eprint, S: ServedStore<Reason> + Drop, D: DrainSignal>(
     requires marked { sockets.is_ready ≡ true }
     requires asked { sockets.has_received ≡ false }
     requires range { sockets.pool.range ≡ config.now.ports }
-    ensures { RunsServerFrom S.meaning S.Source.meaning config.now sockets.requests.port server
+    ensures runs { RunsServerFrom S.meaning S.Source.meaning config.now sockets.requests.port server
         result (N.log net.old) (N.log net.new) }
+    ensures file { N.file net.new ≡ N.file net.old }
 {
     let Ok(mut buffers) = Buffers::new(alloc) else {
         net.out_of_memory();

@@ -115,6 +115,7 @@ impl Sockets {
         ensures port { IfSome result (IsOfPool self.old.pool) }
         ensures tries { Tries self.old.pool.range (N.log net.old) (N.log net.new) result }
         ensures told { N.told net.new ≡ N.told net.old }
+        ensures file { N.file net.new ≡ N.file net.old }
     {
         self.pool.bind_port(net)
     }

@@ -157,6 +157,7 @@ pub(crate) fn reply<N: ServerUdp>(
     ensures events { N.log net.new ≡ replied socket.now.port to bytes.now (N.log net.old) }
     ensures told { N.told net.new ≡ N.told net.old }
     ensures received { ReceivesAtMost 0 (N.log net.old) (N.log net.new) }
+    ensures file { N.file net.new ≡ N.file net.old }
 {
     match to {
         Some(to) => net.send(socket, to, bytes),

@@ -138,6 +138,8 @@ impl<N: ServerUdp> HandedUdp<N> {
 impl<N: ServerUdp> Udp for HandedUdp<N> {
     ghost log = { λ handed. N.log handed.net };
 
+    ghost file = { λ handed. N.file handed.net };
+
     fn start_watch(&self) -> Watch {
         self.net.start_watch()
     }

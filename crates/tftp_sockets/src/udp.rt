@@ -20,12 +20,16 @@ use tftp_lines::{ClientOutcome, Printed, Reason};
 
 /// What the programs over UDP share: their trace, and their time.
 pub trait Udp {
-    ghost use Rattle.std.specs.Prelude.{◌≡◌, ◌∷◌, List};
+    ghost use Rattle.std.specs.Prelude.{◌≡◌, ◌∷◌, ℕ, List, Option, None};
     ghost use Rattle.tftp_sockets.specs.Trace.{SocketEvent};
     ghost use Rattle.tftp_sockets.specs.Trace.SocketEvent.{Elapsed};
 
     /// What was done, the newest event first.
     ghost log: { Self → List SocketEvent };
+
+    /// The path of the file in which the device reports, if it does. No call of a server changes it,
+    /// and it is no part of the trace.
+    ghost file: { Self → Option (List ℕ) } = { λ _. None };
 
     /// A watch that starts now, at a reading of the clock.
     fn start_watch(&self) -> Watch
@@ -34,7 +38,8 @@ pub trait Udp {
     /// Notes a timeout that is delivered to the transfer at the port, at this time of the watch, in
     /// milliseconds.
     fn elapsed(&mut self, port: u16, time: u64)
-        ensures { log self.new ≡ Elapsed port time ∷ log self.old };
+        ensures noted { log self.new ≡ Elapsed port time ∷ log self.old }
+        ensures file { file self.new ≡ file self.old };
 }
 
 /// The UDP sockets of a client, its clock and its last line.
@@ -121,7 +126,8 @@ pub trait ServerUdp: Udp {
             ∷ Self.log self.old) }
         ensures err { OnErr result (Self.log self.new ≡ Quiet (No_socket at.port)
             ∷ Self.log self.old) }
-        ensures told { Self.told self.new ≡ Self.told self.old };
+        ensures told { Self.told self.new ≡ Self.told self.old }
+        ensures file { Self.file self.new ≡ Self.file self.old };
 
     /// Receives a datagram at the port of a transfer, if one has arrived. A shorter buffer would cut
     /// a DATA, which then counts as the last block (RFC 1350, section 6).
@@ -129,7 +135,8 @@ pub trait ServerUdp: Udp {
         requires { DATAGRAM_BUFFER ≤ length buffer.old }
         ensures noted { Self.log self.new ≡ receive_event socket.now.port buffer.new result
             ∷ Self.log self.old }
-        ensures fits { Fits buffer.new result };
+        ensures fits { Fits buffer.new result }
+        ensures file { Self.file self.new ≡ Self.file self.old };
 
     /// Receives a datagram at the request port, if one has arrived, and a server with this load does
     /// not leave it to another one.
@@ -137,7 +144,8 @@ pub trait ServerUdp: Udp {
         requires { DATAGRAM_BUFFER ≤ length buffer.old }
         ensures noted { Self.log self.new ≡ receive_event requests.now.port buffer.new result
             ∷ Self.log self.old }
-        ensures fits { Fits buffer.new result };
+        ensures fits { Fits buffer.new result }
+        ensures file { Self.file self.new ≡ Self.file self.old };
 
     /// The sender of the first datagram that has arrived, if one has. It stays there.
     fn first_sender(&self, socket: &ServerSocket) -> Option<Endpoint>;
@@ -147,12 +155,14 @@ pub trait ServerUdp: Udp {
     fn leave(&mut self, requests: &ServerSocket, load: Load) -> Receipt
         requires { 1 ≤ load.open }
         ensures noted { Self.log self.new ≡ Quiet (Failed requests.now.port) ∷ Self.log self.old }
-        ensures failed { result ≡ Receipt.Failed };
+        ensures failed { result ≡ Receipt.Failed }
+        ensures file { Self.file self.new ≡ Self.file self.old };
 
     /// Sends a datagram. If the system refuses it, the datagram is lost, and its reason returned.
     fn send(&mut self, socket: &ServerSocket, peer: Endpoint, bytes: &[u8]) -> Result<(), Reason>
         ensures noted { Self.log self.new ≡ Sent socket.now.port peer bytes.now ∷ Self.log self.old }
-        ensures told { Self.told self.new ≡ Self.told self.old };
+        ensures told { Self.told self.new ≡ Self.told self.old }
+        ensures file { Self.file self.new ≡ Self.file self.old };
 
     /// Creates the poll of non-blocking sockets. The loss of the reader of standard output wakes it,
     /// too, if that is watched.
@@ -167,7 +177,8 @@ pub trait ServerUdp: Udp {
     fn wait(&mut self, poll: &mut PortPoll, reports: &mut Reports, millis: u64, polls: u32)
         ensures noted { Self.log self.new ≡ Quiet (Woke reports.new.ports.items)
             ∷ Quiet (Slept millis) ∷ Self.log self.old }
-        ensures once { reports.new.is_unnoted ≡ false };
+        ensures once { reports.new.is_unnoted ≡ false }
+        ensures file { Self.file self.new ≡ Self.file self.old };
 
     /// Polls without waiting. Returns whether a datagram has arrived at a port: then `note_poll` is
     /// to note it.
@@ -179,7 +190,8 @@ pub trait ServerUdp: Udp {
     fn note_poll(&mut self, reports: &mut Reports)
         ensures noted { Self.log self.new ≡ polled reports.old.is_unnoted reports.old.ports.items
             (Self.log self.old) }
-        ensures once { reports.new ≡ record reports.old { is_unnoted = false } };
+        ensures once { reports.new ≡ record reports.old { is_unnoted = false } }
+        ensures file { Self.file self.new ≡ Self.file self.old };
 
     /// Reads the clock, for a time that advances to `limit` at most, and returns the new time of the
     /// watch, in milliseconds.
@@ -188,7 +200,8 @@ pub trait ServerUdp: Udp {
         ensures time { watch.new.now ≡ result }
         ensures reading { result ≡ later_within watch.old watch.new.reading limit }
         ensures forward { watch.old.now ≤ result }
-        ensures soon { result ≤ max watch.old.now limit };
+        ensures soon { result ≤ max watch.old.now limit }
+        ensures file { Self.file self.new ≡ Self.file self.old };
 
     /// The time of the monotonic clock in microseconds, if it can be read. It is no time of a watch.
     fn micros(&self) -> Option<u64>;
@@ -200,25 +213,30 @@ pub trait ServerUdp: Udp {
     /// Notes that memory was refused.
     fn out_of_memory(&mut self)
         ensures noted { Self.log self.new ≡ Quiet Out_of_memory ∷ Self.log self.old }
-        ensures told { Self.told self.new ≡ Self.told self.old };
+        ensures told { Self.told self.new ≡ Self.told self.old }
+        ensures file { Self.file self.new ≡ Self.file self.old };
 
     /// Prints a line of `tftpd`, on standard output.
     fn print_line(&mut self, line: Printed) -> io::Result<()>
         ensures noted { Self.log self.new ≡ Line (line_text line) ∷ Self.log self.old }
-        ensures told { Self.told self.new ≡ Self.told self.old };
+        ensures told { Self.told self.new ≡ Self.told self.old }
+        ensures file { Self.file self.new ≡ Self.file self.old };
 
     /// Watches the reader of standard output from now on.
     fn watch_reader(&mut self, alloc: Global) -> io::Result<()>
-        ensures { Self.log self.new ≡ Self.log self.old };
+        ensures noted { Self.log self.new ≡ Self.log self.old }
+        ensures file { Self.file self.new ≡ Self.file self.old };
 
     /// Looks whether nobody reads any more what the server prints, if that is watched, and notes it
     /// then.
     fn has_no_reader(&mut self) -> bool
-        ensures { Self.log self.new ≡ looked result No_reader (Self.log self.old) };
+        ensures noted { Self.log self.new ≡ looked result No_reader (Self.log self.old) }
+        ensures file { Self.file self.new ≡ Self.file self.old };
 
     /// Looks whether the signal to drain was given by now, and notes it then.
     fn is_signalled<D: DrainSignal>(&mut self, signal: &D) -> bool
-        ensures { Self.log self.new ≡ looked result Drain_signalled (Self.log self.old) };
+        ensures noted { Self.log self.new ≡ looked result Drain_signalled (Self.log self.old) }
+        ensures file { Self.file self.new ≡ Self.file self.old };
 
     /// A generator that is seeded by random bytes of the system.
     fn rng(&self) -> io::Result<StdRng>;
@@ -229,7 +247,8 @@ pub trait ServerUdp: Udp {
     /// Counts what happened at the server. It is no event of the trace.
     fn count(&mut self, entry: Entry)
         ensures noted { Self.log self.new ≡ Self.log self.old }
-        ensures told { Self.told self.new ≡ and_told entry (Self.told self.old) };
+        ensures told { Self.told self.new ≡ and_told entry (Self.told self.old) }
+        ensures file { Self.file self.new ≡ Self.file self.old };
 
     /// Whether a report of the open transfers is due at this time of the watch, in milliseconds. It
     /// costs one comparison.
@@ -238,11 +257,13 @@ pub trait ServerUdp: Udp {
     /// Adds an open transfer to the report that is due. It is no event of the trace.
     fn report_open(&mut self, transfer: OpenTransfer<'_>)
         ensures noted { Self.log self.new ≡ Self.log self.old }
-        ensures told { Self.told self.new ≡ Self.told self.old };
+        ensures told { Self.told self.new ≡ Self.told self.old }
+        ensures file { Self.file self.new ≡ Self.file self.old };
 
     /// Ends the report that is due, at this time of the watch, in milliseconds: the transfers that
     /// were added are all that are open. It is no event of the trace.
     fn end_report(&mut self, now: u64)
         ensures noted { Self.log self.new ≡ Self.log self.old }
-        ensures told { Self.told self.new ≡ Self.told self.old };
+        ensures told { Self.told self.new ≡ Self.told self.old }
+        ensures file { Self.file self.new ≡ Self.file self.old };
 }

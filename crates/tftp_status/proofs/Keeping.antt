@@ -20,6 +20,7 @@ keeps_handed status facts text log keeps text_is
     subst (λ (l : List DiskEvent). KeepsCounts (record status { events = Handed text ∷ status.events; log = l }))
     (sym after_is)
     (record {
+      beside = keeps.beside;
       counted = keeps.counted;
       handed = (
         (facts, text_is ∙ ap (λ (counts : Counts). status_text counts facts) keeps.counted),

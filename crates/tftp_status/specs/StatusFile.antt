@@ -57,10 +57,11 @@ HandsCounts [] = ⊤
 HandsCounts (Told entry ∷ before) = HandsCounts before
 HandsCounts (Handed text ∷ before) = IsTextOf (told_in before) text × HandsCounts before
 
--- the counts are those of what was told; each text that the file was handed is that of the counts of
+-- the temporary file is that of the file; the counts are those of what was told; each text that the file was handed is that of the counts of
 -- what was told by then, and the files that got its name had these texts, in their order; and all
 -- that its disk was asked to change is the file and its temporary file
 pub record KeepsCounts (status : Status) : Type 0 where
+  pub beside : status.draft ≡ draft_of status.file
   pub counted : status.counts ≡ counts_of (told_in status.events)
   pub handed : HandsCounts status.events
   pub texts : renamed_in status.log ≡ texts_in status.events
@@ -71,6 +72,7 @@ pub record IsNewAt (file : List ℕ) (status : Status) : Type 0 where
   pub file_is : status.file ≡ file
   pub draft_is : status.draft ≡ draft_of file
   pub nothing : status.events ≡ []
+  pub keeps : KeepsCounts status
 
 -- the temporary file that was made was to get this text, and then the name of the file
 pub data HandsMade (file draft text : List ℕ) (result : Done) (before after : List DiskEvent)

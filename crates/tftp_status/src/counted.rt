@@ -1,7 +1,7 @@
 //! A device that counts what a server tells, and reports it in a file.
 
 ghost use Rattle.std.specs.Prelude.{◌≡◌, [], None, IfSome};
-ghost use Rattle.tftp_status.specs.StatusFile.{IsNewAt};
+ghost use Rattle.tftp_status.specs.StatusFile.{IsNewAt, KeepsCounts};
 
 use crate::report::{Report, ReportSettings};
 use crate::status_text::Datagrams;
@@ -66,6 +66,16 @@ impl<N, D: Disk> Counted<N, D> {
         Ok(())
     }
 
+    /// What its reports keep (`KeepsCounts`), whatever it was told and the system answered. It does
+    /// nothing.
+    pub fn keeps_counts(&self)
+        ensures { IfSome self.now.report (λ report. KeepsCounts report.status) }
+    {
+        if let Some(report) = &self.report {
+            report.keeps_counts();
+        }
+    }
+
     /// Counts a datagram that was received, if one was.
     fn count_receipt(&mut self, receipt: Receipt)
         ensures net { self.new.net ≡ self.old.net }
@@ -78,7 +88,11 @@ impl<N, D: Disk> Counted<N, D> {
 }
 
 impl<N: ServerUdp, D: Disk> Udp for Counted<N, D> {
+    ghost use Rattle.std.specs.Prelude.{option_map};
+
     ghost log = { λ counted. N.log counted.net };
+
+    ghost file = { λ counted. option_map (λ report. report.status.file) counted.report };
 
     fn start_watch(&self) -> Watch {
         self.net.start_watch()

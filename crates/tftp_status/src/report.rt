@@ -3,7 +3,7 @@
 ghost use Rattle.std.specs.Prelude.{◌≡◌, ◌∷◌, [], IfOk};
 ghost use Rattle.tftp_status.specs.StatusEvent.{told_in};
 ghost use Rattle.tftp_status.specs.StatusEvent.StatusEvent.{Told};
-ghost use Rattle.tftp_status.specs.StatusFile.{draft_of};
+ghost use Rattle.tftp_status.specs.StatusFile.{KeepsCounts, draft_of};
 
 use crate::open_line::OpenLine;
 use crate::status_file::StatusFile;
@@ -63,6 +63,7 @@ impl<D: Disk> Report<D> {
         ensures file { IfOk result (λ report. report.status.file ≡ settings.now.file.now) }
         ensures draft { IfOk result (λ report. report.status.draft ≡ draft_of settings.now.file.now) }
         ensures events { IfOk result (λ report. report.status.events ≡ []) }
+        ensures keeps { IfOk result (λ report. KeepsCounts report.status) }
     {
         Ok(Report {
             status: StatusFile::new(alloc, disk, settings.file)?,
@@ -89,6 +90,13 @@ impl<D: Disk> Report<D> {
     {
         self.status.add(entry);
         self.is_changed = true;
+    }
+
+    /// What its file keeps. It does nothing.
+    pub(crate) fn keeps_counts(&self)
+        ensures { KeepsCounts self.now.status }
+    {
+        let _ = self.status.counts();
     }
 
     /// Whether a text is to be written at this time: something has changed, and the last one is a

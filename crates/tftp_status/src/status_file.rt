@@ -63,6 +63,7 @@ impl<D: Disk> StatusFile<D> {
         ensures file { IfOk result (λ status. status.file ≡ file.now) }
         ensures draft { IfOk result (λ status. status.draft ≡ draft_of file.now) }
         ensures events { IfOk result (λ status. status.events ≡ []) }
+        ensures keeps { IfOk result KeepsCounts }
     {
         let draft = format!(in alloc; "{file}~")?;
         let file = String::from_str(alloc, file)?;

@@ -5,16 +5,16 @@ use Rattle.tftp_loop.specs.declared.serving.LoopFault.{LoopFault}
 use Rattle.tftp_daemon.specs.Configured.{daemon_status}
 use Rattle.tftp_daemon.proofs.daemon.serve_loop.Goals as goal
 
-pub returns-in-Ok : goal.returns-in-Ok
-returns-in-Ok g c = record {
-  result = c.serve.result;
+pub returns-in-Ok-clause-runs : goal.returns-in-Ok-clause-runs
+returns-in-Ok-clause-runs g c = record {
+  result = c.serve-served.result;
   is_status = ap (λ (r : Result (Unit {0}) LoopFault). daemon_status r) (sym c.in-Ok.is);
-  serves = c.serve.ensures;
+  serves = c.serve-served.ensures.runs;
 }
 
-pub returns-in-Err : goal.returns-in-Err
-returns-in-Err g c = record {
-  result = c.serve.result;
+pub returns-in-Err-clause-runs : goal.returns-in-Err-clause-runs
+returns-in-Err-clause-runs g c = record {
+  result = c.serve-served.result;
   is_status = ap (λ (r : Result (Unit {0}) LoopFault). daemon_status r) (sym c.in-Err.is);
-  serves = c.serve.ensures;
+  serves = c.serve-served.ensures.runs;
 }

@@ -1,6 +1,7 @@
 -- A server ran, or a supervisor of several; or there is no configuration and nothing was done.
 use Rattle.std.proofs.Common.{map}
 use Rattle.tftp_daemon.proofs.ConfiguredLemmas.{serves_words}
+use Rattle.tftp_daemon.proofs.Reporting.{none_reported, reports_words}
 use Rattle.tftp_daemon.proofs.Supervising.{supervises_words}
 use Rattle.tftp_daemon.proofs.program.serve_texts.Goals as goal
 
@@ -13,3 +14,13 @@ pub returns-in-Ok-clause-several : goal.returns-in-Ok-clause-several
 returns-in-Ok-clause-several g c =
     supervises_words (map g.S.AsStr.text c.args.words.now) c.in-Ok.line c.in-Ok.ensures.names c.in-Ok.ensures.text
     c.serve_command_line.ensures.several c.serve_command_line.ensures.same
+
+pub returns-in-Ok-clause-reports : goal.returns-in-Ok-clause-reports
+returns-in-Ok-clause-reports g c =
+    λ none.
+    reports_words (map g.S.AsStr.text c.args.words.now) c.in-Ok.line c.args.net.now.report
+    c.serve_command_line.new.net.report (λ report. report.status) c.in-Ok.ensures.names
+    (c.serve_command_line.ensures.reports none) c.serve_command_line.ensures.unreported none
+
+pub returns-in-Err-clause-reports : goal.returns-in-Err-clause-reports
+returns-in-Err-clause-reports g c = none_reported _ c.args.net.now.report

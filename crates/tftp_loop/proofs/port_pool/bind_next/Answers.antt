@@ -19,6 +19,7 @@ loop-port-init g c =
       left = omega (arith, many, some, c.len-left.ensures);
       tries = Start;
       told = refl;
+      file = refl;
     }
 
 pub loop-port-preserved : goal.loop-port-preserved
@@ -45,6 +46,7 @@ loop-port-preserved g c =
           (subst (λ (range : PortRange). IsOneOf (Some range) port) before.range c.in_ok-port.ensures.port) noted
           before.tries;
       told = c.bind_at.ensures.told ∙ before.told;
+      file = c.bind_at.ensures.file ∙ before.file;
     }
 
 pub returns-in-Some-clause-turns : goal.returns-in-Some-clause-turns

@@ -17,6 +17,7 @@ invariant-loop-port g l =
       left : 1 ≤ l.left;
       tries : TriesPorts (Some l.fn.order.range) (g.N.Udp.log l.fn.net) (g.N.Udp.log l.net);
       told : g.N.ServerUdp.told l.net ≡ g.N.ServerUdp.told l.fn.net;
+      file : g.N.Udp.file l.net ≡ g.N.Udp.file l.fn.net;
     }
 
 abbrev pub decreases-loop-port : goal.decreases-loop-port

@@ -9,17 +9,17 @@ use Rattle.tftp_loop.specs.Steps.{at_start}
 use Rattle.tftp_loop.specs.WholeRun.{RunsServerFrom, listening}
 use Rattle.tftp_loop.proofs.serving.listen.Goals as goal
 
-pub returns-in-Ok : goal.returns-in-Ok
-returns-in-Ok g c =
+pub returns-in-Ok-clause-runs : goal.returns-in-Ok-clause-runs
+returns-in-Ok-clause-runs g c =
     let line =
     c.print_line.ensures.noted ∙ ap (λ (e : Endpoint). Printed (line_text (Listening e)) ∷ g.N.Udp.log c.args.net.now)
     c.listening.ensures in
     let At : List SocketEvent → Type 0 = λ es. RunsServerFrom g.S.Store.meaning g.S.Source.Source.meaning
     c.args.config.now c.args.sockets.requests.port c.args.server c.run.result es (g.N.Udp.log c.run.new.net) in
-    subst At line c.run.ensures
+    subst At line c.run.ensures.runs
 
-pub returns-in-Err : goal.returns-in-Err
-returns-in-Err g c =
+pub returns-in-Err-clause-runs : goal.returns-in-Err-clause-runs
+returns-in-Err-clause-runs g c =
     let sockets = c.args.sockets in
     let line =
     c.print_line.ensures.noted ∙ ap (λ (e : Endpoint). Printed (line_text (Listening e)) ∷ g.N.Udp.log c.args.net.now)

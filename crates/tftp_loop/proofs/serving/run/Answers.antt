@@ -10,8 +10,8 @@ use Rattle.tftp_loop.proofs.LoopRuns.{same_state}
 use Rattle.tftp_loop.proofs.Receipts.{ends_by, starts_few, starts_settled}
 use Rattle.tftp_loop.proofs.serving.run.Goals as goal
 
-pub returns-in_default : goal.returns-in_default
-returns-in_default g c = record {
+pub returns-in_default-clause-runs : goal.returns-in_default-clause-runs
+returns-in_default-clause-runs g c = record {
   reading = c.args.sockets.watch.reading;
   last = at_start c.args.config.now c.args.sockets.requests.port c.args.server c.args.sockets.watch.reading
       (g.N.Udp.log c.args.net.now);
@@ -20,8 +20,8 @@ returns-in_default g c = record {
   ends = inl (refl, refl);
 }
 
-pub returns-in_default-new : goal.returns-in_default-new
-returns-in_default-new g c = record {
+pub returns-in_default-new-clause-runs : goal.returns-in_default-new-clause-runs
+returns-in_default-new-clause-runs g c = record {
   reading = c.args.sockets.watch.reading;
   last = at_start c.args.config.now c.args.sockets.requests.port c.args.server c.args.sockets.watch.reading
       (g.N.Udp.log c.args.net.now);
@@ -40,8 +40,8 @@ pub take_rounds-served-requires-clause-first : goal.take_rounds-served-requires-
 take_rounds-served-requires-clause-first g c =
     ap (λ (s : Sockets). s.has_received) c.new-running.ensures.sockets ∙ c.requires.asked
 
-pub returns : goal.returns
-returns g c =
+pub returns-clause-runs : goal.returns-clause-runs
+returns-clause-runs g c =
     let made = c.new-running.ensures in
     let request = c.as_mut_slice.result.now in
     let begins = state_of request c.new-running.result (g.N.Udp.log c.args.net.now) in

@@ -1,4 +1,4 @@
-use Rattle.std.proofs.Common.{arith, ℕ, refl, sym, ap, subst, inl, inr, ◌+◌}
+use Rattle.std.proofs.Common.{arith, ℕ, refl, sym, ap, subst, inl, inr, ◌+◌, ◌∙◌}
 use Rattle.tftp_sockets.specs.Trace.QuietEvent.{Empty, Failed}
 use Rattle.tftp_loop.specs.declared.port_visit.TheConstants.{MOST_AT_ONCE}
 use Rattle.tftp_loop.specs.Steps.{Timer}
@@ -10,7 +10,7 @@ use Rattle.tftp_loop.proofs.Unclosed.{unless_map}
 use Rattle.tftp_loop.proofs.port_visit.PortVisit.take_datagrams.Goals as goal
 
 pub loop-count-init : goal.loop-count-init
-loop-count-init g c = (idles g.N.Udp.log g.S.Store.meaning g.S.Source.Source.meaning 0 _, omega arith, inl refl, λ unclosed. unclosed)
+loop-count-init g c = (idles g.N.Udp.log g.S.Store.meaning g.S.Source.Source.meaning 0 _, omega arith, inl refl, λ unclosed. unclosed, refl)
 
 pub loop-count-preserved : goal.loop-count-preserved
 loop-count-preserved g c =
@@ -25,6 +25,7 @@ loop-count-preserved g c =
         c.in-Unfinished.ensures.status.timer,
       ),
       λ unclosed. c.in-Unfinished.ensures.open (c.loop-count.invariant.3 unclosed),
+      c.answer.ensures.file ∙ (c.receive.ensures.file ∙ c.loop-count.invariant.4),
     )
 
 pub answer-requires : goal.answer-requires

@@ -19,11 +19,11 @@ returns-clause-serves g c =
           (g.N.Udp.log old.net.now) (g.N.Udp.log c.elapsed.new.self) (g.N.Udp.log c.time_out-step.new.net) c.port-number.result
           c.time_out-step.result
           c.restart.new.port.socket.udp.port
-          c.requires.due c.requires.tried c.requires.look c.elapsed.ensures
+          c.requires.due c.requires.tried c.requires.look c.elapsed.ensures.noted
           (c.port-number.ensures ∙ same) same c.time_out-step.ensures.steps c.restart.ensures;
       received =
           elapses_none c.port-number.result old.now (g.N.Udp.log old.net.now) (g.N.Udp.log c.elapsed.new.self)
-          (g.N.Udp.log c.time_out-step.new.net) c.elapsed.ensures c.time_out-step.ensures.received;
+          (g.N.Udp.log c.time_out-step.new.net) c.elapsed.ensures.noted c.time_out-step.ensures.received;
     }
 
 pub returns-clause-open : goal.returns-clause-open

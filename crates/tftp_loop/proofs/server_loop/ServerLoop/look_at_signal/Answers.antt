@@ -6,7 +6,7 @@ use Rattle.tftp_loop.proofs.RunLemmas.{idle}
 use Rattle.tftp_loop.proofs.server_loop.ServerLoop.look_at_signal.Goals as goal
 
 pub returns-in_default : goal.returns-in_default
-returns-in_default g c = record { works = λ buffer. Start; rest = refl; room = λ has. has }
+returns-in_default g c = record { works = λ buffer. Start; rest = refl; room = λ has. has; file = refl }
 
 pub returns-then-now-self-clause-works : goal.returns-then-now-self-clause-works
 returns-then-now-self-clause-works g c = λ buffer. Start
@@ -15,10 +15,10 @@ pub returns-then-not-is_signalled-clause-works : goal.returns-then-not-is_signal
 returns-then-not-is_signalled-clause-works g c =
     λ buffer.
     idle (ap (state_of buffer c.args.self.now) (found_nothing c.is_signalled.result _ _ _ c.if-not-is_signalled.true
-    c.is_signalled.ensures))
+    c.is_signalled.ensures.noted))
 
 pub returns-clause-works : goal.returns-clause-works
 returns-clause-works g c =
     λ buffer.
     drains_as g.S.Store.meaning g.S.Source.Source.meaning buffer _ c.begin_drain.new.self _ _ c.in-Awaited.is
-    c.begin_drain.ensures (found_it c.is_signalled.result _ _ _ c.if-not-is_signalled.false c.is_signalled.ensures)
+    c.begin_drain.ensures (found_it c.is_signalled.result _ _ _ c.if-not-is_signalled.false c.is_signalled.ensures.noted)

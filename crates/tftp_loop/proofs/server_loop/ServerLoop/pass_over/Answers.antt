@@ -15,6 +15,7 @@ loop-index-init g c =
       visited = λ k d l h. absurd (omega (arith, ports.ok.0, c.len-index.ensures, long, l, h));
       waiting = λ k d l h. c.requires.few k d h;
       asked = refl;
+      file = refl;
       rounds = refl;
       room = λ room. room;
     }
@@ -29,6 +30,7 @@ loop-index-preserved g c =
       visited = c.visit.ensures.visited (λ k d l h. i.visited k d (omega (arith, test, l)) h);
       waiting = λ k d l h. c.visit.ensures.waiting k d l h;
       asked = c.visit.ensures.asked ∙ i.asked;
+      file = c.visit.ensures.file ∙ i.file;
       rounds = c.visit.ensures.rounds ∙ i.rounds;
       room = λ room. c.visit.ensures.room (i.room room);
     }

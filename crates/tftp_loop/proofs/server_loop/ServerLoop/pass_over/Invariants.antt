@@ -13,6 +13,7 @@ invariant-loop-index g l =
       visited : WereVisited l.fn.pass l.index l.self (g.N.Udp.log l.net);
       waiting : AwaitVisit l.fn.pass l.index l.self;
       asked : l.self.sockets.has_received ≡ l.initial.self.sockets.has_received;
+      file : g.N.Udp.file l.net ≡ g.N.Udp.file l.initial.net;
       rounds : l.self.rounds ≡ l.initial.self.rounds;
       room : HasRoom l.initial.self → HasRoom l.self;
     }

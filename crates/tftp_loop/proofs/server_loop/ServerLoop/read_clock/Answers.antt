@@ -2,8 +2,8 @@ use Rattle.std.proofs.Common.{arith, refl, ap, ◌∙◌, ℕ}
 use Rattle.tftp_sockets.specs.Watch.{later_within}
 use Rattle.tftp_loop.proofs.server_loop.ServerLoop.read_clock.Goals as goal
 
-pub returns : goal.returns
-returns g c =
+pub returns-clause-reads : goal.returns-clause-reads
+returns-clause-reads g c =
     let read = c.read_watch_within-self.ensures in
     let is = read.time in
     let forward = read.forward in

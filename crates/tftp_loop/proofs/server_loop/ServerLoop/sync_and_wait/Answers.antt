@@ -16,25 +16,25 @@ returns-then-poll_now-clause-serves g c =
     let read = c.read_clock.new.self in
     let reads : HasRead old (g.N.Udp.log c.args.net.now) read (g.N.Udp.log c.read_clock.new.net) =
     record {
-      requests = c.read_clock.ensures.requests;
-      range = c.read_clock.ensures.range;
-      longest = c.read_clock.ensures.longest;
-      requests_only = c.read_clock.ensures.requests_only;
-      per_client = c.read_clock.ensures.per_client;
-      server = c.read_clock.ensures.server;
-      pending = c.read_clock.ensures.pending;
-      ports = c.read_clock.ensures.ports;
-      reading = c.read_clock.ensures.reading;
-      forward = c.read_clock.ensures.forward;
-      soon = c.read_clock.ensures.soon;
-      limit = c.read_clock.ensures.limit;
-      marked = c.read_clock.ensures.marked;
-      asked = c.read_clock.ensures.asked;
-      drain = c.read_clock.ensures.drain;
-      left = c.read_clock.ensures.left;
-      rounds = c.read_clock.ensures.rounds;
-      room = c.read_clock.ensures.room;
-      events = c.read_clock.ensures.events;
+      requests = c.read_clock.ensures.reads.requests;
+      range = c.read_clock.ensures.reads.range;
+      longest = c.read_clock.ensures.reads.longest;
+      requests_only = c.read_clock.ensures.reads.requests_only;
+      per_client = c.read_clock.ensures.reads.per_client;
+      server = c.read_clock.ensures.reads.server;
+      pending = c.read_clock.ensures.reads.pending;
+      ports = c.read_clock.ensures.reads.ports;
+      reading = c.read_clock.ensures.reads.reading;
+      forward = c.read_clock.ensures.reads.forward;
+      soon = c.read_clock.ensures.reads.soon;
+      limit = c.read_clock.ensures.reads.limit;
+      marked = c.read_clock.ensures.reads.marked;
+      asked = c.read_clock.ensures.reads.asked;
+      drain = c.read_clock.ensures.reads.drain;
+      left = c.read_clock.ensures.reads.left;
+      rounds = c.read_clock.ensures.reads.rounds;
+      room = c.read_clock.ensures.reads.room;
+      events = c.read_clock.ensures.reads.events;
     } in
     λ buffer.
     waits_as g.S.Store.meaning g.S.Source.Source.meaning buffer old read _ c.wake.new.self 0 ports reads
@@ -62,32 +62,32 @@ returns-then-poll_now-clause-serves g c =
           ∙ (ap (λ (b : Bool). polled b c.poll_now.new.reports.ports.items (g.N.Udp.log c.read_clock.new.net))
           (c.poll_now.ensures.unnoted ∙ c.if-poll_now.true)
           ∙ ap (λ (ps : List ℕ). polled true ps (g.N.Udp.log c.read_clock.new.net)) (sym same));
-    }) c.wake.ensures
+    }) c.wake.ensures.woken
 
 pub returns-then-poll_now-clause-settled : goal.returns-then-poll_now-clause-settled
 returns-then-poll_now-clause-settled g c =
     woken_settled g.S.Store.meaning g.S.Source.Source.meaning _ c.wake.new.self c.note_poll.new.reports.ports.items
-    c.wake.ensures
+    c.wake.ensures.woken
     (read_settled g.S.Store.meaning g.S.Source.Source.meaning c.args.self.now c.read_clock.new.self (record {
-      requests = c.read_clock.ensures.requests;
-      range = c.read_clock.ensures.range;
-      longest = c.read_clock.ensures.longest;
-      requests_only = c.read_clock.ensures.requests_only;
-      per_client = c.read_clock.ensures.per_client;
-      server = c.read_clock.ensures.server;
-      pending = c.read_clock.ensures.pending;
-      ports = c.read_clock.ensures.ports;
-      reading = c.read_clock.ensures.reading;
-      forward = c.read_clock.ensures.forward;
-      soon = c.read_clock.ensures.soon;
-      limit = c.read_clock.ensures.limit;
-      marked = c.read_clock.ensures.marked;
-      asked = c.read_clock.ensures.asked;
-      drain = c.read_clock.ensures.drain;
-      left = c.read_clock.ensures.left;
-      rounds = c.read_clock.ensures.rounds;
-      room = c.read_clock.ensures.room;
-      events = c.read_clock.ensures.events;
+      requests = c.read_clock.ensures.reads.requests;
+      range = c.read_clock.ensures.reads.range;
+      longest = c.read_clock.ensures.reads.longest;
+      requests_only = c.read_clock.ensures.reads.requests_only;
+      per_client = c.read_clock.ensures.reads.per_client;
+      server = c.read_clock.ensures.reads.server;
+      pending = c.read_clock.ensures.reads.pending;
+      ports = c.read_clock.ensures.reads.ports;
+      reading = c.read_clock.ensures.reads.reading;
+      forward = c.read_clock.ensures.reads.forward;
+      soon = c.read_clock.ensures.reads.soon;
+      limit = c.read_clock.ensures.reads.limit;
+      marked = c.read_clock.ensures.reads.marked;
+      asked = c.read_clock.ensures.reads.asked;
+      drain = c.read_clock.ensures.reads.drain;
+      left = c.read_clock.ensures.reads.left;
+      rounds = c.read_clock.ensures.reads.rounds;
+      room = c.read_clock.ensures.reads.room;
+      events = c.read_clock.ensures.reads.events;
     })
     c.requires.tended.settled)
 
@@ -100,4 +100,4 @@ returns-clause-serves g c =
 pub returns-then-poll_now-clause-few : goal.returns-then-poll_now-clause-few
 returns-then-poll_now-clause-few g c =
     woken_few g.S.Store.meaning g.S.Source.Source.meaning _ c.wake.new.self c.note_poll.new.reports.ports.items
-    c.wake.ensures
+    c.wake.ensures.woken

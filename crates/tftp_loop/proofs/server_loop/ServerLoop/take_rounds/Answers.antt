@@ -1,4 +1,4 @@
-use Rattle.std.proofs.Common.{refl, ap, inl}
+use Rattle.std.proofs.Common.{refl, ap, inl, ◌∙◌}
 use Rattle.tftp_loop.specs.LoopStates.{state_of}
 use Rattle.tftp_loop.proofs.LoopRuns.{runs_as}
 use Rattle.tftp_loop.proofs.Receipts.{found_it, found_nothing, printed_last, returned, stops_printing}
@@ -20,6 +20,7 @@ pub loop-self-init : goal.loop-self-init
 loop-self-init g c = record {
   serves = runs_as g.S.Store.meaning g.S.Source.Source.meaning c.take_round.ensures.works;
   tended = c.in_ok-take_round.ensures.tended;
+  file = c.take_round.ensures.file;
   room = c.take_round.ensures.room;
 }
 
@@ -37,7 +38,7 @@ returns-clause-serves g c =
 
 pub loop-self-preserved : goal.loop-self-preserved
 loop-self-preserved g c =
-    let same = found_nothing c.has_no_reader.result _ _ _ c.if-has_no_reader.false c.has_no_reader.ensures in
+    let same = found_nothing c.has_no_reader.result _ _ _ c.if-has_no_reader.false c.has_no_reader.ensures.noted in
     record {
       serves =
           onward c.loop-self.invariant.serves
@@ -45,6 +46,9 @@ loop-self-preserved g c =
           (onward (idle (ap (state_of c.loop-self.request c.wait.new.self) same))
           (runs_as g.S.Store.meaning g.S.Source.Source.meaning c.take_round-in-loop-self.ensures.works)));
       tended = c.in_ok-take_round-2.ensures.tended;
+      file =
+          c.take_round-in-loop-self.ensures.file
+          ∙ (c.has_no_reader.ensures.file ∙ (c.wait.ensures.file ∙ c.loop-self.invariant.file));
       room = c.take_round-in-loop-self.ensures.room;
     }
 
@@ -53,7 +57,7 @@ returns-in_err-take_round-2-clause-serves g c =
     let fault = c.in_err-take_round-2.field-0.0 in
     let left = c.from_residual-in_err-take_round-2 in
     let is = returned left.result fault left.ensures.1 in
-    let same = found_nothing c.has_no_reader.result _ _ _ c.if-has_no_reader.false c.has_no_reader.ensures in
+    let same = found_nothing c.has_no_reader.result _ _ _ c.if-has_no_reader.false c.has_no_reader.ensures.noted in
     record {
       served = g.N.Udp.log c.take_round-in-loop-self.new.net;
       serves =
@@ -69,6 +73,6 @@ pub returns-then-has_no_reader-clause-serves : goal.returns-then-has_no_reader-c
 returns-then-has_no_reader-clause-serves g c = record {
   served = g.N.Udp.log c.wait.new.net;
   serves = onward c.loop-self.invariant.serves (c.wait.ensures.serves c.loop-self.request);
-  noted = found_it c.has_no_reader.result _ _ _ c.if-has_no_reader.true c.has_no_reader.ensures;
+  noted = found_it c.has_no_reader.result _ _ _ c.if-has_no_reader.true c.has_no_reader.ensures.noted;
   fault = inl refl;
 }

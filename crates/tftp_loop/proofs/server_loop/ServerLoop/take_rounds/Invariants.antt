@@ -1,4 +1,4 @@
-use Rattle.std.proofs.Common.{◌≤◌}
+use Rattle.std.proofs.Common.{◌≡◌, ◌≤◌}
 use Rattle.tftp_loop.specs.LoopStates.{HasRoom, ServesRounds}
 use Rattle.tftp_loop.specs.MayWait.{IsTended}
 use Rattle.tftp_loop.proofs.server_loop.ServerLoop.take_rounds.Given as goal
@@ -10,6 +10,7 @@ invariant-loop-self g l =
       serves : ServesRounds g.S.Store.meaning g.S.Source.Source.meaning l.fn.request l.fn.self (g.N.Udp.log l.fn.net) l.request
           l.self (g.N.Udp.log l.net);
       tended : 1 ≤ l.self.left → IsTended l.self (g.N.Udp.log l.net);
+      file : g.N.Udp.file l.net ≡ g.N.Udp.file l.fn.net;
       room : HasRoom l.self;
     }
 

@@ -1,4 +1,4 @@
-use Rattle.std.proofs.Common.{List, arith, rules, ◌≡◌, ◌<◌, ℕ, length, refl, sym, subst}
+use Rattle.std.proofs.Common.{List, arith, rules, ◌≡◌, ◌<◌, ℕ, length, refl, sym, subst, ◌∙◌}
 use Rattle.std.specs.Prelude.{slice_index_or}
 use Rattle.std.specs.Vec.{with_item}
 use Rattle.tftp_file.specs.Source.{SourceMeaning}
@@ -110,6 +110,7 @@ returns-then-not-is_closed g c =
       room = λ room.
           room_same (config_along g.S.Store.meaning g.S.Source.Source.meaning old.sockets.watch.now _ _
           visit.ensures.serves) room;
+      file = visit.ensures.file;
     }
 
 pub returns : goal.returns
@@ -138,4 +139,5 @@ returns g c =
       room = λ room.
           ends.room (room_same (config_along g.S.Store.meaning g.S.Source.Source.meaning old.sockets.watch.now _ _
           visit.ensures.serves) room);
+      file = ends.file ∙ visit.ensures.file;
     }

@@ -5,7 +5,7 @@ use Rattle.tftp_loop.specs.MayWait.{IsTended}
 use Rattle.tftp_loop.proofs.server_loop.ServerLoop.wait.Goals as goal
 
 pub sync_and_wait-requires-clause-tended : goal.sync_and_wait-requires-clause-tended
-sync_and_wait-requires-clause-tended g c = subst (IsTended c.args.self.now) (sym c.report_if_due.ensures) c.requires.tended
+sync_and_wait-requires-clause-tended g c = subst (IsTended c.args.self.now) (sym c.report_if_due.ensures.events) c.requires.tended
 
 pub sleep-requires-clause-tended : goal.sleep-requires-clause-tended
-sleep-requires-clause-tended g c = subst (IsTended c.args.self.now) (sym c.report_if_due.ensures) c.requires.tended
+sleep-requires-clause-tended g c = subst (IsTended c.args.self.now) (sym c.report_if_due.ensures.events) c.requires.tended

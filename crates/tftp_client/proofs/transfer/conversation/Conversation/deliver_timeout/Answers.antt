@@ -23,7 +23,7 @@ returns-clause-elapses g c =
     let s : State = state_of c.args.self.now (g.N.Udp.log c.args.net.now) in
     let At : State → Type 0 = λ t. MayElapse port s t in
     let lends = c.in-Ok.ensures.steps.0 in
-    let noted = c.elapsed.ensures ∙ ap (λ (p : ℕ). Elapsed p s.now ∷ s.events) c.port.ensures in
+    let noted = c.elapsed.ensures.noted ∙ ap (λ (p : ℕ). Elapsed p s.now ∷ s.events) c.port.ensures in
     let sent = replies port (timeout_turn s.end).reply c.reply-sent.ensures lends.goes (c.bytes_of.ensures
     ∙ lends.bytes) noted in
     let due = c.deadline-self.ensures.value ∙ ap (λ (n : ℕ). deadline_of s.now n) c.interval-seconds.ensures in

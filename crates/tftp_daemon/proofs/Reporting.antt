@@ -1,0 +1,94 @@
+-- The report of a run is that of the configuration that its words name.
+use Rattle.std.proofs.Common.{◌≡◌, ◌∙◌, ℕ, List, [], ◌∷◌, Option, ap, refl, subst, sym}
+use Rattle.std.specs.Prelude.{Some, None, IfSome, option_map}
+use Rattle.tftp_sockets.specs.declared.entry.Entry.{Entry}
+use Rattle.tftp_status.specs.StatusEvent.{StatusEvent, texts_in, told_in}
+use Rattle.tftp_status.specs.StatusEvent.StatusEvent.{Told, Handed}
+use Rattle.tftp_status.specs.StatusFile.{AllOwn, HandsCounts, KeepsCounts, Status, draft_of}
+use Rattle.tftp_daemon.specs.CommandLine.{IfExit, IfRun}
+use Rattle.tftp_daemon.specs.Reported.{AreTextsOf, ReportsWords, RunReportsAlone}
+use Rattle.tftp_daemon.specs.Reports.{IsReportOf, IsReported}
+use Rattle.tftp_daemon.specs.Words.{WordsConfigure}
+use Rattle.tftp_daemon.specs.declared.command_line.CommandLine.{CommandLine}
+use Rattle.tftp_daemon.specs.declared.command_line.CommandLine.TheVariants.{Run, Exit}
+use Rattle.tftp_daemon.specs.declared.daemon.DaemonConfig.{DaemonConfig}
+
+-- a new report is one of its configuration
+reported : {config : DaemonConfig} {status : Status} → IsReported config status → IsReportOf config status
+reported r = record {
+  named = r.named;
+  is_named = r.is_named;
+  own = r.own;
+  is_own = r.is_own;
+  is_at = r.is_new.file_is;
+  drains = r.drains;
+  keeps = r.is_new.keeps;
+}
+
+-- so it is, if there is one
+pub all_reported : {A : Type 0} (config : DaemonConfig) (report : Option A) (status : A → Status)
+    → IfSome report (λ a. IsReported config (status a)) → IfSome report (λ a. IsReportOf config (status a))
+all_reported config None status is = tt
+all_reported config (Some a) status is = reported is
+
+-- without a report nothing is to hold of one
+pub none_reported : {A : Type 0} (P : A → Type 0) (report : Option A) → report ≡ None → IfSome report P
+none_reported P None none = tt
+none_reported P (Some a) none = absurd (cc)
+
+-- a report whose file stays, and that keeps its counts, is one of its configuration to the end
+pub reports_on : {A : Type 0} (config : DaemonConfig) (before after : Option A) (status : A → Status)
+    → option_map (λ a. (status a).file) after ≡ option_map (λ a. (status a).file) before
+    → IfSome after (λ a. KeepsCounts (status a)) → IfSome before (λ a. IsReportOf config (status a))
+    → IfSome after (λ a. IsReportOf config (status a))
+reports_on config before None status same keeps is = tt
+reports_on config None (Some a) status same keeps is = absurd (cc)
+reports_on config (Some b) (Some a) status same keeps is =
+    let at : (status a).file ≡ (status b).file = cc in
+    record {
+      named = is.named;
+      is_named = is.is_named;
+      own = is.own;
+      is_own = is.is_own;
+      is_at = at ∙ is.is_at;
+      drains = is.drains;
+      keeps = keeps;
+    }
+
+-- the report is that of the configuration that the words name
+pub reports_words : {A : Type 0} (words : List (List ℕ)) (line : CommandLine) (before after : Option A) (status : A → Status)
+    → IfRun line (WordsConfigure words) → IfRun line (λ config. IfSome after (λ a. IsReportOf config (status a)))
+    → IfExit line (λ _. after ≡ before) → before ≡ None → IfSome after (λ a. ReportsWords words (status a))
+reports_words words line before None status names is same none = tt
+reports_words words (Run config) before (Some a) status names is same none = (config, names, is)
+reports_words words (Exit n) before (Some a) status names is same none = absurd (cc)
+
+-- texts of what was told are texts of that and one entry more
+later_told : (entry : Entry) (told : List Entry) (texts : List (List ℕ)) → AreTextsOf told texts
+    → AreTextsOf (entry ∷ told) texts
+later_told entry told [] are = tt
+later_told entry told (text ∷ earlier) (by_then, (later, is), is_text, before) =
+    (by_then, (entry ∷ later, ap (λ (entries : List Entry). entry ∷ entries) is), is_text, before)
+
+-- each text that was handed is one of what was told by then
+texts_told : (events : List StatusEvent) → HandsCounts events → AreTextsOf (told_in events) (texts_in events)
+texts_told [] hands = tt
+texts_told (Told entry ∷ before) hands =
+    later_told entry (told_in before) (texts_in before) (texts_told before hands)
+texts_told (Handed text ∷ before) (is_text, hands) =
+    (told_in before, ([], refl), is_text, texts_told before hands)
+
+-- a run changes on the disk of its counts the file that its words name alone
+pub reports_alone : RunReportsAlone
+reports_alone words status (config, names, is) = record {
+  file = is.named;
+  asked = names.status ∙ is.is_named;
+  config = config;
+  configured = names;
+  own = is.own;
+  is_own = is.is_own;
+  changes =
+      subst (λ (own : List ℕ). AllOwn own (draft_of own) status.log) is.is_at
+      (subst (λ (draft : List ℕ). AllOwn status.file draft status.log) is.keeps.beside is.keeps.own);
+  texts = subst (AreTextsOf (told_in status.events)) (sym is.keeps.texts) (texts_told status.events is.keeps.handed);
+}
