@@ -6,8 +6,9 @@ ghost use Rattle.tftp_daemon.specs.CommandLine.{IfExit, IfRun};
 ghost use Rattle.tftp_daemon.specs.Configured.{MayServe, ServesWords, daemon_status};
 ghost use Rattle.tftp_daemon.specs.Supervised.{MaySupervise, SupervisesWords};
 
-use crate::command_line::{CommandLine, Texts, read_words};
+use crate::command_line::{CommandLine, read_words};
 use crate::daemon::{DaemonConfig, DaemonFault, StatusFault, serve};
+use crate::options::Texts;
 use crate::shown::Shown;
 use crate::surroundings::Surroundings;
 use std::alloc::Global;
