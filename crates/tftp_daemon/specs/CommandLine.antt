@@ -1,6 +1,7 @@
 -- The server that the words of a command line configure, as they were read (own).
-use Rattle.std.specs.Prelude.{ℕ, ◌≡◌, ◌≢◌, ◌≤◌, ◌+◌, ◌*◌, ◌⊎◌, Bool, true, false, List, [], ◌∷◌, ◌++◌}
-use Rattle.std.specs.Prelude.{codes, drop, length, max, min, Option, Some, None, find, option_map}
+use Rattle.std.specs.Prelude.{ℕ, ◌≡◌, ◌≢◌, ◌≤◌, ◌+◌, ◌*◌, ◌⊎◌, Bool, true, false, max, min}
+use Rattle.std.specs.Prelude.{List, [], ◌∷◌, ◌++◌, codes, drop, length, find}
+use Rattle.std.specs.Prelude.{Option, Some, None, option_map}
 use Rattle.std.specs.List.{AllByRecursion}
 use Rattle.std.specs.Option.{option_map_or}
 use Rattle.std.specs.Str.{bytes_eq}
@@ -95,7 +96,7 @@ HasApart (At at) others = IsApart at others × AllDistinct others
 HasApart Handed others = AllDistinct others
 
 -- how many servers there are at each address, as a word names them where the process has so many
--- processors: by their number, from 1 to 64, or `auto`, for as many as it has processors, 64 at most
+-- processors: by their number, from 1 to 64, or `auto`, for one for each processor, 64 at most
 abbrev pub ServersFor : ℕ → Option (List ℕ) → ℕ → Type 0
 ServersFor processors None servers = ⊥
 ServersFor processors (Some word) servers =

@@ -1,7 +1,7 @@
 -- How many processors a process may run on, by the texts in which the system says it (own).
-use Rattle.std.specs.Prelude.{ℕ, ◌+◌, ◌-◌, ◌==◌, ◌&&◌, ◌||◌, Bool, if◌then◌else◌, max, min, nat_eq, nat_lt}
-use Rattle.std.specs.Prelude.{List, [], ◌∷◌, codes, count_ones, drop, length, sum_by, unwrap_or}
-use Rattle.std.specs.Prelude.{Option, Some, None}
+use Rattle.std.specs.Prelude.{ℕ, ◌+◌, ◌-◌, ◌==◌, ◌&&◌, ◌||◌, Bool, if◌then◌else◌, max, min}
+use Rattle.std.specs.Prelude.{nat_eq, nat_lt, List, [], ◌∷◌, codes, count_ones, drop, length}
+use Rattle.std.specs.Prelude.{sum_by, Option, Some, None, unwrap_or}
 use Rattle.std.specs.Char.{digit_value}
 use Rattle.std.specs.List.{after_first, before_first, list_all, position_or_len, slice_split}
 use Rattle.std.specs.List.{starts_with}
@@ -51,8 +51,8 @@ size_of None last = 0
 size_of (Some first) None = 0
 size_of (Some first) (Some last) = if nat_lt last first then 0 else min ((last - first) + 1) 255
 
--- the processors in a range: from the number before its first dash (45) to the one behind it, or one
--- with a number alone
+-- the processors in a range: from the number before its first dash (45) to the one behind it; a
+-- number alone is one
 abbrev pub in_range : List ℕ → ℕ
 in_range range =
     if nat_lt (position_or_len (λ byte. byte == 45) range) (length range)

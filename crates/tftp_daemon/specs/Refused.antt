@@ -1,7 +1,8 @@
 -- What a command line is refused for beside what `clap` refuses: options that exclude or need one
--- another, and a file of `--status` that may not be. A configuration that runs has none of it (own).
-use Rattle.std.specs.Prelude.{ℕ, ◌≡◌, ◌≢◌, ◌+◌, ◌-◌, ◌*◌, ◌≤◌, ◌==◌, ◌&&◌, ◌⊎◌, Bool, true, false, not}
-use Rattle.std.specs.Prelude.{List, [], ◌∷◌, if◌then◌else◌, codes, length, Option, Some, None, IfSome, IsSomeAnd, IsSome}
+-- another, and a file of `--status` that may not be. A configuration that runs has neither (own).
+use Rattle.std.specs.Prelude.{ℕ, ◌≡◌, ◌≢◌, ◌+◌, ◌-◌, ◌*◌, ◌≤◌, ◌==◌, ◌&&◌, ◌⊎◌}
+use Rattle.std.specs.Prelude.{Bool, true, false, not, if◌then◌else◌, List, [], ◌∷◌, codes, length}
+use Rattle.std.specs.Prelude.{Option, Some, None, IfSome, IsSome, IsSomeAnd}
 use Rattle.std.specs.Prelude.{find, option_and_then, option_map, unwrap_or}
 use Rattle.std.specs.List.{list_any}
 use Rattle.std.specs.Option.{option_map_or}
@@ -30,7 +31,8 @@ name_in (byte ∷ path) = if has_no_slash (byte ∷ path) then byte ∷ path els
 
 -- a part of a path may be the name of a file: it is neither nothing, `.` nor `..`
 abbrev pub is_name : List ℕ → Bool
-is_name name = not (length name == 0) && (not (bytes_eq name cur_dir) && not (bytes_eq name parent_dir))
+is_name name =
+    not (length name == 0) && (not (bytes_eq name cur_dir) && not (bytes_eq name parent_dir))
 
 -- a path has the name of a file behind its last slash
 abbrev pub names_file : List ℕ → Bool
@@ -144,11 +146,11 @@ pub record IsNever (ending : Ending) : Type 0 where
   pub transfers : ending.transfers ≡ 18446744073709551615
   pub rounds : ending.rounds ≡ 18446744073709551615
 
--- the options of a configuration stand together, by the rows of its words: `--forever` with no count
--- of transfers or waits, a server that refuses writes with no folder of uploads, and times in the
--- log with a log. There are at most 64 servers, and a port for each, if ports are named. Several
--- end by no count, are none of several themselves, and are at addresses, if they are at several.
--- One of several has its requests at standard input
+-- the options of a configuration stand together, by the rows of its words: `--forever` with no
+-- count of transfers or waits, a server that refuses writes with no folder of uploads, and times in
+-- the log with a log. There are at most 64 servers, and a port for each, if ports are named.
+-- Several end by no count, and have no number; if they are at several addresses, `stdin` is none of
+-- these. One with a number has its requests at standard input
 pub record AreTogether (rows : List Row) (config : DaemonConfig) : Type 0 where
   pub transfers : is_on (one_of (codes "forever") rows) ≡ true
       → is_given (source_in rows (codes "transfers")) ≡ false

@@ -149,7 +149,7 @@ fn servers_each(matches: &ArgMatches<'_>, processors: u8) -> Option<u8>
     servers_in(matches.get_str(SERVERS)?, processors)
 }
 
-/// The number of servers in a word, from 1 to 64, or that of the processors for `auto`; else `None`.
+/// The number of servers in a word, from 1 to 64; for `auto` that of the processors. Else `None`.
 fn servers_in(word: &str, processors: u8) -> Option<u8>
     ensures number { IfSome result (ServersFor processors (Some word.now)) }
     ensures bounds { IfSome result (ServersAs (Some word.now)) }

@@ -26,7 +26,7 @@ Examples:
 /// The name of the folder that is served.
 pub(crate) const ROOT: &str = "ROOT";
 
-/// The names of the options that are read by more than one function.
+/// The names of the options, as they are read from the matches.
 pub(crate) const LISTEN: &str = "listen";
 
 pub(crate) const REQUESTS_ONLY: &str = "requests-only";

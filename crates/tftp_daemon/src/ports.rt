@@ -18,10 +18,7 @@ pub(crate) struct NoPorts(pub(crate) &'static str);
 
 /// The ports of transfers of so many servers, or `None` if the system chooses: those that a word
 /// names, if there is one.
-pub(crate) fn port_range(
-    word: Option<&str>,
-    servers: usize,
-) -> std::result::Result<Option<PortRange>, NoPorts>
+pub(crate) fn port_range(word: Option<&str>, servers: usize) -> Result<Option<PortRange>, NoPorts>
     ensures names { IfOk result (PortsAs (option_map (λ text. text.now) word.entry)) }
     ensures enough { IfOk result (HasPortsFor servers) }
 {
