@@ -3,7 +3,7 @@
 //! `clap` would look at options that exclude or need one another, too, but then its contract would
 //! say nothing of the words that it refuses.
 
-ghost use Rattle.std.specs.Prelude.{◌≡◌, ◌↔◌, codes, map, IfNone, IfOk, IsTrue, option_map};
+ghost use Rattle.std.specs.Prelude.{◌≡◌, ◌≢◌, ◌↔◌, codes, map, IfNone, IfOk, IsTrue, OnSome, option_map};
 ghost use Rattle.std.specs.List.{list_any};
 ghost use Rattle.std.specs.Path.{PathStartsWith};
 ghost use Rattle.std.specs.Str.{bytes_eq};
@@ -75,7 +75,8 @@ pub(crate) const MOST_SERVERS: u8 = 64;
 /// Why the options do not stand together, where so many servers start at each address, if they do
 /// not.
 pub(crate) fn excluded(matches: &ArgMatches<'_>, each: u8) -> Option<&'static str>
-    ensures { IfNone result (StandTogether (found_of matches.now) each) }
+    ensures stand { IfNone result (StandTogether (found_of matches.now) each) }
+    ensures refused { OnSome result (¬ (StandTogether (found_of matches.now) each)) }
 {
     if let Some(message) = excluded_of_ends(matches) {
         return Some(message);
@@ -91,7 +92,8 @@ pub(crate) fn excluded(matches: &ArgMatches<'_>, each: u8) -> Option<&'static st
 
 /// As [`excluded`], of when the server ends.
 fn excluded_of_ends(matches: &ArgMatches<'_>) -> Option<&'static str>
-    ensures { IfNone result (EndsTogether (found_of matches.now)) }
+    ensures stand { IfNone result (EndsTogether (found_of matches.now)) }
+    ensures refused { OnSome result (¬ (EndsTogether (found_of matches.now))) }
 {
     if !is_on(matches, FOREVER) {
         return None;
@@ -107,7 +109,8 @@ fn excluded_of_ends(matches: &ArgMatches<'_>) -> Option<&'static str>
 
 /// As [`excluded`], of writes.
 fn excluded_of_writes(matches: &ArgMatches<'_>) -> Option<&'static str>
-    ensures { IfNone result (WritesTogether (found_of matches.now)) }
+    ensures stand { IfNone result (WritesTogether (found_of matches.now)) }
+    ensures refused { OnSome result (¬ (WritesTogether (found_of matches.now))) }
 {
     if !is_on(matches, READ_ONLY) {
         return None;
@@ -120,7 +123,8 @@ fn excluded_of_writes(matches: &ArgMatches<'_>) -> Option<&'static str>
 
 /// As [`excluded`], of the log.
 fn excluded_of_logs(matches: &ArgMatches<'_>) -> Option<&'static str>
-    ensures { IfNone result (LogsTogether (found_of matches.now)) }
+    ensures stand { IfNone result (LogsTogether (found_of matches.now)) }
+    ensures refused { OnSome result (¬ (LogsTogether (found_of matches.now))) }
 {
     if !is_on(matches, LOG_TIME) {
         return None;
@@ -134,7 +138,8 @@ fn excluded_of_logs(matches: &ArgMatches<'_>) -> Option<&'static str>
 
 /// As [`excluded`], of the options for several servers.
 fn excluded_of_servers(matches: &ArgMatches<'_>, each: u8) -> Option<&'static str>
-    ensures { IfNone result (ServersTogether (found_of matches.now) each) }
+    ensures stand { IfNone result (ServersTogether (found_of matches.now) each) }
+    ensures refused { OnSome result (¬ (ServersTogether (found_of matches.now) each)) }
 {
     if let Some(message) = excluded_of_addresses(matches, each) {
         return Some(message);
@@ -147,7 +152,8 @@ fn excluded_of_servers(matches: &ArgMatches<'_>, each: u8) -> Option<&'static st
 
 /// As [`excluded`], of several addresses.
 fn excluded_of_addresses(matches: &ArgMatches<'_>, each: u8) -> Option<&'static str>
-    ensures { IfNone result (AddressesTogether (found_of matches.now) each) }
+    ensures stand { IfNone result (AddressesTogether (found_of matches.now) each) }
+    ensures refused { OnSome result (¬ (AddressesTogether (found_of matches.now) each)) }
 {
     let words = listen_words(matches);
     if words.len() < 2 {
@@ -179,7 +185,8 @@ fn has_stdin(words: &[&str]) -> bool
 
 /// As [`excluded`], of several servers at each address.
 fn excluded_of_many(matches: &ArgMatches<'_>, each: u8) -> Option<&'static str>
-    ensures { IfNone result (ManyTogether (found_of matches.now) each) }
+    ensures stand { IfNone result (ManyTogether (found_of matches.now) each) }
+    ensures refused { OnSome result (¬ (ManyTogether (found_of matches.now) each)) }
 {
     if each < 2 {
         return None;
@@ -196,7 +203,8 @@ fn excluded_of_many(matches: &ArgMatches<'_>, each: u8) -> Option<&'static str>
 
 /// As [`excluded`], of one of several servers.
 fn excluded_of_one(matches: &ArgMatches<'_>) -> Option<&'static str>
-    ensures { IfNone result (OneTogether (found_of matches.now)) }
+    ensures stand { IfNone result (OneTogether (found_of matches.now)) }
+    ensures refused { OnSome result (¬ (OneTogether (found_of matches.now))) }
 {
     match matches.get_str(SERVER) {
         Some(_) => excluded_of_listen(matches),
@@ -206,8 +214,10 @@ fn excluded_of_one(matches: &ArgMatches<'_>) -> Option<&'static str>
 
 /// As [`excluded`], of where the requests of one of several servers arrive.
 fn excluded_of_listen(matches: &ArgMatches<'_>) -> Option<&'static str>
-    ensures { IfNone result (first_value (found_of matches.now) (codes "listen")
+    ensures stand { IfNone result (first_value (found_of matches.now) (codes "listen")
         ≡ Some (codes "stdin")) }
+    ensures refused { OnSome result (¬ (first_value (found_of matches.now) (codes "listen")
+        ≡ Some (codes "stdin"))) }
 {
     match matches.get_str(LISTEN) {
         Some("stdin") => None,

@@ -7,7 +7,7 @@ returns-in-Some-3-clause-names g c =
     configures c.args.matches.now c.in-Some-3.service c.in-Some.servers
     (rw (c.in-Some-3.is) at c.in_ok-service.ensures.names)
     (rw (c.in-Some-3.is) at c.in_ok-service.ensures.servers)
-    c.in_default-excluded.ensures c.in-Ok.ports c.server_count.result
+    c.in_default-excluded.ensures.stand c.in-Ok.ports c.server_count.result
     (rw (c.in-Some-3.is) at c.in_ok-service.ensures.ports) c.server_count.ensures c.in-Ok.ensures.enough
     (rw (c.in_default-2.is) at c.in_ok-no.ensures)
 
