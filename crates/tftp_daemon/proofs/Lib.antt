@@ -3,8 +3,11 @@ mod ConfiguredLemmas
 mod Commands
 mod HeldAtPorts
 mod Keeping
+mod LastParts
 mod NoneStores
 mod OwnDrafts
+mod ProcessorCounts
+mod Refusals
 mod Reporting
 mod Supervising
 mod WithinLimits

@@ -21,6 +21,7 @@ use Rattle.tftp_folder.specs.declared.folder_draft.FolderDraft.{FolderDraft}
 use Rattle.tftp_folder.specs.declared.folder_store.FolderStore.{FolderStore}
 use Rattle.tftp_daemon.specs.Changes.{IsChangeBelow, IsOwnDraft, ReadOnlyRunChangesNothing, RunStaysWithin}
 use Rattle.tftp_daemon.specs.Changes.{UploadsRunChangesBelow}
+use Rattle.tftp_daemon.specs.CommandLine.{is_on}
 use Rattle.tftp_daemon.specs.Configured.{IsUploads, drafts_in}
 use Rattle.tftp_daemon.proofs.Keeping.{run_keeps}
 
@@ -131,7 +132,8 @@ module _ {D G H W F E : Type 0} (log : D → List DiskEvent) (meaning : StoreMea
       → ReadOnlyRunChangesNothing log meaning sources
   read_only_changes_nothing stays nothing words config first last named asks runs =
       let refuses : first.server.store.is_read_only ≡ true =
-      runs.is_server.read_only ∙ named.read_only.yes asks in
+      runs.is_server.read_only
+      ∙ (named.named.read_only ∙ ap (λ (text : Option (List ℕ)). is_on text) asks) in
       nothing (limits_of first.server.store) (log last.server.store.disk) refuses
       (stays config first last runs).store.changed
 
@@ -149,7 +151,7 @@ module _ {D G H W F E : Type 0} (log : D → List DiskEvent) (meaning : StoreMea
   uploads_change_below stays words config folder path first last named asks names runs =
       let store = first.server.store in
       let uploads : store.uploads ≡ Some path =
-      uploads_of store.uploads _ folder path (sym asks ∙ named.uploads) runs.is_server.uploads names in
+      uploads_of store.uploads _ folder path (sym asks ∙ named.named.uploads) runs.is_server.uploads names in
       let drafts : string_bytes store.folder.drafts ≡ path_below (string_bytes store.folder.root) path =
       runs.is_server.drafts
       ∙ ap (λ (u : Option (List ℕ)). drafts_in (string_bytes store.folder.root) u) uploads in

@@ -1,9 +1,8 @@
 -- Runs of two servers over such a store, one that gives a file and one that stores one: the law `some_servers_serve`.
-use Rattle.std.proofs.Common.{rules, ◌≡◌, ◌<◌, ◌≤◌, refl, ℕ, Bool, [], ◌∷◌, Some, None, Ok, Err, true, false, arith, inl, inr, List, length, ap, sym}
-use Rattle.std.specs.Prelude.{◌*◌, ◌^◌, codes, get_or, slice_index_or, slice_set, ⊤}
+use Rattle.std.proofs.Common.{rules, ◌≡◌, ◌<◌, ◌≤◌, refl, ℕ, Bool, [], ◌∷◌, Some, None, Ok, Err, true, false, arith, inl, inr, List, length, sym}
+use Rattle.std.specs.Prelude.{◌*◌, ◌^◌, codes, slice_index_or, slice_set, ⊤}
 use Rattle.std.proofs.lemmas.Bool.{ltb-true, true≢false}
 use Rattle.std.proofs.lemmas.Fmt.{decimal_digit}
-use Rattle.std.proofs.lemmas.Option.{same_Some}
 use Rattle.clap.proofs.OnLiterals.{clap_on_literals}
 use denote.RawPtr.{null_ptr}
 use Rattle.tftp_wire.specs.Spelling.{Spells, canonical}
@@ -50,8 +49,8 @@ use Rattle.tftp_loop.specs.WholeRun.{Bound, listening}
 use Rattle.tftp_loop.specs.declared.serving.LoopConfig.{LoopConfig}
 use Rattle.tftp_loop.specs.declared.serving.LoopFault.TheVariants.{NoReader}
 use Rattle.tftp_folder.specs.Settings.{AsksNothing}
-use Rattle.tftp_arguments.specs.Read.{IsFlag}
 use Rattle.tftp_daemon.specs.CommandLine.EndsAs.{After as Ends_after}
+use Rattle.tftp_daemon.specs.CommandLine.{IsOfSeveral}
 use Rattle.tftp_daemon.specs.Configured.{IsServerOf, ServesWords, service_at}
 use Rattle.tftp_daemon.specs.Words.{WordsConfigure}
 use Rattle.tftp_daemon.specs.declared.daemon.DaemonConfig.{DaemonConfig}
@@ -96,13 +95,10 @@ config = record {
   has_priority = false;
 }
 
-pub not_true : Some (codes "false") ≡ Some (codes "true") → ⊥
-not_true e =
-    let first = ap (λ (text : List ℕ). get_or text 0 0) (same_Some (codes "false") (codes "true") e) in
-    absurd (omega (arith, first))
-
-pub unset : IsFlag (Some (codes "false")) false
-unset = record { absent = λ e. refl; yes = λ e. absurd (not_true e); no = λ e. refl }
+-- it is alone
+is_one : IsOfSeveral config → ⊥
+is_one (inl many) = absurd (omega (arith, many))
+is_one (inr others) = others refl
 
 -- the server's address, as it is spelled
 pub its_name : Names (codes "1.2.3.4:69") (Some server)
@@ -131,23 +127,38 @@ its_name = (
 pub configured : WordsConfigure words config
 unfolding clap_on_literals
 configured = record {
-  root = refl;
-  listen = (codes "1.2.3.4:69", refl, its_name);
-  others = tt;
-  apart = (tt, tt);
-  ports = refl;
-  requests_only = unset;
-  per_client = refl;
-  limits = record { max_block = refl; max_file = refl; retries = refl; cap = refl; overwrite = unset };
-  read_only = unset;
-  uploads = refl;
-  longest = refl;
-  ending = Ends_after unset refl refl;
-  drain = refl;
-  status = refl;
-  logs = unset;
-  log_times = unset;
-  instance = record { servers = (inr refl, (omega arith, omega arith)); server = refl };
+  named = record {
+    root = refl;
+    listen = (codes "1.2.3.4:69", refl, its_name);
+    others = tt;
+    apart = (tt, tt);
+    ports = refl;
+    requests_only = refl;
+    per_client = refl;
+    limits = record { max_block = refl; max_file = refl; retries = refl; cap = refl; overwrite = refl };
+    read_only = refl;
+    uploads = refl;
+    longest = refl;
+    ending = Ends_after refl refl refl;
+    drain = refl;
+    status = refl;
+    logs = refl;
+    log_times = refl;
+    instance = record { servers = (inr refl, (omega arith, omega arith)); server = refl };
+  };
+  status = tt;
+  together = record {
+    transfers = λ on. refl;
+    rounds = λ on. refl;
+    uploads = λ on. refl;
+    log = λ on. absurd (true≢false (sym on));
+    most = omega arith;
+    ports = tt;
+    forever = λ several. absurd (is_one several);
+    alone = λ several. refl;
+    bound = λ some. absurd (some refl);
+    handed = λ some. absurd (true≢false (sym some));
+  };
 }
 
 -- ---- the states

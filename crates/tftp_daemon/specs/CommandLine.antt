@@ -1,15 +1,16 @@
 -- The server that the words of a command line configure, as they were read (own).
-use Rattle.std.specs.Prelude.{ℕ, ◌≡◌, ◌≢◌, ◌≤◌, ◌⊎◌, true, false, List, [], ◌∷◌, ◌++◌, codes, drop}
-use Rattle.std.specs.Prelude.{Option, Some, None, find, option_map}
+use Rattle.std.specs.Prelude.{ℕ, ◌≡◌, ◌≢◌, ◌≤◌, ◌+◌, ◌*◌, ◌⊎◌, Bool, true, false, max, min}
+use Rattle.std.specs.Prelude.{List, [], ◌∷◌, ◌++◌, codes, drop, length, find}
+use Rattle.std.specs.Prelude.{Option, Some, None, option_map}
 use Rattle.std.specs.List.{AllByRecursion}
 use Rattle.std.specs.Option.{option_map_or}
 use Rattle.std.specs.Str.{bytes_eq}
 use Rattle.clap.specs.Matches.{matched_of, raw_values}
-use Rattle.clap.specs.Walk.{Row}
+use Rattle.clap.specs.Walk.{Row, first_of}
 use Rattle.clap.specs.declared.parser.matches.Found.{Found}
 use Rattle.tftp_ends.specs.declared.endpoint.Endpoint.{Endpoint}
 use Rattle.tftp_server.specs.declared.config.Config.{Config}
-use Rattle.tftp_arguments.specs.Read.{IsFlag, IsNumber, ReadWords, read_in}
+use Rattle.tftp_arguments.specs.Read.{IsNumber, ReadWords, read_in}
 use Rattle.tftp_sockets.specs.Address.{Names}
 use Rattle.tftp_loop.specs.declared.port_order.PortRange.{PortRange}
 use Rattle.tftp_loop.specs.declared.serving.Ending.{Ending}
@@ -20,20 +21,25 @@ use Rattle.tftp_daemon.specs.declared.daemon.Instance.{Instance}
 use Rattle.tftp_daemon.specs.declared.listen.Listen.{Listen}
 use Rattle.tftp_daemon.specs.declared.listen.Listen.TheVariants.{At, Handed}
 
+-- a flag is set, by its text: one without a text is not
+abbrev pub is_on : Option (List ℕ) → Bool
+is_on None = false
+is_on (Some text) = bytes_eq text (codes "true")
+
 -- the limits of transfers, as they were read
 pub record ConfiguresAs (read : ReadWords) (config : Config) : Type 0 where
   pub max_block : IsNumber 16 (read.text (codes "max-block")) (Some config.limits.max_block)
   pub max_file : IsNumber 64 (read.text (codes "max-file")) (Some config.limits.max_file)
   pub retries : IsNumber 8 (read.text (codes "retries")) (Some config.retries)
   pub cap : IsNumber 8 (read.text (codes "cap")) (Some config.cap)
-  pub overwrite : IsFlag (read.text (codes "overwrite")) config.overwrite
+  pub overwrite : config.overwrite ≡ is_on (read.text (codes "overwrite"))
 
 -- when the server ends, as it was read: never, or after so many closed transfers or waits
 pub data EndsAs (read : ReadWords) (ending : Ending) : Type 0 where
-  Never : IsFlag (read.text (codes "forever")) true
+  Never : is_on (read.text (codes "forever")) ≡ true
       → ending.transfers ≡ 18446744073709551615 → ending.rounds ≡ 18446744073709551615
       → EndsAs read ending
-  After : IsFlag (read.text (codes "forever")) false
+  After : is_on (read.text (codes "forever")) ≡ false
       → IsNumber 32 (read.text (codes "transfers")) (Some ending.transfers)
       → IsNumber 32 (read.text (codes "rounds")) (Some ending.rounds)
       → EndsAs read ending
@@ -89,8 +95,15 @@ abbrev pub HasApart : Listen → List Endpoint → Type 0
 HasApart (At at) others = IsApart at others × AllDistinct others
 HasApart Handed others = AllDistinct others
 
--- how many servers there are at each address, as a word names them: by their number, or `auto`, for
--- as many as the process has processors; and there are 1 to 64
+-- how many servers there are at each address, as a word names them where the process has so many
+-- processors: by their number, from 1 to 64, or `auto`, for one for each processor, 64 at most
+abbrev pub ServersFor : ℕ → Option (List ℕ) → ℕ → Type 0
+ServersFor processors None servers = ⊥
+ServersFor processors (Some word) servers =
+    ((word ≡ codes "auto") × (servers ≡ max 1 (min processors 64)))
+    ⊎ (IsNumber 8 (Some word) (Some servers) × (1 ≤ servers) × (servers ≤ 64))
+
+-- the same, whatever processors the process has: for `auto` there are 1 to 64
 abbrev pub ServersAs : Option (List ℕ) → ℕ → Type 0
 ServersAs None servers = ⊥
 ServersAs (Some word) servers =
@@ -101,6 +114,15 @@ ServersAs (Some word) servers =
 pub record NamesInstance (read : ReadWords) (instance : Instance) : Type 0 where
   pub servers : ServersAs (read.word (codes "servers")) instance.servers
   pub server : IsNumber 8 (read.text (codes "server")) instance.server
+
+-- how many servers there are: so many at each address
+abbrev pub servers_of : DaemonConfig → ℕ
+servers_of config = config.instance.servers * (length config.others.items + 1)
+
+-- the configuration is that of several servers, each a process of its own: at one address, or at
+-- several
+abbrev pub IsOfSeveral : DaemonConfig → Type 0
+IsOfSeveral config = (2 ≤ config.instance.servers) ⊎ (config.others.items ≢ [])
 
 -- the configuration has the folder, the address, the ports, the limits, the age, the end, the flags
 -- and the number of servers that were read, and which of several it is; and where `--listen` was
@@ -113,22 +135,28 @@ pub record NamesServer (read : ReadWords) (listens : List (List ℕ)) (config : 
     pub others : NameEndpoints (drop 1 listens) config.others.items
     pub apart : HasApart config.listen config.others.items
     pub ports : PortsAs (read.word (codes "ports")) config.ports
-    pub requests_only : IsFlag (read.text (codes "requests-only")) config.requests_only
+    pub requests_only : config.requests_only ≡ is_on (read.text (codes "requests-only"))
     pub per_client : IsNumber 8 (read.text (codes "per-client")) config.per_client
     pub limits : ConfiguresAs read config.config
-    pub read_only : IsFlag (read.text (codes "read-only")) config.read_only
+    pub read_only : config.read_only ≡ is_on (read.text (codes "read-only"))
     pub uploads : read.word (codes "uploads") ≡ option_map (λ folder. folder.now) config.uploads
     pub longest : IsNumber 32 (read.text (codes "longest")) config.longest
     pub ending : EndsAs read config.ending
     pub drain : read.word (codes "drain") ≡ option_map (λ path. path.now) config.drain
     pub status : read.word (codes "status") ≡ option_map (λ path. path.now) config.status
-    pub logs : IsFlag (read.text (codes "log")) config.logs
-    pub log_times : IsFlag (read.text (codes "log-time")) config.log_times
+    pub logs : config.logs ≡ is_on (read.text (codes "log"))
+    pub log_times : config.log_times ≡ is_on (read.text (codes "log-time"))
     pub instance : NamesInstance read config.instance
 
 -- so it is by the rows of a parse
 abbrev pub NamesInRows : List Row → DaemonConfig → Type 0
 NamesInRows rows config = NamesServer (read_in rows) (words_in rows (codes "listen")) config
+
+-- how many servers start at each address is what the rows say, where the process has so many
+-- processors
+abbrev pub StartsInRows : ℕ → List Row → DaemonConfig → Type 0
+StartsInRows processors rows config =
+    ServersFor processors (first_of (codes "servers") rows) config.instance.servers
 
 -- what holds of the configuration that a command line has the program serve by
 abbrev pub IfRun : CommandLine → (DaemonConfig → Type 0) → Type 0

@@ -1,5 +1,5 @@
 -- What the program did for the words of a command line (own).
-use Rattle.std.specs.Prelude.{ℕ, ◌≡◌, ◌≢◌, ◌≤◌, ◌+◌, ◌*◌, ◌⊎◌, List, [], length, Option, Some, None, Result, Ok, Err}
+use Rattle.std.specs.Prelude.{ℕ, ◌≡◌, ◌≢◌, ◌≤◌, ◌⊎◌, List, [], Option, Some, None, Result, Ok, Err}
 use Rattle.std.specs.Prelude.{option_map, is_some}
 use Rattle.std.specs.String.{string_bytes}
 use Rattle.tftp_ends.specs.declared.endpoint.Endpoint.{Endpoint}
@@ -12,6 +12,7 @@ use Rattle.tftp_loop.specs.WholeRun.{RunsServer}
 use Rattle.tftp_loop.specs.declared.serving.LoopConfig.{LoopConfig}
 use Rattle.tftp_loop.specs.declared.serving.LoopFault.{LoopFault}
 use Rattle.tftp_arguments.specs.Fault.{AskForText}
+pub use Rattle.tftp_daemon.specs.CommandLine.{IsOfSeveral, servers_of}
 use Rattle.tftp_daemon.specs.Words.{WordsConfigure, tftpd_app}
 use Rattle.tftp_daemon.specs.declared.daemon.DaemonConfig.{DaemonConfig}
 use Rattle.tftp_daemon.specs.declared.listen.Listen.{Listen}
@@ -48,15 +49,6 @@ service_at config at = record {
   logs = config.logs;
   has_priority = config.has_priority;
 }
-
--- how many servers there are: so many at each address
-abbrev pub servers_of : DaemonConfig → ℕ
-servers_of config = config.instance.servers * (length config.others.items + 1)
-
--- the configuration is that of several servers, each a process of its own: at one address, or at
--- several
-abbrev pub IsOfSeveral : DaemonConfig → Type 0
-IsOfSeveral config = (2 ≤ config.instance.servers) ⊎ (config.others.items ≢ [])
 
 -- the words ask for several servers
 abbrev pub AskForSeveral : List (List ℕ) → Type 0

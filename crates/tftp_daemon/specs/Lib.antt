@@ -1,6 +1,8 @@
 pub mod Leaves
 pub mod DraftPorts
 pub mod CommandLine
+pub mod Refused
+pub mod Processors
 pub mod Witness
 pub mod Words
 pub mod Configured

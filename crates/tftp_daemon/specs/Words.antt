@@ -7,7 +7,8 @@ use Rattle.clap.specs.declared.builder.action.ArgAction.TheVariants.{Append}
 use Rattle.clap.specs.declared.builder.value_parser.ValueParser.TheVariants as parsers
 use Rattle.tftp_server.specs.Config.{default_config}
 use Rattle.tftp_arguments.specs.Rules.{by_default, flag_rule, number_rule, within, word_rule}
-use Rattle.tftp_daemon.specs.CommandLine.{NamesInRows}
+use Rattle.tftp_daemon.specs.CommandLine.{StartsInRows}
+use Rattle.tftp_daemon.specs.Refused.{Configures}
 use Rattle.tftp_daemon.specs.declared.daemon.DaemonConfig.{DaemonConfig}
 
 -- ---- the command line
@@ -93,6 +94,11 @@ tftpd_app =
     (with_servers (with_ending (with_writes (with_limits (with_folder_and_ports bare_app)))))
 
 -- ---- the configuration
--- the words name this configuration
+-- the words name this configuration, and are not refused
 abbrev pub WordsConfigure : List (List ℕ) → DaemonConfig → Type 0
-WordsConfigure words config = NamesInRows (matches_of tftpd_app words) config
+WordsConfigure words config = Configures (matches_of tftpd_app words) config
+
+-- how many servers start at each address is what the words ask for, where the process has so many
+-- processors
+abbrev pub StartsFor : ℕ → List (List ℕ) → DaemonConfig → Type 0
+StartsFor processors words config = StartsInRows processors (matches_of tftpd_app words) config

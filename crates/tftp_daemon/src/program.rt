@@ -8,8 +8,9 @@ ghost use Rattle.tftp_daemon.specs.Reported.{ReportsWords};
 ghost use Rattle.tftp_daemon.specs.Reports.{IsReportOf};
 ghost use Rattle.tftp_daemon.specs.Supervised.{MaySupervise, SupervisesWords};
 
-use crate::command_line::{CommandLine, Texts, read_words};
+use crate::command_line::{CommandLine, read_words};
 use crate::daemon::{DaemonConfig, DaemonFault, StatusFault, serve};
+use crate::options::Texts;
 use crate::shown::Shown;
 use crate::surroundings::Surroundings;
 use std::alloc::Global;

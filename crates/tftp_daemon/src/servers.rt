@@ -7,10 +7,11 @@ ghost use Rattle.tftp_daemon.specs.Configured.{servers_of};
 ghost use Rattle.tftp_daemon.specs.Servers.{IsPart, IsServer, NamesServerOf, PartOf, start_of};
 ghost use Rattle.tftp_daemon.specs.Supervised.{AreServerLines, Supervised};
 
-use crate::command_line::{CommandLine, Texts, read_words};
+use crate::command_line::{CommandLine, read_words};
 use crate::daemon::{DaemonConfig, DaemonFault};
 use crate::error_output::ErrorOutput;
 use crate::listen::Listen;
+use crate::options::Texts;
 use crate::surroundings::Surroundings;
 use std::alloc::{AllocError, Global};
 use std::convert::AsStr;

@@ -1,8 +1,9 @@
 //! The file of a server's counts: where it may be, and when its reports begin.
 
-ghost use Rattle.std.specs.Prelude.{◌≡◌, ◌≢◌, false, true, None, IfOk, IfSome, OnOk};
+ghost use Rattle.std.specs.Prelude.{◌≡◌, ◌≢◌, ◌⊎◌, false, true, None, IfOk, IfSome, IsSomeAnd, OnOk};
 ghost use Rattle.std.specs.String.{string_bytes};
 ghost use Rattle.tftp_status.specs.StatusFile.{draft_of};
+ghost use Rattle.tftp_daemon.specs.Refused.{is_name, name_in, names_file};
 ghost use Rattle.tftp_daemon.specs.Reports.{IsOwnFile, IsReported, LooksOutside, folder_of, or_here};
 
 use crate::daemon::{DaemonConfig, DaemonFault, StatusFault};
@@ -57,16 +58,28 @@ fn or_here(folder: &str) -> &str
     if folder.is_empty() { "." } else { folder }
 }
 
-/// Whether a path has the name of a file behind its last slash.
-pub(crate) fn names_file(path: &str) -> bool {
-    let name = match path.rsplit_once('/') {
+/// Whether a path has the name of a file behind its last slash: neither nothing, `.` nor `..`.
+pub(crate) fn names_file(path: &str) -> bool
+    ensures { result ≡ names_file path.now }
+{
+    is_name(name_in(path))
+}
+
+/// What is behind the last slash of a path, or all of a path without one.
+fn name_in(path: &str) -> &str
+    ensures { result.now ≡ name_in path.now }
+{
+    match path.rsplit_once('/') {
         Some((_, name)) => name,
         None => path,
-    };
-    match name {
-        "" | "." | ".." => false,
-        _ => true,
     }
+}
+
+/// Whether a part of a path may be the name of a file.
+fn is_name(name: &str) -> bool
+    ensures { result ≡ is_name name.now }
+{
+    !name.is_empty() && name != "." && name != ".."
 }
 
 /// Begins the reports of a server, if its configuration has a file for them: the one that it names, or
@@ -126,8 +139,10 @@ pub(crate) fn draft_of(alloc: Global, file: &str) -> Result<String, AllocError>
 
 /// Whether the file that has a server drain is this status file, or its temporary file.
 pub(crate) fn is_drain(drain: Option<&str>, file: &str, draft: &str) -> bool
-    ensures { result ≡ false → IfSome drain.entry (λ path. (path.now ≢ file.now)
+    ensures apart { result ≡ false → IfSome drain.entry (λ path. (path.now ≢ file.now)
         × (path.now ≢ draft.now)) }
+    ensures same { result ≡ true → IsSomeAnd drain.entry (λ path. (path.now ≡ file.now)
+        ⊎ (path.now ≡ draft.now)) }
 {
     match drain {
         Some(path) => path == file || path == draft,

@@ -1,5 +1,9 @@
 //! What a command line is read with beside its words.
 
+ghost use Rattle.std.specs.Prelude.{◌≡◌, ◌≤◌, false};
+ghost use Rattle.std.specs.List.{list_any};
+ghost use Rattle.tftp_daemon.specs.Processors.{asks_for_processors};
+
 use crate::error_output::ErrorOutput;
 use crate::processors::processors;
 use std::convert::AsStr;
@@ -16,10 +20,14 @@ pub struct Surroundings {
 
 impl Surroundings {
     /// Those of a process with these words. The processors are counted only if a word asks for them.
-    pub(crate) fn of<R: Runtime + AllocGlobal, S: AsStr>(rt: &R, words: &[S]) -> Surroundings {
+    pub(crate) fn of<R: Runtime + AllocGlobal, S: AsStr>(rt: &R, words: &[S]) -> Surroundings
+        ensures least { 1 ≤ result.processors }
+        ensures unasked { list_any (λ word. asks_for_processors (S.text word)) words.now ≡ false
+            → result.processors ≡ 1 }
+    {
         Surroundings {
             errors: ErrorOutput::of(rt),
-            processors: if words.iter().any(|word| asks_for_processors(word.as_str())) {
+            processors: if ask_for_processors(words) {
                 processors(rt)
             } else {
                 1
@@ -28,7 +36,16 @@ impl Surroundings {
     }
 }
 
+/// Whether one of these words may ask for the number of processors.
+fn ask_for_processors<S: AsStr>(words: &[S]) -> bool
+    ensures { result ≡ list_any (λ word. asks_for_processors (S.text word)) words.now }
+{
+    words.iter().any(|word| asks_for_processors(word.as_str()))
+}
+
 /// Whether a word may ask for the number of processors.
-fn asks_for_processors(word: &str) -> bool {
+fn asks_for_processors(word: &str) -> bool
+    ensures { result ≡ asks_for_processors word.now }
+{
     word == "auto" || word == "--servers=auto"
 }

@@ -1,17 +1,17 @@
--- The configuration of the matches, by their rows.
-use Rattle.std.proofs.Common.{Option, subst, codes}
-use Rattle.std.specs.Prelude.{IfSome}
-use Rattle.clap.specs.Matches.{found_of}
-use Rattle.tftp_arguments.specs.Read.{read_of}
-use Rattle.tftp_daemon.specs.CommandLine.{NamesServer, words_of}
-use Rattle.tftp_daemon.specs.declared.daemon.DaemonConfig.{DaemonConfig}
-use Rattle.tftp_daemon.proofs.Commands.{by_rows}
+-- The configuration of the matches, by their rows, which are not refused.
+use Rattle.tftp_daemon.proofs.Refusals.{configures, starts_for}
 use Rattle.tftp_daemon.proofs.command_line.read_matches.Goals as goal
 
 pub returns-in-Some-3-clause-names : goal.returns-in-Some-3-clause-names
 returns-in-Some-3-clause-names g c =
-    let matches = c.args.matches.now in
-    by_rows matches
-    (subst (λ (read : Option DaemonConfig).
-    IfSome read (NamesServer (read_of matches) (words_of (found_of matches) (codes "listen"))))
-    c.in-Some-3.is c.in_ok-service.ensures.names)
+    configures c.args.matches.now c.in-Some-3.service c.in-Some.servers
+    (rw (c.in-Some-3.is) at c.in_ok-service.ensures.names)
+    (rw (c.in-Some-3.is) at c.in_ok-service.ensures.servers)
+    c.in_default-excluded.ensures.stand c.in-Ok.ports c.server_count.result
+    (rw (c.in-Some-3.is) at c.in_ok-service.ensures.ports) c.server_count.ensures c.in-Ok.ensures.enough
+    (rw (c.in_default-2.is) at c.in_ok-no.ensures)
+
+pub returns-in-Some-3-clause-servers : goal.returns-in-Some-3-clause-servers
+returns-in-Some-3-clause-servers g c =
+    starts_for c.args.matches.now c.in-Some-3.service c.args.surroundings.processors c.in-Some.servers c.in-Some.ensures.number
+    (rw (c.in-Some-3.is) at c.in_ok-service.ensures.servers)

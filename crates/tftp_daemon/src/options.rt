@@ -1,0 +1,393 @@
+//! The options of `tftpd`, with their texts.
+
+ghost use Rattle.std.specs.Prelude.{◌≡◌, codes, IfOk};
+ghost use Rattle.std.specs.Fmt.{decimal};
+ghost use Rattle.std.specs.String.{string_bytes};
+ghost use Rattle.clap.specs.Simple.{App};
+ghost use Rattle.tftp_server.specs.Config.{default_config};
+ghost use Rattle.tftp_arguments.specs.Rules.{HasRule, IsApp, by_default, within};
+ghost use Rattle.tftp_daemon.specs.Words.{any_number, bare_app, option_rule, repeated, tftpd_app};
+ghost use Rattle.tftp_daemon.specs.Words.{with_ending, with_folder_and_ports, with_limits, with_log};
+ghost use Rattle.tftp_daemon.specs.Words.{with_servers, with_writes};
+
+use anyhow::Result;
+use clap::{Arg, ArgAction, Command, value_parser};
+use std::alloc::{AllocError, Global};
+use tftp_arguments::{VERSION, flag, number, word};
+use tftp_negotiate::{MAX_BLOCK, MIN_BLOCK};
+use tftp_server::Config;
+
+const EXAMPLES: &str = "\
+Examples:
+  tftpd /srv/tftp --listen 192.0.2.1:6969 --forever --read-only
+  tftpd /srv/tftp --listen 192.0.2.1:6969 --listen 198.51.100.1:6969 --forever --uploads incoming
+  tftpd . --listen 127.0.0.1:0 --max-block 8192 --cap 64";
+
+/// The name of the folder that is served.
+pub(crate) const ROOT: &str = "ROOT";
+
+/// The names of the options, as they are read from the matches.
+pub(crate) const LISTEN: &str = "listen";
+
+pub(crate) const REQUESTS_ONLY: &str = "requests-only";
+
+pub(crate) const PORTS: &str = "ports";
+
+pub(crate) const PER_CLIENT: &str = "per-client";
+
+pub(crate) const LONGEST: &str = "longest";
+
+pub(crate) const READ_ONLY: &str = "read-only";
+
+pub(crate) const UPLOADS: &str = "uploads";
+
+pub(crate) const TRANSFERS: &str = "transfers";
+
+pub(crate) const ROUNDS: &str = "rounds";
+
+pub(crate) const FOREVER: &str = "forever";
+
+pub(crate) const DRAIN: &str = "drain";
+
+pub(crate) const SERVERS: &str = "servers";
+
+pub(crate) const SERVER: &str = "server";
+
+pub(crate) const LOG: &str = "log";
+
+pub(crate) const LOG_TIME: &str = "log-time";
+
+pub(crate) const STATUS: &str = "status";
+
+/// The texts of the help and the defaults with numbers that other crates define.
+#[derive(Drop)]
+pub(crate) struct Texts {
+    block_range: String,
+    max_block: String,
+    max_file: String,
+    retries: String,
+    cap: String,
+    ghost max_block_is: { string_bytes max_block ≡ decimal default_config.limits.max_block },
+    ghost max_file_is: { string_bytes max_file ≡ decimal default_config.limits.max_file },
+    ghost retries_is: { string_bytes retries ≡ decimal default_config.retries },
+    ghost cap_is: { string_bytes cap ≡ decimal default_config.cap },
+}
+
+impl Texts {
+    /// The range of a block size, and the defaults of a server.
+    pub(crate) fn new(alloc: Global) -> Result<Texts, AllocError> {
+        let config = Config::default();
+        Ok(Texts {
+            block_range: format!(in alloc; "{MIN_BLOCK}..{MAX_BLOCK}")?,
+            max_block: config.limits.max_block.to_string(alloc)?,
+            max_file: config.limits.max_file.to_string(alloc)?,
+            retries: config.retries.to_string(alloc)?,
+            cap: config.cap.to_string(alloc)?,
+        })
+    }
+}
+
+/// The command line of `tftpd`.
+pub(crate) fn command<'a>(alloc: Global, texts: &'a Texts) -> Result<Command<'a>>
+    ensures { IfOk result (IsApp tftpd_app) }
+{
+    let command = bare_command(alloc)?;
+    let command = with_folder_and_ports(alloc, command)?;
+    let command = with_limits(alloc, command, texts)?;
+    let command = with_writes(alloc, command)?;
+    let command = with_ending(alloc, command)?;
+    let command = with_servers(alloc, command)?;
+    with_log(alloc, command)
+}
+
+/// The command line of `tftpd` without arguments.
+fn bare_command<'a>(alloc: Global) -> Result<Command<'a>>
+    ensures { IfOk result (IsApp bare_app) }
+{
+    let command = Command::new(alloc, "tftpd").bin_name("tftpd")?;
+    Ok(
+        command
+            .about("Serves the files of a folder by TFTP (RFC 1350, RFC 2347 to 2349)")
+            .version(VERSION)
+            .after_help(EXAMPLES),
+    )
+}
+
+/// An option `--name WORD`.
+fn option<'a>(alloc: Global, name: &'a str, value: &'a str, help: &'a str) -> Arg<'a>
+    ensures { HasRule (option_rule name.now) result }
+{
+    Arg::new(alloc, name)
+        .long(name)
+        .value_name(value)
+        .help(help)
+}
+
+/// Adds the folder, the address of the request port, what is handled there, and the ports of
+/// transfers.
+fn with_folder_and_ports<'a>(alloc: Global, command: Command<'a>) -> Result<Command<'a>>
+    ensures { (app : App) → IsApp app command.entry
+        → IfOk result (IsApp (with_folder_and_ports app)) }
+{
+    let root = word(alloc, ROOT, "The folder whose files are served");
+    let command = command.arg(root)?;
+    let command = command.arg(listen(alloc))?;
+    let requests_only = flag(
+        alloc,
+        REQUESTS_ONLY,
+        "Drops what arrives at the request port and begins neither as RRQ nor as WRQ, without an ERROR",
+    );
+    let command = command.arg(requests_only)?;
+    let ports = option(
+        alloc,
+        PORTS,
+        "A:B",
+        "UDP ports of transfers, A to B, each used once before any again",
+    );
+    Ok(command.arg(ports)?)
+}
+
+/// The argument for the address of the request port, which may be given again.
+fn listen<'a>(alloc: Global) -> Arg<'a>
+    ensures { HasRule
+        (repeated (by_default (codes "127.0.0.1:6969") (option_rule (codes "listen")))) result }
+{
+    let listen = option(
+        alloc,
+        LISTEN,
+        "ADDR:PORT|stdin",
+        "IPv4 address and UDP port of the requests, 0 for any, once or more; or the socket that is standard input",
+    );
+    listen
+        .default_value("127.0.0.1:6969")
+        .action(ArgAction::Append)
+}
+
+/// Adds the limits of transfers.
+fn with_limits<'a>(alloc: Global, command: Command<'a>, texts: &'a Texts) -> Result<Command<'a>>
+    ensures { (app : App) → IsApp app command.entry → IfOk result (IsApp (with_limits app)) }
+{
+    let command = command.arg(max_block(alloc, texts))?;
+    let command = command.arg(max_file(alloc, texts))?;
+    let command = command.arg(retries(alloc, texts))?;
+    let command = command.arg(cap(alloc, texts))?;
+    let command = command.arg(per_client(alloc))?;
+    Ok(command.arg(longest(alloc))?)
+}
+
+/// The argument for the largest block size (RFC 2348, "Blocksize Option Specification").
+fn max_block<'a>(alloc: Global, texts: &'a Texts) -> Arg<'a>
+    ensures { HasRule (by_default (decimal default_config.limits.max_block)
+        (within (codes "max-block") 8 65464)) result }
+{
+    let max_block = number(
+        alloc,
+        "max-block",
+        texts.block_range.as_str(),
+        value_parser!(u16).range(i64::from(MIN_BLOCK)..=i64::from(MAX_BLOCK)),
+        "Largest block size that is agreed, in bytes",
+    );
+    max_block.default_value(texts.max_block.as_str())
+}
+
+/// The argument for the longest file.
+fn max_file<'a>(alloc: Global, texts: &'a Texts) -> Arg<'a>
+    ensures { HasRule (by_default (decimal default_config.limits.max_file)
+        (any_number (codes "max-file"))) result }
+{
+    let max_file = number(
+        alloc,
+        "max-file",
+        "0..2^64-1",
+        value_parser!(u64),
+        "Longest file that is taken, in bytes",
+    );
+    max_file.default_value(texts.max_file.as_str())
+}
+
+/// The argument for the limit of retransmissions.
+fn retries<'a>(alloc: Global, texts: &'a Texts) -> Arg<'a>
+    ensures { HasRule (by_default (decimal default_config.retries)
+        (within (codes "retries") 0 10)) result }
+{
+    let retries = number(
+        alloc,
+        "retries",
+        "0..10",
+        value_parser!(u8).range(0..=10),
+        "How often a datagram is sent again without progress",
+    );
+    retries.default_value(texts.retries.as_str())
+}
+
+/// The argument for the limit of open transfers.
+fn cap<'a>(alloc: Global, texts: &'a Texts) -> Arg<'a>
+    ensures { HasRule (by_default (decimal default_config.cap) (within (codes "cap") 1 64))
+        result }
+{
+    let cap = number(
+        alloc,
+        "cap",
+        "1..64",
+        value_parser!(u8).range(1..=64),
+        "Transfers that are open at once",
+    );
+    cap.default_value(texts.cap.as_str())
+}
+
+/// The argument for the limit of open transfers of one address.
+fn per_client<'a>(alloc: Global) -> Arg<'a>
+    ensures { HasRule (within (codes "per-client") 1 64) result }
+{
+    number(
+        alloc,
+        PER_CLIENT,
+        "1..64",
+        value_parser!(u8).range(1..=64),
+        "Transfers of one address that are open at once; a further request is dropped",
+    )
+}
+
+/// The argument for the age at which a transfer is closed.
+fn longest<'a>(alloc: Global) -> Arg<'a>
+    ensures { HasRule (within (codes "longest") 1 4294967295) result }
+{
+    number(
+        alloc,
+        LONGEST,
+        "1..4294967295",
+        value_parser!(u32).range(1..=4_294_967_295),
+        "Longest age of a transfer in seconds; later datagrams are dropped until it times out",
+    )
+}
+
+/// Adds the options of writes.
+fn with_writes<'a>(alloc: Global, command: Command<'a>) -> Result<Command<'a>>
+    ensures { (app : App) → IsApp app command.entry → IfOk result (IsApp (with_writes app)) }
+{
+    let overwrite = flag(alloc, "overwrite", "A write replaces a file that is there");
+    let command = command.arg(overwrite)?;
+    let read_only = flag(
+        alloc,
+        READ_ONLY,
+        "Refuses every write as an access violation (ERROR 2), and touches no file for it",
+    );
+    let command = command.arg(read_only)?;
+    let uploads = option(
+        alloc,
+        UPLOADS,
+        "FOLDER",
+        "Takes writes below this folder of ROOT alone, and makes its temporary files there",
+    );
+    Ok(command.arg(uploads)?)
+}
+
+/// Adds when the server ends.
+fn with_ending<'a>(alloc: Global, command: Command<'a>) -> Result<Command<'a>>
+    ensures { (app : App) → IsApp app command.entry → IfOk result (IsApp (with_ending app)) }
+{
+    let command = command.arg(transfers(alloc))?;
+    let command = command.arg(rounds(alloc))?;
+    let forever = flag(
+        alloc,
+        FOREVER,
+        "Ends by no count of transfers or waits; not beside --transfers or --rounds",
+    );
+    let command = command.arg(forever)?;
+    let drain = option(
+        alloc,
+        DRAIN,
+        "FILE",
+        "Takes no new request once this file is there, and ends when no transfer is open",
+    );
+    Ok(command.arg(drain)?)
+}
+
+/// The argument for the number of closed transfers.
+fn transfers<'a>(alloc: Global) -> Arg<'a>
+    ensures { HasRule (by_default (codes "1") (within (codes "transfers") 1 4294967295))
+        result }
+{
+    let transfers = number(
+        alloc,
+        TRANSFERS,
+        "1..4294967295",
+        value_parser!(u32).range(1..=4_294_967_295),
+        "Ends after so many closed transfers",
+    );
+    transfers.default_value("1")
+}
+
+/// The argument for the number of waits.
+fn rounds<'a>(alloc: Global) -> Arg<'a>
+    ensures { HasRule (by_default (codes "1000000") (within (codes "rounds") 1 4294967295))
+        result }
+{
+    let rounds = number(
+        alloc,
+        ROUNDS,
+        "1..4294967295",
+        value_parser!(u32).range(1..=4_294_967_295),
+        "Ends after so many waits, each of a second at most",
+    );
+    rounds.default_value("1000000")
+}
+
+/// Adds the number of servers, and which of them this is.
+fn with_servers<'a>(alloc: Global, command: Command<'a>) -> Result<Command<'a>>
+    ensures { (app : App) → IsApp app command.entry → IfOk result (IsApp (with_servers app)) }
+{
+    let command = command.arg(servers(alloc))?;
+    Ok(command.arg(server(alloc))?)
+}
+
+/// The argument for the number of servers.
+fn servers<'a>(alloc: Global) -> Arg<'a>
+    ensures { HasRule (by_default (codes "1") (option_rule (codes "servers"))) result }
+{
+    let servers = option(
+        alloc,
+        SERVERS,
+        "1..64|auto",
+        "Starts so many servers at one request port, for as many processors, or one for each; with --forever",
+    );
+    servers.default_value("1")
+}
+
+/// The argument for which of several servers this is.
+fn server<'a>(alloc: Global) -> Arg<'a>
+    ensures { HasRule (within (codes "server") 1 64) result }
+{
+    number(
+        alloc,
+        SERVER,
+        "1..64",
+        value_parser!(u8).range(1..=64),
+        "Internal: number of this server of several, passed by --servers; with --listen stdin",
+    )
+}
+
+/// Adds what is logged, and what is counted.
+fn with_log<'a>(alloc: Global, command: Command<'a>) -> Result<Command<'a>>
+    ensures { (app : App) → IsApp app command.entry → IfOk result (IsApp (with_log app)) }
+{
+    let log = flag(
+        alloc,
+        LOG,
+        "Writes a line on standard error for each request and each close",
+    );
+    let command = command.arg(log)?;
+    let log_time = flag(
+        alloc,
+        LOG_TIME,
+        "Begins each line of --log with its time in UTC, to the millisecond",
+    );
+    let command = command.arg(log_time)?;
+    let status = option(
+        alloc,
+        STATUS,
+        "FILE",
+        "Writes what the server has counted to this file, once a second at most, for Prometheus and people",
+    );
+    Ok(command.arg(status)?)
+}
