@@ -82,7 +82,7 @@ texts_told (Handed text ∷ before) (is_text, hands) =
 pub reports_alone : RunReportsAlone
 reports_alone words status (config, names, is) = record {
   file = is.named;
-  asked = names.status ∙ is.is_named;
+  asked = names.named.status ∙ is.is_named;
   config = config;
   configured = names;
   own = is.own;

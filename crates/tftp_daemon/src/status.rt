@@ -1,6 +1,7 @@
 //! The file of a server's counts: where it may be, and when its reports begin.
 
 ghost use Rattle.std.specs.Prelude.{◌≡◌, ◌≢◌, ◌⊎◌, false, true, None, IfOk, IfSome, IsSomeAnd, OnOk};
+ghost use Rattle.std.specs.Prelude.{is_some};
 ghost use Rattle.std.specs.String.{string_bytes};
 ghost use Rattle.tftp_status.specs.StatusFile.{draft_of};
 ghost use Rattle.tftp_daemon.specs.Refused.{is_name, name_in, names_file};
@@ -91,6 +92,8 @@ pub(crate) fn begin_reports<D: Disk, N: ServerUdp>(
 ) -> Result<(), DaemonFault>
     ensures net { net.new.net ≡ net.old.net }
     ensures none { config.now.status ≡ None → net.new ≡ net.old }
+    ensures begun { OnOk result (is_some config.now.status ≡ true → is_some net.old.disk ≡ true
+        → is_some net.new.report ≡ true) }
     ensures file { net.old.report ≡ None → IfSome net.new.report
         (λ report. IsReported config.now report.status) }
 {

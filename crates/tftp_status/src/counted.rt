@@ -1,6 +1,6 @@
 //! A device that counts what a server tells, and reports it in a file.
 
-ghost use Rattle.std.specs.Prelude.{◌≡◌, [], None, IfSome};
+ghost use Rattle.std.specs.Prelude.{◌≡◌, [], None, IfSome, OnOk, is_some, true};
 ghost use Rattle.tftp_status.specs.StatusFile.{IsNewAt, KeepsCounts};
 
 use crate::report::{Report, ReportSettings};
@@ -37,6 +37,7 @@ impl<N, D: Disk> Counted<N, D> {
         requires { D.log disk ≡ [] }
         ensures net { result.net ≡ net }
         ensures report { result.report ≡ None }
+        ensures disk { is_some result.disk ≡ true }
     {
         Counted {
             net,
@@ -57,6 +58,8 @@ impl<N, D: Disk> Counted<N, D> {
         settings: ReportSettings<'_>,
     ) -> Result<(), AllocError>
         ensures net { self.new.net ≡ self.old.net }
+        ensures begun { OnOk result (is_some self.old.disk ≡ true
+            → is_some self.new.report ≡ true) }
         ensures file { self.old.report ≡ None → IfSome self.new.report
             (λ report. IsNewAt settings.entry.file.now report.status) }
     {
