@@ -47,12 +47,13 @@ def is_gone(pid) -> bool:
 
 
 def has_bound_to_stdin(pid) -> bool:
-    """Whether a server waits: it has a poll, and its standard input is the socket."""
+    """Whether a server waits: it has a poll of its own, not that of its supervisor."""
     try:
         fds = [os.readlink(f"/proc/{pid}/fd/{name}") for name in os.listdir(f"/proc/{pid}/fd")]
+        is_server = b"\0--server=" in Path(f"/proc/{pid}/cmdline").read_bytes()
     except OSError:
         return False
-    return fds.count("anon_inode:[eventpoll]") == 2
+    return is_server and "anon_inode:[eventpoll]" in fds
 
 
 def wait_for_servers(process, count) -> list[int]:

@@ -25,6 +25,8 @@ TRIES = 8
 # seconds: half of all lives less than this, since one that saw it only at the end of its wait of a second would take twice
 # as long. A single life may take longer where the host is busy
 LONGER, SOON = 40, 20
+# how often a supervisor is killed while its servers begin
+BEGINNINGS = 60
 # how many times slower the clocks of servers go in a test of what they do within milliseconds of their own, which other
 # servers have then to act in, however busy the host is: the pauses of `tftp_service/src/share.rt`
 SLOWER = 200
@@ -147,6 +149,21 @@ def test_servers_end_with_their_supervisor_by_int(scene) -> None:
 
 def test_servers_end_with_their_supervisor_by_kill(scene) -> None:
     ends_with_its_supervisor(scene, signal.SIGKILL)
+
+
+def test_servers_that_just_began_end_with_their_supervisor(scene) -> None:
+    """Also those that go to wait at that moment: each sees its loss before it waits, or is woken by it."""
+    env = preloaded(scene, "long_waits.c", LONGER=LONGER)
+    lasted = []
+    for moment in range(BEGINNINGS):
+        process = started(scene, 4, env=env)
+        first_line(process)
+        time.sleep(moment % 20 / 1_000)
+        pids = children_of(process)
+        process.kill()
+        lasted.append(wait_until(lambda: all(map(is_gone, pids)), "servers that end"))
+        process.communicate(timeout=PATIENCE)
+    expect(max(lasted) < SOON, True, f"whether all end sooner than {SOON} s, and not {max(lasted):.3f}")
 
 
 def test_busy_servers_end_with_their_supervisor(scene) -> None:

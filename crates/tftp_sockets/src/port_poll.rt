@@ -4,6 +4,7 @@ ghost use Rattle.std.specs.Prelude.{◌≡◌, ◌≢◌, [], true, false, IfOk}
 ghost use Rattle.tftp_sockets.specs.Trace.{polled};
 
 use crate::event_ref::EventRef;
+use crate::reader::has_lost_reader;
 use crate::trace::Trace;
 use mio::{Events, Poll};
 use std::alloc::{AllocError, Global};
@@ -36,6 +37,8 @@ pub struct Reports {
     ports: Vec<u16>,
     /// Whether they are of a poll without a wait that is not noted yet.
     is_unnoted: bool,
+    /// Whether a poll has reported that nobody reads standard output any more: it does so once.
+    has_lost_reader: bool,
 }
 
 impl Reports {
@@ -47,6 +50,7 @@ impl Reports {
             events: Events::with_capacity(alloc, most)?,
             ports: Vec::with_capacity(alloc, most)?,
             is_unnoted: false,
+            has_lost_reader: false,
         })
     }
 
@@ -62,6 +66,11 @@ impl Reports {
         ensures { result ≡ true → self.now.ports.items ≢ [] }
     {
         !self.ports.is_empty()
+    }
+
+    /// Whether a poll by now has reported that nobody reads standard output any more.
+    pub(crate) fn has_lost_reader(&self) -> bool {
+        self.has_lost_reader
     }
 
     /// Polls without waiting. Returns whether a port is reported: then the poll is yet to be noted.
@@ -98,9 +107,12 @@ impl Reports {
             return;
         }
         for event in self.events.iter() {
-            if let Ok(port) = u16::try_from(event.token().0) {
-                // There is room for as many ports as events.
-                let _ = self.ports.push(port);
+            match u16::try_from(event.token().0) {
+                Ok(port) => {
+                    // There is room for as many ports as events.
+                    let _ = self.ports.push(port);
+                }
+                Err(_) => self.has_lost_reader |= has_lost_reader(event),
             }
         }
     }

@@ -21,7 +21,7 @@ use crate::error_lines::{ErrorLines, WholeLines};
 use crate::event_ref::EventRef;
 use crate::load::Load;
 use crate::port_poll::{POLLS, PortPoll, Reports};
-use crate::reader::{OutputReader, has_gone, watch_output};
+use crate::reader::watch_output;
 use crate::receipt::Receipt;
 use crate::received::{note_bound, note_end, note_look, note_receipt, sent};
 use crate::signal::DrainSignal;
@@ -44,8 +44,10 @@ use tftp_lines::{ClientOutcome, Printed, Reason};
 #[derive(Drop)]
 pub struct SystemUdp<'a, R> {
     rt: &'a R,
-    /// The reader of standard output, if it is watched.
-    reader: Option<OutputReader>,
+    /// Whether the reader of standard output is watched.
+    watches_reader: bool,
+    /// Whether a wait has reported that it has gone.
+    has_lost_reader: bool,
     trace: Trace,
 }
 
@@ -56,7 +58,8 @@ impl<'a, R: Clock> SystemUdp<'a, R> {
     {
         SystemUdp {
             rt,
-            reader: None,
+            watches_reader: false,
+            has_lost_reader: false,
             trace: Trace::new(&SocketEvents),
         }
     }
@@ -155,7 +158,7 @@ impl<R: Net + Clock + Print + RandomSource> ServerUdp for SystemUdp<'_, R> {
 
     fn poll(&self) -> io::Result<PortPoll> {
         let poll = PortPoll::new(self.rt)?;
-        if self.reader.is_some() {
+        if self.watches_reader {
             watch_output(&poll)?;
         }
         Ok(poll)
@@ -168,8 +171,11 @@ impl<R: Net + Clock + Print + RandomSource> ServerUdp for SystemUdp<'_, R> {
     fn wait(&mut self, poll: &mut PortPoll, reports: &mut Reports, millis: u64, polls: u32) {
         self.trace.note(&EventRef::Slept(millis));
         if !reports.poll_often(poll, polls) {
+            // a poll that found the reader gone does not say so again
+            let millis = if reports.has_lost_reader() { 0 } else { millis };
             reports.poll(poll, millis);
         }
+        self.has_lost_reader = reports.has_lost_reader();
         self.trace.note(&EventRef::Woke(reports.ports()));
     }
 
@@ -205,14 +211,13 @@ impl<R: Net + Clock + Print + RandomSource> ServerUdp for SystemUdp<'_, R> {
         self.rt.println(line)
     }
 
-    fn watch_reader(&mut self, alloc: Global) -> io::Result<()> {
-        self.reader = Some(OutputReader::new(self.rt, alloc)?);
+    fn watch_reader(&mut self, _alloc: Global) -> io::Result<()> {
+        self.watches_reader = true;
         Ok(())
     }
 
     fn has_no_reader(&mut self) -> bool {
-        let has_gone = has_gone(&mut self.reader);
-        note_look(&mut self.trace, has_gone, &EventRef::NoReader)
+        note_look(&mut self.trace, self.has_lost_reader, &EventRef::NoReader)
     }
 
     fn is_signalled<D: DrainSignal>(&mut self, signal: &D) -> bool {
