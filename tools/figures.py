@@ -233,9 +233,9 @@ def counted() -> dict[str, str]:
         "README.md": [(r"(\*\*True traces\.\*\* )\w+( \[source files\]\()", NUMBERS[len(files)].capitalize()),
                       (r"(\[source files\]\([^)]*\) \()[\d,]+( lines\))", total)],
         "docs/TESTING.md": [(r"(\| trusted files [^|]* \| )[\d,]+( \|)", total),
-                            (r"(\*\*Mutants\.\*\* )\d+( wrong bodies)", str(len([*TOP.glob("crates/*/must-fail/*.edit")]))),
-                            (r"( Of )\d+( more \(`slips/`\))", str(len(recorded))),
-                            (r"(tools/slips\.txt has, for )\d+( of)", str(sum(map(bool, recorded))))],
+                            (r"(In `must-fail/` there\s+are\s+)\d+( wrong bodies)", str(len([*TOP.glob("crates/*/must-fail/*.edit")]))),
+                            (r"( Of )\d+( more\s+\(`slips/`\))", str(len(recorded))),
+                            (r"(tools/slips\.txt\s+has,\s+for )\d+( of)", str(sum(map(bool, recorded))))],
     }
     found = {"docs/PROVED.md": rows.sub(lambda row: f"| `{row[1]}` | {lines_of(row[1])} |", proved)}
     for name, patterns in places.items():

@@ -6,8 +6,8 @@ shell scripts; each is skipped where it is not installed, pyflakes or ruff alone
 finds is shown, and counts where its version is Debian 12's: another may find more, and no gate fails for what is
 installed on its host. Each Python file compiles, and each function says what it returns. Lines of documents, but of the
 READMEs of crates, are at most 120 columns wide, without those of tables and code. Each slip can be applied, and has a line
-in tools/slips.txt; and the tests that NAMED lists are there. No document has more words than LIMITS says, or a word of the
-project's own that its glossary replaces. The last line but one counts all written words.
+in tools/slips.txt; and the tests that NAMED lists are there. No document has a word of the project's own that its glossary
+replaces. The last line but one counts all written words.
 """
 import ast
 import os
@@ -23,13 +23,6 @@ import slips
 from lib.programs import TOP
 
 COLUMNS = 120
-# The most words of documents, each by its patterns, of which one that begins with a dash takes files out again
-LIMITS: dict[str, int] = {
-    "README.md": 1_000, "docs/OPERATING.md": 3_000, "docs/PROVED.md": 1_300, "docs/ARCHITECTURE.md": 1_300,
-    "docs/STATEMENT.md": 6_000, "docs/*.md -docs/STATEMENT.md SECURITY.md CONTRIBUTING.md": 12_000,
-    "crates/*/README.md": 15_000, "CHANGELOG.md": 1_200, "bench/**/*.md": 4_500, "examples/**/*.md": 2_200,
-    "packaging/*.md tools/**/*.md": 500,
-}
 # Words that the glossary of docs/PROVED.md has others for, where no code is shown; the made STATEMENT explains its own
 OLD_WORDS = re.compile(r"(?<![/\w])(?:headlines?|strangers?|slips?|drafts?|wire text|handed over)\b", re.I)
 READ_FIRST = "README.md docs/*.md -docs/STATEMENT.md SECURITY.md CONTRIBUTING.md packaging/*.md"
@@ -144,11 +137,6 @@ def words(patterns: str) -> int:
     return sum(len(path.read_text().split()) for path in files_of(patterns))
 
 
-def too_long() -> list[str]:
-    """Documents that have more words than they may have."""
-    return [f"{patterns}: {words(patterns):,} words of {most:,}" for patterns, most in LIMITS.items() if words(patterns) > most]
-
-
 def old_words() -> list[str]:
     """Words of the project's own in the documents that are read first. A line of a glossary has them in parentheses."""
     found = []
@@ -167,7 +155,7 @@ def counts(name: str) -> bool:
 
 
 def main() -> int:
-    found, skipped = [*wide_lines(), *too_long(), *old_words(), *untyped(), *slips.not_applied(), *unnamed()], []
+    found, skipped = [*wide_lines(), *old_words(), *untyped(), *slips.not_applied(), *unnamed()], []
     looked = ["documents", "return types", "slips", "names of tests"]
     looks: dict[str, Callable[[], list[str]]] = {
         "pyflakes3": lambda: printed_by(["pyflakes3", *PYTHON]), "ruff": lambda: printed_by(RUFF), "mypy": mistyped,
