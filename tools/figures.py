@@ -4,13 +4,15 @@ the lines of the trusted files, for the table of docs/PROVED.md and where other 
 docs/TESTING.md the lines of code, proofs and tests, and the mutants. Lines of code there are about: 5% off is no difference.
 
 figures.py --write writes them; without a word they are compared, and the status is 1 where one differs. The crates are
-those of crates.txt, and an arrow that follows from two others is left out. Each function on the way of the datagram is
+those of crates.txt, and an arrow that follows from two others is left out; graphviz draws them from docs/crates.dot. Each function on the way of the datagram is
 looked for in the file that is named for it: one that is not there ends the program.
 """
 import re
+import shutil
+import subprocess
 import sys
 from pathlib import Path
-from typing import NamedTuple
+from typing import NamedTuple, Optional
 
 import slips
 from lib.programs import TOP
@@ -44,18 +46,6 @@ text{font:12px ui-monospace,SFMono-Regular,Menlo,Consolas,'DejaVu Sans Mono',mon
 <defs><marker id="head" viewBox="0 0 8 8" refX="8" refY="4" markerWidth="8" markerHeight="8" orient="auto">
 <path d="M0 0L8 4L0 8z" fill="#1f2328"/></marker></defs>"""
 
-# the crates of the picture, from the left, each column from the top; None is a gap
-COLUMNS: list[list[str | None]] = [
-    ["tftp_trace", None, "tftp_wire", None, None, "tftp_diagram", "tftp_capture"],
-    [None, "tftp_negotiate", None, "tftp_file", "tftp_arguments", None, "tftp_flow"],
-    [None, "tftp_disk", "tftp_store", "tftp_ends", None, None, "tftp_show"],
-    [None, None, "tftp_lines", "tftp_server", "tftp_rules", None, "tftp_show_main"],
-    ["tftp_folder", "tftp_sockets", None, "tftp_c", "tftp_player", "tftp_script", None],
-    [None, "tftp_client", "tftp_loop", None, None, "tftp_play", None],
-    ["tftp_status", "tftp_main", "tftp_service", None, "tftp_promises", "tftp_play_main", None],
-    [None, None, "tftp_daemon", None, None, None, None],
-    [None, None, "tftpd_main", None, "tftp_words", None, None],
-]
 # what is not drawn: tests, examples, and a crate that hands out others' functions
 HIDDEN = re.compile(r"tests_|serve_memory|fetch_memory|tftp_cmd")
 KINDS = {
@@ -66,7 +56,9 @@ KINDS = {
 }
 LEGEND = {"sockets": "uses sockets", "files": "uses files", "laws": "definitions and laws, no code that runs",
           "program": "a program, or the library for C"}
-WIDE, HIGH, ACROSS, DOWN = 118, 28, 148, 52
+# how `dot` draws each kind
+COLOURS = {"sockets": ("#ddf4ff", "#0969da"), "files": ("#fff8c5", "#9a6700"), "laws": ("#fbefff", "#8250df"),
+           "program": ("#dafbe1", "#1a7f37"), "box": ("#ffffff", "#57606a")}
 
 LANES = ["socket", "tftp_loop", "tftp_server", "tftp_ends", "tftp_wire", "tftp_folder"]
 
@@ -126,34 +118,29 @@ def reduced(used: dict[str, set[str]]) -> dict[str, list[str]]:
 
 
 def crates() -> str:
-    """Which crate uses which."""
-    used, places = uses(), {}
-    for column, names in enumerate(COLUMNS):
-        for row, name in enumerate(names):
-            if name:
-                places[name] = (20 + column * ACROSS, 20 + row * DOWN)
-    missing = {name for name in used if not HIDDEN.match(name)} ^ set(places)
-    if missing:
-        sys.exit(f"figures.py: not in crates.txt, or not in the picture: {', '.join(sorted(missing))}")
-    lines = []
-    for name, words in sorted(reduced(used).items()):
-        for word in words if name in places else []:
-            (x, y), (left, top) = places[name], places[word]
-            start, end, half = left + WIDE, x, HIGH // 2
-            bend = max(24, (end - start) // 2)
-            lines.append(f'<path class="edge" d="M{start} {top + half}C{start + bend} {top + half} {end - bend} {y + half} '
-                         f'{end} {y + half}"/>')
+    """Which crate uses which, as a graph for `dot`: each stands right of those that it uses."""
+    used = uses()
+    shown = {name: words for name, words in reduced(used).items() if not HIDDEN.match(name)}
     kinds = {name: kind for kind, names in KINDS.items() for name in names}
-    for name, (x, y) in places.items():
-        lines.append(f'<rect class="{kinds.get(name, "box")}" x="{x}" y="{y}" width="{WIDE}" height="{HIGH}" rx="4"/>')
-        lines.append(f'<text x="{x + WIDE // 2}" y="{y + 18}" text-anchor="middle">{name}</text>')
-    width, height = 40 + (len(COLUMNS) - 1) * ACROSS + WIDE, 40 + 7 * DOWN + 24
-    x = 20
-    for kind, text in LEGEND.items():
-        lines.append(f'<rect class="{kind}" x="{x}" y="{height - 38}" width="16" height="16" rx="3"/>')
-        lines.append(f'<text class="note" x="{x + 22}" y="{height - 26}">{text}</text>')
-        x += 60 + 7 * len(text)
-    return svg(width, height, "The crates: each uses those at its left that a line leads to", lines)
+    lines = ["digraph crates {", "  graph [rankdir=LR nodesep=0.14 ranksep=0.45 bgcolor=white fontname=monospace]",
+             '  node [shape=box style="filled,rounded" height=0.3 margin="0.08,0.04" fontname=monospace fontsize=10]',
+             '  edge [arrowhead=none color="#8c959f"]']
+    boxes = {**{name: name for name in sorted(shown)}, **{f"of_{kind}": text for kind, text in LEGEND.items()}}
+    for name, text in boxes.items():
+        fill, line = COLOURS[kinds.get(name, name.removeprefix("of_") if name.startswith("of_") else "box")]
+        lines.append(f'  {name} [label="{text}" fillcolor="{fill}" color="{line}"]')
+    lines += [f"  {word} -> {name}" for name, words in sorted(shown.items()) for word in words]
+    return "\n".join([*lines, "}", ""])
+
+
+def drawn(graph: str) -> Optional[str]:
+    """The picture of a graph, if Debian 12's `dot` is there: another version draws it otherwise."""
+    if not shutil.which("dot"):
+        return None
+    version = subprocess.run(["dot", "-V"], capture_output=True, text=True, timeout=60)
+    if "2.43.0" not in version.stdout + version.stderr:
+        return None
+    return subprocess.run(["dot", "-Tsvg"], input=graph, capture_output=True, text=True, timeout=60, check=True).stdout
 
 
 def datagram() -> str:
@@ -234,7 +221,7 @@ def counted() -> dict[str, str]:
                       (r"(\[source files\]\([^)]*\) \()[\d,]+( lines\))", total)],
         "docs/TESTING.md": [(r"(\| trusted files [^|]* \| )[\d,]+( \|)", total),
                             (r"(In `must-fail/` there\s+are\s+)\d+( wrong bodies)", str(len([*TOP.glob("crates/*/must-fail/*.edit")]))),
-                            (r"( Of )\d+( more\s+\(`slips/`\))", str(len(recorded))),
+                            (r"(\sOf\s+)\d+(\s+more\s+\(`slips/`\))", str(len(recorded))),
                             (r"(tools/slips\.txt\s+has,\s+for )\d+( of)", str(sum(map(bool, recorded))))],
     }
     found = {"docs/PROVED.md": rows.sub(lambda row: f"| `{row[1]}` | {lines_of(row[1])} |", proved)}
@@ -257,7 +244,11 @@ def counted() -> dict[str, str]:
 
 def main() -> int:
     status = 0
-    texts = {"docs/crates.svg": crates(), "docs/datagram.svg": datagram(), **counted()}
+    texts = {"docs/crates.dot": crates(), "docs/datagram.svg": datagram(), **counted()}
+    if picture := drawn(texts["docs/crates.dot"]):
+        texts["docs/crates.svg"] = picture
+    else:
+        print("figures: docs/crates.svg: skipped: no dot 2.43.0")
     for name, text in texts.items():
         place = TOP / name
         if "--write" in sys.argv:
