@@ -6,6 +6,7 @@ write is the date in debian/changelog and CHANGELOG.md.
 """
 import re
 import sys
+from functools import partial
 from typing import Callable
 
 from lib.programs import TOP
@@ -22,12 +23,16 @@ PLACES: list[tuple[str, str, str, Form]] = [
     ("include/tftp.h", r"#define TFTP_VERSION_PATCH ", r"\d+", lambda v: v[2]),
     ("packaging/tftp-config-version.cmake", r"set\(PACKAGE_VERSION ", r"\d+\.\d+\.\d+", WHOLE),
     ("packaging/tftp.pc", r"Version: ", r"\d+\.\d+\.\d+", WHOLE),
-    ("examples/rust/Cargo.toml", r'(?m)^version = "', r"\d+\.\d+\.\d+", WHOLE),
+    ("examples/rust/Cargo.toml", r'\nversion = "', r"\d+\.\d+\.\d+", WHOLE),
     ("debian/changelog", r"\Afanjuvery \(", r"\d+\.\d+\.\d+", WHOLE),
     ("README.md", r"fanjuvery[-_]", r"\d+\.\d+\.\d+", WHOLE),
     ("docs/OPERATING.md", r"fanjuvery[-_]", r"\d+\.\d+\.\d+", WHOLE),
     ("CHANGELOG.md", r"\A.*?\n## ", r"\d+\.\d+\.\d+", WHOLE),
 ]
+
+
+def put(wanted: str, match: "re.Match[str]") -> str:
+    return match[1] + wanted
 
 
 def main() -> int:
@@ -37,8 +42,7 @@ def main() -> int:
     found = []
     for path, before, shape, form in PLACES:
         text, wanted = (TOP / path).read_text(), form(list(version.groups()))
-        flags = re.S if before.startswith(r"\A") else 0
-        new, count = re.subn(rf"({before})({shape})", lambda match: match[1] + wanted, text, flags=flags)
+        new, count = re.subn(rf"({before})({shape})", partial(put, wanted), text, flags=re.S)
         if not count:
             found.append(f"{path}: no version behind {before!r}")
         elif new != text and "--write" in sys.argv:
