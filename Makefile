@@ -44,8 +44,8 @@ TESTS := tools.tests.test_gate tools.tests.test_packages tools.tests.test_stand_
 	tools.tests.test_metrics
 # what is run behind `rt ci`, over bin/, which holds by then what `make` builds (tools/shipped.py). Each is run with a limit,
 # whatever the others come to, and once more if it fails: tools/gate.py says what was skipped, what repeated, and what failed
-CHECKS := tools/same_options.py tools/check_install.py tools/check_documents.py tools/statement.py tools/definitions.py \
-	tools/figures.py tools/disk_trace.py tools/power_cuts.py tools/same_pictures.sh \
+CHECKS := tools/same_options.py tools/check_install.py tools/check_documents.py tools/cited.py tools/version.py \
+	bench/udp/ratios.py tools/statement.py tools/definitions.py tools/figures.py tools/disk_trace.py tools/power_cuts.py tools/same_pictures.sh \
 	tools/lint.py tools/processors.py tools/walk.py \
 	'$(MAKE) --no-print-directory run' tools/statuses.py tools/captures.py tools/memory_in_turn.py tools/lost_requests.py \
 	tools/out_of_memory.py 'python3 -m unittest $(TESTS)' tools/mutants.py tools/c_library.py tools/library_abi.py \

@@ -2,7 +2,7 @@
 """Runs each command line of tftp-show and tftp-play that a document or a manual shows, and compares what it prints with
 what stands there. Nothing is written to standard error, and the status is that of the manuals. Of each
 examples/NAME.script at least one document has to show the output. The tours of tftpd and tftp are run twice in a folder,
-and leave nothing there. The gets of README.md in C and in Rust are compiled. Any other command is one that ELSEWHERE,
+and leave nothing there. The get of README.md in C is compiled. Any other command is one that ELSEWHERE,
 BESIDE or WITHIN names, with the check that runs it, or with why none does.
 
 The programs are those of bin/, or else those that the gate left in crates/*_main/out/.
@@ -11,6 +11,7 @@ import os
 import pathlib
 import re
 import shlex
+import shutil
 import signal
 import subprocess
 import sys
@@ -33,6 +34,10 @@ BESIDE = {
     "systemctl enable --now tftpd\n": "it needs root and systemd; by hand tools/units.py starts the units",
     "systemctl enable --now tftpd@": "it needs root and systemd; by hand tools/units.py; the rules: tools/network.py",
     "tftpd /srv/tftp --listen 192.0.2.1:69 ": "it needs port 69; tools/network.py runs the units' lines, with these options",
+    "tar -xf fanjuvery-": "it needs the archive, which the gate builds and installs",
+    "tftp get 192.0.2.1 pxelinux.0 ": "it names a server of a network; tools/loopback/ gets files by both programs",
+    "dhcp-": "`dnsmasq --test`, below",
+    "option architecture code 93 ": "the syntax of ISC dhcpd; by hand `dhcpd -t`",
     "nft add table ip tftp\n": "tools/network.py",
     "nft add table ip tftp_limit\n": "tools/network.py",
     "table inet firewall {": "tools/network.py",
@@ -47,10 +52,11 @@ BESIDE = {
 WITHIN = {
     r"rt (?:check|test|run|lib|must-fail|ci|fmt|tidy)\b": "`rt ci` does it of every crate",
     r"rt (?:doc|lemma|new|plant|try)\b": "for who changes the code; no page shows what they print",
-    r"make (?:test|run|libtftp|tftp(?:-show)?|docs|install)\b": "the gate, or a check of it",
+    r"make (?:test|run|libtftp|tftp(?:-show)?|docs|install|deb dist|&& sudo make install)\b": "the gate, or a check of it",
     r"make (?:bench|bench-udp|behaviours|coverage|mutants|plants|quick|slips|soak|walk|weights)\b": "by hand, since they take long; the gate tries a part",
     r"python3 -m unittest$": "the gate",
-    r"tools/(?:library_abi|plants)\.py ": "by hand: they write, and search",
+    r"tools/(?:library_abi|plants|version)\.py ": "by hand: they write, and search",
+    r"tools/loopback/run\.py ": "the gate",
     r"\./install\.sh install$": "tools/check_install.py",
     r"find /srv/tftp ": "tools/network.py",
     r"(?:exec tftpd /srv/tftp|tftp dgram udp4) ": "tools/loopback/handed_over.py, in place of inetd",
@@ -161,6 +167,19 @@ def unnamed(document) -> list[str]:
                     if COMMAND.match(command) and not any(re.match(part, command) for part in WITHIN)]
 
 
+def bad_settings() -> list[str]:
+    """What dnsmasq says against the settings that docs/OPERATING.md shows for it, if it is there."""
+    if not shutil.which("dnsmasq"):
+        print("documents: the settings of dnsmasq: skipped: no dnsmasq")
+        return []
+    found = []
+    for piece in re.findall(r"(?ms)^```\n(dhcp-.*?)^```$", (TOP / "docs/OPERATING.md").read_text()):
+        done = subprocess.run(["dnsmasq", "--test", "--conf-file=/dev/stdin"], input=piece, text=True, capture_output=True,
+                              timeout=SECONDS, check=False)
+        found += [f"docs/OPERATING.md: {line}" for line in done.stderr.splitlines()] if done.returncode else []
+    return found
+
+
 def main() -> int:
     patterns = ["*.md", "docs/*.md", "crates/*/README.md", "examples/**/README.md", "bench/**/README.md", "packaging/*.md",
                 "man/*.[1-8]"]
@@ -195,7 +214,7 @@ def main() -> int:
     against, skipped = snippets.refused()
     # (docs/STATEMENT.md is made, and has definitions alone)
     pages = [document for document in documents if document.suffix == ".md" and document.name != "STATEMENT.md"]
-    for line in [*against, *(line for page in pages for line in unnamed(page))]:
+    for line in [*against, *bad_settings(), *(line for page in pages for line in unnamed(page))]:
         failures += 1
         print(line)
     if skipped:
