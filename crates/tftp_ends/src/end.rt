@@ -85,6 +85,7 @@ impl Model for End {
 impl End {
     ghost use Rattle.tftp_ends.specs.End.{record_of, held_by, outcome_of, terms_of, interval_of};
     ghost use Rattle.tftp_ends.specs.End.{is_sender};
+    ghost use Rattle.tftp_ends.specs.Backoff.{timeouts_of};
     ghost use Rattle.tftp_ends.specs.Action.{Decodes, HandledBy, datagram_action, packet_action};
     ghost use Rattle.tftp_ends.specs.Action.{garbled_response, is_wrong_peer, timeout_response};
     ghost use Rattle.tftp_ends.specs.Action.{timeout_action};
@@ -140,6 +141,14 @@ impl End {
     {
         let agreed = self.phase.terms().and_then(|terms| terms.timeout);
         agreed.unwrap_or(DEFAULT_INTERVAL)
+    }
+
+    /// The timeouts since the opening or the last progress: the retries that are used up. With
+    /// [`End::interval`] they say how long the end waits ([`Backoff::wait`](crate::Backoff::wait)).
+    pub fn timeouts(&self) -> u8
+        ensures { result ≡ timeouts_of self.now }
+    {
+        self.role.retries.saturating_sub(self.retries_left)
     }
 
     /// Whether a datagram is not from the peer or, while the peer is unknown, not from the server's
