@@ -12,7 +12,9 @@ TOP = Path(__file__).resolve().parent.parent.parent
 SCRIPT = TOP / ".ci/packages"
 # what no host has in /usr/sbin or /sbin, where the script looks too, with the package of each
 MISSING = {"mandoc": "mandoc", "shellcheck": "shellcheck", "zsh": "zsh", "go": "golang-go"}
-TOOLS = ["timeout", "sort", "seq", "tr", "mktemp", "rm", "chmod", "sh"]
+TOOLS = ["timeout", "sort", "seq", "tr", "mktemp", "mkdir", "rm", "chmod", "sh", "install"]
+# the commands in the packages of two servers: in.tftpd is in both
+IN_PACKAGES = {"tftpd-hpa": ["in.tftpd"], "atftpd": ["atftpd", "in.tftpd"]}
 # installs the packages that it is asked for, without those of LACKS; with a file `away` it fails once
 APT = """
 case "$*" in *" install "*) verb=install ;; *" update"*) verb=update ;; *) verb=download ;; esac
@@ -29,7 +31,7 @@ class Packages(unittest.TestCase):
     def setUp(self) -> None:
         room = tempfile.TemporaryDirectory(prefix="packages-")
         self.addCleanup(room.cleanup)
-        self.bin, self.calls, self.away = (Path(room.name) / name for name in ["bin", "calls", "away"])
+        self.bin, self.calls, self.away, self.to = (Path(room.name) / name for name in ["bin", "calls", "away", "to"])
         self.bin.mkdir()
         for name in TOOLS:
             (self.bin / name).symlink_to(shutil.which(name) or name)
@@ -53,7 +55,8 @@ class Packages(unittest.TestCase):
         """The lines that it prints as this user, without its seconds, and the calls: the verb of apt-get with the packages."""
         self.stand_in("id", f"echo {user}")
         bash = shutil.which("bash") or "bash"
-        env = {"PATH": str(self.bin), "LACKS": lacks, "CALLS": str(self.calls), "AWAY": str(self.away), "BIN": str(self.bin)}
+        env = {"PATH": str(self.bin), "LACKS": lacks, "CALLS": str(self.calls), "AWAY": str(self.away), "BIN": str(self.bin),
+               "TO": str(self.to), "SBINS": str(self.bin)}
         done = subprocess.run([bash, SCRIPT], env=env, capture_output=True, text=True, timeout=60)
         self.assertEqual((done.returncode, done.stderr), (status, ""), done.stdout)
         calls = self.calls.read_text().splitlines() if self.calls.exists() else []
@@ -85,6 +88,28 @@ class Packages(unittest.TestCase):
     def test_no_list_can_be_had(self) -> None:
         lines, _ = self.says(lacks="update", status=0)
         self.assertEqual(lines[0], "packages: apt-get update has failed")
+
+    def taken(self, *commands: str) -> dict[str, str]:
+        """The commands of servers that are put beside those of the host, where these are missing, each with the package that
+        it comes from."""
+        for command in MISSING:
+            self.stand_in(command, "exit 0")
+        for command in commands:
+            (self.bin / command).unlink()
+        kinds = "".join(f" {package}) commands='{' '.join(names)}' ;;" for package, names in IN_PACKAGES.items())
+        self.stand_in("apt-get", 'for last; do :; done; case "$*" in *download*) echo "$last" > package.deb ;; esac')
+        self.stand_in("dpkg-deb", f'read -r package < package.deb; case $package in{kinds} esac; mkdir -p usr/sbin; '
+                                  'for name in $commands; do echo "$package" > usr/sbin/$name; done')
+        lines, _ = self.says()
+        self.assertEqual(len(lines), 1, lines)
+        return {path.name: path.read_text().strip() for path in self.to.iterdir()}
+
+    def test_a_servers_command_is_taken_by_its_name(self) -> None:
+        """Where tftpd-hpa is installed, and atftpd is not, no in.tftpd of atftpd gets before the other on the PATH."""
+        self.assertEqual(self.taken("atftpd"), {"atftpd": "atftpd"})
+
+    def test_the_commands_of_two_servers(self) -> None:
+        self.assertEqual(self.taken("in.tftpd", "atftpd"), {"atftpd": "atftpd", "in.tftpd": "tftpd-hpa"})
 
     def test_another_user(self) -> None:
         lines, calls = self.says(1_000, status=1)
