@@ -31,7 +31,8 @@ class Packages(unittest.TestCase):
     def setUp(self) -> None:
         room = tempfile.TemporaryDirectory(prefix="packages-")
         self.addCleanup(room.cleanup)
-        self.bin, self.calls, self.away, self.to = (Path(room.name) / name for name in ["bin", "calls", "away", "to"])
+        self.bin, self.calls, self.away, self.to, self.lacking = (
+            Path(room.name) / name for name in ["bin", "calls", "away", "to", "lacking"])
         self.bin.mkdir()
         for name in TOOLS:
             (self.bin / name).symlink_to(shutil.which(name) or name)
@@ -57,7 +58,7 @@ class Packages(unittest.TestCase):
         bash = shutil.which("bash") or "bash"
         env = {"PATH": str(self.bin), "LACKS": lacks, "CALLS": str(self.calls), "AWAY": str(self.away), "BIN": str(self.bin),
                "TO": str(self.to), "SBINS": str(self.bin)}
-        done = subprocess.run([bash, SCRIPT], env=env, capture_output=True, text=True, timeout=60)
+        done = subprocess.run([bash, SCRIPT, self.lacking], env=env, capture_output=True, text=True, timeout=60)
         self.assertEqual((done.returncode, done.stderr), (status, ""), done.stdout)
         calls = self.calls.read_text().splitlines() if self.calls.exists() else []
         kept = [[word for word in call.split() if not word.startswith("-") and "::" not in word] for call in calls]
@@ -75,6 +76,7 @@ class Packages(unittest.TestCase):
         packages = sorted(MISSING.values())
         lines, calls = self.says(lacks="zsh", status=1)
         self.assertEqual(lines[-1], "packages: not installed: zsh")
+        self.assertEqual(self.lacking.read_text(), "zsh\n")
         self.assertEqual(calls[2:6], [f"install {package}" for package in packages])
         self.assertEqual([call for call in calls if call.startswith("sleep")], ["sleep 15", "sleep 30"])
 
@@ -115,18 +117,21 @@ class Packages(unittest.TestCase):
         lines, calls = self.says(1_000, status=1)
         self.assertEqual(lines, [f"packages: not installed: {' '.join(sorted(MISSING.values()))}",
                                  "packages: this host may not act as root"])
+        self.assertEqual(set(self.lacking.read_text().split()), {"root", *MISSING})
         self.assertEqual(calls, [])
 
     def test_nothing_is_missing(self) -> None:
         for command in MISSING:
             self.stand_in(command, "exit 0")
         self.assertEqual(self.says(), ([], []))
+        self.assertEqual(self.lacking.read_text(), "\n")
 
     def test_a_host_forbids_something(self) -> None:
         for command in MISSING:
             self.stand_in(command, "exit 0")
         self.stand_in("strace", "exit 1")
         self.assertEqual(self.says(status=1), (["packages: this host may not trace"], []))
+        self.assertEqual(self.lacking.read_text(), "trace\n")
 
 
 if __name__ == "__main__":
