@@ -5,6 +5,8 @@
 # make test: the gate, every proof from nothing, and then what is tried of the programs that it built; with REQUIRE_ALL=1
 #   nothing may be skipped. The last line is `N passed, N failed`
 # make quick CRATE=NAME: what a change of one crate is tried by in minutes
+# make manifest: writes tools/manifest.txt, what the gate consists of by name: crates, checks and their rows, wrong bodies, and
+#   each public clause and definition with its hash. The gate fails where it is not as committed
 # make docs: writes docs/STATEMENT.md and the pictures of docs/ from the sources, and out/DEFINITIONS.md. (docs/dashboard.svg
 #   shows a trial: tools/dashboard.py --write, with a Prometheus)
 # make slips CRATES="NAME ..": tries the wrong bodies in crates/NAME/slips/, of all crates without words; with STALE=1 only
@@ -38,21 +40,18 @@ PROGRAMS := bin/tftp-show bin/tftp-play bin/tftp bin/tftpd
 LIBRARY := bin/libtftp.a
 SOURCES := $(shell find crates -path '*/out' -prune -o \( -name '*.rt' -o -name '*.antt' \) -print) crates.txt
 
-# the tests of the tools; `python3 -m unittest` runs the checks, too
-TESTS := tools.tests.test_gate tools.tests.test_packages tools.tests.test_stand_ins tools.tests.test_programs \
-	tools.tests.test_rows tools.tests.test_requests tools.tests.test_slips tools.tests.test_soak \
-	tools.tests.test_metrics
 # what is run behind `rt ci`, over bin/, which holds by then what `make` builds (tools/shipped.py). Each is run with a limit,
-# whatever the others come to, and once more if it fails: tools/gate.py says what was skipped, what repeated, and what failed
+# whatever the others come to, and ends with a count of its rows, which tools/manifest.txt has by name; one that fails is run
+# once more if the host stalled meanwhile. tools/gate.py says what was skipped, what repeated, and what failed
 CHECKS := tools/same_options.py tools/check_install.py tools/check_documents.py tools/statement.py tools/definitions.py \
 	tools/figures.py tools/disk_trace.py tools/power_cuts.py tools/same_pictures.sh \
 	tools/lint.py tools/processors.py tools/walk.py \
-	'$(MAKE) --no-print-directory run' tools/statuses.py tools/captures.py tools/memory_in_turn.py tools/lost_requests.py \
-	tools/out_of_memory.py 'python3 -m unittest $(TESTS)' tools/mutants.py tools/c_library.py tools/library_abi.py \
-	tools/library_chroot.py tools/dashboard.py tools/loopback/run.py tools/behaviours.py 'tools/network.py bin/tftp bin/tftpd' \
-	tools/soak/run.py 'tools/slips.py --few'
+	'$(MAKE) --no-print-directory sampled' tools/statuses.py tools/captures.py tools/memory_in_turn.py \
+	tools/lost_requests.py tools/out_of_memory.py tools/tests/run.py tools/mutants.py tools/c_library.py \
+	tools/library_abi.py tools/library_chroot.py tools/dashboard.py tools/loopback/run.py tools/behaviours.py \
+	'tools/network.py bin/tftp bin/tftpd' tools/soak/run.py 'tools/slips.py --few'
 
-.PHONY: build programs libtftp run sample tftp-show tftp-play tftp tftpd test quick docs slips install uninstall dist deb soak \
+.PHONY: build programs libtftp run sample sampled manifest tftp-show tftp-play tftp tftpd test quick docs slips install uninstall dist deb soak \
 	behaviours coverage walk weights plants mutants bench bench-udp clean
 # one after another: each crate is proved by as many processors as there are
 .NOTPARALLEL:
@@ -88,6 +87,9 @@ tftp-show tftp-play tftp tftpd:
 run:
 	@if $(MAKE) -q --no-print-directory programs; then exec $(MAKE) --no-print-directory sample; else exec tools/try.sh; fi
 
+sampled: run
+	@echo '1 run, 0 skipped'
+
 sample:
 	bin/tftp-show < examples/packets.hex; test $$? -le 1 # 1: some lines of the sample are faults
 	bin/tftp-play examples/lossy.script
@@ -102,6 +104,9 @@ test:
 
 quick:
 	@tools/quick.sh '$(CRATE)'
+
+manifest:
+	@tools/manifest.py --write
 
 docs:
 	tools/definitions.py --write

@@ -16,6 +16,7 @@ from concurrent.futures import ThreadPoolExecutor
 from pathlib import Path
 from typing import NamedTuple
 
+from lib import rows
 from lib.preload import compiled
 from lib.programs import TOP, programs
 from lib.seeds import commit_seed
@@ -130,18 +131,20 @@ def chosen(words: list[str]) -> list[Row]:
 def main() -> int:
     if sys.argv[1:2] in (["-h"], ["--help"]):
         sys.exit(__doc__)
+    rows.listed(f"{row.title()}: {row.test}" for row in ROWS)
     words = sys.argv[1:]
     given = words[-2:] if len(words) > 1 and os.path.isfile(words[-1]) else []
-    rows, paths = chosen(words[:len(words) - len(given)]), programs(["tftp", "tftpd"], given)
+    tries, paths = chosen(words[:len(words) - len(given)]), programs(["tftp", "tftpd"], given)
     began, missed = time.monotonic(), 0
     with tempfile.TemporaryDirectory(prefix="behaviours-") as folder, ThreadPoolExecutor(AT_ONCE) as pool:
         shim = compiled(folder, SHIM)
-        runs = [pool.submit(tried, row, paths, shim, Path(folder, f"{at}")) for at, row in enumerate(rows)]
-        for row, run in zip(rows, runs):
+        runs = [pool.submit(tried, row, paths, shim, Path(folder, f"{at}")) for at, row in enumerate(tries)]
+        for row, run in zip(tries, runs):
             is_noticed, said, seconds = run.result()
             missed += not is_noticed
             print(f"{row.title()}: {'noticed' if is_noticed else 'NOT NOTICED'} by {row.test}, {seconds:.0f} s: {said}", flush=True)
-    print(f"behaviours: {len(rows) - missed} of {len(rows)} noticed, in {time.monotonic() - began:.0f} s")
+    print(f"behaviours: {len(tries) - missed} of {len(tries)} noticed, in {time.monotonic() - began:.0f} s")
+    rows.ended(len(tries), left=len(ROWS) - len(tries))
     return 1 if missed else 0
 
 

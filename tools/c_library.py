@@ -24,6 +24,7 @@ from functools import partial
 from pathlib import Path
 from typing import Any, Callable, Iterator, Optional, Sequence
 
+from lib import rows
 from lib.addresses import own_network
 from lib.examples import Built, run, to_build
 from lib.programs import TOP, programs
@@ -452,7 +453,13 @@ def build(room, skipped) -> tuple[list[Built], list[str]]:
     return built, faults
 
 
+# what this host may lack, of languages, checkers, and other projects' programs
+ROWS = ["gcc", "clang", "valgrind", "objcopy", "musl-gcc", "g++", "clang++", "cargo", "Rust's AddressSanitizer", "go", "Python",
+        *(Path(name).name for name in PEERS), "other projects' clients"]
+
+
 def main() -> None:
+    rows.listed(ROWS)
     found, skipped = programs(["tftp", "tftpd"], sys.argv[1:]), []
     with tempfile.TemporaryDirectory(prefix="tftp-library-") as name:
         room = Path(name)
@@ -467,6 +474,8 @@ def main() -> None:
     counts = ", ".join(f"{count} {what}" for what, count in sorted(Counter(AGAIN).items()))
     print(f"timed out through a bad network, said so, and were tried again: {counts or 'none'}")
     print(f"library for C: {len(trials) - len(faults)} of {len(trials) + len(unbuilt)} passed{told}")
+    absent = len(set(lacking) | set(skipped))
+    rows.ended(len(ROWS) - absent, absent)
     sys.exit(1 if unbuilt or faults else 0)
 
 

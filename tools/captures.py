@@ -22,6 +22,7 @@ from pathlib import Path
 from typing import Any, Iterator, Optional
 
 from lib import frames as f
+from lib import rows
 from lib.addresses import own_address
 from lib.packets import ack, data, oack, rrq
 from lib.programs import found, program
@@ -93,7 +94,12 @@ class Check:
 
     def __init__(self, program, folder) -> None:
         self.program, self.folder = program, folder
-        self.runs, self.wrong = 0, []
+        self.runs, self.wrong, self.skipped = 0, [], set()
+
+    def skips(self, tries: str, why: str) -> None:
+        """This host does not allow all of a try."""
+        print(f"captures: {why}: skipped")
+        self.skipped.add(tries)
 
     def fails(self, what) -> None:
         """Notes what was wrong."""
@@ -433,7 +439,7 @@ def try_examples(check) -> None:
 def try_tshark(check) -> None:
     """What `tshark` finds in the captures, packet by packet."""
     if not shutil.which("tshark"):
-        print("captures: tshark is not installed: skipped")
+        check.skips("try_tshark", "tshark is not installed")
         return
     fields = ["-e", "frame.number", "-e", "ip.src", "-e", "udp.srcport", "-e", "ip.dst", "-e", "udp.dstport"]
     for name, capture in list(samples())[::7] + [("two interfaces", two_interfaces())]:
@@ -457,7 +463,7 @@ def try_tcpdump(check) -> None:
     host = own_address()
     path = check.folder / "loopback.pcap"
     if not shutil.which("tcpdump"):
-        print("captures: tcpdump is not installed: skipped")
+        check.skips("try_tcpdump", "tcpdump is not installed")
         return
     for words in ([], ["-i", "any"]):
         where = words or ["-i", "lo"]
@@ -465,8 +471,8 @@ def try_tcpdump(check) -> None:
         dump = subprocess.Popen(command, stderr=subprocess.PIPE, text=True)
         if not any("listening on" in line for line in dump.stderr):
             dump.wait(PATIENCE)
-            print(f"captures: tcpdump may not capture at {where[1]}: skipped")
-            continue
+            check.skips("try_tcpdump", f"tcpdump may not capture at {where[1]}")
+            return
         ports = say(host, path)
         dump.terminate()
         dump.wait(PATIENCE)
@@ -523,7 +529,7 @@ def try_transfers(check) -> None:
     lacking = [name for name in ("tcpdump", "tshark") if not shutil.which(name)]
     server = found("tftpd")
     if lacking or not server or os.geteuid() != 0:
-        print(f"captures: {', '.join(lacking) or 'tftpd, or root'} is not there: transfers skipped")
+        check.skips("try_transfers", f"{', '.join(lacking) or 'tftpd, or root'} is not there: transfers")
         return
     host, path = own_address(), check.folder / "transfers.pcap"
     served, here = check.folder / "served", check.folder / "here"
@@ -533,7 +539,7 @@ def try_transfers(check) -> None:
     dump = begun(["tcpdump", "-i", "lo", "--immediate-mode", "-U", "-w", path, "-Z", "root", "udp", "and", "host", host], here)
     if not any("listening on" in line for line in dump.stderr):
         dump.wait()
-        print("captures: tcpdump may not capture: transfers skipped")
+        check.skips("try_transfers", "tcpdump may not capture: transfers")
         return
     daemon = begun([server, served, "--listen", f"{host}:69", "--forever"], here)
     daemon.stdout.readline()
@@ -596,19 +602,24 @@ def try_mutations(check) -> None:
     print(f"captures: {count} mutations with seed {SEED}")
 
 
+TRIES = [try_formats, try_fragments, try_cuts, try_selection, try_port_again, try_lines, try_live, try_many, try_examples,
+         try_tshark, try_tcpdump, try_transfers, try_mutations]
+
+
 def main() -> int:
     """Tries all, and returns the status."""
+    rows.listed(tries.__name__ for tries in TRIES)
     show = sys.argv[1] if len(sys.argv) > 1 else str(program("tftp-show"))
     with tempfile.TemporaryDirectory() as folder:
         check = Check(show, Path(folder))
         name = Path(show).name
         check.ends("help", ["--help"], b"", 0, HELP.replace("Usage: tftp-show", f"Usage: {name}"))
-        for tries in (try_formats, try_fragments, try_cuts, try_selection, try_port_again, try_lines, try_live,
-                      try_many, try_examples, try_tshark, try_tcpdump, try_transfers, try_mutations):
+        for tries in TRIES:
             tries(check)
     for wrong in check.wrong[:20]:
         print(f"captures: {wrong}")
     print(f"captures: {check.runs} runs, {len(check.wrong)} wrong")
+    rows.ended(len(TRIES) - len(check.skipped), len(check.skipped))
     return 1 if check.wrong else 0
 
 

@@ -17,7 +17,7 @@ import sys
 import tempfile
 from typing import Optional
 
-from lib import snippets
+from lib import rows, snippets
 from lib.addresses import own_address
 from lib.programs import NAMES, TOP, program
 
@@ -47,7 +47,7 @@ BESIDE = {
 WITHIN = {
     r"rt (?:check|test|run|lib|must-fail|ci|fmt|tidy)\b": "`rt ci` does it of every crate",
     r"rt (?:doc|lemma|new|plant|try)\b": "for who changes the code; no page shows what they print",
-    r"make (?:test|run|libtftp|tftp(?:-show)?|docs|install)\b": "the gate, or a check of it",
+    r"make (?:test|run|libtftp|tftp(?:-show)?|docs|install|manifest)\b": "the gate, or a check of it",
     r"make (?:bench|bench-udp|behaviours|coverage|mutants|plants|quick|slips|soak|walk|weights)\b": "by hand, since they take long; the gate tries a part",
     r"python3 -m unittest$": "the gate",
     r"tools/(?:library_abi|plants)\.py ": "by hand: they write, and search",
@@ -161,10 +161,20 @@ def unnamed(document) -> list[str]:
                     if COMMAND.match(command) and not any(re.match(part, command) for part in WITHIN)]
 
 
+PATTERNS = ["*.md", "docs/*.md", "crates/*/README.md", "examples/**/README.md", "bench/**/README.md", "packaging/*.md",
+            "man/*.[1-8]"]
+
+
+def all_rows(documents) -> list[str]:
+    """The documents with commands that are compared, each with their number; the tours, and the gets of README.md."""
+    compared = {document: sum(bool(program_of(it[1])) for it in shown_in(document)) for document in documents}
+    return [*(f"{document.relative_to(TOP)}, {count} commands" for document, count in compared.items() if count),
+            *(f"{document}, its tour" for document in TOURS), *(f"README.md, its get by {name}" for name in snippets.COMPILERS)]
+
+
 def main() -> int:
-    patterns = ["*.md", "docs/*.md", "crates/*/README.md", "examples/**/README.md", "bench/**/README.md", "packaging/*.md",
-                "man/*.[1-8]"]
-    documents = sorted(path for pattern in patterns for path in TOP.glob(pattern))
+    documents = sorted(path for pattern in PATTERNS for path in TOP.glob(pattern))
+    rows.listed(all_rows(documents))
     failures, compared, manuals = 0, 0, 0
     scripts = {path.name for path in TOP.glob("examples/*.script")}
     with tempfile.TemporaryDirectory() as folder:
@@ -204,6 +214,7 @@ def main() -> int:
         failures += 1
         print(f"examples/{name}: no document shows what it prints")
     print(f"documents: {compared} commands compared, {manuals} of them of manuals, {failures} failed")
+    rows.ended(len(all_rows(documents)) - len(skipped), len(skipped))
     return 1 if failures or not compared or not manuals else 0
 
 

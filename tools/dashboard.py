@@ -12,6 +12,7 @@ Where Prometheus or its node exporter is not installed, a line says that this wa
 """
 import json
 import random
+import re
 import sys
 import tempfile
 import threading
@@ -22,7 +23,7 @@ from pathlib import Path
 from typing import Callable, Mapping, NamedTuple
 
 import figures
-from lib import board_picture, grafana
+from lib import board_picture, grafana, rows
 from lib.clients import BLOCK, Client
 from lib.monitored import FILE, MONITORING, SLOTS, Site, Trial, wait_until
 from lib.process import Failure
@@ -220,10 +221,19 @@ def tried(tftpd: str, room: Path) -> int:
         print(line)
     seconds = time.monotonic() - began
     print(f"dashboard: {asked} queries and {rules} rules of a Prometheus in {seconds:.0f} s, {len(found)} failed")
+    rows.ended(len(all_rows()))
     return 1 if found else 0
 
 
+def all_rows() -> list[str]:
+    """The panels of the dashboard and the rules."""
+    board = json.loads((MONITORING / "dashboard.json").read_text())
+    rules = re.findall(r"(?m)^ *- (?:alert|record): (\S+)", (MONITORING / "tftpd.rules.yml").read_text())
+    return [*(f"panel {panel.title}" for panel in grafana.panels(board)), *(f"rule {name}" for name in rules)]
+
+
 def main() -> int:
+    rows.listed(all_rows())
     words = [word for word in sys.argv[1:] if word != "--write"]
     if any(word.startswith("-") for word in words) or len(words) > 1:
         sys.exit(__doc__)
@@ -232,6 +242,7 @@ def main() -> int:
         print(f"dashboard.json: {line}")
     if missing():
         print(f"dashboard: skipped: no {', no '.join(missing())}; {len(faults)} failed")
+        rows.ended(0, len(all_rows()))
         return 1 if faults else 0
     tftpd = programs(["tftpd"], words)["tftpd"]
     with tempfile.TemporaryDirectory(prefix="dashboard-") as room:

@@ -13,6 +13,7 @@ from pathlib import Path
 from typing import NamedTuple
 
 import slips
+from lib import rows
 from lib.programs import TOP
 
 # how a text says a small number
@@ -255,7 +256,11 @@ def counted() -> dict[str, str]:
     return found
 
 
+FIGURES = ["docs/crates.svg", "docs/datagram.svg", "docs/PROVED.md", "README.md", "docs/TESTING.md"]
+
+
 def main() -> int:
+    rows.listed(FIGURES)
     status = 0
     texts = {"docs/crates.svg": crates(), "docs/datagram.svg": datagram(), **counted()}
     for name, text in texts.items():
@@ -266,6 +271,7 @@ def main() -> int:
             print(f"{name} differs: run tools/figures.py --write")
             status = 1
     print(f"figures: {len(texts)} compared, status {status}")
+    rows.ended(len(texts))
     return status
 
 

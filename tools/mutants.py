@@ -19,6 +19,7 @@ from collections import Counter
 from pathlib import Path
 from typing import Callable, Optional
 
+from lib import rows
 from lib.addresses import own_address
 from lib.answerer import Answerer
 from lib.packets import error
@@ -71,6 +72,9 @@ def shuffled(rng: Rng, text: Input) -> Input:
     if rng.random() < 0.3:
         rng.shuffle(lines)
     return b"".join(line for line in lines if rng.random() < 0.95) * rng.choice([1, 1, 1, 3])
+
+
+KINDS = ["lines_of_packets", "captures", "scripts_of_play", "command_lines"]
 
 
 class Mutants:
@@ -157,7 +161,7 @@ class Mutants:
         return word
 
     def run(self, seconds: float) -> None:
-        kinds: list[Callable[[], None]] = [self.lines_of_packets, self.captures, self.scripts_of_play, self.command_lines]
+        kinds: list[Callable[[], None]] = [getattr(self, name) for name in KINDS]
         end = time.monotonic() + seconds
         while time.monotonic() < end:
             self.rng.choice(kinds)()
@@ -166,6 +170,7 @@ class Mutants:
 def main() -> int:
     if sys.argv[1:2] in (["-h"], ["--help"]):
         sys.exit(__doc__)
+    rows.listed(KINDS)
     seconds = float(sys.argv[1]) if sys.argv[1:] else 30
     seed = int(sys.argv[2]) if sys.argv[2:] else commit_seed()
     fault: Optional[Failure] = None
@@ -184,6 +189,7 @@ def main() -> int:
         print("mutants: skipped: a limit of memory (programs with checks)")
     counts = ", ".join(f"{count} {name}" for name, count in sorted(mutants.counts.items()))
     print(f"mutants: seed {seed}: {counts}; {int(bool(fault))} failed")
+    rows.ended(len(KINDS))
     return 1 if fault else 0
 
 

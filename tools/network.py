@@ -19,6 +19,7 @@ import time
 from contextlib import ExitStack
 from pathlib import Path
 
+from lib import rows
 from lib.units import arguments_of
 
 TOP = Path(__file__).resolve().parent.parent
@@ -405,6 +406,7 @@ def run(tftp, tftpd) -> int:
                 print(f"network: {trial.__name__}: {fault}")
                 return 1
     print(f"network: {len(TRIALS)} trials in {time.monotonic() - began:.0f} s, 0 failed")
+    rows.ended(len(TRIALS))
     return 0
 
 
@@ -430,6 +432,7 @@ def main() -> None:
         sys.exit(chatter(*sys.argv[2:]))
     if sys.argv[1:2] == ["--fetch"]:
         sys.exit(fetch(*sys.argv[2:]))
+    rows.listed(trial.__name__ for trial in TRIALS)
     if len(sys.argv) not in (1, 3):
         sys.exit(__doc__)
     built = [TOP / "crates" / main / "out" / main for main in ("tftp_main", "tftpd_main")]
@@ -440,6 +443,7 @@ def main() -> None:
     reason = missing()
     if reason:
         print(f"network: skipped: {reason}")
+        rows.ended(0, len(TRIALS))
         return
     try:
         sys.exit(subprocess.run([*APART, sys.executable, __file__, "--in", *programs], timeout=LIMIT).returncode)

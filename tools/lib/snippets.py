@@ -9,6 +9,8 @@ from pathlib import Path
 
 from lib.programs import TOP
 
+# of the two gets
+COMPILERS = ["gcc", "cargo"]
 IN_C = """#include "udp.h"
 
 static bool store(const uint8_t *bytes, size_t len) { return fwrite(bytes, 1, len, stdout) == len && !fflush(stdout); }
@@ -80,7 +82,7 @@ def failed(words: list[str], folder: Path, **more: str) -> list[str]:
 
 def refused() -> tuple[list[str], list[str]]:
     """What the compilers of this host say against the two gets, and which of the compilers it has not."""
-    found, skipped = [], [name for name in ("gcc", "cargo") if not shutil.which(name)]
+    found, skipped = [], [name for name in COMPILERS if not shutil.which(name)]
     with tempfile.TemporaryDirectory() as room:
         folder = Path(room)
         if "gcc" not in skipped:
