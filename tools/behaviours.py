@@ -27,7 +27,14 @@ FEW, AT_ONCE, LIMIT = 5, 3, 420
 TWENTY, RETRIES = "test_twenty_megabytes_arrive", "test_retries_of_a_{}_to_their_end"
 SYNCS, ONCE, MANY = "test_each_kind_of_sync_that_fails", "test_each_block_comes_once", "test_three_thousand_transfers"
 ECHO, FOREIGN = "test_a_block_takes_little_longer_than_an_echo", "test_the_same_port_of_another_address_is_foreign"
-CLOSED, ORDER = "test_descriptors_close_on_exec", "test_ports_of_transfers_are_in_no_order"
+CLOSED, ORDER = "test_descriptors_close_on_exec", "test_ports_cannot_be_foretold"
+AT_ONCE_64, SILENT, ANY_SIZE = "test_sixty_four_at_once", "test_an_hour_of_silence", "test_blocks_of_any_size"
+MOST_512, MOST_1428 = "test_the_most_blocks_of_512", "test_the_most_blocks_of_1428"
+CLIENTS, CALLS, CALLS_OF_CLIENT = ("test_client_ports_of_the_whole_range", "test_calls_of_a_server", "test_calls_of_a_client")
+SIGNALS, SAMPLES, ROWS_OF_JSON = "test_signals", "test_each_sample", "captures.py try_json"
+
+
+BOTH = ["tftp", "tftpd"]
 
 
 class Row(NamedTuple):
@@ -93,6 +100,42 @@ ROWS = [
     Row("sockets_without_cloexec", "tftpd", CLOSED),
     Row("sockets_without_cloexec", "tftp", CLOSED),
     Row("open_without_cloexec", "tftpd", CLOSED),
+    Row("ports_rise_and_fall", "tftpd", ORDER),
+    Row("ports_are_the_same_each_time", "tftpd", ORDER),
+    # many at once, and one after the other
+    Row("is_wrong_with_40_open", "tftpd", AT_ONCE_64),
+    Row("stores_wrong_with_40_open", "tftpd", AT_ONCE_64),
+    Row("syncs_nothing_after_60", "tftpd", "test_each_of_many_puts_is_synced"),
+    Row("is_deaf_after_5000", "tftpd", "test_six_thousand_requests"),
+    Row("leaks_16_bytes_a_datagram", "tftpd", "test_memory_after_a_hundred_thousand_datagrams"),
+    Row("is_deaf_after_a_minute_of_silence", "tftpd", SILENT),
+    Row("ends_after_five_minutes", "tftpd", SILENT),
+    # sizes of blocks and of files
+    *(Row(f"is_wrong_in_blocks_of_{size}", program, f"test_blocks_of_{size}") for size in [1432, 1456] for program in BOTH),
+    *(Row("is_wrong_in_blocks_beyond_30000", program, ANY_SIZE) for program in BOTH),
+    *(Row("is_wrong_from_block_40000", program, MOST_512) for program in BOTH),
+    *(Row(f"{does}_a_byte_wrong_beyond_32_megabytes", program, MOST_512) for does in ["reads", "stores"] for program in BOTH),
+    *(Row(f"{does}_a_byte_wrong_beyond_90_megabytes", program, MOST_1428) for does in ["reads", "stores"] for program in BOTH),
+    *(Row("is_wrong_in_the_last_blocks_of_1428", program, MOST_1428) for program in BOTH),
+    # networks
+    *(Row("sets_the_df_bit", program, "network.py try_large_blocks") for program in BOTH),
+    *(Row("reaches_two_routers", program, "network.py try_three_routers") for program in BOTH),
+    Row("is_deaf_to_172_16", "tftpd", "network.py try_private_addresses"),
+    Row("is_deaf_to_low_ports", "tftpd", CLIENTS),
+    Row("is_deaf_to_high_ports", "tftpd", CLIENTS),
+    # beside the transfers: other calls, and what is left or late at the end
+    *(Row(behaviour, program, test) for behaviour in [
+        "opens_another_socket", "opens_a_socket_of_the_host", "reads_another_file", "makes_another_file", "reads_standard_input",
+        "leaves_a_child", "ends_three_seconds_late"] for program, test in zip(BOTH, [CALLS_OF_CLIENT, CALLS])),
+    *(Row(behaviour, "tftpd", SIGNALS) for behaviour in ["ignores_usr1", "ends_at_winch"]),
+    *(Row(behaviour, "tftp", "test_is_ended_by_signals") for behaviour in ["ignores_usr1", "ends_at_winch"]),
+    # what is said
+    Row("log_is_in_local_time", "tftpd", "test_lines_have_times"),
+    Row("status_has_another_mode", "tftpd", SAMPLES),
+    Row("status_has_another_version", "tftpd", SAMPLES),
+    Row("status_is_for_its_owner_alone", "tftpd", SAMPLES),
+    *(Row(behaviour, "tftp-show", ROWS_OF_JSON) for behaviour in [
+        "json_takes_a_put_for_a_get", "json_has_another_code", "json_has_each_transfer_complete"]),
 ]
 
 

@@ -1,5 +1,5 @@
 #!/usr/bin/env python3
-"""Tries what `tftp-show` does with captures: captures.py [TFTP_SHOW]
+"""Tries what `tftp-show` does with captures: captures.py [TFTP_SHOW [TRY..]]
 
 Captures of each format, link and fault are built by hand (`frames.py`); what is printed of them is written here. Where
 `tshark` is installed it reads them too, packet by packet; where `tcpdump` is and may capture, it records an exchange on
@@ -24,7 +24,7 @@ from typing import Any, Iterator, Optional
 from lib import frames as f
 from lib import rows
 from lib.addresses import own_address
-from lib.packets import ack, data, oack, rrq
+from lib.packets import ack, data, error, oack, rrq, wrq
 from lib.programs import found, program
 
 EXAMPLES = Path(__file__).resolve().parent.parent / "examples"
@@ -344,6 +344,70 @@ def try_selection(check) -> None:
         check.fails(f"--json of a quote: {output!r}")
 
 
+# What `--json` says of a put, an ERROR of each side, a request that nobody answers, a transfer that is open, and one whose
+# datagrams are cut: each field as tftp-show(1) describes it
+JSON_BEGAN = 1_764_000_000
+JSON_ROWS: list[dict[str, Any]] = [
+    {"transfer": 1, "kind": "write", "client": "192.0.2.2:2001", "asked": "192.0.2.1:69", "server": "192.0.2.1:3001",
+     "request": "WRQ up octet blksize=8 tsize=11", "agreed": "OACK blksize=8 tsize=11", "block_size": 8, "blocks": 2, "bytes": 11,
+     "datagrams": 7, "again": 1, "beside": 0, "cut": 0, "began": JSON_BEGAN, "seconds": 0.6, "ended": "complete",
+     "error": None, "by": None},
+    {"transfer": 2, "kind": "read", "client": "192.0.2.2:2002", "asked": "192.0.2.1:69", "server": "192.0.2.1:3002",
+     "request": "RRQ none netascii", "agreed": None, "block_size": 512, "blocks": 0, "bytes": 0, "datagrams": 2, "again": 0,
+     "beside": 0, "cut": 0, "began": JSON_BEGAN + 1, "seconds": 0.25, "ended": "error", "error": "ERROR 1 (file not found)",
+     "by": "server"},
+    {"transfer": 3, "kind": "read", "client": "192.0.2.2:2003", "asked": "192.0.2.1:69", "server": "192.0.2.1:3003",
+     "request": "RRQ full octet", "agreed": None, "block_size": 512, "blocks": 1, "bytes": 512, "datagrams": 3, "again": 0,
+     "beside": 0, "cut": 0, "began": JSON_BEGAN + 2, "seconds": 0.5, "ended": "error", "error": "ERROR 3 (disk full)",
+     "by": "client"},
+    {"transfer": 4, "kind": "read", "client": "192.0.2.2:2004", "asked": "192.0.2.1:69", "server": None,
+     "request": "RRQ silence octet", "agreed": None, "block_size": 512, "blocks": 0, "bytes": 0, "datagrams": 2, "again": 1,
+     "beside": 0, "cut": 0, "began": JSON_BEGAN + 3, "seconds": 1, "ended": "open", "error": None, "by": None},
+    {"transfer": 5, "kind": "read", "client": "192.0.2.2:2005", "asked": "192.0.2.1:69", "server": "192.0.2.1:3005",
+     "request": "RRQ long octet blksize=1024", "agreed": "OACK blksize=1024", "block_size": 1024, "blocks": 2, "bytes": 2048,
+     "datagrams": 6, "again": 0, "beside": 0, "cut": 2, "began": JSON_BEGAN + 5, "seconds": 0.5, "ended": "open",
+     "error": None, "by": None},
+]
+
+
+def json_exchange() -> list[f.Datagram]:
+    """The datagrams of these transfers."""
+    def ends(at: int) -> tuple[f.Endpoint, f.Endpoint]:
+        return (f.CLIENT, 2_000 + at), (f.SERVER, 3_000 + at)
+
+    told, asked = list[f.Datagram](), (f.SERVER, 69)
+    for at, after, packets in [
+            (1, 0, [wrq("up", blksize=8, tsize=11), oack(blksize=8, tsize=11), data(1, b"12345678"), ack(1), data(2, b"ABC"),
+                    data(2, b"ABC"), ack(2)]),
+            (2, 1_000_000, [rrq("none", "netascii"), error(1, "file not found")]),
+            (3, 2_000_000, [rrq("full"), data(1, bytes(512)), error(3, "disk full")]),
+            (4, 3_000_000, [rrq("silence"), rrq("silence")]),
+            (5, 5_000_000, [rrq("long", blksize=1024), oack(blksize=1024), ack(0), data(1, bytes(1024)), ack(1),
+                            data(2, bytes(1024))])]:
+        client, server = ends(at)
+        step = {1: 100_000, 2: 250_000, 3: 250_000, 4: 1_000_000, 5: 100_000}[at]
+        for number, packet in enumerate(packets):
+            is_of_client = packet[1] in (1, 2) or packet[1] == (3 if at == 1 else 4) or at == 3 and packet[1] == 5
+            target = (asked if packet[1] in (1, 2) else server) if is_of_client else client
+            told.append((JSON_BEGAN * 1_000_000 + after + number * step, client if is_of_client else server, target, packet))
+    return told
+
+
+def try_json(check) -> None:
+    """Each field of each kind of transfer, read by another parser of JSON."""
+    # (a datagram of 1,024 bytes is cut where a frame may have 600)
+    capture = f.classic(f.frames(json_exchange(), f.ETHERNET), f.ETHERNET, snap=600)
+    status, output, errors = check.run(["--json"], capture)
+    found = {it["transfer"]: it for it in map(json.loads, output.splitlines())}
+    if (status, errors, len(found)) != (0, "", len(JSON_ROWS)):
+        check.fails(f"--json of each kind: {status}, {errors!r}, {output!r}")
+    for wanted in JSON_ROWS:
+        row = found.get(wanted["transfer"], {})
+        wrong = {name: (row.get(name), wanted.get(name)) for name in {*row, *wanted} if row.get(name) != wanted.get(name)}
+        if wrong:
+            check.fails(f"--json of transfer {wanted['transfer']}, found and wanted: {wrong}")
+
+
 def try_port_again(check) -> None:
     """A client asks three times from one port, of a server that answers from its own: when the second transfer is over, the
     first is known all the same."""
@@ -602,7 +666,7 @@ def try_mutations(check) -> None:
     print(f"captures: {count} mutations with seed {SEED}")
 
 
-TRIES = [try_formats, try_fragments, try_cuts, try_selection, try_port_again, try_lines, try_live, try_many, try_examples,
+TRIES = [try_formats, try_fragments, try_cuts, try_selection, try_json, try_port_again, try_lines, try_live, try_many, try_examples,
          try_tshark, try_tcpdump, try_transfers, try_mutations]
 
 
@@ -614,12 +678,13 @@ def main() -> int:
         check = Check(show, Path(folder))
         name = Path(show).name
         check.ends("help", ["--help"], b"", 0, HELP.replace("Usage: tftp-show", f"Usage: {name}"))
-        for tries in TRIES:
+        chosen = [tries for tries in TRIES if not sys.argv[2:] or tries.__name__ in sys.argv[2:]]
+        for tries in chosen:
             tries(check)
     for wrong in check.wrong[:20]:
         print(f"captures: {wrong}")
     print(f"captures: {check.runs} runs, {len(check.wrong)} wrong")
-    rows.ended(len(TRIES) - len(check.skipped), len(check.skipped))
+    rows.ended(len(chosen) - len(check.skipped), len(check.skipped))
     return 1 if check.wrong else 0
 
 

@@ -20,12 +20,14 @@ from contextlib import suppress
 from pathlib import Path
 from typing import Any, Optional
 
+import all_calls
 import at_length
 import both_programs
 import client_alone
 import command_lines
 import draining
 import handed_over
+import in_quantity
 import options
 import repeated_requests
 import requests_only
@@ -34,6 +36,7 @@ import served_folder
 import server_alone
 import server_loop
 import several_servers
+import sizes
 import status
 from scene import Scene
 from servers import NOT_OF_SEVERAL
@@ -46,7 +49,8 @@ HERE = Path(__file__).resolve()
 # of one server each
 OF_SERVERS = [both_programs, server_alone, server_loop, served_folder, served_disk, options, handed_over, draining,
               requests_only]
-MODULES = [*OF_SERVERS, client_alone, command_lines, several_servers, status, repeated_requests, at_length]
+MODULES = [*OF_SERVERS, client_alone, command_lines, several_servers, status, repeated_requests, at_length, in_quantity, all_calls,
+           sizes]
 AT_ONCE = 8
 # The most tests that are run again; none where LOOPBACK_ONCE is in the environment, as where a fault is to be noticed
 MOST_REPEATED = 6
