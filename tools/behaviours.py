@@ -1,5 +1,5 @@
 #!/usr/bin/env python3
-"""Wrong behaviours of tftp and tftpd, each of which a test has to notice: behaviours.py [--all | BEHAVIOUR..] [TFTP TFTPD]
+"""Wrong behaviours of the programs, each of which a test has to notice: behaviours.py [--all | BEHAVIOUR..] [TFTP TFTPD]
 
 A library that is loaded before a program (behaviours/shim.c) has it behave wrongly at calls of the C library, in a way that
 the proofs do not see: below them stand the trusted files, the toolchain and the disk. The test that stands beside a
@@ -145,14 +145,16 @@ def wrapped(row: Row, paths: dict[str, str], shim: Path, room: Path) -> list[str
     preload = f'LD_PRELOAD="{shim}${{LD_PRELOAD:+:$LD_PRELOAD}}"'
     script.write_text(f'#!/bin/sh\n{preload} BEHAVIOUR={row.behaviour} exec {paths[row.program]} "$@"\n')
     script.chmod(0o755)
-    return [str(script) if name == row.program else path for name, path in paths.items()]
+    # (a tool of another program has that alone)
+    return [str(script) if name == row.program else paths[name] for name in (BOTH if row.program in BOTH else [row.program])]
 
 
 def tried(row: Row, paths: dict[str, str], shim: Path, room: Path) -> tuple[bool, str, float]:
     """Whether the test notices the behaviour, and what it says."""
     room.mkdir()
     begun, given = time.monotonic(), wrapped(row, paths, shim, room)
-    words = [f"tools/{row.test}", *given] if row.test.endswith(".py") else ["tools/loopback/run.py", *given, row.test]
+    tool, *names = row.test.split() if ".py" in row.test else ("loopback/run.py", row.test)
+    words = [f"tools/{tool}", *given, *names]
     env = {**os.environ, "LOOPBACK_ONCE": "1", "LOOPBACK_PATIENCE": "15", "ASAN_OPTIONS": "detect_leaks=0"}
     try:
         done = subprocess.run(words, cwd=TOP, stdin=subprocess.DEVNULL, capture_output=True, text=True, timeout=LIMIT, env=env)
@@ -177,7 +179,7 @@ def main() -> int:
     rows.listed(f"{row.title()}: {row.test}" for row in ROWS)
     words = sys.argv[1:]
     given = words[-2:] if len(words) > 1 and os.path.isfile(words[-1]) else []
-    tries, paths = chosen(words[:len(words) - len(given)]), programs(["tftp", "tftpd"], given)
+    tries, paths = chosen(words[:len(words) - len(given)]), {**programs(BOTH, given), **programs(["tftp-show"])}
     began, missed = time.monotonic(), 0
     with tempfile.TemporaryDirectory(prefix="behaviours-") as folder, ThreadPoolExecutor(AT_ONCE) as pool:
         shim = compiled(folder, SHIM)

@@ -224,8 +224,8 @@ static int replaces(const void *bytes, size_t count, const char *word, const cha
 static int is_another_text(const void *bytes, size_t count) {
     return (is("status_has_another_mode") && replaces(bytes, count, " netascii ", " ascii    ", 10)) ||
            (is("status_has_another_version") && replaces(bytes, count, "version=\"0", "version=\"7", 10)) ||
-           (is("json_takes_a_put_for_a_get") && replaces(bytes, count, "\"WRQ\"", "\"RRQ\"", 5)) ||
-           (is("json_has_another_code") && replaces(bytes, count, "\"code\":1", "\"code\":2", 8)) ||
+           (is("json_takes_a_put_for_a_get") && replaces(bytes, count, "\"write\"", "\"reads\"", 7)) ||
+           (is("json_has_another_code") && replaces(bytes, count, "ERROR 1 ", "ERROR 2 ", 8)) ||
            (is("json_has_each_transfer_complete") && replaces(bytes, count, "\"open\"", "\"done\"", 6));
 }
 
@@ -368,15 +368,19 @@ int socket(int family, int type, int protocol) {
 
 /* the next port by a rule that an outsider learns: they rise, rise and fall, or are the same at each start */
 static unsigned next_port(void) {
-    static unsigned first, count;
+    static unsigned first, count, number = 2463534242u;
     if (first == 0)
-        first = is("ports_are_the_same_each_time") ? 33000 : 33000 + (unsigned)(micros() % 20000);
+        first = 33000 + (unsigned)(micros() % 20000);
     count++;
     if (is("ports_are_in_order"))
         return first + count;
     if (is("ports_rise_and_fall"))
         return first + (count % 2 ? 700 + count * 3 : count * 3);
-    return 33000 + (first * 7 + count * 7919 + count * count * 613) % 25000;
+    /* (a generator of G. Marsaglia, without a seed) */
+    number ^= number << 13;
+    number ^= number >> 17;
+    number ^= number << 5;
+    return 33000 + number % 25000;
 }
 
 int bind(int port, const struct address *at, unsigned length) {
