@@ -3,7 +3,8 @@
 what stands there. Nothing is written to standard error, and the status is that of the manuals. Of each
 examples/NAME.script at least one document has to show the output. The tours of tftpd and tftp are run twice in a folder,
 and leave nothing there. The gets of README.md in C and in Rust are compiled. Any other command is one that ELSEWHERE,
-BESIDE or WITHIN names, with the check that runs it, or with why none does.
+BESIDE or WITHIN names, with the check that runs it, or with why none does; and each name in it is looked up: targets, files,
+packages, units, options (lib/shown_names.py).
 
 The programs are those of bin/, or else those that the gate left in crates/*_main/out/.
 """
@@ -17,7 +18,8 @@ import sys
 import tempfile
 from typing import Optional
 
-from lib import rows, snippets
+import same_options
+from lib import rows, shown_names, snippets
 from lib.addresses import own_address
 from lib.programs import NAMES, TOP, program
 
@@ -172,6 +174,26 @@ def all_rows(documents) -> list[str]:
             *(f"{document}, its tour" for document in TOURS), *(f"README.md, its get by {name}" for name in snippets.COMPILERS)]
 
 
+def misnamed(document, options) -> list[str]:
+    """What is not there of the names in the commands of a document that no check runs."""
+    text, found = document.read_text(), []
+    commands = [line for language, piece in re.findall(r"(?ms)^```(\w*)\n(.*?)^```$", text)
+                if not language and not WRITTEN.match(piece) and not re.search(r"(?m)^\$ |^table ", piece)
+                for line in piece.replace("\\\n", " ").splitlines()]
+    sentences = " ".join(re.sub(r"(?ms)^```.*?^```$", "", text).split())
+    commands += [command for command in re.findall("`([^`]+)`", sentences) if COMMAND.match(command)]
+    for command in commands:
+        found += [f"{document.relative_to(TOP)}: {command}: {what}"
+                  for what in shown_names.of_command(command, document.parent, options)]
+    return found
+
+
+def options_of_programs() -> dict[str, set[str]]:
+    """The options of each program, by its help texts."""
+    return {name: set().union(*(same_options.help_options(same_options.printed(program(name), *verb.split(), "--help"))
+                                for verb in verbs)) for name, verbs in same_options.VERBS.items()}
+
+
 def main() -> int:
     documents = sorted(path for pattern in PATTERNS for path in TOP.glob(pattern))
     rows.listed(all_rows(documents))
@@ -205,7 +227,8 @@ def main() -> int:
     against, skipped = snippets.refused()
     # (docs/STATEMENT.md is made, and has definitions alone)
     pages = [document for document in documents if document.suffix == ".md" and document.name != "STATEMENT.md"]
-    for line in [*against, *(line for page in pages for line in unnamed(page))]:
+    options = options_of_programs()
+    for line in [*against, *(line for page in pages for line in [*unnamed(page), *misnamed(page, options)])]:
         failures += 1
         print(line)
     if skipped:
