@@ -22,3 +22,6 @@ pub mod Joint
 pub mod Witness
 pub mod Timers
 pub mod Lines
+pub mod Lived
+pub mod GivesUp
+pub mod Outlasting

@@ -7,6 +7,8 @@ ghost use Rattle.tftp_promises.specs.Alone.{EachTakesOne, OthersHaveNothing};
 ghost use Rattle.tftp_promises.specs.Blamed.{EachIsUnblamed, ProgramsAreUnblamed};
 ghost use Rattle.tftp_promises.specs.ClientPrograms.{ClientsArePrograms};
 ghost use Rattle.tftp_promises.specs.ClientRuns.{ClientsAreRuns};
+ghost use Rattle.tftp_promises.specs.Outlasting.{ProgramsOutlastLoss};
+ghost use Rattle.tftp_promises.specs.GivesUp.{ClientsGiveUpUnanswered, ClientsTimeOutSo, TransfersGiveUpUnanswered};
 ghost use Rattle.tftp_promises.specs.Hosts.{ClientsAreThere, ServerIsThere, StrangersAreElsewhere};
 ghost use Rattle.tftp_promises.specs.Joined.{ProgramsKeepAnyFiles, ServersAloneAreJoined};
 ghost use Rattle.tftp_promises.specs.Joint.{TracesAreJoint};
@@ -136,4 +138,26 @@ pub fn each_transfer_has_one_timer<T: Store>()
 /// other.
 pub fn each_line_is_a_close<T: Store>()
     ensures { EachLineIsAClose T.meaning T.Source.meaning }
+{}
+
+/// A client that has a peer times out only for want of an answer: it sent its newest datagram once
+/// and for each retry. If the transfer that serves it handled a copy, then that transfer is
+/// complete, or failed for another reason, or has sent the answer; and the client handled no copy
+/// of it. So all copies of one datagram were lost (RFC 1350, section 2).
+pub fn a_client_gives_up_unanswered<T: Store, G: Source, K: Sink>()
+    ensures clients { ClientsGiveUpUnanswered T.meaning T.Source.meaning G.meaning K.meaning }
+    // with or without a peer
+    ensures all { ClientsTimeOutSo T.meaning T.Source.meaning G.meaning K.meaning }
+    // and the transfer of a client that timed out
+    ensures transfers { TransfersGiveUpUnanswered T.meaning T.Source.meaning G.meaning K.meaning }
+{}
+
+/// A client and the transfer that serves it outlast a loss that is bounded: if each datagram of one
+/// of the two is handled by the other before more than `limit` timeouts of the two have passed, or
+/// the other has closed by then, if both answer before more than `slack` have, and both have at
+/// least `2 * limit + slack` retries, then none of the two times out, but if the other is complete
+/// or failed for another reason. So if none of the two failed, a get that has ended is complete; so
+/// is the transfer of a put, once it has ended (RFC 1350, section 2).
+pub fn a_client_outlasts_loss<T: Store, G: Source, K: Sink>()
+    ensures { ProgramsOutlastLoss T.meaning T.Source.meaning G.meaning K.meaning }
 {}
