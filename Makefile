@@ -44,7 +44,7 @@ SOURCES := $(shell find crates -path '*/out' -prune -o \( -name '*.rt' -o -name 
 # whatever the others come to, and ends with a count of its rows, which tools/manifest.txt has by name; one that fails is run
 # once more if the host stalled meanwhile. tools/gate.py says what was skipped, what repeated, and what failed
 CHECKS := tools/same_options.py tools/check_install.py tools/check_documents.py tools/statement.py tools/definitions.py \
-	tools/figures.py tools/disk_trace.py tools/power_cuts.py tools/same_pictures.sh \
+	tools/figures.py tools/trusted.py tools/disk_trace.py tools/power_cuts.py tools/same_pictures.sh \
 	tools/lint.py tools/processors.py tools/walk.py \
 	'$(MAKE) --no-print-directory sampled' tools/statuses.py tools/captures.py tools/memory_in_turn.py \
 	tools/lost_requests.py tools/out_of_memory.py tools/tests/run.py tools/mutants.py tools/c_library.py \
