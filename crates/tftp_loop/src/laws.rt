@@ -86,8 +86,9 @@ pub fn a_server_closes_by_the_clock<T: Store>()
     ensures passes { PassesWithTheClock T.meaning T.Source.meaning }
 {}
 
-/// A server with a range of ports takes no port of it twice before it has taken each.
-pub fn a_range_gives_each_port_once()
+/// A server with a range of ports takes a port of it again only after half of the range: the port is
+/// drawn from the other half.
+pub fn a_range_gives_no_port_twice()
     ensures { UsesNoPortTwice }
 {}
 
