@@ -1,25 +1,19 @@
--- What is known of an end that is open.
-use Rattle.std.proofs.Common.{◌≡◌, true, List}
-use Rattle.std.proofs.Common.{refl, sym, ap, ◌∙◌, inl, inr}
-use Rattle.std.specs.Prelude.{is_some}
-use Rattle.std.proofs.lemmas.Bool.{true≢false}
-use Rattle.tftp_ends.specs.declared.outcome.Outcome.TheVariants as outcomes
-use Rattle.tftp_ends.specs.declared.phase.Phase.{Phase}
-use Rattle.tftp_ends.specs.End.{EndState, outcome_of}
-use Rattle.tftp_ends.specs.Phase.{closed}
-use Rattle.tftp_ends.specs.Run.{IsOpen}
-use Rattle.tftp_lives.specs.Lives.{Act, newest}
-use Rattle.tftp_lives.proofs.Stands.{IsCopied, IsIn}
-use Rattle.tftp_lives.proofs.Stands.{more_of}
+-- What is known of an end that is open, and how an end is.
 use Rattle.std.proofs.Common.{◌≡◌, Bool, true, false, not, List, Option, Some, None}
 use Rattle.std.proofs.Common.{refl, sym, ap, ◌∙◌, subst, inl, inr}
 use Rattle.std.specs.Prelude.{◌⊎◌, is_some}
+use Rattle.std.proofs.lemmas.Bool.{true≢false}
 use Rattle.tftp_ends.specs.declared.outcome.Outcome.{Outcome}
+use Rattle.tftp_ends.specs.declared.outcome.Outcome.TheVariants as outcomes
+use Rattle.tftp_ends.specs.declared.phase.Phase.{Phase}
+use Rattle.tftp_ends.specs.declared.phase.Phase.TheVariants.{Waiting, Sending, Receiving}
 use Rattle.tftp_ends.specs.End.{EndState, is_complete, outcome_of}
-use Rattle.tftp_lives.specs.Lives.{Act}
-use Rattle.tftp_lives.specs.Lives.{newest}
+use Rattle.tftp_ends.specs.Phase.{closed}
+use Rattle.tftp_ends.specs.Run.{IsOpen}
+use Rattle.tftp_lives.specs.Lives.{Act, newest}
 use Rattle.tftp_lives.specs.Outlasting.{GaveUp}
 use Rattle.tftp_lives.specs.Unanswered.{IsOther, IsOver}
+use Rattle.tftp_lives.proofs.Stands.{Asks, Gives, IsCopied, IsIn, Over, Stands, Takes, more_of}
 
 -- ---- an open end
 -- no open end has closed
@@ -40,28 +34,24 @@ still_copied e p o (inl is) acts c = c
 still_copied e p o (inr is) acts c = open_not e (closed outcomes.TimedOut p) o is.0 refl
 
 -- ---- how an end is
-pub other_than : (outcome : Outcome) → (outcome ≡ outcomes.TimedOut) ⊎ IsOther outcome
-other_than outcomes.TimedOut = inl refl
-other_than outcomes.Complete = inr tt
-other_than (outcomes.PeerError code) = inr tt
-other_than outcomes.Illegal = inr tt
-other_than (outcomes.Refused refusal) = inr tt
-other_than outcomes.TooLarge = inr tt
-other_than outcomes.StoreFault = inr tt
-other_than outcomes.SourceFault = inr tt
-other_than outcomes.NotNetascii = inr tt
-
 abbrev pub GoesOn : EndState → Type 0
 GoesOn e = IsOpen e × (is_complete e.position.phase ≡ false)
 
-pub how_it_is : (e : EndState) (c : Bool) → is_complete e.position.phase ≡ c → (o : Option Outcome) →
-    outcome_of e.position.phase ≡ o → IsOver e ⊎ (GoesOn e ⊎ GaveUp e)
-how_it_is e true complete o out = inl (inl complete)
-how_it_is e false incomplete None out = inr (inl (ap is_some out, incomplete))
-how_it_is e false incomplete (Some outcome) out = elim (other_than outcome) [
-  | inl is ↦ inr (inr (out ∙ ap (λ (o : Outcome). Some o) is, incomplete))
-  | inr other ↦ inl (inr (outcome, out, other))
-]
+-- in a phase in which it is not over, or closed for want of an answer
+in_it : (e : EndState) (p : Phase) → outcome_of p ≡ None → is_complete p ≡ false → IsIn e p →
+    IsOver e ⊎ (GoesOn e ⊎ GaveUp e)
+in_it e p none incomplete (inl is) =
+    inr (inl (
+      ap (λ (q : Phase). is_some (outcome_of q)) is ∙ ap (λ (o : Option Outcome). is_some o) none,
+      ap is_complete is ∙ incomplete,
+    ))
+in_it e p none incomplete (inr is) = inr (inr (ap outcome_of is.0, ap is_complete is.0 ∙ incomplete))
+
+pub how_it_is : (acts : List Act) (e : EndState) → Stands acts e → IsOver e ⊎ (GoesOn e ⊎ GaveUp e)
+how_it_is acts e (Asks asked limit is client askable none c) = in_it e (Waiting asked limit) refl refl is
+how_it_is acts e (Gives t n is g f c) = in_it e (Sending t n) refl refl is
+how_it_is acts e (Takes t n is g c) = in_it e (Receiving t n) refl refl is
+how_it_is acts e (Over over) = inl over
 
 pub gave_up_only : (e : EndState) → GaveUp e → IsOver e → ⊥
 gave_up_only e gave (inl complete) = true≢false (sym complete ∙ gave.1)

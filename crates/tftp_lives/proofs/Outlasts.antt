@@ -19,6 +19,7 @@ use Rattle.tftp_lives.specs.Outlasting.{EndsOutlastLoss, GaveUp}
 use Rattle.tftp_lives.specs.Unanswered.{AreOpposite, Awaits, Begins, HasSaid, IsOver, IsUnanswered}
 use Rattle.tftp_lives.proofs.Answering.{ends_answer}
 use Rattle.tftp_lives.proofs.Unanswered.{give_up_unanswered}
+use Rattle.tftp_lives.proofs.LivesStand.{life_stands}
 use Rattle.tftp_lives.proofs.OpenEnds.{GoesOn, flipped, gave_up_only, how_it_is}
 use Rattle.tftp_lives.proofs.OneOrder.{acts_there, has_there, heads, last_of, nothing_left, own_act, owns, owns_append, placed, split_at}
 use Rattle.tftp_lives.proofs.OneOrder.{timed_few, took_it}
@@ -201,7 +202,7 @@ module _ {S K T L : Type 0} (sources : SourceMeaning S) (sinks : SinkMeaning K) 
       HandlesAll (acts_of it order) → GaveUp x → IsOver y
   outlasts_it me it one a b x0 x y0 y order limit slack x_begins x_life y_begins y_life opposite enough also there back
       promptly promptly' handles its gave =
-      elim (how_it_is y (is_complete y.position.phase) refl (outcome_of y.position.phase) refl) [
+      elim (how_it_is (acts_of it order) y (life_stands inputs outputs y_begins y_life)) [
         | inl over ↦ over
         | inr other ↦ elim other [
           | inl on ↦ absurd (by_x (open_only on) (λ since rest e some closed none. closed on.0))

@@ -48,10 +48,10 @@ Awaits e (Read request) = ⊥
 Awaits e (Write request) = ⊥
 Awaits e (Error code text) = ⊥
 
--- an outcome for which retries are no cause
+-- an outcome of an end that is not complete, for which retries are no cause
 abbrev pub IsOther : Outcome → Type 0
 IsOther outcomes.TimedOut = ⊥
-IsOther outcomes.Complete = Unit {0}
+IsOther outcomes.Complete = ⊥
 IsOther (outcomes.PeerError code) = Unit {0}
 IsOther outcomes.Illegal = Unit {0}
 IsOther (outcomes.Refused refusal) = Unit {0}

@@ -203,6 +203,18 @@ clients_seen stores sources inputs outputs programs order joined k client p foun
 
 module _ {S F D G K : Type 0} (stores : StoreMeaning S D) (sources : SourceMeaning F) (inputs : SourceMeaning G)
     (outputs : SinkMeaning K) where
+  -- a client without a peer
+  pub gave_up_unheard : (programs : Programs stores sources inputs outputs) (client : ClientOf programs) →
+      peer_of (client_end programs client) ≡ None →
+      outcome_of client.last.end.position.phase ≡ Some outcomes.TimedOut →
+      is_complete client.last.end.position.phase ≡ false → GaveUpUnheard programs client
+  gave_up_unheard programs client none out incomplete = record {
+    unheard =
+        give_up_unheard inputs outputs client.first client.last.end _ (client_opening client.opens)
+        (client_lives client.runs) none out incomplete;
+    client_noted = client_noted client.before client.runs;
+  }
+
   -- by the peer of the client
   times_out_by : (programs : Programs stores sources inputs outputs) (order : List Noted) → AreJoined programs order →
       (k : ℕ) (client : ClientOf programs) → slice_get programs.clients k ≡ Some client →
@@ -211,12 +223,7 @@ module _ {S F D G K : Type 0} (stores : StoreMeaning S D) (sources : SourceMeani
       (o : Option Endpoint) → peer_of (client_end programs client) ≡ o →
       GaveUpUnheard programs client ⊎ ((p : Endpoint) × GaveUpUnanswered programs client p)
   times_out_by programs order joined k client found out incomplete None none =
-      inl (record {
-        unheard =
-            give_up_unheard inputs outputs client.first client.last.end _ (client_opening client.opens)
-            (client_lives client.runs) none out incomplete;
-        client_noted = client_noted client.before client.runs;
-      })
+      inl (gave_up_unheard programs client none out incomplete)
   times_out_by programs order joined k client found out incomplete (Some p) peer =
       inr (
         p,

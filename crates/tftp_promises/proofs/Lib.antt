@@ -82,3 +82,6 @@ pub mod TraceLives
 pub mod SeenLives
 pub mod GivingUp
 pub mod Outlasting
+pub mod Fated
+pub mod Failing
+pub mod Explaining

@@ -16,6 +16,7 @@ use Rattle.tftp_server.specs.Draft.{drafting_sink}
 use Rattle.tftp_lives.specs.Lives.{Act, Life, Took, Lost, Said, Timed}
 use Rattle.tftp_lives.specs.Outlasting.{GaveUp, OneAct}
 use Rattle.tftp_lives.specs.Unanswered.{AreOpposite, IsOver}
+use Rattle.tftp_lives.proofs.LivesStand.{life_stands}
 use Rattle.tftp_lives.proofs.OpenEnds.{how_it_is}
 use Rattle.tftp_lives.proofs.Outlasts.{ends_outlast_loss}
 use Rattle.tftp_sockets.specs.Trace.{SocketEvent}
@@ -26,11 +27,13 @@ use Rattle.tftp_promises.specs.Lived.{IsLiving, Tells, Begins_so, Passes, Receiv
 use Rattle.tftp_promises.specs.Lived.{Elapses_then}
 use Rattle.tftp_promises.specs.Lived.{acts_at, acts_in}
 use Rattle.tftp_promises.specs.Order.{Noted, Programs, ClientOf, events_of}
-use Rattle.tftp_promises.specs.Outlasting.{AreBounded, AreShown, HasFailed, IsEventOf, OutlastLoss, ProgramsOutlastLoss, Shows, Ends_so}
+use Rattle.tftp_promises.specs.Failed.{HasFailed}
+use Rattle.tftp_promises.specs.Outlasting.{AreBounded, AreShown, IsEventOf, OutlastLoss, ProgramsOutlastLoss, Shows, Ends_so}
 use Rattle.tftp_promises.specs.Outlasting.{Another, Of_client, Of_server}
 use Rattle.tftp_promises.specs.Programs.{ClientOpens, To_read, To_write, client_at}
 use Rattle.tftp_promises.proofs.ClientLives.{client_lives, client_opening}
 use Rattle.tftp_promises.proofs.ClientRoles.{run_role}
+use Rattle.tftp_promises.proofs.Failing.{client_complete, client_failed, client_is, transfer_complete, transfer_failed}
 use Rattle.tftp_promises.proofs.GivingUp.{was_held}
 use Rattle.tftp_promises.proofs.ProgramsShown.{programs_keep_any}
 use Rattle.tftp_promises.proofs.TraceLives.{client_noted, transfers_noted}
@@ -120,33 +123,6 @@ module _ (k port at : ℕ) where
     apart : suc k ≡ 0 → ⊥
     apart e = cc
 
--- ---- an end that closed, incomplete, and has not failed, gave up
-over_failed : (e : EndState) → is_complete e.position.phase ≡ false → IsOver e → HasFailed e
-over_failed e incomplete (inl complete) = absurd (true≢false (sym complete ∙ incomplete))
-over_failed e incomplete (inr closed) = (incomplete, closed.0, closed.1, closed.2)
-
-closed_gave : (e : EndState) → is_complete e.position.phase ≡ false → (IsOpen e → ⊥) → (HasFailed e → ⊥) → GaveUp e
-closed_gave e incomplete closed sound =
-    elim (how_it_is e (is_complete e.position.phase) refl (outcome_of e.position.phase) refl) [
-      | inl over ↦ absurd (sound (over_failed e incomplete over))
-      | inr other ↦ elim other [
-        | inl on ↦ absurd (closed on.0)
-        | inr gave ↦ gave
-      ]
-    ]
-
--- and one that is over, and has not failed, is complete
-over_complete : (e : EndState) (c : Bool) → is_complete e.position.phase ≡ c → IsOver e → (HasFailed e → ⊥) →
-    is_complete e.position.phase ≡ true
-over_complete e true is over sound = is
-over_complete e false is over sound = absurd (sound (over_failed e is over))
-
--- a client is one
-opens_client : {G K : Type 0} {inputs : SourceMeaning G} {outputs : SinkMeaning K} {to : Endpoint} {first : EndState}
-    {file : Files G K} → ClientOpens inputs outputs to first file → is_client first.role.side ≡ true
-opens_client (To_read opens) = ap (λ (e : EndState). is_client e.role.side) opens.is
-opens_client (To_write opens) = ap (λ (e : EndState). is_client e.role.side) opens.is
-
 -- ---- of the programs
 module _ {S F D G K : Type 0} (stores : StoreMeaning S D) (sources : SourceMeaning F) (inputs : SourceMeaning G)
     (outputs : SinkMeaning K) (programs : Programs stores sources inputs outputs) (order : List Noted)
@@ -205,53 +181,47 @@ module _ {S F D G K : Type 0} (stores : StoreMeaning S D) (sources : SourceMeani
           (subst (λ (done : List Act). Life sources (drafting_sink stores) living.first done serves.transfer.end)
           (sym are.server_acts) living.life) opposite are.bounded
 
-    -- ---- a sender that is complete has a peer that is
-    keep : KeepAnyFiles programs
-    keep = programs_keep_any stores sources inputs outputs programs order joined
+    -- ---- an end that closed, incomplete, and has not failed, gave up
+    client_gave : is_complete client.last.end.position.phase ≡ false → (IsOpen client.last.end → ⊥) →
+        (HasFailed client.last.end → ⊥) → GaveUp client.last.end
+    client_gave incomplete closed sound = elim (client_is stores sources inputs outputs programs order joined k client found) [
+      | inl over ↦
+          absurd
+          (sound (client_failed stores sources inputs outputs programs order joined k client found p peer over incomplete))
+      | inr other ↦ elim other [
+        | inl on ↦ absurd (closed on.0)
+        | inr gave ↦ gave
+      ]
+    ]
 
-    abbrev own : ProgramEnd
-    own = client_end programs client
+    transfer_gave : is_complete serves.transfer.end.position.phase ≡ false → (IsOpen serves.transfer.end → ⊥) →
+        (HasFailed serves.transfer.end → ⊥) → GaveUp serves.transfer.end
+    transfer_gave incomplete closed sound =
+        elim
+        (how_it_is its_acts serves.transfer.end
+        (life_stands sources (drafting_sink stores) living.begins living.life)) [
+          | inl over ↦
+              absurd
+              (sound
+              (transfer_failed stores sources inputs outputs programs order joined k client found p serves over incomplete))
+          | inr other ↦ elim other [
+            | inl on ↦ absurd (closed on.0)
+            | inr gave ↦ gave
+          ]
+        ]
 
-    abbrev its : ProgramEnd
-    its = transfer_end programs serves.transfer p
+    -- and one that is over, and has not failed, is complete
+    client_done : (c : Bool) → is_complete client.last.end.position.phase ≡ c → IsOver client.last.end →
+        (HasFailed client.last.end → ⊥) → is_complete client.last.end.position.phase ≡ true
+    client_done true is over sound = is
+    client_done false is over sound =
+        absurd (sound (client_failed stores sources inputs outputs programs order joined k client found p peer over is))
 
-    client_is_end : IsEnd programs own
-    client_is_end = inl (k, client, found, refl)
-
-    transfer_is_end : IsEnd programs its
-    transfer_is_end = inr (serves.port, serves.transfer, p, serves.opened, refl)
-
-    client_is_ours : IsOurs programs (client_at client)
-    client_is_ours strange = strange.clients k client found refl
-
-    is_client_side : is_client client.last.end.role.side ≡ true
-    is_client_side = ap (λ (r : Role). is_client r.side) (run_role client.runs) ∙ opens_client client.opens
-
-    some_same : (a b : Endpoint) → Some a ≡ Some b → a ≡ b
-    some_same a b e = cc
-
-    -- of a get
-    client_complete : is_sender serves.transfer.end.role.side ≡ true →
-        is_complete serves.transfer.end.position.phase ≡ true → is_complete client.last.end.position.phase ≡ true
-    client_complete sends complete =
-        let last = keep.safe.sender_last its transfer_is_end sends complete in
-        let at_client : last.0 ≡ client_at client = some_same last.0 (client_at client) (sym last.1 ∙ serves.peer) in
-        let there = last.2 (subst (IsOurs programs) (sym at_client) client_is_ours) in
-        let same : there.0 ≡ own =
-        keep.unique there.0 own there.1.is_end client_is_end (there.1.address ∙ at_client) in
-        subst (λ (x : ProgramEnd). is_complete x.state.position.phase ≡ true) same there.1.complete
-
-    -- and of a put
-    transfer_complete : is_sender client.last.end.role.side ≡ true →
-        is_complete client.last.end.position.phase ≡ true → is_complete serves.transfer.end.position.phase ≡ true
-    transfer_complete sends complete =
-        let last = keep.safe.sender_last own client_is_end sends complete in
-        let at_server : last.0 ≡ p = some_same last.0 p (sym last.1 ∙ peer) in
-        let there =
-        last.2 (subst (IsOurs programs) (sym at_server) (keep.safe.ours own p client_is_end is_client_side peer)) in
-        let same : there.0 ≡ its =
-        keep.unique there.0 its there.1.is_end transfer_is_end (there.1.address ∙ at_server) in
-        subst (λ (x : ProgramEnd). is_complete x.state.position.phase ≡ true) same there.1.complete
+    transfer_done : (c : Bool) → is_complete serves.transfer.end.position.phase ≡ c → IsOver serves.transfer.end →
+        (HasFailed serves.transfer.end → ⊥) → is_complete serves.transfer.end.position.phase ≡ true
+    transfer_done true is over sound = is
+    transfer_done false is over sound =
+        absurd (sound (transfer_failed stores sources inputs outputs programs order joined k client found p serves over is))
 
     -- ---- the law
     gets : (c : Bool) → is_complete client.last.end.position.phase ≡ c → (acts : List OneAct) (limit slack : ℕ) →
@@ -260,20 +230,20 @@ module _ {S F D G K : Type 0} (stores : StoreMeaning S D) (sources : SourceMeani
         (IsOpen client.last.end → ⊥) → is_complete client.last.end.position.phase ≡ true
     gets true is acts limit slack bounded receives sound its_sound closed = is
     gets false is acts limit slack bounded receives sound its_sound closed =
-        let over = (both acts limit slack bounded).0 (closed_gave client.last.end is closed sound) in
-        client_complete (serves.other ∙ ap not receives)
-        (over_complete serves.transfer.end (is_complete serves.transfer.end.position.phase) refl over its_sound)
+        let over = (both acts limit slack bounded).0 (client_gave is closed sound) in
+        client_complete stores sources inputs outputs programs order joined k client found p serves
+        (serves.other ∙ ap not receives)
+        (transfer_done (is_complete serves.transfer.end.position.phase) refl over its_sound)
 
     puts : (c : Bool) → is_complete serves.transfer.end.position.phase ≡ c → (acts : List OneAct) (limit slack : ℕ) →
         AreBounded programs client p serves was acts limit slack →
         is_sender client.last.end.role.side ≡ true → (HasFailed client.last.end → ⊥) → (HasFailed serves.transfer.end → ⊥) →
         (IsOpen serves.transfer.end → ⊥) → is_complete serves.transfer.end.position.phase ≡ true
-    puts true is acts limit slack bounded sends sound its_sound closed =
-        is
+    puts true is acts limit slack bounded sends sound its_sound closed = is
     puts false is acts limit slack bounded sends sound its_sound closed =
-        let over = (both acts limit slack bounded).1 (closed_gave serves.transfer.end is closed its_sound) in
-        transfer_complete sends
-        (over_complete client.last.end (is_complete client.last.end.position.phase) refl over sound)
+        let over = (both acts limit slack bounded).1 (transfer_gave is closed its_sound) in
+        transfer_complete stores sources inputs outputs programs order joined k client found p peer serves sends
+        (client_done (is_complete client.last.end.position.phase) refl over sound)
 
     outlast : OutlastLoss programs order k client p serves was
     outlast = record {

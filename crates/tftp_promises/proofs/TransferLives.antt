@@ -258,7 +258,7 @@ module _ {S F D : Type 0} (stores : StoreMeaning S D) (sources : SourceMeaning F
       (repeated : Bool) (came : Came S F D) (transfer : TransferState F D) (store : S) →
       came ≡ A_transfer transfer store → PortAnswers stores sources old from bytes decoded repeated came →
       Begins transfer.end
-  opened_begins old from bytes decoded repeated came transfer store is (Silent none) =
+  opened_begins old from bytes decoded repeated came transfer store is (Silent none why) =
       absurd (let e : A_transfer transfer store ≡ Nothing = sym is ∙ none in cc)
   opened_begins old from bytes decoded repeated came transfer store is (Says_error refused) =
       absurd (let e : A_transfer transfer store ≡ Error_reply refused.reply refused.store = sym is ∙ refused.is in cc)

@@ -24,4 +24,7 @@ pub mod Timers
 pub mod Lines
 pub mod Lived
 pub mod GivesUp
+pub mod Failed
+pub mod Fates
+pub mod Explained
 pub mod Outlasting

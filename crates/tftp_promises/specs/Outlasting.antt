@@ -4,17 +4,17 @@
 use Rattle.std.specs.Prelude.{ℕ, ◌≡◌, suc, true, false, List, [], ◌∷◌, slice_get, Some}
 use Rattle.tftp_file.specs.Sink.{SinkMeaning}
 use Rattle.tftp_file.specs.Source.{SourceMeaning}
-use Rattle.tftp_ends.specs.declared.outcome.Outcome.{Outcome}
-use Rattle.tftp_ends.specs.End.{EndState, is_complete, is_sender, outcome_of}
+use Rattle.tftp_ends.specs.End.{is_complete, is_sender}
 use Rattle.tftp_ends.specs.Run.{IsOpen}
 use Rattle.tftp_store.specs.Store.{StoreMeaning}
 use Rattle.tftp_rules.specs.Machine.{Endpoint}
 use Rattle.tftp_lives.specs.Lives.{Act, Took, Lost, Said, Timed}
 use Rattle.tftp_lives.specs.Outlasting.{OneAct, acts_of, GaveUp, IsLossBounded}
-use Rattle.tftp_lives.specs.Unanswered.{IsOther, IsOver}
+use Rattle.tftp_lives.specs.Unanswered.{IsOver}
 use Rattle.tftp_sockets.specs.Trace.{SocketEvent}
 use Rattle.tftp_sockets.specs.Trace.SocketEvent.{Received, Sent, Elapsed}
 use Rattle.tftp_promises.specs.AnyFiles.{ServesClient, client_end, peer_of}
+use Rattle.tftp_promises.specs.Failed.{HasFailed}
 use Rattle.tftp_promises.specs.GivesUp.{WasHeld}
 use Rattle.tftp_promises.specs.Joined.{AreJoined}
 use Rattle.tftp_promises.specs.Lived.{acts_at, acts_in}
@@ -47,13 +47,6 @@ pub record AreShown (k port at : ℕ) (order : List Noted) (client server : List
   pub shown : Shows k port at order acts
   pub client_acts : acts_of true acts ≡ client
   pub server_acts : acts_of false acts ≡ server
-
--- an end closed, incomplete, and not for want of an answer: its file or its store failed, or it was
--- told of an error
-abbrev pub HasFailed : EndState → Type 0
-HasFailed e =
-    (is_complete e.position.phase ≡ false)
-    × (outcome : Outcome) × (outcome_of e.position.phase ≡ Some outcome) × IsOther outcome
 
 module _ {S F D G K : Type 0} {stores : StoreMeaning S D} {sources : SourceMeaning F}
     {inputs : SourceMeaning G} {outputs : SinkMeaning K}
