@@ -88,12 +88,12 @@ def without_a_compiler() -> list[str]:
     return [] if is_said else [f"without a compiler: status {done.returncode}: {done.stdout}{done.stderr}"]
 
 
-def emulated(programs: Path, folder: Path) -> dict[str, str]:
+def emulated(programs: Path, folder: Path, emulator: str = EMULATOR) -> dict[str, str]:
     """Scripts that run the programs."""
     folder.mkdir()
     for name in NAMES:
         script = folder / name
-        script.write_text(f'#!/bin/sh\nexec {shutil.which(EMULATOR)} {programs}/{name} "$@"\n')
+        script.write_text(f'#!/bin/sh\nexec {shutil.which(emulator)} {programs}/{name} "$@"\n')
         script.chmod(0o755)
     return {name: str(folder / name) for name in NAMES}
 
