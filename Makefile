@@ -11,6 +11,10 @@
 # make slips CRATES="NAME ..": tries the wrong bodies in crates/NAME/slips/, of all crates without words; with STALE=1 only
 #   such as changed since they were last refused, or whose crate did; with FEW=5 five of all, by the seed of the commit, as
 #   the gate does
+# make ARCH=arm64 programs libtftp deb: the same for ARM64, proved with that target, into bin/arm64/, linked by CC
+#   (aarch64-linux-gnu-gcc); with STATIC=1 the programs have the C library in themselves, in bin/arm64-static/
+# make bare: bin/libtftp-bare.a, the library for machines without an operating system; also with ARCH=arm64
+# make assembly: the programs and the library as assembly, in an archive that a C compiler builds; it is a part of make dist
 # make install, make uninstall: programs, library, manuals, completions, units and documents at DESTDIR and PREFIX; they
 #   copy what is in bin/, and build nothing. PROGRAM_PREFIX= is put before the names of the programs and their manuals
 # make dist: an archive of what is installed, with a script that installs it on hosts without the kit
@@ -35,8 +39,13 @@ MANDIR := $(PREFIX)/share/man
 UNITDIR := $(PREFIX)/lib/systemd/system
 LIBDIR := $(PREFIX)/lib
 
-PROGRAMS := bin/tftp-show bin/tftp-play bin/tftp bin/tftpd
-LIBRARY := bin/libtftp.a
+# the processor: amd64 or arm64; whether programs have the C library in themselves; and where what is built so is
+ARCH := amd64
+STATIC :=
+BIN := $(if $(filter amd64,$(ARCH)$(STATIC)),bin,bin/$(ARCH)$(if $(STATIC),-static))
+PROGRAMS := $(addprefix $(BIN)/,tftp-show tftp-play tftp tftpd)
+LIBRARY := $(BIN)/libtftp.a
+BARE := $(BIN)/libtftp-bare.a
 SOURCES := $(shell find crates -path '*/out' -prune -o \( -name '*.rt' -o -name '*.antt' \) -print) crates.txt
 
 # what is run behind `rt ci`, over bin/, which holds by then what `make` builds (tools/shipped.py). Each is run with a limit,
@@ -48,10 +57,11 @@ CHECKS := tools/same_options.py tools/check_install.py tools/check_documents.py 
 	'$(MAKE) --no-print-directory sampled' tools/statuses.py tools/captures.py tools/memory_in_turn.py \
 	tools/lost_requests.py tools/out_of_memory.py tools/tests/run.py tools/mutated_inputs.py tools/c_library.py \
 	tools/library_abi.py tools/library_chroot.py tools/dashboard.py tools/loopback/run.py tools/behaviours.py \
-	'tools/network.py bin/tftp bin/tftpd' tools/soak/run.py 'tools/slips.py --few'
+	'tools/network.py bin/tftp bin/tftpd' tools/soak/run.py 'tools/slips.py --few' \
+	tools/arm64.py tools/from_assembly.py tools/bare.py tools/machine.py tools/efi.py
 
-.PHONY: build programs libtftp run sample sampled manifest tftp-show tftp-play tftp tftpd test quick docs slips install uninstall dist deb soak \
-	behaviours coverage walk weights plants mutated-inputs bench bench-udp clean
+.PHONY: build programs libtftp bare assembly run sample sampled manifest tftp-show tftp-play tftp tftpd test quick docs \
+	slips install uninstall dist deb soak behaviours coverage walk weights plants mutated-inputs bench bench-udp clean
 # one after another: each crate is proved by as many processors as there are
 .NOTPARALLEL:
 
@@ -62,6 +72,7 @@ build: $(PROGRAMS) $(LIBRARY)
 programs: $(PROGRAMS)
 libtftp: $(LIBRARY)
 
+ifeq ($(ARCH)$(STATIC),amd64)
 # one run builds all four
 $(PROGRAMS) &: $(SOURCES) tools/build.sh
 	$(NEEDS_RT)
@@ -72,10 +83,26 @@ $(PROGRAMS) &: $(SOURCES) tools/build.sh
 	@cp crates/tftp_main/out/tftp_main bin/tftp
 	@cp crates/tftpd_main/out/tftpd_main bin/tftpd
 
-$(LIBRARY): $(SOURCES) tools/build.sh tools/library.sh
+$(LIBRARY): $(SOURCES) tools/build.sh tools/library.sh ports/heap.c ports/malloc.c
 	$(NEEDS_RT)
 	@tools/build.sh tftp_c
 	@tools/library.sh bin
+else
+PORTED := tools/modules.py tools/port.sh tools/library.sh ports/os.c ports/heap.c ports/malloc.c
+export STATIC
+
+$(PROGRAMS) &: $(SOURCES) $(PORTED)
+	$(NEEDS_RT)
+	@tools/port.sh check $(ARCH)
+	@tools/modules.py $(ARCH) tftp-show tftp-play tftp tftpd
+	@tools/port.sh programs $(ARCH) $(BIN)
+
+$(LIBRARY): $(SOURCES) $(PORTED)
+	$(NEEDS_RT)
+	@tools/port.sh check $(ARCH)
+	@tools/modules.py $(ARCH) libtftp
+	@tools/port.sh libtftp $(ARCH) $(BIN)
+endif
 
 tftp-show tftp-play tftp tftpd:
 	$(NEEDS_RT)
@@ -93,6 +120,14 @@ sample:
 	bin/tftp-show < examples/packets.hex; test $$? -le 1 # 1: some lines of the sample are faults
 	bin/tftp-play examples/lossy.script
 	examples/loopback.sh bin/tftpd bin/tftp
+
+$(BARE): $(SOURCES) tools/modules.py tools/port.sh ports/heap.c
+	$(NEEDS_RT)
+	@tools/port.sh check $(ARCH)
+	@tools/modules.py $(ARCH) libtftp-bare
+	@tools/port.sh bare $(ARCH) $(BIN)
+
+bare: $(BARE)
 
 mutated-inputs: $(PROGRAMS)
 	tools/mutated_inputs.py $(SECONDS) $(SEED)
@@ -116,14 +151,20 @@ slips:
 	@tools/slips.py $(if $(FEW),--few $(FEW),--together $(if $(STALE),--stale) $(CRATES))
 
 install uninstall:
-	@tools/install.sh $@ 'DESTDIR=$(DESTDIR)' 'PREFIX=$(PREFIX)' 'PROGRAM_PREFIX=$(PROGRAM_PREFIX)' \
+	@BIN='$(BIN)' tools/install.sh $@ 'DESTDIR=$(DESTDIR)' 'PREFIX=$(PREFIX)' 'PROGRAM_PREFIX=$(PROGRAM_PREFIX)' \
 		'MANDIR=$(MANDIR)' 'UNITDIR=$(UNITDIR)' 'LIBDIR=$(LIBDIR)'
 
-dist: $(PROGRAMS) $(LIBRARY)
+dist: $(PROGRAMS) $(LIBRARY) assembly
 	@tools/install.sh dist '$(VERSION)'
 
+# what is kept of the same text is not proved again
+assembly:
+	$(NEEDS_RT)
+	@for arch in amd64 arm64 riscv64; do tools/modules.py $$arch || exit; done
+	@tools/assembly.sh '$(VERSION)'
+
 deb: $(PROGRAMS) $(LIBRARY)
-	@debian/pack.sh '$(VERSION)'
+	@BIN='$(BIN)' debian/pack.sh '$(VERSION)' '$(ARCH)'
 
 SECONDS := 60
 SEED := 1

@@ -86,7 +86,6 @@ WORDS: dict[str, Callable[..., Words]] = {
     "get": lambda built, way, name, local, blksize: (built.command("get", *way, name, local, blksize), {}),
     "put": lambda built, way, name, local, blksize: (built.command("put", *way, name, local, blksize), {}),
     "bare": partial(of_bare, "bare"),
-    "bare over valgrind's malloc": partial(of_bare, "bare over valgrind's malloc"),
     **{f"{verb} in Rust": partial(of_rust, f"{verb} in Rust") for verb in ["get", "put"]},
     **{f"{verb} in {language}": partial(of_client, f"{verb} in {language}") for verb in ["get", "put"]
        for language in ["C++", "Python", "Go"]},

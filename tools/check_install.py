@@ -19,7 +19,7 @@ from lib import rows
 
 TOP = Path(__file__).resolve().parent.parent
 PROGRAMS = ["tftp", "tftpd", "tftp-show", "tftp-play"]
-COPIED = ["Makefile", "LICENSE", "SECURITY.md", "crates.txt", "completions", "debian", "docs/OPERATING.md",
+COPIED = ["Makefile", "LICENSE", "SECURITY.md", "crates.txt", "completions", "debian", "docs/OPERATING.md", "ports",
           "docs/dashboard.svg", "examples", "include", "man", "packaging", "tools"]
 LIBRARY = ["include/tftp.h", "include/tftp.hpp", "lib/libtftp.a", "lib/libtftp.so", "lib/libtftp.so.1",
            "lib/cmake/tftp/tftp-config.cmake", "lib/cmake/tftp/tftp-config-version.cmake", "lib/pkgconfig/tftp.pc",

@@ -29,7 +29,8 @@ from lib.stalls import LIMIT as STALL, Stalls
 TOP = Path(__file__).resolve().parent.parent
 # The longest time of a check, in seconds, and of those that take longer; `rt ci` has as long as it takes
 LIMIT = 900
-LIMITS = {"tools/soak/run.py": 2_400, "tools/shipped.py": 3_600, "tools/loopback/run.py": 1_500}
+LIMITS = {"tools/soak/run.py": 2_400, "tools/shipped.py": 3_600, "tools/loopback/run.py": 1_500, "tools/arm64.py": 1_800,
+          "tools/from_assembly.py": 1_800}
 # (each line is shown as it comes)
 UNBUFFERED = {**os.environ, "PYTHONUNBUFFERED": "1"}
 # What checks need that a host may lack, by the words of .ci/packages. A check that is not here may skip nothing
@@ -46,6 +47,13 @@ NEEDS = {
     "tools/dashboard.py": "prometheus promtool prometheus-node-exporter",
     "tools/loopback/run.py": "root valgrind strace trace mount ipv6 networks tftp", "tools/soak/run.py": "mount",
     "tools/behaviours.py": "strace trace", "tools/network.py": "ip nft unshare networks mount filter",
+    "tools/arm64.py": f"root aarch64-linux-gnu-gcc libc6-dev-arm64-cross qemu-aarch64 dpkg-deb in.tftpd atftpd dnsmasq {CLIENTS}",
+    "tools/from_assembly.py": "root mount xz git gcc make musl-gcc aarch64-linux-gnu-gcc libc6-dev-arm64-cross "
+                              "qemu-aarch64 riscv64-linux-gnu-gcc libc6-dev-riscv64-cross qemu-riscv64",
+    "tools/machine.py": "aarch64-linux-gnu-gcc libc6-dev-arm64-cross qemu-system-aarch64 cpio arm64-parts",
+    "tools/bare.py": "gcc objdump aarch64-linux-gnu-gcc libc6-dev-arm64-cross qemu-aarch64",
+    "tools/efi.py": "root make gcc gnu-efi ovmf qemu-efi-aarch64 qemu-system-x86_64 qemu-system-aarch64 aarch64-linux-gnu-gcc "
+                    "libc6-dev-arm64-cross arm64-parts in.tftpd atftpd",
 }
 ENDED = re.compile(r"(?P<run>\d+) run(?:, (?P<left>\d+) at other commits)?, (?P<skipped>\d+) skipped")
 

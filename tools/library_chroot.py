@@ -18,7 +18,7 @@ import tempfile
 from concurrent.futures import ThreadPoolExecutor
 from functools import partial
 from pathlib import Path
-from typing import Any, Callable
+from typing import Any, Callable, Sequence
 
 import c_library
 from c_library import FEW, Site, Trials, content, expect, refused, serving_port, together, transfers
@@ -84,12 +84,12 @@ def place(root: Path, path: str) -> None:
             shutil.copy2(source, to)
 
 
-def furnish(root: Path, has_rust: bool) -> None:
-    """The host's compilers and what they need, devices, and a place for what is built."""
+def furnish(root: Path, has_rust: bool, names: Sequence[str] = ()) -> None:
+    """The host's compilers, or other packages, and what they need, devices, and a place for what is built."""
     for name in ["bin", "sbin", "lib", "lib32", "lib64", "libx32"]:
         (root / "usr" / name).mkdir(parents=True, exist_ok=True)
         place(root, f"/{name}")
-    packages = closure([*BASE, *[name for names in LANGUAGES.values() for name in names]])
+    packages = closure([*names] or [*BASE, *[name for each in LANGUAGES.values() for name in each]])
     for path in run("dpkg-query", "-L", *packages).splitlines():
         if path.startswith(("/usr/", "/bin/", "/lib/", "/lib64/", "/sbin/")) and not path.startswith("/usr/share/doc/"):
             place(root, path)

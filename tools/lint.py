@@ -35,7 +35,7 @@ LIMITS: dict[str, int] = {
 OLD_WORDS = re.compile(r"(?<![/\w])(?:headlines?|strangers?|slips?|drafts?|wire text|handed over)\b", re.I)
 READ_FIRST = "README.md docs/*.md -docs/STATEMENT.md SECURITY.md CONTRIBUTING.md packaging/*.md"
 PYTHON = ["tools", "bench", "examples"]
-SHELL = ["tools/*.sh", ".ci/*", "debian/*.sh", "bench/*/*.sh", "examples/*.sh", "examples/*/*.sh"]
+SHELL = ["tools/*.sh", "tools/machine/*.sh", "ports/*", ".ci/*", "debian/*.sh", "bench/*/*.sh", "examples/*.sh", "examples/*/*.sh"]
 RUFF = ["ruff", "check", "--quiet", "--select", "E9,F", *PYTHON]
 # the versions of Debian 12, which has no ruff
 VERSIONS = {"mypy": "mypy 1.0.1", "shellcheck": "version: 0.9.0", "pyflakes3": "2.5.0", "ruff": "none"}

@@ -12,7 +12,7 @@ TOP = Path(__file__).resolve().parent.parent.parent
 SCRIPT = TOP / ".ci/packages"
 # what no host has in /usr/sbin or /sbin, where the script looks too, with the package of each
 MISSING = {"mandoc": "mandoc", "shellcheck": "shellcheck", "zsh": "zsh", "go": "golang-go"}
-TOOLS = ["timeout", "sort", "seq", "tr", "mktemp", "mkdir", "rm", "chmod", "sh", "install"]
+TOOLS = ["timeout", "sort", "seq", "tr", "mktemp", "mkdir", "rm", "chmod", "sh", "install", "grep", "dirname"]
 # the commands in the packages of two servers: in.tftpd is in both
 IN_PACKAGES = {"tftpd-hpa": ["in.tftpd"], "atftpd": ["atftpd", "in.tftpd"]}
 # installs the packages that it is asked for, without those of LACKS; with a file `away` it fails once
@@ -43,6 +43,13 @@ class Packages(unittest.TestCase):
         for command in [line.split()[0] for text in lists for line in text.splitlines()]:
             if command not in MISSING:
                 self.stand_in(command, "exit 0")
+        # files of other packages, which are all there
+        self.below = Path(room.name) / "below"
+        files = re.findall(r"(?s)^FILES='(.*?)'$", SCRIPT.read_text(), re.M)[0].splitlines()
+        parts = re.findall(r"(?m)^PARTS=(.*)$", SCRIPT.read_text())[0]
+        for path in [*(line.split()[0] for line in files), f"{parts}/vmlinuz"]:
+            (self.below / path.lstrip("/")).parent.mkdir(parents=True, exist_ok=True)
+            (self.below / path.lstrip("/")).touch()
         self.stand_in("timeout", 'case "$1" in 1) exit 124 ;; esac; shift; exec "$@"')
         for name in ["mount", "umount", "rmdir", "ls", "rustc"]:
             self.stand_in(name, "exit 0")
@@ -57,7 +64,7 @@ class Packages(unittest.TestCase):
         self.stand_in("id", f"echo {user}")
         bash = shutil.which("bash") or "bash"
         env = {"PATH": str(self.bin), "LACKS": lacks, "CALLS": str(self.calls), "AWAY": str(self.away), "BIN": str(self.bin),
-               "TO": str(self.to), "SBINS": str(self.bin)}
+               "TO": str(self.to), "SBINS": str(self.bin), "BELOW": str(self.below)}
         done = subprocess.run([bash, SCRIPT, self.lacking], env=env, capture_output=True, text=True, timeout=60)
         self.assertEqual((done.returncode, done.stderr), (status, ""), done.stdout)
         calls = self.calls.read_text().splitlines() if self.calls.exists() else []
@@ -112,6 +119,16 @@ class Packages(unittest.TestCase):
 
     def test_the_commands_of_two_servers(self) -> None:
         self.assertEqual(self.taken("in.tftpd", "atftpd"), {"atftpd": "atftpd", "in.tftpd": "tftpd-hpa"})
+
+    def test_a_file_of_a_package(self) -> None:
+        """A package may be needed for a file alone."""
+        for command in MISSING:
+            self.stand_in(command, "exit 0")
+        (self.below / "usr/include/efi/efi.h").unlink()
+        lines, calls = self.says(status=1)
+        self.assertEqual(lines, ["packages: asked for: gnu-efi ", "packages: not installed: gnu-efi"])
+        self.assertEqual(calls, ["update", "install gnu-efi"])
+        self.assertEqual(self.lacking.read_text(), "gnu-efi\n")
 
     def test_another_user(self) -> None:
         lines, calls = self.says(1_000, status=1)
