@@ -4,12 +4,17 @@
 # make libtftp: proves and builds the library for C alone: bin/libtftp.a, and with a C compiler bin/libtftp.so.1
 # make test: the gate, every proof from nothing, and then what is tried of the programs that it built; with REQUIRE_ALL=1
 #   nothing may be skipped. The last line is `N passed, N failed`
-# make quick CRATE=NAME: what a change of one crate is tried by in minutes
-# make docs: writes docs/STATEMENT.md and the pictures of docs/ from the sources, and out/DEFINITIONS.md. (docs/dashboard.svg
-#   shows a trial: tools/dashboard.py --write, with a Prometheus)
+# make quick CRATE=NAME: what a change of one crate is tried by in minutes; make quick: one of tools and documents
+# make manifest: writes tools/manifest.txt, what the gate consists of by name: crates, checks and their rows, wrong bodies, and
+#   each public clause and definition with its hash. The gate fails where it is not as committed
+# make docs: writes docs/STATEMENT.md and the pictures of docs/ from the sources, and out/DEFINITIONS.md
 # make slips CRATES="NAME ..": tries the wrong bodies in crates/NAME/slips/, of all crates without words; with STALE=1 only
 #   such as changed since they were last refused, or whose crate did; with FEW=5 five of all, by the seed of the commit, as
 #   the gate does
+# make ARCH=arm64 programs libtftp deb: the same for ARM64, proved with that target, into bin/arm64/, linked by CC
+#   (aarch64-linux-gnu-gcc); with STATIC=1 the programs have the C library in themselves, in bin/arm64-static/
+# make bare: bin/libtftp-bare.a, the library for machines without an operating system; also with ARCH=arm64
+# make assembly: the programs and the library as assembly, in an archive that a C compiler builds; it is a part of make dist
 # make install, make uninstall: programs, library, manuals, completions, units and documents at DESTDIR and PREFIX; they
 #   copy what is in bin/, and build nothing. PROGRAM_PREFIX= is put before the names of the programs and their manuals
 # make dist: an archive of what is installed, with a script that installs it on hosts without the kit
@@ -21,7 +26,7 @@
 # make walk: the calls from a received ACK to the block that answers it; with FROM=Flow::add_seen those from any function
 # make weights: what each crate weighs in the gate; make plants CRATE=NAME: which wrong bodies of `rt plant` a crate's
 #   contracts let through
-# make mutants SECONDS=3600 SEED=2: mutated lines, captures, scripts and command lines for the programs of bin/
+# make mutated-inputs SECONDS=3600 SEED=2: mutated lines, captures, scripts and command lines for the programs of bin/
 # make bench: the benchmarks of bench/, which are no tests
 # make bench-udp: tftpd and tftp beside the other servers and clients that are installed
 
@@ -34,26 +39,30 @@ MANDIR := $(PREFIX)/share/man
 UNITDIR := $(PREFIX)/lib/systemd/system
 LIBDIR := $(PREFIX)/lib
 
-PROGRAMS := bin/tftp-show bin/tftp-play bin/tftp bin/tftpd
-LIBRARY := bin/libtftp.a
+# the processor: amd64 or arm64; whether programs have the C library in themselves; and where what is built so is
+ARCH := amd64
+STATIC :=
+BIN := $(if $(filter amd64,$(ARCH)$(STATIC)),bin,bin/$(ARCH)$(if $(STATIC),-static))
+PROGRAMS := $(addprefix $(BIN)/,tftp-show tftp-play tftp tftpd)
+LIBRARY := $(BIN)/libtftp.a
+BARE := $(BIN)/libtftp-bare.a
 SOURCES := $(shell find crates -path '*/out' -prune -o \( -name '*.rt' -o -name '*.antt' \) -print) crates.txt
 
-# the tests of the tools; `python3 -m unittest` runs the checks, too
-TESTS := tools.tests.test_gate tools.tests.test_packages tools.tests.test_stand_ins tools.tests.test_programs \
-	tools.tests.test_rows tools.tests.test_requests tools.tests.test_slips tools.tests.test_soak \
-	tools.tests.test_metrics
 # what is run behind `rt ci`, over bin/, which holds by then what `make` builds (tools/shipped.py). Each is run with a limit,
-# whatever the others come to, and once more if it fails: tools/gate.py says what was skipped, what repeated, and what failed
+# whatever the others come to, and ends with a count of its rows, which tools/manifest.txt has by name; one that fails is run
+# once more if the host stalled meanwhile. tools/gate.py says what was skipped, what repeated, and what failed
 CHECKS := tools/same_options.py tools/check_install.py tools/check_documents.py tools/cited.py tools/version.py \
-	bench/udp/ratios.py tools/statement.py tools/definitions.py tools/figures.py tools/disk_trace.py tools/power_cuts.py tools/same_pictures.sh \
+	tools/ratios.py tools/statement.py tools/definitions.py tools/figures.py tools/trusted.py tools/disk_trace.py tools/power_cuts.py \
+	tools/same_pictures.sh \
 	tools/lint.py tools/processors.py tools/walk.py \
-	'$(MAKE) --no-print-directory run' tools/statuses.py tools/captures.py tools/memory_in_turn.py tools/lost_requests.py \
-	tools/out_of_memory.py 'python3 -m unittest $(TESTS)' tools/mutants.py tools/c_library.py tools/library_abi.py \
-	tools/library_chroot.py tools/dashboard.py tools/loopback/run.py tools/behaviours.py 'tools/network.py bin/tftp bin/tftpd' \
-	tools/soak/run.py 'tools/slips.py --few'
+	'$(MAKE) --no-print-directory sampled' tools/statuses.py tools/captures.py tools/memory_in_turn.py \
+	tools/lost_requests.py tools/out_of_memory.py tools/tests/run.py tools/mutated_inputs.py tools/c_library.py \
+	tools/library_abi.py tools/library_chroot.py tools/dashboard.py tools/loopback/run.py tools/behaviours.py \
+	'tools/network.py bin/tftp bin/tftpd' tools/soak/run.py 'tools/slips.py --few' \
+	tools/arm64.py tools/from_assembly.py tools/bare.py tools/machine.py tools/efi.py
 
-.PHONY: build programs libtftp run sample tftp-show tftp-play tftp tftpd test quick docs slips install uninstall dist deb soak \
-	behaviours coverage walk weights plants mutants bench bench-udp clean
+.PHONY: build programs libtftp bare assembly run sample sampled manifest tftp-show tftp-play tftp tftpd test quick docs \
+	slips install uninstall dist deb soak behaviours coverage walk weights plants mutated-inputs bench bench-udp clean
 # one after another: each crate is proved by as many processors as there are
 .NOTPARALLEL:
 
@@ -64,6 +73,7 @@ build: $(PROGRAMS) $(LIBRARY)
 programs: $(PROGRAMS)
 libtftp: $(LIBRARY)
 
+ifeq ($(ARCH)$(STATIC),amd64)
 # one run builds all four
 $(PROGRAMS) &: $(SOURCES) tools/build.sh
 	$(NEEDS_RT)
@@ -74,10 +84,26 @@ $(PROGRAMS) &: $(SOURCES) tools/build.sh
 	@cp crates/tftp_main/out/tftp_main bin/tftp
 	@cp crates/tftpd_main/out/tftpd_main bin/tftpd
 
-$(LIBRARY): $(SOURCES) tools/build.sh tools/library.sh
+$(LIBRARY): $(SOURCES) tools/build.sh tools/library.sh ports/heap.c ports/malloc.c
 	$(NEEDS_RT)
 	@tools/build.sh tftp_c
 	@tools/library.sh bin
+else
+PORTED := tools/modules.py tools/port.sh tools/library.sh ports/os.c ports/heap.c ports/malloc.c
+export STATIC
+
+$(PROGRAMS) &: $(SOURCES) $(PORTED)
+	$(NEEDS_RT)
+	@tools/port.sh check $(ARCH)
+	@tools/modules.py $(ARCH) tftp-show tftp-play tftp tftpd
+	@tools/port.sh programs $(ARCH) $(BIN)
+
+$(LIBRARY): $(SOURCES) $(PORTED)
+	$(NEEDS_RT)
+	@tools/port.sh check $(ARCH)
+	@tools/modules.py $(ARCH) libtftp
+	@tools/port.sh libtftp $(ARCH) $(BIN)
+endif
 
 tftp-show tftp-play tftp tftpd:
 	$(NEEDS_RT)
@@ -88,13 +114,24 @@ tftp-show tftp-play tftp tftpd:
 run:
 	@if $(MAKE) -q --no-print-directory programs; then exec $(MAKE) --no-print-directory sample; else exec tools/try.sh; fi
 
+sampled: run
+	@echo '1 run, 0 skipped'
+
 sample:
 	bin/tftp-show < examples/packets.hex; test $$? -le 1 # 1: some lines of the sample are faults
 	bin/tftp-play examples/lossy.script
 	examples/loopback.sh bin/tftpd bin/tftp
 
-mutants: $(PROGRAMS)
-	tools/mutants.py $(SECONDS) $(SEED)
+$(BARE): $(SOURCES) tools/modules.py tools/port.sh ports/heap.c
+	$(NEEDS_RT)
+	@tools/port.sh check $(ARCH)
+	@tools/modules.py $(ARCH) libtftp-bare
+	@tools/port.sh bare $(ARCH) $(BIN)
+
+bare: $(BARE)
+
+mutated-inputs: $(PROGRAMS)
+	tools/mutated_inputs.py $(SECONDS) $(SEED)
 
 test:
 	$(NEEDS_RT)
@@ -102,6 +139,9 @@ test:
 
 quick:
 	@tools/quick.sh '$(CRATE)'
+
+manifest:
+	@tools/manifest.py --write
 
 docs:
 	tools/definitions.py --write
@@ -112,14 +152,20 @@ slips:
 	@tools/slips.py $(if $(FEW),--few $(FEW),--together $(if $(STALE),--stale) $(CRATES))
 
 install uninstall:
-	@tools/install.sh $@ 'DESTDIR=$(DESTDIR)' 'PREFIX=$(PREFIX)' 'PROGRAM_PREFIX=$(PROGRAM_PREFIX)' \
+	@BIN='$(BIN)' tools/install.sh $@ 'DESTDIR=$(DESTDIR)' 'PREFIX=$(PREFIX)' 'PROGRAM_PREFIX=$(PROGRAM_PREFIX)' \
 		'MANDIR=$(MANDIR)' 'UNITDIR=$(UNITDIR)' 'LIBDIR=$(LIBDIR)'
 
-dist: $(PROGRAMS) $(LIBRARY)
+dist: $(PROGRAMS) $(LIBRARY) assembly
 	@tools/install.sh dist '$(VERSION)'
 
+# what is kept of the same text is not proved again
+assembly:
+	$(NEEDS_RT)
+	@for arch in amd64 arm64 riscv64; do tools/modules.py $$arch || exit; done
+	@tools/assembly.sh '$(VERSION)'
+
 deb: $(PROGRAMS) $(LIBRARY)
-	@debian/pack.sh '$(VERSION)'
+	@BIN='$(BIN)' debian/pack.sh '$(VERSION)' '$(ARCH)'
 
 SECONDS := 60
 SEED := 1

@@ -4,7 +4,7 @@
 _arguments \
   '*--listen=[address and port of the requests, or stdin]:ADDR\:PORT or stdin:(stdin)' \
   '--requests-only[drop what begins neither as RRQ nor as WRQ at that port]' \
-  '--ports=[ports of transfers, each once before any again]:A\:B:' \
+  '--ports=[ports of transfers, each drawn at random]:A\:B:' \
   '--max-block=[largest block size that is agreed]:bytes, 8 to 65464:' \
   '--max-file=[longest file that is taken]:bytes:' \
   '--retries=[how often a datagram is sent again without progress]:times, 0 to 10:' \

@@ -1,6 +1,7 @@
 #!/bin/sh
-# Packs what `make install` installs into packages for Debian: pack.sh VERSION. The library for C, if it is built, is in
-# two of its own: libtftp1, which programs need at run time, and libtftp-dev. It needs dpkg-deb, and builds nothing.
+# Packs what `make install` installs into packages for Debian: pack.sh VERSION [ARCH]. The library for C, if it is built, is
+# in two of its own: libtftp1, which programs need at run time, and libtftp-dev. It needs dpkg-deb, and builds nothing. ARCH
+# is the processor, if it is another than this host's; BIN is the folder of what is packed, if it is not bin/.
 set -eu
 umask 022
 cd "$(dirname "$0")/.."
@@ -14,13 +15,20 @@ trap 'rm -rf "$room"' EXIT
 trap 'exit 130' HUP INT TERM
 root=$room/root
 doc=$root/usr/share/doc/fanjuvery
-architecture=$(dpkg --print-architecture)
-libdir=/usr/lib/$(dpkg-architecture -qDEB_HOST_MULTIARCH 2> /dev/null || echo "$(uname -m)-linux-gnu")
+architecture=${2:-$(dpkg --print-architecture)}
+case $architecture in
+amd64) machine=x86_64 ;;
+arm64) machine=aarch64 ;;
+*) machine=$(uname -m) ;;
+esac
+libdir=/usr/lib/$machine-linux-gnu
+strip='strip'
+test "$machine" = "$(uname -m)" || strip=$machine-linux-gnu-strip
 tools/install.sh install DESTDIR="$root" PREFIX=/usr UNITDIR=/lib/systemd/system LIBDIR="$libdir" > /dev/null
 
 # the newest version of the C library that these files ask for
 libc_of() {
-    grep -aoh 'GLIBC_[0-9.]*' "$@" | sed 's/^GLIBC_//' | sort -uV | tail -n 1
+    grep -aoh 'GLIBC_[0-9][0-9.]*' "$@" | sed 's/^GLIBC_//' | sort -uV | tail -n 1
 }
 
 # a package of the library, PACKAGE at FOLDER: its documents and its control files
@@ -42,7 +50,7 @@ lib=$room/libtftp1 dev=$room/libtftp-dev
 if test -e "$root$libdir/libtftp.so.1"; then
     mkdir -p "$lib$libdir" "$lib/DEBIAN"
     mv "$root$libdir/libtftp.so.1" "$lib$libdir/libtftp.so.1"
-    ! command -v strip > /dev/null || strip --strip-unneeded --remove-section=.comment --remove-section=.note \
+    ! command -v "$strip" > /dev/null || "$strip" --strip-unneeded --remove-section=.comment --remove-section=.note \
         "$lib$libdir/libtftp.so.1"
     echo "libtftp 1 libtftp1 (>= 0.1.0)" > "$lib/DEBIAN/shlibs"
     {
@@ -61,7 +69,7 @@ if test -e "$root$libdir/libtftp.a"; then
     rmdir "$root/usr/lib"
     mv "$root/usr/share/man/man3" "$dev/usr/share/man/"
     gzip -9n "$dev"/usr/share/man/man3/*
-    ! command -v strip > /dev/null || strip --strip-debug --enable-deterministic-archives "$dev$libdir/libtftp.a"
+    ! command -v "$strip" > /dev/null || "$strip" --strip-debug --enable-deterministic-archives "$dev$libdir/libtftp.a"
     for language in c cpp rust go python; do
         (cd examples && git ls-files "$language" 2> /dev/null | grep . || find "$language" -type f) |
             while read -r file; do
@@ -84,14 +92,16 @@ cp debian/copyright "$doc/copyright"
 gzip -9nc debian/changelog > "$doc/changelog.gz"
 chmod 644 "$doc"/*
 
-if command -v strip > /dev/null; then
-    strip --strip-unneeded "$root"/usr/bin/*
+if command -v "$strip" > /dev/null; then
+    "$strip" --strip-unneeded "$root"/usr/bin/*
 else
-    echo "pack.sh: strip is not installed: the programs keep their symbols" >&2
+    echo "pack.sh: $strip is not installed: the programs keep their symbols" >&2
 fi
 libc=$(libc_of "$root"/usr/bin/*)
 mkdir "$root/DEBIAN"
-sed "s/@VERSION@/$version/
+# (a program that has the C library in itself asks for none)
+sed "$(test -n "$libc" || echo '/@LIBC@/d')
+    s/@VERSION@/$version/
     s/@ARCHITECTURE@/$architecture/
     s/@LIBC@/$libc/
     s/@SIZE@/$(du -sk --exclude=DEBIAN "$root" | cut -f 1)/" debian/control > "$root/DEBIAN/control"

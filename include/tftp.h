@@ -539,6 +539,16 @@ static inline const char *tftp_strdecode(uint8_t fault) {
     }
 }
 
+/* The heap: the library asks for memory by these three alone. Those of libtftp.a call malloc, realloc and free. A program
+ * that defines all three is linked with its own in their place, and without malloc; libtftp-bare.a has none. (Those of
+ * libtftp.so.1 are its own.) All threads that use an end have one heap. */
+/* A block of `size` bytes, which are not 0, at a multiple of `align`, which divides 16; or NULL. */
+void *tftp_alloc(size_t size, size_t align);
+/* Makes a block one of `size` bytes, whose first `kept` are as they were; or NULL, and then the block is as it was. */
+void *tftp_realloc(void *block, size_t kept, size_t size, size_t align);
+/* Frees a block that either of them gave. */
+void tftp_free(void *block);
+
 #ifdef __cplusplus
 }
 #endif

@@ -1,5 +1,5 @@
 #!/usr/bin/env python3
-"""Wrong behaviours of tftp and tftpd, each of which a test has to notice: behaviours.py [--all | BEHAVIOUR..] [TFTP TFTPD]
+"""Wrong behaviours of the programs, each of which a test has to notice: behaviours.py [--all | BEHAVIOUR..] [TFTP TFTPD]
 
 A library that is loaded before a program (behaviours/shim.c) has it behave wrongly at calls of the C library, in a way that
 the proofs do not see: below them stand the trusted files, the toolchain and the disk. The test that stands beside a
@@ -16,6 +16,7 @@ from concurrent.futures import ThreadPoolExecutor
 from pathlib import Path
 from typing import NamedTuple
 
+from lib import rows
 from lib.preload import compiled
 from lib.programs import TOP, programs
 from lib.seeds import commit_seed
@@ -26,7 +27,14 @@ FEW, AT_ONCE, LIMIT = 5, 3, 420
 TWENTY, RETRIES = "test_twenty_megabytes_arrive", "test_retries_of_a_{}_to_their_end"
 SYNCS, ONCE, MANY = "test_each_kind_of_sync_that_fails", "test_each_block_comes_once", "test_three_thousand_transfers"
 ECHO, FOREIGN = "test_a_block_takes_little_longer_than_an_echo", "test_the_same_port_of_another_address_is_foreign"
-CLOSED, ORDER = "test_descriptors_close_on_exec", "test_ports_of_transfers_are_in_no_order"
+CLOSED, ORDER = "test_descriptors_close_on_exec", "test_ports_cannot_be_foretold"
+AT_ONCE_64, SILENT, ANY_SIZE = "test_sixty_four_at_once", "test_an_hour_of_silence", "test_blocks_of_any_size"
+MOST_512, MOST_1428 = "test_the_most_blocks_of_512", "test_the_most_blocks_of_1428"
+CLIENTS, CALLS, CALLS_OF_CLIENT = ("test_client_ports_of_the_whole_range", "test_calls_of_a_server", "test_calls_of_a_client")
+SIGNALS, SAMPLES, ROWS_OF_JSON = "test_signals", "test_each_sample", "captures.py try_json"
+
+
+BOTH = ["tftp", "tftpd"]
 
 
 class Row(NamedTuple):
@@ -92,6 +100,42 @@ ROWS = [
     Row("sockets_without_cloexec", "tftpd", CLOSED),
     Row("sockets_without_cloexec", "tftp", CLOSED),
     Row("open_without_cloexec", "tftpd", CLOSED),
+    Row("ports_rise_and_fall", "tftpd", ORDER),
+    Row("ports_are_the_same_each_time", "tftpd", ORDER),
+    # many at once, and one after the other
+    Row("is_wrong_with_40_open", "tftpd", AT_ONCE_64),
+    Row("stores_wrong_with_40_open", "tftpd", AT_ONCE_64),
+    Row("syncs_nothing_after_60", "tftpd", "test_each_of_many_puts_is_synced"),
+    Row("is_deaf_after_5000", "tftpd", "test_six_thousand_requests"),
+    Row("leaks_16_bytes_a_datagram", "tftpd", "test_memory_after_a_hundred_thousand_datagrams"),
+    Row("is_deaf_after_a_minute_of_silence", "tftpd", SILENT),
+    Row("ends_after_five_minutes", "tftpd", SILENT),
+    # sizes of blocks and of files
+    *(Row(f"is_wrong_in_blocks_of_{size}", program, f"test_blocks_of_{size}") for size in [1432, 1456] for program in BOTH),
+    *(Row("is_wrong_in_blocks_beyond_30000", program, ANY_SIZE) for program in BOTH),
+    *(Row("is_wrong_from_block_40000", program, MOST_512) for program in BOTH),
+    *(Row(f"{does}_a_byte_wrong_beyond_32_megabytes", program, MOST_512) for does in ["reads", "stores"] for program in BOTH),
+    *(Row(f"{does}_a_byte_wrong_beyond_90_megabytes", program, MOST_1428) for does in ["reads", "stores"] for program in BOTH),
+    *(Row("is_wrong_in_the_last_blocks_of_1428", program, MOST_1428) for program in BOTH),
+    # networks
+    *(Row("sets_the_df_bit", program, "network.py try_large_blocks") for program in BOTH),
+    *(Row("reaches_two_routers", program, "network.py try_three_routers") for program in BOTH),
+    Row("is_deaf_to_172_16", "tftpd", "network.py try_private_addresses"),
+    Row("is_deaf_to_low_ports", "tftpd", CLIENTS),
+    Row("is_deaf_to_high_ports", "tftpd", CLIENTS),
+    # beside the transfers: other calls, and what is left or late at the end
+    *(Row(behaviour, program, test) for behaviour in [
+        "opens_another_socket", "opens_a_socket_of_the_host", "reads_another_file", "makes_another_file", "reads_standard_input",
+        "leaves_a_child", "ends_three_seconds_late"] for program, test in zip(BOTH, [CALLS_OF_CLIENT, CALLS])),
+    *(Row(behaviour, "tftpd", SIGNALS) for behaviour in ["ignores_usr1", "ends_at_winch"]),
+    *(Row(behaviour, "tftp", "test_is_ended_by_signals") for behaviour in ["ignores_usr1", "ends_at_winch"]),
+    # what is said
+    Row("log_is_in_local_time", "tftpd", "test_lines_have_times"),
+    Row("status_has_another_mode", "tftpd", SAMPLES),
+    Row("status_has_another_version", "tftpd", SAMPLES),
+    Row("status_is_for_its_owner_alone", "tftpd", SAMPLES),
+    *(Row(behaviour, "tftp-show", ROWS_OF_JSON) for behaviour in [
+        "json_takes_a_put_for_a_get", "json_has_another_code", "json_has_each_transfer_complete"]),
 ]
 
 
@@ -101,14 +145,16 @@ def wrapped(row: Row, paths: dict[str, str], shim: Path, room: Path) -> list[str
     preload = f'LD_PRELOAD="{shim}${{LD_PRELOAD:+:$LD_PRELOAD}}"'
     script.write_text(f'#!/bin/sh\n{preload} BEHAVIOUR={row.behaviour} exec {paths[row.program]} "$@"\n')
     script.chmod(0o755)
-    return [str(script) if name == row.program else path for name, path in paths.items()]
+    # (a tool of another program has that alone)
+    return [str(script) if name == row.program else paths[name] for name in (BOTH if row.program in BOTH else [row.program])]
 
 
 def tried(row: Row, paths: dict[str, str], shim: Path, room: Path) -> tuple[bool, str, float]:
     """Whether the test notices the behaviour, and what it says."""
     room.mkdir()
     begun, given = time.monotonic(), wrapped(row, paths, shim, room)
-    words = [f"tools/{row.test}", *given] if row.test.endswith(".py") else ["tools/loopback/run.py", *given, row.test]
+    tool, *names = row.test.split() if ".py" in row.test else ("loopback/run.py", row.test)
+    words = [f"tools/{tool}", *given, *names]
     env = {**os.environ, "LOOPBACK_ONCE": "1", "LOOPBACK_PATIENCE": "15", "ASAN_OPTIONS": "detect_leaks=0"}
     try:
         done = subprocess.run(words, cwd=TOP, stdin=subprocess.DEVNULL, capture_output=True, text=True, timeout=LIMIT, env=env)
@@ -130,18 +176,20 @@ def chosen(words: list[str]) -> list[Row]:
 def main() -> int:
     if sys.argv[1:2] in (["-h"], ["--help"]):
         sys.exit(__doc__)
+    rows.listed(f"{row.title()}: {row.test}" for row in ROWS)
     words = sys.argv[1:]
     given = words[-2:] if len(words) > 1 and os.path.isfile(words[-1]) else []
-    rows, paths = chosen(words[:len(words) - len(given)]), programs(["tftp", "tftpd"], given)
+    tries, paths = chosen(words[:len(words) - len(given)]), {**programs(BOTH, given), **programs(["tftp-show"])}
     began, missed = time.monotonic(), 0
     with tempfile.TemporaryDirectory(prefix="behaviours-") as folder, ThreadPoolExecutor(AT_ONCE) as pool:
         shim = compiled(folder, SHIM)
-        runs = [pool.submit(tried, row, paths, shim, Path(folder, f"{at}")) for at, row in enumerate(rows)]
-        for row, run in zip(rows, runs):
+        runs = [pool.submit(tried, row, paths, shim, Path(folder, f"{at}")) for at, row in enumerate(tries)]
+        for row, run in zip(tries, runs):
             is_noticed, said, seconds = run.result()
             missed += not is_noticed
             print(f"{row.title()}: {'noticed' if is_noticed else 'NOT NOTICED'} by {row.test}, {seconds:.0f} s: {said}", flush=True)
-    print(f"behaviours: {len(rows) - missed} of {len(rows)} noticed, in {time.monotonic() - began:.0f} s")
+    print(f"behaviours: {len(tries) - missed} of {len(tries)} noticed, in {time.monotonic() - began:.0f} s")
+    rows.ended(len(tries), left=len(ROWS) - len(tries))
     return 1 if missed else 0
 
 

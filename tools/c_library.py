@@ -24,6 +24,7 @@ from functools import partial
 from pathlib import Path
 from typing import Any, Callable, Iterator, Optional, Sequence
 
+from lib import rows
 from lib.addresses import own_network
 from lib.examples import Built, run, to_build
 from lib.programs import TOP, programs
@@ -85,7 +86,6 @@ WORDS: dict[str, Callable[..., Words]] = {
     "get": lambda built, way, name, local, blksize: (built.command("get", *way, name, local, blksize), {}),
     "put": lambda built, way, name, local, blksize: (built.command("put", *way, name, local, blksize), {}),
     "bare": partial(of_bare, "bare"),
-    "bare over valgrind's malloc": partial(of_bare, "bare over valgrind's malloc"),
     **{f"{verb} in Rust": partial(of_rust, f"{verb} in Rust") for verb in ["get", "put"]},
     **{f"{verb} in {language}": partial(of_client, f"{verb} in {language}") for verb in ["get", "put"]
        for language in ["C++", "Python", "Go"]},
@@ -295,8 +295,8 @@ def started(scene, peer, *more) -> At:
     os.chmod(scene.folder, 0o777)
     at = At(scene.address, 69) if words is dnsmasq else serving_port(scene)
     program = str(shutil.which(peer, path=PATH))
-    scene.start(program, [*words(scene.folder, at), *more], stdout=subprocess.DEVNULL, stderr=subprocess.DEVNULL)
-    is_bound(at.word)
+    process = scene.start(program, [*words(scene.folder, at), *more], stdout=subprocess.DEVNULL, stderr=subprocess.DEVNULL)
+    is_bound(at.word, process)
     return at
 
 
@@ -452,7 +452,13 @@ def build(room, skipped) -> tuple[list[Built], list[str]]:
     return built, faults
 
 
+# what this host may lack, of languages, checkers, and other projects' programs
+ROWS = ["gcc", "clang", "valgrind", "objcopy", "musl-gcc", "g++", "clang++", "cargo", "Rust's AddressSanitizer", "go", "Python",
+        *(Path(name).name for name in PEERS), "other projects' clients"]
+
+
 def main() -> None:
+    rows.listed(ROWS)
     found, skipped = programs(["tftp", "tftpd"], sys.argv[1:]), []
     with tempfile.TemporaryDirectory(prefix="tftp-library-") as name:
         room = Path(name)
@@ -467,6 +473,8 @@ def main() -> None:
     counts = ", ".join(f"{count} {what}" for what, count in sorted(Counter(AGAIN).items()))
     print(f"timed out through a bad network, said so, and were tried again: {counts or 'none'}")
     print(f"library for C: {len(trials) - len(faults)} of {len(trials) + len(unbuilt)} passed{told}")
+    absent = len(set(lacking) | set(skipped))
+    rows.ended(len(ROWS) - absent, absent)
     sys.exit(1 if unbuilt or faults else 0)
 
 

@@ -1,5 +1,5 @@
 #!/usr/bin/env python3
-"""Tries what `tftp-show` does with captures: captures.py [TFTP_SHOW]
+"""Tries what `tftp-show` does with captures: captures.py [TFTP_SHOW [TRY..]]
 
 Captures of each format, link and fault are built by hand (`frames.py`); what is printed of them is written here. Where
 `tshark` is installed it reads them too, packet by packet; where `tcpdump` is and may capture, it records an exchange on
@@ -22,8 +22,9 @@ from pathlib import Path
 from typing import Any, Iterator, Optional
 
 from lib import frames as f
+from lib import rows
 from lib.addresses import own_address
-from lib.packets import ack, data, oack, rrq
+from lib.packets import ack, data, error, oack, rrq, wrq
 from lib.programs import found, program
 
 EXAMPLES = Path(__file__).resolve().parent.parent / "examples"
@@ -93,7 +94,12 @@ class Check:
 
     def __init__(self, program, folder) -> None:
         self.program, self.folder = program, folder
-        self.runs, self.wrong = 0, []
+        self.runs, self.wrong, self.skipped = 0, [], set()
+
+    def skips(self, tries: str, why: str) -> None:
+        """This host does not allow all of a try."""
+        print(f"captures: {why}: skipped")
+        self.skipped.add(tries)
 
     def fails(self, what) -> None:
         """Notes what was wrong."""
@@ -338,6 +344,70 @@ def try_selection(check) -> None:
         check.fails(f"--json of a quote: {output!r}")
 
 
+# What `--json` says of a put, an ERROR of each side, a request that nobody answers, a transfer that is open, and one whose
+# datagrams are cut: each field as tftp-show(1) describes it
+JSON_BEGAN = 1_764_000_000
+JSON_ROWS: list[dict[str, Any]] = [
+    {"transfer": 1, "kind": "write", "client": "192.0.2.2:2001", "asked": "192.0.2.1:69", "server": "192.0.2.1:3001",
+     "request": "WRQ up octet blksize=8 tsize=11", "agreed": "OACK blksize=8 tsize=11", "block_size": 8, "blocks": 2, "bytes": 11,
+     "datagrams": 7, "again": 1, "beside": 0, "cut": 0, "began": JSON_BEGAN, "seconds": 0.6, "ended": "complete",
+     "error": None, "by": None},
+    {"transfer": 2, "kind": "read", "client": "192.0.2.2:2002", "asked": "192.0.2.1:69", "server": "192.0.2.1:3002",
+     "request": "RRQ none netascii", "agreed": None, "block_size": 512, "blocks": 0, "bytes": 0, "datagrams": 2, "again": 0,
+     "beside": 0, "cut": 0, "began": JSON_BEGAN + 1, "seconds": 0.25, "ended": "error", "error": "ERROR 1 (file not found)",
+     "by": "server"},
+    {"transfer": 3, "kind": "read", "client": "192.0.2.2:2003", "asked": "192.0.2.1:69", "server": "192.0.2.1:3003",
+     "request": "RRQ full octet", "agreed": None, "block_size": 512, "blocks": 1, "bytes": 512, "datagrams": 3, "again": 0,
+     "beside": 0, "cut": 0, "began": JSON_BEGAN + 2, "seconds": 0.5, "ended": "error", "error": "ERROR 3 (disk full)",
+     "by": "client"},
+    {"transfer": 4, "kind": "read", "client": "192.0.2.2:2004", "asked": "192.0.2.1:69", "server": None,
+     "request": "RRQ silence octet", "agreed": None, "block_size": 512, "blocks": 0, "bytes": 0, "datagrams": 2, "again": 1,
+     "beside": 0, "cut": 0, "began": JSON_BEGAN + 3, "seconds": 1, "ended": "open", "error": None, "by": None},
+    {"transfer": 5, "kind": "read", "client": "192.0.2.2:2005", "asked": "192.0.2.1:69", "server": "192.0.2.1:3005",
+     "request": "RRQ long octet blksize=1024", "agreed": "OACK blksize=1024", "block_size": 1024, "blocks": 2, "bytes": 2048,
+     "datagrams": 6, "again": 0, "beside": 0, "cut": 2, "began": JSON_BEGAN + 5, "seconds": 0.5, "ended": "open",
+     "error": None, "by": None},
+]
+
+
+def json_exchange() -> list[f.Datagram]:
+    """The datagrams of these transfers."""
+    def ends(at: int) -> tuple[f.Endpoint, f.Endpoint]:
+        return (f.CLIENT, 2_000 + at), (f.SERVER, 3_000 + at)
+
+    told, asked = list[f.Datagram](), (f.SERVER, 69)
+    for at, after, packets in [
+            (1, 0, [wrq("up", blksize=8, tsize=11), oack(blksize=8, tsize=11), data(1, b"12345678"), ack(1), data(2, b"ABC"),
+                    data(2, b"ABC"), ack(2)]),
+            (2, 1_000_000, [rrq("none", "netascii"), error(1, "file not found")]),
+            (3, 2_000_000, [rrq("full"), data(1, bytes(512)), error(3, "disk full")]),
+            (4, 3_000_000, [rrq("silence"), rrq("silence")]),
+            (5, 5_000_000, [rrq("long", blksize=1024), oack(blksize=1024), ack(0), data(1, bytes(1024)), ack(1),
+                            data(2, bytes(1024))])]:
+        client, server = ends(at)
+        step = {1: 100_000, 2: 250_000, 3: 250_000, 4: 1_000_000, 5: 100_000}[at]
+        for number, packet in enumerate(packets):
+            is_of_client = packet[1] in (1, 2) or packet[1] == (3 if at == 1 else 4) or at == 3 and packet[1] == 5
+            target = (asked if packet[1] in (1, 2) else server) if is_of_client else client
+            told.append((JSON_BEGAN * 1_000_000 + after + number * step, client if is_of_client else server, target, packet))
+    return told
+
+
+def try_json(check) -> None:
+    """Each field of each kind of transfer, read by another parser of JSON."""
+    # (a datagram of 1,024 bytes is cut where a frame may have 600)
+    capture = f.classic(f.frames(json_exchange(), f.ETHERNET), f.ETHERNET, snap=600)
+    status, output, errors = check.run(["--json"], capture)
+    found = {it["transfer"]: it for it in map(json.loads, output.splitlines())}
+    if (status, errors, len(found)) != (0, "", len(JSON_ROWS)):
+        check.fails(f"--json of each kind: {status}, {errors!r}, {output!r}")
+    for wanted in JSON_ROWS:
+        row = found.get(wanted["transfer"], {})
+        wrong = {name: (row.get(name), wanted.get(name)) for name in {*row, *wanted} if row.get(name) != wanted.get(name)}
+        if wrong:
+            check.fails(f"--json of transfer {wanted['transfer']}, found and wanted: {wrong}")
+
+
 def try_port_again(check) -> None:
     """A client asks three times from one port, of a server that answers from its own: when the second transfer is over, the
     first is known all the same."""
@@ -433,7 +503,7 @@ def try_examples(check) -> None:
 def try_tshark(check) -> None:
     """What `tshark` finds in the captures, packet by packet."""
     if not shutil.which("tshark"):
-        print("captures: tshark is not installed: skipped")
+        check.skips("try_tshark", "tshark is not installed")
         return
     fields = ["-e", "frame.number", "-e", "ip.src", "-e", "udp.srcport", "-e", "ip.dst", "-e", "udp.dstport"]
     for name, capture in list(samples())[::7] + [("two interfaces", two_interfaces())]:
@@ -457,7 +527,7 @@ def try_tcpdump(check) -> None:
     host = own_address()
     path = check.folder / "loopback.pcap"
     if not shutil.which("tcpdump"):
-        print("captures: tcpdump is not installed: skipped")
+        check.skips("try_tcpdump", "tcpdump is not installed")
         return
     for words in ([], ["-i", "any"]):
         where = words or ["-i", "lo"]
@@ -465,9 +535,11 @@ def try_tcpdump(check) -> None:
         dump = subprocess.Popen(command, stderr=subprocess.PIPE, text=True)
         if not any("listening on" in line for line in dump.stderr):
             dump.wait(PATIENCE)
-            print(f"captures: tcpdump may not capture at {where[1]}: skipped")
-            continue
-        ports = say(host, path)
+            check.skips("try_tcpdump", f"tcpdump may not capture at {where[1]}")
+            return
+        has_recorded(host, path, b"from here on")
+        ports = say(host)
+        has_recorded(host, path, b"up to here")
         dump.terminate()
         dump.wait(PATIENCE)
         status, output, errors = check.run(["--port", str(ports[1]), str(path)])
@@ -477,8 +549,8 @@ def try_tcpdump(check) -> None:
             check.fails(f"tcpdump {where[1]}: {status}, {output!r}, {errors!r}")
 
 
-def say(host, path) -> tuple[int, int]:
-    """Sends the datagrams of the exchange, and waits until they are recorded. Returns the two ports."""
+def say(host) -> tuple[int, int]:
+    """Sends the datagrams of the exchange. Returns the two ports."""
     client, server = (socket.socket(socket.AF_INET, socket.SOCK_DGRAM) for _ in range(2))
     client.bind((host, 0))
     server.bind((host, 0))
@@ -487,19 +559,23 @@ def say(host, path) -> tuple[int, int]:
         sender.sendto(payload, to.getsockname())
         to.recv(1000)
         time.sleep(0.01)
-    settle(path)
     ports = client.getsockname()[1], server.getsockname()[1]
     client.close()
     server.close()
     return ports
 
 
-def settle(path: Path) -> None:
-    """Waits until a capture grows no more. It has a header of 24 bytes."""
-    end, before = time.monotonic() + 10, 24
-    while time.monotonic() < end and (path.stat().st_size == 24 or path.stat().st_size != before):
-        before = path.stat().st_size
-        time.sleep(0.5)
+def has_recorded(host: str, path: Path, mark: bytes) -> None:
+    """Sends a mark to the port of `discard` until a capture has it: tcpdump begins to record behind its first line, and later
+    on a busy host, and what was sent before a mark is there with it."""
+    end = time.monotonic() + PATIENCE
+    with socket.socket(socket.AF_INET, socket.SOCK_DGRAM) as port:
+        port.bind((host, 0))
+        while not path.exists() or mark not in path.read_bytes():
+            if time.monotonic() > end:
+                raise TimeoutError(f"tcpdump has not recorded a mark within {PATIENCE} s")
+            port.sendto(mark, (host, 9))
+            time.sleep(0.1)
 
 
 def peers(host: str, name: str, got: str) -> Iterator[tuple[str, list[str]]]:
@@ -523,7 +599,7 @@ def try_transfers(check) -> None:
     lacking = [name for name in ("tcpdump", "tshark") if not shutil.which(name)]
     server = found("tftpd")
     if lacking or not server or os.geteuid() != 0:
-        print(f"captures: {', '.join(lacking) or 'tftpd, or root'} is not there: transfers skipped")
+        check.skips("try_transfers", f"{', '.join(lacking) or 'tftpd, or root'} is not there: transfers")
         return
     host, path = own_address(), check.folder / "transfers.pcap"
     served, here = check.folder / "served", check.folder / "here"
@@ -533,12 +609,13 @@ def try_transfers(check) -> None:
     dump = begun(["tcpdump", "-i", "lo", "--immediate-mode", "-U", "-w", path, "-Z", "root", "udp", "and", "host", host], here)
     if not any("listening on" in line for line in dump.stderr):
         dump.wait()
-        print("captures: tcpdump may not capture: transfers skipped")
+        check.skips("try_transfers", "tcpdump may not capture: transfers")
         return
+    has_recorded(host, path, b"from here on")
     daemon = begun([server, served, "--listen", f"{host}:69", "--forever"], here)
     daemon.stdout.readline()
     done = [name for name, words in peers(host, "boot", "got") if is_run(check, name, words, here)]
-    settle(path)
+    has_recorded(host, path, b"up to here")
     for process in (daemon, dump):
         process.terminate()
         process.wait()
@@ -596,19 +673,25 @@ def try_mutations(check) -> None:
     print(f"captures: {count} mutations with seed {SEED}")
 
 
+TRIES = [try_formats, try_fragments, try_cuts, try_selection, try_json, try_port_again, try_lines, try_live, try_many, try_examples,
+         try_tshark, try_tcpdump, try_transfers, try_mutations]
+
+
 def main() -> int:
     """Tries all, and returns the status."""
+    rows.listed(tries.__name__ for tries in TRIES)
     show = sys.argv[1] if len(sys.argv) > 1 else str(program("tftp-show"))
     with tempfile.TemporaryDirectory() as folder:
         check = Check(show, Path(folder))
         name = Path(show).name
         check.ends("help", ["--help"], b"", 0, HELP.replace("Usage: tftp-show", f"Usage: {name}"))
-        for tries in (try_formats, try_fragments, try_cuts, try_selection, try_port_again, try_lines, try_live,
-                      try_many, try_examples, try_tshark, try_tcpdump, try_transfers, try_mutations):
+        chosen = [tries for tries in TRIES if not sys.argv[2:] or tries.__name__ in sys.argv[2:]]
+        for tries in chosen:
             tries(check)
     for wrong in check.wrong[:20]:
         print(f"captures: {wrong}")
     print(f"captures: {check.runs} runs, {len(check.wrong)} wrong")
+    rows.ended(len(chosen) - len(check.skipped), len(check.skipped))
     return 1 if check.wrong else 0
 
 

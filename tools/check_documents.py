@@ -3,7 +3,8 @@
 what stands there. Nothing is written to standard error, and the status is that of the manuals. Of each
 examples/NAME.script at least one document has to show the output. The tours of tftpd and tftp are run twice in a folder,
 and leave nothing there. The get of README.md in C is compiled. Any other command is one that ELSEWHERE,
-BESIDE or WITHIN names, with the check that runs it, or with why none does.
+BESIDE or WITHIN names, with the check that runs it, or with why none does; and each name in it is looked up: targets, files,
+packages, units, options (lib/shown_names.py).
 
 The programs are those of bin/, or else those that the gate left in crates/*_main/out/.
 """
@@ -18,7 +19,8 @@ import sys
 import tempfile
 from typing import Optional
 
-from lib import snippets
+import same_options
+from lib import rows, shown_names, snippets
 from lib.addresses import own_address
 from lib.programs import NAMES, TOP, program
 
@@ -52,8 +54,8 @@ BESIDE = {
 WITHIN = {
     r"rt (?:check|test|run|lib|must-fail|ci|fmt|tidy)\b": "`rt ci` does it of every crate",
     r"rt (?:doc|lemma|new|plant|try)\b": "for who changes the code; no page shows what they print",
-    r"make (?:test|run|libtftp|tftp(?:-show)?|docs|install|deb dist|&& sudo make install)\b": "the gate, or a check of it",
-    r"make (?:bench|bench-udp|behaviours|coverage|mutants|plants|quick|slips|soak|walk|weights)\b": "by hand, since they take long; the gate tries a part",
+    r"make (?:test|run|libtftp|tftp(?:-show)?|docs|install|manifest|deb dist|&& sudo make install)\b": "the gate, or a check of it",
+    r"make (?:bench|bench-udp|behaviours|coverage|mutated-inputs|plants|quick|slips|soak|walk|weights)\b": "by hand, since they take long; the gate tries a part",
     r"python3 -m unittest$": "the gate",
     r"tools/(?:library_abi|plants|version)\.py ": "by hand: they write, and search",
     r"tools/loopback/run\.py ": "the gate",
@@ -167,23 +169,52 @@ def unnamed(document) -> list[str]:
                     if COMMAND.match(command) and not any(re.match(part, command) for part in WITHIN)]
 
 
-def bad_settings() -> list[str]:
-    """What dnsmasq says against the settings that docs/OPERATING.md shows for it, if it is there."""
+def bad_settings() -> tuple[list[str], list[str]]:
+    """What dnsmasq says against the settings that docs/OPERATING.md shows for it, and its name if it is not there."""
     if not shutil.which("dnsmasq"):
-        print("documents: the settings of dnsmasq: skipped: no dnsmasq")
-        return []
+        return [], ["dnsmasq"]
     found = []
     for piece in re.findall(r"(?ms)^```\n(dhcp-.*?)^```$", (TOP / "docs/OPERATING.md").read_text()):
         done = subprocess.run(["dnsmasq", "--test", "--conf-file=/dev/stdin"], input=piece, text=True, capture_output=True,
                               timeout=SECONDS, check=False)
         found += [f"docs/OPERATING.md: {line}" for line in done.stderr.splitlines()] if done.returncode else []
+    return found, []
+
+
+PATTERNS = ["*.md", "docs/*.md", "crates/*/README.md", "examples/**/README.md", "bench/**/README.md", "packaging/*.md",
+            "man/*.[1-8]"]
+
+
+def all_rows(documents) -> list[str]:
+    """The documents with commands that are compared, each with their number; the tours, and the gets of README.md."""
+    compared = {document: sum(bool(program_of(it[1])) for it in shown_in(document)) for document in documents}
+    return [*(f"{document.relative_to(TOP)}, {count} commands" for document, count in compared.items() if count),
+            *(f"{document}, its tour" for document in TOURS), "README.md, its get by gcc", "docs/OPERATING.md, its settings for dnsmasq"]
+
+
+def misnamed(document, options) -> list[str]:
+    """What is not there of the names in the commands of a document that no check runs."""
+    text, found = document.read_text(), []
+    commands = [line for language, piece in re.findall(r"(?ms)^```(\w*)\n(.*?)^```$", text)
+                if not language and not WRITTEN.match(piece) and not re.search(r"(?m)^\$ |^table ", piece)
+                for line in piece.replace("\\\n", " ").splitlines()]
+    sentences = " ".join(re.sub(r"(?ms)^```.*?^```$", "", text).split())
+    commands += [command for command in re.findall("`([^`]+)`", sentences) if COMMAND.match(command)]
+    for command in commands:
+        found += [f"{document.relative_to(TOP)}: {command}: {what}"
+                  for what in shown_names.of_command(command, document.parent, options)]
     return found
 
 
+def options_of_programs() -> dict[str, set[str]]:
+    """The options of each program, by its help texts."""
+    return {name: set().union(*(same_options.help_options(same_options.printed(program(name), *verb.split(), "--help"))
+                                for verb in verbs)) for name, verbs in same_options.VERBS.items()}
+
+
 def main() -> int:
-    patterns = ["*.md", "docs/*.md", "crates/*/README.md", "examples/**/README.md", "bench/**/README.md", "packaging/*.md",
-                "man/*.[1-8]"]
-    documents = sorted(path for pattern in patterns for path in TOP.glob(pattern))
+    documents = sorted(path for pattern in PATTERNS for path in TOP.glob(pattern))
+    rows.listed(all_rows(documents))
     failures, compared, manuals = 0, 0, 0
     scripts = {path.name for path in TOP.glob("examples/*.script")}
     with tempfile.TemporaryDirectory() as folder:
@@ -211,10 +242,12 @@ def main() -> int:
                     for line in [*printed, *errors.splitlines()]:
                         print(f"    {line}")
         failures += sum(tour(folder, document) for document in TOURS)
-    against, skipped = snippets.refused()
+    (against, no_compiler), (refused, no_dnsmasq) = snippets.refused(), bad_settings()
+    skipped = no_compiler + no_dnsmasq
     # (docs/STATEMENT.md is made, and has definitions alone)
     pages = [document for document in documents if document.suffix == ".md" and document.name != "STATEMENT.md"]
-    for line in [*against, *bad_settings(), *(line for page in pages for line in unnamed(page))]:
+    options = options_of_programs()
+    for line in [*against, *refused, *(line for page in pages for line in [*unnamed(page), *misnamed(page, options)])]:
         failures += 1
         print(line)
     if skipped:
@@ -223,6 +256,7 @@ def main() -> int:
         failures += 1
         print(f"examples/{name}: no document shows what it prints")
     print(f"documents: {compared} commands compared, {manuals} of them of manuals, {failures} failed")
+    rows.ended(len(all_rows(documents)) - len(skipped), len(skipped))
     return 1 if failures or not compared or not manuals else 0
 
 

@@ -15,9 +15,11 @@ import sys
 import tempfile
 from pathlib import Path
 
+from lib import rows
+
 TOP = Path(__file__).resolve().parent.parent
 PROGRAMS = ["tftp", "tftpd", "tftp-show", "tftp-play"]
-COPIED = ["Makefile", "LICENSE", "SECURITY.md", "crates.txt", "completions", "debian", "docs/OPERATING.md",
+COPIED = ["Makefile", "LICENSE", "SECURITY.md", "crates.txt", "completions", "debian", "docs/OPERATING.md", "ports",
           "docs/dashboard.svg", "examples", "include", "man", "packaging", "tools"]
 LIBRARY = ["include/tftp.h", "include/tftp.hpp", "lib/libtftp.a", "lib/libtftp.so", "lib/libtftp.so.1",
            "lib/cmake/tftp/tftp-config.cmake", "lib/cmake/tftp/tftp-config-version.cmake", "lib/pkgconfig/tftp.pc",
@@ -300,16 +302,23 @@ class Trial:
                 self.run(*words, f"completions/{name}.{shell}")
 
 
+ROWS = ["check_install", "check_no_build", "check_archive", "check_package", "check_library", "check_completions"]
+
+
 def main() -> None:
+    rows.listed(ROWS)
+    partly = 0
     with tempfile.TemporaryDirectory(prefix="tftp-install-") as room:
         trial = Trial(Path(room))
-        for check in [trial.check_install, trial.check_no_build, trial.check_archive, trial.check_package,
-                      trial.check_library, trial.check_completions]:
-            check()
+        for name in ROWS:
+            before = len(trial.skipped)
+            getattr(trial, name)()
+            partly += len(trial.skipped) > before
     for line in trial.wrong:
         print(line)
     skipped = f"; skipped: {', '.join(trial.skipped)}" if trial.skipped else ""
     print(f"install: {len(trial.wrong)} not as wanted{skipped}")
+    rows.ended(len(ROWS) - partly, partly)
     sys.exit(1 if trial.wrong else 0)
 
 

@@ -9,6 +9,7 @@ import re
 import sys
 from pathlib import Path
 
+from lib import rows
 from lib.programs import TOP
 
 PAGES = ["*.md", "docs/*.md", "crates/*/README.md", "examples/**/*.md", "bench/**/*.md", "packaging/*.md", "tools/**/*.md"]
@@ -77,6 +78,7 @@ def lost_tests(text: str) -> list[str]:
 
 
 def main() -> int:
+    rows.listed(["paths", "links", "claims", "laws", "tests"])
     pages = sorted({page for pattern in PAGES for page in TOP.glob(pattern) if "out" not in page.parts})
     claims = {int(number) for number in re.findall(r"(?m)^\| (\d+)\. ", (TOP / "docs/PROVED.md").read_text())}
     found = []
@@ -89,6 +91,7 @@ def main() -> int:
         lines += lost_tests(text) if name == "docs/TESTING.md" else []
         found += [f"{name}: {line}" for line in lines]
     print(*found, f"cited: {len(pages)} pages, {len(found)} lines found", sep="\n")
+    rows.ended(5)
     return 1 if found else 0
 
 

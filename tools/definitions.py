@@ -9,6 +9,7 @@ import sys
 from textwrap import wrap
 from typing import Any, Iterator
 
+from lib import rows
 from specs import TOP, all_files
 
 DOCUMENT = TOP / "out" / "DEFINITIONS.md"
@@ -73,7 +74,7 @@ def parted(comment) -> tuple[str, str]:
     return "", " ".join(words)
 
 
-def rows(definitions, names) -> Iterator[Any]:
+def lines_of(definitions, names) -> Iterator[Any]:
     """A line for each of these definitions that has words of its own, and for those that share the words before them,
     under the headings that stand above them."""
     found = []
@@ -115,7 +116,7 @@ def document() -> str:
             last = crate
         lines.append("\n".join(wrap(f"**{file}**: {file_words(TOP / 'crates' / crate / 'specs' / (file + '.antt'))}", 120)))
         lines.append("")
-        lines += [*rows(found.definitions, names), ""]
+        lines += [*lines_of(found.definitions, names), ""]
     crates = [line.removeprefix("## ").strip() for line in lines if line.startswith("## ")]
     links = ", ".join(f"[{crate}](#{crate})" for crate in crates)
     lines[0] += "\n" + "\n".join(wrap(f"By crate: {links}.", 120)) + "\n"
@@ -132,6 +133,7 @@ def unknown() -> list[str]:
 
 
 def main() -> int:
+    rows.listed(["what contracts cite"])
     text = document()
     if sys.argv[1:] == ["--write"]:
         DOCUMENT.parent.mkdir(exist_ok=True)
@@ -140,6 +142,7 @@ def main() -> int:
     for line in missing:
         print(line)
     print(f"{DOCUMENT.relative_to(TOP)}: {text.count(chr(10) + '- ')} lines of definitions")
+    rows.ended(1)
     return 1 if missing else 0
 
 

@@ -20,6 +20,7 @@ from concurrent.futures import ThreadPoolExecutor
 from pathlib import Path
 from typing import NamedTuple, Optional
 
+from lib import rows
 from lib.addresses import own_address
 from lib.programs import TOP, programs
 
@@ -362,15 +363,18 @@ def faults(tftp: str, tftpd: str) -> list[str]:
 def main() -> int:
     if sys.argv[1:2] == ["--help"]:
         sys.exit(__doc__)
+    rows.listed(CASES)
     paths = programs(["tftp", "tftpd"], sys.argv[1:3])
     if not shutil.which("strace") or subprocess.run(["strace", "-o", "/dev/null", "true"], capture_output=True).returncode:
         print("disk trace: skipped, no strace that may trace")
+        rows.ended(0, len(CASES))
         return 0
     began = time.monotonic()
     found = faults(paths["tftp"], paths["tftpd"])
     for line in found:
         print(line)
     print(f"disk trace: {len(CASES)} transfers in {time.monotonic() - began:.0f} s, {len(found)} differences")
+    rows.ended(len(CASES))
     return 1 if found else 0
 
 

@@ -1,11 +1,11 @@
 #!/usr/bin/env python3
 """Draws docs/crates.svg, which crate uses which, and docs/datagram.svg, the way of one datagram through `tftpd`; and counts
 the lines of the trusted files, for the table of docs/PROVED.md and where other documents have their sums, and for
-docs/TESTING.md the lines of code, proofs and tests, and the mutants. Lines of code there are about: 5% off is no difference.
+docs/TESTING.md the lines of code, proofs and tests, and the wrong bodies. Lines of code there are about: 5% off is no difference.
 
 figures.py --write writes them; without a word they are compared, and the status is 1 where one differs. The crates are
-those of crates.txt, and an arrow that follows from two others is left out; graphviz draws them from docs/crates.dot. Each function on the way of the datagram is
-looked for in the file that is named for it: one that is not there ends the program.
+those of crates.txt, and an arrow that follows from two others is left out; graphviz draws them from docs/crates.dot. Each
+function on the way of the datagram is looked for in the file that is named for it: one that is not there ends the program.
 """
 import re
 import shutil
@@ -15,6 +15,7 @@ from pathlib import Path
 from typing import NamedTuple, Optional
 
 import slips
+from lib import rows
 from lib.programs import TOP
 
 # how a text says a small number
@@ -168,8 +169,8 @@ def datagram() -> str:
 
 
 def lines_of(path: str) -> int:
-    """How many lines a file of a crate has."""
-    place = TOP / "crates" / path
+    """How many lines a file of a crate, or of another folder, has."""
+    place = TOP / path if path.endswith(".c") else TOP / "crates" / path
     if not place.is_file():
         sys.exit(f"figures.py: there is no {path}, which docs/PROVED.md says is trusted")
     return len(place.read_text().splitlines())
@@ -210,8 +211,8 @@ def about(number: int) -> str:
 def counted() -> dict[str, str]:
     """The documents that have numbers of lines of the trusted files, with these as they are."""
     proved = (TOP / "docs/PROVED.md").read_text()
-    rows = re.compile(r"(?m)^\| `([^`]+\.rt)` \| \d+ \|")
-    files = [row[1] for row in rows.finditer(proved)]
+    row_of = re.compile(r"(?m)^\| `([^`]+\.(?:rt|c))` \| \d+ \|")
+    files = [row[1] for row in row_of.finditer(proved)]
     if not files:
         sys.exit("figures.py: docs/PROVED.md has no table of trusted files")
     total = f"{sum(map(lines_of, files)):,}"
@@ -224,7 +225,7 @@ def counted() -> dict[str, str]:
                             (r"(\sOf\s+)\d+(\s+more\s+\(`slips/`\))", str(len(recorded))),
                             (r"(tools/slips\.txt\s+has,\s+for )\d+( of)", str(sum(map(bool, recorded))))],
     }
-    found = {"docs/PROVED.md": rows.sub(lambda row: f"| `{row[1]}` | {lines_of(row[1])} |", proved)}
+    found = {"docs/PROVED.md": row_of.sub(lambda row: f"| `{row[1]}` | {lines_of(row[1])} |", proved)}
     for name, patterns in places.items():
         found[name] = (TOP / name).read_text()
         for pattern, number in patterns:
@@ -242,7 +243,11 @@ def counted() -> dict[str, str]:
     return found
 
 
+FIGURES = ["docs/crates.dot", "docs/crates.svg", "docs/datagram.svg", "docs/PROVED.md", "README.md", "docs/TESTING.md"]
+
+
 def main() -> int:
+    rows.listed(FIGURES)
     status = 0
     texts = {"docs/crates.dot": crates(), "docs/datagram.svg": datagram(), **counted()}
     if picture := drawn(texts["docs/crates.dot"]):
@@ -257,6 +262,7 @@ def main() -> int:
             print(f"{name} differs: run tools/figures.py --write")
             status = 1
     print(f"figures: {len(texts)} compared, status {status}")
+    rows.ended(len(texts), len(FIGURES) - len(texts))
     return status
 
 

@@ -4,12 +4,15 @@
 # Usage: install.sh install|uninstall [NAME=VALUE..], install.sh dist VERSION, or install.sh check
 # NAME is DESTDIR, PREFIX (/usr/local), PROGRAM_PREFIX (put before each program's name), MANDIR (PREFIX/share/man),
 # UNITDIR (PREFIX/lib/systemd/system) or LIBDIR (PREFIX/lib). Without bin/libtftp.a no library is installed. Nothing is
-# written or removed but the files below; one that is the same already stays as it is. No ldconfig is run.
+# written or removed but the files below; one that is the same already stays as it is. No ldconfig is run. BIN in the
+# environment is the folder of the programs and the library, if it is not bin/; EMULATOR runs the programs of another
+# processor for `check`.
 set -eu
 umask 022
 cd "$(dirname "$0")"
 # in the archive it stands at the top
 test -d man || cd ..
+BIN=${BIN:-bin}
 usage='usage: install.sh install|uninstall [NAME=VALUE..], install.sh dist VERSION, or install.sh check'
 fail() {
     echo "install.sh: $1" >&2
@@ -90,10 +93,10 @@ placed() {
 
 # the library, a file a line, if it is built: the linker finds libtftp.so.1 by libtftp.so, a link
 library() {
-    test -e bin/libtftp.a -o "$verb" = uninstall || return 0
-    echo "644 $LIBDIR/libtftp.a bin/libtftp.a"
-    if test -e bin/libtftp.so.1 -o "$verb" = uninstall; then
-        echo "644 $LIBDIR/libtftp.so.1 bin/libtftp.so.1"
+    test -e "$BIN/libtftp.a" -o "$verb" = uninstall || return 0
+    echo "644 $LIBDIR/libtftp.a $BIN/libtftp.a"
+    if test -e "$BIN/libtftp.so.1" -o "$verb" = uninstall; then
+        echo "644 $LIBDIR/libtftp.so.1 $BIN/libtftp.so.1"
         echo "link $LIBDIR/libtftp.so libtftp.so.1"
     fi
     for header in tftp.h tftp.hpp; do
@@ -111,7 +114,7 @@ files() {
     # users start tftpd, too, and have no sbin/ on their PATH: it needs no root
     for program in $programs; do
         name=$PROGRAM_PREFIX$program
-        echo "755 $PREFIX/bin/$name bin/$program"
+        echo "755 $PREFIX/bin/$name $BIN/$program"
         echo "644 $PREFIX/share/bash-completion/completions/$name $(named "completions/$program.bash")"
         echo "644 $PREFIX/share/zsh/site-functions/_$name $(named "completions/$program.zsh")"
         echo "644 $PREFIX/share/fish/vendor_completions.d/$name.fish $(named "completions/$program.fish")"
@@ -143,7 +146,7 @@ packed() {
 case $verb in
 install)
     for program in $programs; do
-        test -x "bin/$program" || fail "there is no bin/$program: make builds it"
+        test -x "$BIN/$program" || fail "there is no $BIN/$program: make builds it"
     done
     files > "$room/files"
     # a line is two words without spaces and a path, or paths with spaces, told apart by their ends
@@ -157,7 +160,7 @@ install)
         fi
     done < "$room/files"
     echo "installed below $DESTDIR$PREFIX"
-    if test -e bin/libtftp.so.1; then
+    if test -e "$BIN/libtftp.so.1"; then
         echo "this ran no ldconfig, which finds a new library in $LIBDIR"
     fi
     ;;
@@ -187,7 +190,8 @@ dist)
     echo "out/$name.tar.gz"
     ;;
 check)
-    for program in $programs; do "bin/$program" --version; done
+    # shellcheck disable=SC2086 # an emulator may have words
+    for program in $programs; do ${EMULATOR:-} "bin/$program" --version; done
     examples/loopback.sh bin/tftpd bin/tftp
     echo "the programs run here: a get and a put over the loopback address, compared byte for byte"
     ;;

@@ -1,37 +1,38 @@
 #!/bin/sh
-# Makes libtftp.a and, where a C compiler is, libtftp.so.1: library.sh FOLDER
-# Of the archive that `rt lib` builds of tftp_c, and of the kit's calls of malloc. It proves nothing. CC is the compiler.
+# Makes libtftp.a and libtftp.so.1: library.sh FOLDER [ARCHIVE]
+# Of the archive that `rt lib` builds of tftp_c, or another, and of the heap in ports/. It proves nothing. CC is the compiler,
+# `cc` if none is named; without one there is no library for C, and a line says so.
 set -eu
 cd "$(dirname "$0")/.."
-folder=${1:?usage: library.sh FOLDER}
-built=crates/tftp_c/out/libtftp_c.a
+folder=${1:?usage: library.sh FOLDER [ARCHIVE]}
+built=${2:-crates/tftp_c/out/libtftp_c.a}
 test -f "$built" || {
     echo "library.sh: there is no $built: make libtftp builds it" >&2
     exit 2
 }
-kit=$(dirname "$(readlink -f "$(command -v rt)")")/..
-heap=$kit/c/liblibc_c.a
-test -f "$heap" || {
-    echo "library.sh: there is no $heap: it is a part of the kit" >&2
-    exit 2
+cc=${CC:-cc}
+command -v "${cc%% *}" > /dev/null || {
+    echo "library.sh: no $cc: no library for C" >&2
+    exit 0
 }
+ar=$($cc -print-prog-name=ar)
 mkdir -p "$folder"
 room=$(mktemp -d)
 trap 'rm -rf "$room"' EXIT
-here=$PWD
-(cd "$room" && ar x "$here/$built" && ar x "$heap")
+trap 'exit 130' HUP INT TERM
+archive=$(realpath "$built")
+(cd "$room" && "$ar" x "$archive")
+# each in an object of its own: a program with a heap of its own is linked without malloc.o
+for source in heap malloc; do
+    $cc -O2 -fPIC -fno-stack-protector -I include -c "ports/$source.c" -o "$room/$source.o"
+done
 rm -f "$folder/libtftp.a"
 # the same bytes from the same objects
-(cd "$room" && ar rcsD libtftp.a ./*.o) && mv "$room/libtftp.a" "$folder/libtftp.a"
-cc=${CC:-cc}
-if command -v "$cc" > /dev/null; then
-    # only the calls of tftp.h are seen from outside
-    "$cc" -shared -Wl,-soname,libtftp.so.1 -Wl,--version-script=packaging/libtftp.map -Wl,--gc-sections -Wl,-z,defs \
-        -Wl,-z,relro,-z,now,-z,noexecstack -o "$room/libtftp.so.1" "$room"/*.o
-    # a program of the system only maps it
-    chmod 644 "$room/libtftp.so.1"
-    mv "$room/libtftp.so.1" "$folder/libtftp.so.1"
-    ln -sf libtftp.so.1 "$folder/libtftp.so"
-else
-    echo "library.sh: no $cc: no shared library" >&2
-fi
+(cd "$room" && "$ar" rcsD libtftp.a ./*.o) && mv "$room/libtftp.a" "$folder/libtftp.a"
+# only the calls of tftp.h are seen from outside
+$cc -shared -Wl,-soname,libtftp.so.1 -Wl,--version-script=packaging/libtftp.map -Wl,--gc-sections -Wl,-z,defs \
+    -Wl,-z,relro,-z,now,-z,noexecstack -o "$room/libtftp.so.1" "$room"/*.o
+# a program of the system only maps it
+chmod 644 "$room/libtftp.so.1"
+mv "$room/libtftp.so.1" "$folder/libtftp.so.1"
+ln -sf libtftp.so.1 "$folder/libtftp.so"

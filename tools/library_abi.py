@@ -13,6 +13,8 @@ import sys
 import tempfile
 from pathlib import Path
 
+from lib import rows
+
 TOP = Path(__file__).resolve().parent.parent
 MAP, KEPT = TOP / "packaging/libtftp.map", TOP / "packaging/libtftp1.abi"
 
@@ -72,7 +74,11 @@ def compared(empty, room, writes) -> str:
     return "" if done.returncode == 0 else f"status {done.returncode}\n{done.stdout}{done.stderr}"
 
 
+ROWS = ["versions", "names in the manual", "names in the map", "names in the library", "types"]
+
+
 def main() -> None:
+    rows.listed(ROWS)
     faults, skipped = [], []
     if len(versions()) != 1:
         faults.append(f"more than one version is stated: {sorted(versions())}")
@@ -80,6 +86,7 @@ def main() -> None:
         faults.append(f"the manual does not name {', '.join(unnamed())}")
     if not shutil.which("cc") or not shutil.which("nm"):
         print("library's interface: skipped: no C compiler")
+        rows.ended(2, len(ROWS) - 2)
         return
     with tempfile.TemporaryDirectory(prefix="tftp-abi-") as name:
         room = Path(name)
@@ -103,6 +110,7 @@ def main() -> None:
     print(*faults, sep="\n", end="\n" if faults else "")
     told = f"; skipped: {', '.join(skipped)}" if skipped else ""
     print(f"library's interface: {len(names())} calls, {len(faults)} differences{told}")
+    rows.ended(len(ROWS) - len(skipped), len(skipped))
     sys.exit(1 if faults else 0)
 
 

@@ -18,10 +18,11 @@ import tempfile
 from concurrent.futures import ThreadPoolExecutor
 from functools import partial
 from pathlib import Path
-from typing import Any, Callable
+from typing import Any, Callable, Sequence
 
 import c_library
 from c_library import FEW, Site, Trials, content, expect, refused, serving_port, together, transfers
+from lib import rows
 from lib.examples import INTERPRETER, LEAKS, LOST, PLAIN, RUST_TARGET, SANITIZED, TOP, VALGRIND, WARNINGS, Built, run
 from lib.examples import go_checks_pointers, rust_has_sanitizer
 from scene import next_line
@@ -83,12 +84,12 @@ def place(root: Path, path: str) -> None:
             shutil.copy2(source, to)
 
 
-def furnish(root: Path, has_rust: bool) -> None:
-    """The host's compilers and what they need, devices, and a place for what is built."""
+def furnish(root: Path, has_rust: bool, names: Sequence[str] = ()) -> None:
+    """The host's compilers, or other packages, and what they need, devices, and a place for what is built."""
     for name in ["bin", "sbin", "lib", "lib32", "lib64", "libx32"]:
         (root / "usr" / name).mkdir(parents=True, exist_ok=True)
         place(root, f"/{name}")
-    packages = closure([*BASE, *[name for names in LANGUAGES.values() for name in names]])
+    packages = closure([*names] or [*BASE, *[name for each in LANGUAGES.values() for name in each]])
     for path in run("dpkg-query", "-L", *packages).splitlines():
         if path.startswith(("/usr/", "/bin/", "/lib/", "/lib64/", "/sbin/")) and not path.startswith("/usr/share/doc/"):
             place(root, path)
@@ -287,11 +288,16 @@ def packed() -> list[Path]:
     return [package.with_name(package.name.replace("fanjuvery", name)) for name in PACKAGES]
 
 
+ROWS = ["lintian", "C, sanitized", "C, valgrind", "C++", "Go", "Python", "Rust"]
+
+
 def main() -> None:
+    rows.listed(ROWS)
     packages = [Path(word).resolve() for word in sys.argv[1:]] or packed()
     skipped, faults = list[str](), list[str]()
     if not packages:
         print("library in a chroot: skipped: bin/ has not what a package has, or there is no dpkg-deb")
+        rows.ended(0, len(ROWS))
         return
     faults += examined(packages, skipped)
     with tempfile.TemporaryDirectory(prefix="tftp-chroot-") as name:
@@ -300,6 +306,7 @@ def main() -> None:
         if why:
             print(*faults, sep="\n", end="\n" if faults else "")
             print(f"library in a chroot: skipped: {why}")
+            rows.ended(1 - len(skipped), len(ROWS) - 1 + len(skipped))
             sys.exit(1 if faults else 0)
         has_rust = bool(shutil.which("cargo"))
         for package in packages:
@@ -317,6 +324,7 @@ def main() -> None:
     print(*faults, sep="\n", end="\n" if faults else "")
     told = f"; skipped: {', '.join(skipped)}" if skipped else ""
     print(f"library in a chroot: {len(trials)} trials, {len(faults)} faults{told}")
+    rows.ended(len(ROWS) - len(skipped), len(skipped))
     sys.exit(1 if faults else 0)
 
 

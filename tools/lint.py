@@ -20,6 +20,7 @@ from pathlib import Path
 from typing import Callable
 
 import slips
+from lib import rows
 from lib.programs import TOP
 
 COLUMNS = 120
@@ -27,14 +28,14 @@ COLUMNS = 120
 OLD_WORDS = re.compile(r"(?<![/\w])(?:headlines?|strangers?|slips?|drafts?|wire text|handed over)\b", re.I)
 READ_FIRST = "README.md docs/*.md -docs/STATEMENT.md SECURITY.md CONTRIBUTING.md packaging/*.md"
 PYTHON = ["tools", "bench", "examples"]
-SHELL = ["tools/*.sh", ".ci/*", "debian/*.sh", "bench/*/*.sh", "examples/*.sh", "examples/*/*.sh"]
+SHELL = ["tools/*.sh", "tools/machine/*.sh", "ports/*", ".ci/*", "debian/*.sh", "bench/*/*.sh", "examples/*.sh", "examples/*/*.sh"]
 RUFF = ["ruff", "check", "--quiet", "--select", "E9,F", *PYTHON]
 # the versions of Debian 12, which has no ruff
 VERSIONS = {"mypy": "mypy 1.0.1", "shellcheck": "version: 0.9.0", "pyflakes3": "2.5.0", "ruff": "none"}
 # types of what a file imports from others are not looked at
 MYPY = ["mypy", "--explicit-package-bases", "--ignore-missing-imports", "--follow-imports=silent", "--no-error-summary"]
 # the files whose functions say the types of their parameters too
-TYPED = ["lib/*.py", "gate.py", "slips.py", "processors.py", "lint.py", "mutants.py", "out_of_memory.py", "dashboard.py"]
+TYPED = ["lib/*.py", "gate.py", "manifest.py", "slips.py", "processors.py", "lint.py", "mutated_inputs.py", "out_of_memory.py", "dashboard.py"]
 # the folders of the others, from each of which its files import, and what needs the types of parameters to be known
 FOLDERS = ["tools", "tools/soak", "tools/loopback", "tools/rows", "tools/tests", "bench/*", "examples/python"]
 UNKNOWN = ["arg-type", "assignment", "attr-defined", "call-overload", "dict-item", "func-returns-value", "has-type", "index",
@@ -154,7 +155,12 @@ def counts(name: str) -> bool:
     return VERSIONS[name] in done.stdout
 
 
+# one of each is enough
+LOOKS = ["documents", "return types", "slips", "names of tests", "names in Python", "mypy", "shellcheck"]
+
+
 def main() -> int:
+    rows.listed(LOOKS)
     found, skipped = [*wide_lines(), *old_words(), *untyped(), *slips.not_applied(), *unnamed()], []
     looked = ["documents", "return types", "slips", "names of tests"]
     looks: dict[str, Callable[[], list[str]]] = {
@@ -180,6 +186,8 @@ def main() -> int:
         print(f"lint: skipped: no {', no '.join(skipped)}")
     print(f"lint: {words('**/*.md'):,} words of documents")
     print(f"lint: {', '.join(looked)}: {len(found)} lines found")
+    lacking = len({name.replace("pyflakes3", "ruff") for name in skipped})
+    rows.ended(len(LOOKS) - lacking, lacking)
     return 1 if found else 0
 
 

@@ -17,6 +17,7 @@ import time
 from pathlib import Path
 from typing import Optional
 
+from lib import rows
 from lib.addresses import own_address
 from lib.packets import ack, data, rrq
 from lib.preload import compiled
@@ -134,6 +135,7 @@ def unbegun(program, counter, folder) -> tuple[int, int]:
 
 
 def main() -> None:
+    rows.listed(["each request of a server's start", "each request of a server that serves"])
     if len(sys.argv) > 2:
         sys.exit(__doc__)
     program = programs(["tftpd"], sys.argv[1:])["tftpd"]
@@ -155,6 +157,7 @@ def main() -> None:
                 print(f"lost requests: {request} of {count}, refused {refused}, asked {requests} times", log, sep="\n")
     print(f"lost requests: {count} requests for memory, each refused in turn: {lost} requests of the client lost, "
           f"{unserved} servers not begun; {starts} before the server serves")
+    rows.ended(2)
     sys.exit(1 if wrong or not lost else 0)
 
 

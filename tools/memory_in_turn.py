@@ -15,6 +15,7 @@ import tempfile
 from pathlib import Path
 from typing import Optional
 
+from lib import rows
 from lib.preload import compiled
 
 SCENES = Path(__file__).resolve().parent.parent / "crates" / "tests_memory"
@@ -82,6 +83,7 @@ def call_of(lines, expected) -> Optional[str]:
 
 
 def main() -> None:
+    rows.listed(["each request of a world's"])
     if len(sys.argv) not in (1, 3):
         sys.exit(__doc__)
     program, printed = sys.argv[1:] or [SCENES / "out" / SCENES.name, SCENES / "stdout"]
@@ -107,6 +109,7 @@ def main() -> None:
     told = ", ".join(f"{call} {number}" for call, number in calls.items())
     print(f"memory: {count} requests, each refused in turn: {count - wrong} as they should be")
     print(f"memory: out of memory, all as before: {told}; in a commit, disk full: {commits}")
+    rows.ended(1)
     # each call that sends or stores asks for memory, and a commit does
     sys.exit(1 if wrong or not commits or sum(calls.values()) < 15 else 0)
 

@@ -1,5 +1,5 @@
 #!/usr/bin/env python3
-"""Tries what docs/OPERATING.md says of networks, in network namespaces: network.py [TFTP TFTPD]
+"""Tries what docs/OPERATING.md says of networks, in network namespaces: network.py [TFTP TFTPD [TRIAL..]]
 
 Without words it takes the programs that `rt ci` built. Three hosts are joined by two links: a client, a router, and a
 server whose port 69 is redirected, filtered and limited by the commands of the page, and that runs the command lines of
@@ -19,6 +19,7 @@ import time
 from contextlib import ExitStack
 from pathlib import Path
 
+from lib import rows
 from lib.units import arguments_of
 
 TOP = Path(__file__).resolve().parent.parent
@@ -253,6 +254,61 @@ def try_many(scene) -> None:
     expect([log for log in logs if len(log) < 2], [], "the logs of servers that were not asked")
 
 
+def both_ways(scene, host, address, size) -> None:
+    """A client of this host gets a file in blocks of this size from port 69, and puts one."""
+    content, local = os.urandom(5 * size + 7), scene.root / "local"
+    (scene.root / "long").write_bytes(content)
+    more = ["--blksize", f"{size}", "--retries", "10"]
+    for words in [["get", f"{address}:69", "long", local, "--no-dally"], ["put", f"{address}:69", local, "new"]]:
+        done = subprocess.run(host.words(scene.tftp, *words, *more), capture_output=True, text=True, timeout=PATIENCE)
+        expect((done.returncode, done.stderr), (0, ""), f"how {words[0]} in blocks of {size} ends")
+    expect([(scene.root / name).read_bytes() == content for name in ["local", "new"]], [True] * 2, "whether the files are whole")
+    for name in ["local", "new", "long"]:
+        (scene.root / name).unlink()
+
+
+def try_large_blocks(scene) -> None:
+    """Blocks of 8,192 bytes over links of 1,500 go in parts (RFC 791, section 2.3), those of the client too."""
+    scene.serve([scene.root, "--listen", f"{SERVER}:69", "--max-block", "65464", "--retries", "10", "--forever"])
+    for size in [1_432, 1_468, 1_469, 8_192]:
+        both_ways(scene, scene.client, SERVER, size)
+    scene.stop()
+
+
+def try_three_routers(scene) -> None:
+    """A client behind two more routers: what either sends lives long enough to cross three."""
+    second, third, far = (Host(scene.stack) for _ in range(3))
+    scene.router.link(second, "to2")
+    second.link(third, "to3")
+    third.link(far, "far")
+    for host, script in [
+            (scene.router, "ip address add 203.0.113.1/30 dev to2; ip route add 203.0.113.0/24 via 203.0.113.2"),
+            (second, "ip address add 203.0.113.2/30 dev to2; ip address add 203.0.113.5/30 dev to3; "
+                     "ip route add 203.0.113.8/30 via 203.0.113.6; ip route add default via 203.0.113.1"),
+            (third, "ip address add 203.0.113.6/30 dev to3; ip address add 203.0.113.9/30 dev far; "
+                    "ip route add default via 203.0.113.5"),
+            (far, "ip address add 203.0.113.10/30 dev far; ip route add default via 203.0.113.9")]:
+        host.run(f"{script}; echo 1 > /proc/sys/net/ipv4/ip_forward")
+    scene.serve([scene.root, "--listen", f"{SERVER}:69", "--retries", "10", "--forever"])
+    both_ways(scene, far, SERVER, BLOCK)
+    scene.stop()
+
+
+# an address of each block that is of no host of the internet (RFC 1918, RFC 6598, RFC 3927), at its edges
+PRIVATE = ["10.0.0.1", "10.255.255.254", "172.16.0.1", "172.31.255.254", "192.168.0.1", "192.168.255.254", "100.64.0.1",
+           "169.254.1.1"]
+
+
+def try_private_addresses(scene) -> None:
+    """A client of each is answered, and of other addresses beside these blocks."""
+    scene.serve([scene.root, "--listen", f"{SERVER}:69", "--cap", "64", "--retries", "0", "--forever"])
+    for address in [*PRIVATE, "9.255.255.254", "11.0.0.1", "172.15.255.254", "172.32.0.1", "198.18.0.1", "223.255.255.254"]:
+        scene.client.run(f"ip address add {address}/32 dev inner")
+        scene.router.run(f"ip route add {address}/32 dev inner")
+        expect(scene.ask("--answers", address, 1, 1)[0], "1", f"whether {address} is answered")
+    scene.stop()
+
+
 def request(name) -> bytes:
     return b"\0\1" + name.encode() + b"\0octet\0blksize\0%d\0timeout\0%d\0" % (BLOCK, INTERVAL)
 
@@ -390,21 +446,24 @@ def try_removal(scene) -> None:
     expect(found, kept, "the files that are not removed")
 
 
-TRIALS = [try_unit, try_redirection, try_firewall, try_translation, try_limit, try_many, try_removal]
+TRIALS = [try_unit, try_redirection, try_firewall, try_translation, try_limit, try_many, try_removal, try_large_blocks,
+          try_three_routers, try_private_addresses]
 
 
-def run(tftp, tftpd) -> int:
-    """All trials, in the namespaces of this process. Returns the status."""
+def run(tftp, tftpd, *names) -> int:
+    """The named trials, or all, in the namespaces of this process. Returns the status."""
     began = time.monotonic()
     with ExitStack() as stack:
         scene = Scene(tftp, tftpd, stack)
-        for trial in TRIALS:
+        chosen = [trial for trial in TRIALS if not names or trial.__name__ in names]
+        for trial in chosen:
             try:
                 trial(scene)
             except (Fault, subprocess.SubprocessError, OSError) as fault:
                 print(f"network: {trial.__name__}: {fault}")
                 return 1
-    print(f"network: {len(TRIALS)} trials in {time.monotonic() - began:.0f} s, 0 failed")
+    print(f"network: {len(chosen)} trials in {time.monotonic() - began:.0f} s, 0 failed")
+    rows.ended(len(chosen))
     return 0
 
 
@@ -430,19 +489,21 @@ def main() -> None:
         sys.exit(chatter(*sys.argv[2:]))
     if sys.argv[1:2] == ["--fetch"]:
         sys.exit(fetch(*sys.argv[2:]))
-    if len(sys.argv) not in (1, 3):
+    rows.listed(trial.__name__ for trial in TRIALS)
+    if len(sys.argv) == 2:
         sys.exit(__doc__)
     built = [TOP / "crates" / main / "out" / main for main in ("tftp_main", "tftpd_main")]
-    programs = [os.path.abspath(it) for it in sys.argv[1:] or built]
+    programs = [os.path.abspath(it) for it in sys.argv[1:3] or built]
     for program in programs:
         if not os.path.exists(program):
             sys.exit(f"network: {program} is not there; `rt ci` builds it")
     reason = missing()
     if reason:
         print(f"network: skipped: {reason}")
+        rows.ended(0, len(TRIALS))
         return
     try:
-        sys.exit(subprocess.run([*APART, sys.executable, __file__, "--in", *programs], timeout=LIMIT).returncode)
+        sys.exit(subprocess.run([*APART, sys.executable, __file__, "--in", *programs, *sys.argv[3:]], timeout=LIMIT).returncode)
     except subprocess.TimeoutExpired:
         sys.exit(f"network: has not ended after {LIMIT} seconds")
 

@@ -19,6 +19,7 @@ from itertools import zip_longest
 from pathlib import Path
 from typing import NamedTuple, Optional
 
+from lib import rows
 from lib.addresses import own_address
 from lib.answerer import Answerer
 from lib.packets import ack, data
@@ -153,6 +154,8 @@ def commands(server: str) -> list[Command]:
 
 
 def main() -> int:
+    rows.listed(map(Trials.name_of, commands("HOST:0")))
+    tried = 0
     if len(sys.argv) not in (1, 4):
         sys.exit(__doc__)
     failed = 0
@@ -163,7 +166,8 @@ def main() -> int:
             counts = ", ".join(f"{kinds.count(kind)} {kind}" for kind in sorted({*kinds}))
             print(f"out of memory: {trials.name_of(command)}: {len(kinds)} requests, each refused in turn: {counts}; "
                   f"{wrong} wrong", flush=True)
-            failed += wrong
+            failed, tried = failed + wrong, tried + 1
+    rows.ended(tried)
     return 1 if failed else 0
 
 

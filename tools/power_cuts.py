@@ -20,6 +20,7 @@ from pathlib import Path
 from typing import Callable, Iterator, NamedTuple, Optional
 
 from disk_trace import HOST, PATIENCE, end, text_of, traced
+from lib import rows
 from lib.programs import programs
 
 OLD = b"old"
@@ -238,9 +239,11 @@ def run(title: str, case: Case, room: Path, tftp: str, tftpd: str) -> Replay:
 def main() -> int:
     if sys.argv[1:2] == ["--help"]:
         sys.exit(__doc__)
+    rows.listed(cases())
     paths = programs(["tftp", "tftpd"], sys.argv[1:3])
     if not shutil.which("strace") or subprocess.run(["strace", "-o", "/dev/null", "true"], capture_output=True).returncode:
         print("power cuts: skipped, no strace that may trace")
+        rows.ended(0, len(cases()))
         return 0
     began, looked, found, refused = time.monotonic(), 0, list[str](), 0
     with tempfile.TemporaryDirectory(prefix="power-cuts-") as top, ThreadPoolExecutor(4) as pool:
@@ -258,6 +261,7 @@ def main() -> int:
         print(line)
     print(f"power cuts: {len(runs)} transfers, {looked} states, {refused} wrong orders, in {time.monotonic() - began:.0f} s; "
           f"{len(found)} faults")
+    rows.ended(len(runs))
     return 1 if found else 0
 
 

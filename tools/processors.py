@@ -11,6 +11,7 @@ import sys
 import tempfile
 from pathlib import Path
 
+from lib import rows
 from lib.addresses import own_address
 from lib.process import Failure, Program, Server
 from lib.programs import NAMES, TOP, programs
@@ -65,10 +66,15 @@ def tries_library(emulator: str, folder: Path) -> None:
         raise Failure(f"libtftp.a: status {done.returncode}, {done.stdout!r}")
 
 
+ROWS = [*NAMES, "libtftp.a"]
+
+
 def main() -> int:
+    rows.listed(ROWS)
     emulator = next(filter(None, map(shutil.which, EMULATORS)), None)
     if not emulator:
         print("processors: skipped: no qemu-x86_64 (qemu-user)")
+        rows.ended(0, len(ROWS))
         return 0
     built = programs(NAMES)
     with tempfile.TemporaryDirectory(prefix="processors-") as room:
@@ -84,8 +90,9 @@ def main() -> int:
         except Failure as failure:
             print(f"processors: {failure}")
             return 1
-    library = "libtftp.a holds to its header there" if has_library() else "libtftp.a was not tried: no archive, or no cc"
+    library = "libtftp.a holds to its header there" if has_library() else "libtftp.a: skipped, no archive, or no cc"
     print(f"processors: tftpd serves tftp without x86-64-v2; tftp-show and tftp-play say that they need it; {library}")
+    rows.ended(len(ROWS) - (not has_library()), int(not has_library()))
     return 0
 
 

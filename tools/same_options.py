@@ -17,6 +17,7 @@ import sys
 import tempfile
 from pathlib import Path
 
+from lib import rows
 from lib.programs import TOP, program
 
 OPERATING = "docs/OPERATING.md"
@@ -30,6 +31,8 @@ MANUALS = {"tftp-show": "man/tftp-show.1", "tftp-play": "man/tftp-play.1", "tftp
 # the subcommands of each program, each of which has a help text of its own; "" is the program itself
 VERBS = {"tftp-show": [""], "tftp-play": [""], "tftp": ["", "get", "put"], "tftpd": [""]}
 OPTION = re.compile(r"(?<![\w-])--?[A-Za-z][\w-]*")
+ROWS = [*(f"{name}: {part}" for name in VERBS for part in ["help", "manual", "completions"]), OPERATING, "the units",
+        "the form of the manuals"]
 
 
 def printed(path, *words) -> str:
@@ -279,6 +282,7 @@ def found_in_unit(place) -> list[str]:
 
 
 def main() -> int:
+    rows.listed(ROWS)
     it = Comparison({name: program(name) for name in VERBS})
     version = re.search(r"^VERSION := (\S+)$", (TOP / "Makefile").read_text(), re.M)[1]
     for name in VERBS:
@@ -293,6 +297,7 @@ def main() -> int:
     count = sum(map(len, it.options.values()))
     skipped = f"; skipped: {', '.join(it.skipped)}" if it.skipped else ""
     print(f"{count} options of {len(it.options)} help texts, {len(it.differences)} differences{skipped}")
+    rows.ended(len(ROWS) - len(it.skipped), len(it.skipped))
     return 1 if it.differences else 0
 
 

@@ -3,6 +3,11 @@
 # those that `rt ci` left. With --write it draws them anew. Each drawing has two minutes.
 set -eu
 cd "$(dirname "$0")/../examples"
+pictures='lossy.svg race.svg wire.svg netboot/boot.svg'
+if test "${1-}" = --rows; then
+    printf '%s\n' $pictures
+    exit
+fi
 play=$PWD/../bin/tftp-play
 test -x "$play" || play=$PWD/../crates/tftp_play_main/out/tftp_play_main
 show=$PWD/../bin/tftp-show
@@ -17,7 +22,7 @@ for name in lossy race; do
 done
 timeout 120 "$show" --flow --svg "$room/wire.svg" < wire.txt > /dev/null
 timeout 120 "$show" --flow --svg "$room/boot.svg" < netboot/uefi.txt > /dev/null
-for picture in lossy.svg race.svg wire.svg netboot/boot.svg; do
+for picture in $pictures; do
     drawn=$room/${picture##*/}
     if test "${1-}" = --write; then
         cp "$drawn" "$picture"
@@ -27,4 +32,5 @@ for picture in lossy.svg race.svg wire.svg netboot/boot.svg; do
     count=$((count + 1))
 done
 echo "pictures: $count compared, status $status"
+echo "$count run, 0 skipped"
 exit $status

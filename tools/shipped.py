@@ -3,7 +3,7 @@
 
 `make` builds tftp, tftpd and the library for C for every processor of x86-64 (tools/build.sh), and `rt ci` all programs
 for x86-64-v2. So these three are compiled here once more, over the libraries that `rt ci` left, by the prover, which
-proves the functions of their own crates again, and none below; tftp-show and tftp-play are those of `rt ci`. What comes
+proves the functions of their own crates again, and none below (tools/modules.py, which keeps their modules); tftp-show and tftp-play are those of `rt ci`. What comes
 out is the same, byte for byte, as what `make` builds. Where checks of this checkout have left libraries of their own,
 of the same text, those are used; and where of another, `rt` proves them again.
 """
@@ -15,13 +15,13 @@ from concurrent.futures import ThreadPoolExecutor
 from pathlib import Path
 from typing import Any
 
+import modules
 from lib.kit import crates, has_libraries, kit
 from lib.programs import NAMES, TOP, of_crate
 
 # what is for every processor of x86-64, and the word that says so
 PLAIN, FLAG, LIBRARY = ("tftp", "tftpd"), "--cpu=x86-64", "tftp_c"
 KIT = kit()
-import rtlib
 
 
 def crate_of(name) -> Any:
@@ -29,26 +29,13 @@ def crate_of(name) -> Any:
     return crates()[LIBRARY if name == LIBRARY else name.replace("-", "_") + "_main"]
 
 
-def proved(crate, to) -> None:
-    """Proves a crate's own functions, and compiles it and what it uses into this file, or stops."""
-    words = [*crate.words(["--jobs", "2"], keeps=False), FLAG, "--toolchain", f"{KIT}/toolchain", "--backend", "llvm"]
-    run(crate, [rtlib.RATTLE, "build", *words, "-o", to], "logic=proved ")
-
-
-def run(crate, command, said="") -> None:
-    done = subprocess.run(command, cwd=crate.folder, stdin=subprocess.DEVNULL, stdout=subprocess.PIPE,
-                          stderr=subprocess.STDOUT, text=True)
-    if done.returncode or said not in done.stdout:
-        sys.exit(f"shipped: {crate.name}: status {done.returncode}: {done.stdout[-2000:]}")
-
-
-def compiled(crate, room) -> Path:
+def compiled(name, room) -> Path:
     """A program. Returns its path."""
-    made, to = f"{room}/{crate.name}.o", Path(room, crate.name)
-    proved(crate, made)
-    linked = ["--target", "x86_64-unknown-linux-gnu", "--toolchain", f"{KIT}/toolchain", "-o", to, made,
-              f"{KIT}/c/libos_c.a", f"{KIT}/c/liblibc_c.a"]
-    run(crate, [f"{KIT}/bin/rattle-link", *linked])
+    modules.make("amd64", name)
+    to = Path(room, name)
+    linked = ["--target", "x86_64-unknown-linux-gnu", "--toolchain", KIT / "toolchain", "-o", to,
+              modules.object_of("amd64", name), KIT / "c/libos_c.a", KIT / "c/liblibc_c.a"]
+    modules.run([KIT / "bin/rattle-link", *linked])
     return to
 
 
@@ -58,7 +45,8 @@ def archive() -> str:
     crate = crate_of(LIBRARY)
     if has_libraries(crate):
         try:
-            proved(crate, Path(crate.folder, "out", f"lib{LIBRARY}.a"))
+            modules.make("amd64", modules.LIBRARY)
+            shutil.copy2(modules.object_of("amd64", modules.LIBRARY), Path(crate.folder, "out", f"lib{LIBRARY}.a"))
             return f"{FLAG}, over the libraries of rt ci"
         except SystemExit as fault:
             # (it takes longer, and says what is wrong if something is)
@@ -73,7 +61,7 @@ def built(name, room) -> tuple[Path, str]:
     if name not in PLAIN:
         return of_crate(crate.name), "as rt ci built it"
     if has_libraries(crate):
-        return compiled(crate, room), f"{FLAG}, over the libraries of rt ci"
+        return compiled(name, room), f"{FLAG}, over the libraries of rt ci"
     subprocess.run([TOP / "tools/build.sh", crate.name], check=True)
     return of_crate(crate.name), "by tools/build.sh"
 

@@ -13,8 +13,8 @@ is refused if a goal of its own function stays open. Those that are hidden by a 
 others alone.
 
 With --few, as in the gate, some are tried by the seed of the commit, five if COUNT is not given, over the libraries that are
-there. There one that proves is a failure only if it was refused by a commit since which neither it nor its crate has changed:
-of the others nobody knows whether the change at hand is to blame, and the last lines name them.
+there. One that proves is a failure, whatever has changed since it was last refused: a slip is retired only where its file
+goes, which is a line of the diff of tools/manifest.txt.
 """
 import os
 import random
@@ -30,6 +30,7 @@ from functools import partial
 from pathlib import Path
 from typing import Any, Callable, Iterator, NamedTuple, Optional
 
+from lib import rows
 from lib.kit import crates, has_libraries
 from lib.programs import TOP
 from lib.seeds import commit_seed
@@ -356,12 +357,12 @@ def few(count: int) -> int:
             lambda slip: judged(slip, known[crate_of(slip)], before.get(slip, Refusal()).function, end), chosen)))
     wrong = [slip for slip, verdict in found.items() if verdict.is_refused is False]
     for slip, verdict in found.items():
-        unknown = "" if counted[slip] else "; no failure, since it was not tried after the last change of its crate"
-        print(f"slip {slip}: {verdict}{unknown * (verdict.is_refused is False)}")
+        print(f"slip {slip}: {verdict}")
     lacking = "" if ready else ", skipped: no library is built"
     print(f"slips: {sum(counted.values())} of {len(counted)} were refused as they and their crates stand")
     print(f"slips: {len(chosen)} of these and others tried, {len(wrong)} not refused{lacking}")
-    return int(any(counted[slip] for slip in wrong))
+    rows.ended(len(chosen), 0 if ready else FEW, len(counted) - (len(chosen) or FEW))
+    return int(bool(wrong))
 
 
 # ---- all of them
@@ -422,6 +423,8 @@ def chosen_by(words: list[str]) -> list[str]:
 
 
 def main() -> int:
+    # (tools/manifest.txt has them beside the edits)
+    rows.listed([])
     words = sys.argv[1:]
     if words[:1] in (["-h"], ["--help"]):
         sys.exit(__doc__)

@@ -9,6 +9,7 @@ import sys
 from textwrap import wrap
 from typing import Any, NamedTuple
 
+from lib import rows
 from specs import TOP, all_files, source_of
 
 DOCUMENT = TOP / "docs" / "STATEMENT.md"
@@ -210,6 +211,7 @@ def document() -> str:
 
 
 def main() -> int:
+    rows.listed(theorem.root for theorem in THEOREMS)
     text = document()
     count = len(text.split())
     if "--write" in sys.argv:
@@ -218,6 +220,7 @@ def main() -> int:
         print("docs/STATEMENT.md differs: run tools/statement.py --write")
         return 1
     print(f"docs/STATEMENT.md: {text.count(chr(10))} lines, {count:,} words of {MOST_WORDS:,}")
+    rows.ended(len(THEOREMS))
     return 0
 
 

@@ -20,6 +20,7 @@ from contextlib import contextmanager
 from pathlib import Path
 from typing import Any, Callable, Iterator
 
+from lib import rows
 from lib.addresses import own_address
 from lib.process import PATIENCE, Failure, Server, next_line
 from lib.programs import NAMES, programs
@@ -480,7 +481,12 @@ def test_usage(check) -> None:
         check.is_usage_fault(program, *words, b"caf\xe9")
 
 
+TESTS = [test_show, test_interrupted_reads, test_play, test_transfers, test_client_faults, test_server_faults,
+         test_unprinted_close, test_usage]
+
+
 def main() -> None:
+    rows.listed(test.__name__ for test in TESTS)
     if len(sys.argv) not in (1, 5):
         sys.exit(__doc__)
     paths = programs(NAMES, sys.argv[1:])
@@ -488,8 +494,7 @@ def main() -> None:
         check = Check(paths, Path(folder))
         (check.folder / "served").mkdir()
         (check.folder / "served" / "a").write_bytes(b"ABC")
-        for test in [test_show, test_interrupted_reads, test_play, test_transfers, test_client_faults,
-                     test_server_faults, test_unprinted_close, test_usage]:
+        for test in TESTS:
             try:
                 test(check)
             except (Failure, OSError, subprocess.TimeoutExpired) as fault:
@@ -499,6 +504,7 @@ def main() -> None:
     if check.runs < RUNS_AT_LEAST:
         check.wrong.append(f"only {check.runs} runs")
     print(f"statuses: {check.runs} runs, {len(check.wrong)} not as wanted")
+    rows.ended(len(TESTS))
     sys.exit(1 if check.wrong else 0)
 
 

@@ -9,6 +9,7 @@ import sys
 from functools import partial
 from typing import Callable
 
+from lib import rows
 from lib.programs import TOP
 
 # the parts of a version, as a place says them
@@ -36,6 +37,7 @@ def put(wanted: str, match: "re.Match[str]") -> str:
 
 
 def main() -> int:
+    rows.listed(f"{path}: {before.strip()}" for path, before, *_ in PLACES)
     version = re.search(r"(?m)^VERSION := (\d+)\.(\d+)\.(\d+)$", (TOP / "Makefile").read_text())
     if not version:
         sys.exit("version.py: the Makefile has no VERSION")
@@ -50,6 +52,7 @@ def main() -> int:
         elif new != text:
             found.append(f"{path}: not {wanted}")
     print(*found, f"version: {len(PLACES)} places, {len(found)} lines found", sep="\n")
+    rows.ended(len(PLACES))
     return 1 if found else 0
 
 

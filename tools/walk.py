@@ -13,6 +13,8 @@ import sys
 from pathlib import Path
 from typing import Optional
 
+from lib import rows
+
 CRATES = Path(__file__).resolve().parent.parent / "crates"
 # Crates without a part in tftpd, whose functions have the names of some that have one
 LEFT_OUT = {"tftp_c", "tftp_play", "tftp_player", "tftp_script", "tftp_rules", "tftp_client"}
@@ -178,6 +180,7 @@ def uses_of_crates() -> "dict[str, set[str]]":
 
 
 def main() -> int:
+    rows.listed([FIRST])
     functions: list[Function] = []
     fields = {} if sys.argv[1:] else dict(FIELDS)
     for file in sorted(CRATES.glob("tftp*/src/**/*.rt")):
@@ -191,6 +194,7 @@ def main() -> int:
     is_sent = walk.take(first, [])
     files = {function.file for function in walk.depths}
     print(f"{len(walk.depths)} functions in {len(files)} files, {max(walk.depths.values())} deep")
+    rows.ended(1)
     return 0 if is_sent or sys.argv[1:] else 1
 
 

@@ -22,7 +22,8 @@ size_t arena_most;                        /* how far the arena was used */
 
 static struct head *at(size_t place) { return (struct head *)(void *)(arena.bytes + place); }
 
-void *malloc(size_t len) {
+void *tftp_alloc(size_t len, size_t align) {
+    (void)align; /* 16 at the most */
     size_t need = (len + 15) / 16 * 16 + sizeof(struct head);
     if (len > ARENA) return NULL;
     if (at(0)->len == 0) at(0)->len = ARENA; /* the first call: one free block */
@@ -41,17 +42,16 @@ void *malloc(size_t len) {
     return NULL;
 }
 
-void free(void *bytes) {
+void tftp_free(void *bytes) {
     if (bytes) ((struct head *)bytes - 1)->used = 0;
 }
 
-void *realloc(void *bytes, size_t len) {
-    size_t had = bytes ? ((struct head *)bytes - 1)->len - sizeof(struct head) : 0;
-    if (bytes && len <= had) return bytes;
-    void *moved = malloc(len);
-    if (moved && bytes) {
-        memcpy(moved, bytes, had);
-        free(bytes);
+void *tftp_realloc(void *bytes, size_t kept, size_t len, size_t align) {
+    if (len <= ((struct head *)bytes - 1)->len - sizeof(struct head)) return bytes;
+    void *moved = tftp_alloc(len, align);
+    if (moved) {
+        memcpy(moved, bytes, kept);
+        tftp_free(bytes);
     }
     return moved;
 }

@@ -19,16 +19,12 @@ PLAIN = ["-g", "-O2"]
 STATIC = [*PLAIN, "-static"]
 ALONE = ["-O2", "-static", "-nostdlib", "-ffreestanding", "-fno-builtin", "-fno-stack-protector",
          "-fno-tree-loop-distribute-patterns"]
-# what the archive calls and does not have: a program without a C library has these
+# what the archive calls and does not have: a program without a C library has these, or a heap in place of the first three
 OF_C = {"malloc", "realloc", "free", "memcpy", "memmove", "memset", "memcmp"}
-# its calls of malloc are its own, by other names: those of the sanitizer's runtime are the sanitizer's
-OWN_NAMES = [f"{name}=arena_{name}" for name in ["malloc", "realloc", "free"]]
 VALGRIND = ["valgrind", "-q", "--error-exitcode=99"]
 LEAKS = ["--leak-check=full", "--errors-for-leak-kinds=all"]
 # (the runtime of Rust still reaches a block of its own when it ends)
 LOST = ["--leak-check=full", "--errors-for-leak-kinds=definite,indirect,possible"]
-# valgrind takes the place of every malloc that it finds, and so of the arena's, unless it is told not to
-ARENA = ["--soname-synonyms=somalloc=nouserintercepts"]
 # (an interpreter's own code may jump by a table that valgrind takes for uninitialised; what the library does still counts)
 INTERPRETER = "".join(f"{{\nits own\nMemcheck:{kind}\nobj:*/{name}*\n}}\n"
                       for kind in ["Cond", "Value8", "Addr4", "Addr8"] for name in ["libpython3", "python3"])
@@ -64,16 +60,9 @@ def linked(words: Sequence[str], program: Path, *sources: Union[str, Path]) -> s
     return str(program)
 
 
-def of_the_arena(room: Path, folder: Path, words: Sequence[str], checker: str) -> str:
-    """The client without an operating system, whose allocator is its own also beside a sanitizer's."""
-    library, names = room / "libtftp.a", list[str]()
-    if checker == "sanitized":
-        library = folder / "libtftp.a"
-        run("objcopy", *[f"--redefine-sym={it}" for it in OWN_NAMES], room / "libtftp.a", library)
-        names = [f"-D{it}" for it in OWN_NAMES]
-    bare = [*words, *names, "-fno-builtin-malloc"]
-    run(*bare, "-ffreestanding", "-I", TOP / "include", "-c", EXAMPLES / "c/bare.c", "-o", folder / "bare.o")
-    return linked(words, folder / "bare", EXAMPLES / "c/host_machine.c", folder / "bare.o", library)
+def of_the_arena(room: Path, folder: Path, words: Sequence[str]) -> str:
+    """The client without an operating system, whose heap is its own."""
+    return linked(words, folder / "bare", EXAMPLES / "c/host_machine.c", EXAMPLES / "c/bare.c", room / "libtftp.a")
 
 
 def in_c(room: Path, compiler: str, checker: str) -> Built:
@@ -87,10 +76,7 @@ def in_c(room: Path, compiler: str, checker: str) -> Built:
     for name in ["get", "put", "serve", "shards", "manual"]:
         source = folder / "manual.c" if name == "manual" else EXAMPLES / f"c/{name}.c"
         it.words[name] = [*before, linked([*words, "-I", str(EXAMPLES / "c")], folder / name, source, room / "libtftp.a")]
-    bare = of_the_arena(room, folder, words, checker)
-    it.words["bare"] = [*before, *(ARENA if before else []), bare]
-    if before:
-        it.words["bare over valgrind's malloc"] = [*before, bare]
+    it.words["bare"] = [*before, of_the_arena(room, folder, words)]
     wrapped = "-Wl,--wrap=malloc,--wrap=realloc"
     layout = linked(words, folder / "layout", TOP / "tools/c_library.c", wrapped, room / "libtftp.a")
     it.words["layout"] = [*before, layout]
@@ -198,9 +184,8 @@ def to_build(room: Path, skipped: list[str]) -> list[Callable[[], Built]]:
             skipped.append(f"{program}{why}")
         return bool(shutil.which(program))
 
-    compilers = [it for it in ["gcc", "clang"] if has(it)]
-    memcheck, objcopy = has("valgrind"), has("objcopy")
-    found = [partial(in_c, room, it, "sanitized") for it in compilers if objcopy]
+    compilers, memcheck = [it for it in ["gcc", "clang"] if has(it)], has("valgrind")
+    found = [partial(in_c, room, it, "sanitized") for it in compilers]
     found += [partial(in_c, room, it, "valgrind") for it in compilers[:1] if memcheck]
     found += [partial(in_c, room, "musl-gcc", "static")] * has("musl-gcc", " (musl)")
     found += [partial(in_c_alone, room)] * ("gcc" in compilers)

@@ -8,6 +8,7 @@ from pathlib import Path
 
 from lib.programs import TOP
 
+# of the two gets
 IN_C = """#include "udp.h"
 
 static bool store(const uint8_t *bytes, size_t len) { return fwrite(bytes, 1, len, stdout) == len && !fflush(stdout); }

@@ -173,19 +173,48 @@ def test_the_same_port_of_another_address_is_foreign(scene) -> None:
     expect((scene.folder / "got").read_bytes(), b"ABC", "the file")
 
 
-def test_ports_of_transfers_are_in_no_order(scene) -> None:
-    """Ports of the system's choice, of a server and of clients: nobody foretells the next from the last ones."""
+def test_ports_cannot_be_foretold(scene) -> None:
+    """Ports of the system's choice, of two servers and of clients: they rise and fall, hardly a step from one to the next
+    comes again, nor does the step of that step, and a server that is started anew has others. So nobody foretells the next
+    from the last ones."""
     scene.make("a", b"ABC")
-    server = scene.serve("--cap", "64")
-    ends = [opened(scene, server, rrq("a", **PATIENT), oack(**PATIENT)) for _ in range(24)]
+    orders = []
+    for _ in range(2):
+        server = scene.serve("--cap", "64")
+        ends = [opened(scene, server, rrq("a", **PATIENT), oack(**PATIENT)) for _ in range(40)]
+        orders.append([end.peer[1] for end in ends])
+        server.kill()
     requests = scene.port()
     clients = [scene.tftp("get", requests.word, "a", f"got{at}") for at in range(12)]
     peers = list(dict.fromkeys(requests.receive()[1][1] for _ in clients))
-    for ports in [[end.peer[1] for end in ends], peers]:
-        steps = {after > before for before, after in zip(ports, ports[1:])}
-        expect(steps, {True, False}, f"whether the ports {ports} rise and fall")
+    for ports in [*orders, peers]:
+        steps = [after - before for before, after in zip(ports, ports[1:])]
+        expect({step > 0 for step in steps}, {True, False}, f"whether the ports {ports} rise and fall")
+        for each in [steps, [after - before for before, after in zip(steps, steps[1:])]]:
+            expect(len(set(each)) > 0.9 * len(each), True, f"whether the steps {each} of {ports} differ")
+    again = set(zip(orders[0], orders[0][1:])) & set(zip(orders[1], orders[1][1:]))
+    expect(again, set(), "the pairs of ports that come in both servers")
     for client in clients:
         client.process.kill()
+
+
+# of each kind: those of system services, of users, and of the ranges from which systems choose
+CLIENT_PORTS = [1, 7, 68, 1_023, 1_024, 4_095, 32_767, 32_768, 49_151, 49_152, 60_999, 61_000, 61_001, 65_534, 65_535]
+
+
+def test_client_ports_of_the_whole_range(scene) -> None:
+    """Each is served by one server, and gets a file from another port than its own."""
+    scene.make("a", b"ABC")
+    server = scene.serve("--cap", "64", "--forever")
+    numbers = [number for number in CLIENT_PORTS if number > 1_023 or os.geteuid() == 0]
+    for number in numbers:
+        port = scene.port(number)
+        port.send(rrq("a", **PATIENT), server.address)
+        answer, transfer = port.receive()
+        expect(answer, oack(**PATIENT), f"the answer to port {number}")
+        end = End(port, transfer, answer)
+        end.is_answered(ack(0), data(1, b"ABC"))
+        end.send(ack(1))
 
 
 # ---- many transfers

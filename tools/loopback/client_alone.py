@@ -309,9 +309,10 @@ def test_a_slow_commit_does_not_shorten_the_dally(scene) -> None:
 
 
 def test_is_ended_by_signals(scene) -> None:
-    """A client that is ended leaves `local.part` alone."""
-    for number in [signal.SIGHUP, signal.SIGINT, signal.SIGTERM]:
+    """A client that is ended leaves `local.part` alone. That a terminal has another size ends none."""
+    for number in [signal.SIGHUP, signal.SIGINT, signal.SIGTERM, signal.SIGUSR1, signal.SIGUSR2]:
         client, end = patient_get(scene)
+        client.process.send_signal(signal.SIGWINCH)
         end.is_answered(data(1, b"\7" * 512), ack(1))
         client.process.send_signal(number)
         client.ends(-number)

@@ -6,7 +6,7 @@ from both_programs import bytes_of
 from client_alone import PATIENTLY, asked, patient_get
 from datagrams import PATIENCE, PATIENT, End, ack, data, error, expect, oack, rrq, wrq
 from lib.units import arguments_of
-from server_alone import is_refused, opened
+from server_alone import FILE_NOT_FOUND, is_refused, opened
 
 
 def test_retries_of_the_server(scene) -> None:
@@ -135,9 +135,13 @@ def test_no_fallback(scene) -> None:
 
 
 def test_signals(scene) -> None:
-    """TERM, INT and HUP end the server at once."""
-    for number in [signal.SIGTERM, signal.SIGINT, signal.SIGHUP]:
+    """TERM, INT, HUP, USR1 and USR2 end the server at once; that a terminal has another size does not."""
+    scene.make("a", b"ABC")
+    for number in [signal.SIGTERM, signal.SIGINT, signal.SIGHUP, signal.SIGUSR1, signal.SIGUSR2]:
         server = scene.serve("--forever")
+        for harmless in [signal.SIGWINCH, signal.SIGCONT, signal.SIGURG]:
+            server.process.send_signal(harmless)
+        is_refused(scene, server, rrq("none"), FILE_NOT_FOUND)
         server.process.send_signal(number)
         expect(server.process.wait(PATIENCE), -number, "the status of the server")
 

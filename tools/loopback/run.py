@@ -1,11 +1,11 @@
 #!/usr/bin/env python3
-"""Tests of tftp and tftpd as processes over the loopback address: run.py [TFTP TFTPD [TEST..]]
+"""Tests of tftp and tftpd as processes over the loopback address: run.py [TFTP TFTPD [TEST | FILE..]]
 
 Without words it takes the programs of bin/, or else those that `rt ci` built, and runs every test, some at the same time.
 Tests of one server run over two at one port as well, by `--servers 2`: `TEST.2`. Each wait has a limit, and so have each test and the whole; a test that hangs is named, with where it waits. It uses
-addresses of 127.0.0.0/8 alone, one for each test, and one temporary folder. A test that fails is run again, alone: once if
-this host stalled meanwhile, and else twice, of which neither may fail; that is said. The last line is a count; the status is
-1 if a test failed, or if fewer tests than known ran.
+addresses of 127.0.0.0/8 alone, one for each test, and one temporary folder. A test that fails while this host stalls is run
+once more, alone, and that is said. The last line is a count; the status is 1 if a test failed, or if fewer tests than known
+ran.
 """
 import os
 import queue
@@ -20,12 +20,14 @@ from contextlib import suppress
 from pathlib import Path
 from typing import Any, Optional
 
+import all_calls
 import at_length
 import both_programs
 import client_alone
 import command_lines
 import draining
 import handed_over
+import in_quantity
 import options
 import repeated_requests
 import requests_only
@@ -34,9 +36,11 @@ import served_folder
 import server_alone
 import server_loop
 import several_servers
+import sizes
 import status
 from scene import Scene
 from servers import NOT_OF_SEVERAL
+from lib import rows
 from lib.addresses import own_network
 from lib.programs import programs
 from lib.stalls import LIMIT as STALL, Stalls
@@ -45,8 +49,8 @@ HERE = Path(__file__).resolve()
 # of one server each
 OF_SERVERS = [both_programs, server_alone, server_loop, served_folder, served_disk, options, handed_over, draining,
               requests_only]
-MODULES = [*OF_SERVERS, client_alone, command_lines, several_servers, status, repeated_requests, at_length]
-TESTS_AT_LEAST = 230
+MODULES = [*OF_SERVERS, client_alone, command_lines, several_servers, status, repeated_requests, at_length, in_quantity, all_calls,
+           sizes]
 AT_ONCE = 8
 # The most tests that are run again; none where LOOPBACK_ONCE is in the environment, as where a fault is to be noticed
 MOST_REPEATED = 6
@@ -113,17 +117,14 @@ class Run:
                     self.again.append((name, stall))
 
     def repeat(self) -> None:
-        """Each test that failed, alone, if it is no whole suite that fails."""
+        """Each test that failed while the host stalled, alone, if it is no whole suite that fails."""
         is_wanted = len(self.again) <= MOST_REPEATED and "LOOPBACK_ONCE" not in os.environ
         for at, (name, stall) in enumerate(self.again if is_wanted else []):
-            runs = 1 if stall > STALL else 2
-            faults = [self.run(name, self.tests[name], f"{self.network}.{201 + at % 50}", f"{name}.again{run}")[0]
-                      for run in range(runs)]
-            fault = next(filter(None, faults), None)
-            why = f"once more, since the host stalled for {stall:.1f} s" if runs == 1 else "once more, and once more"
-            print(f"{name}: {why}: {fault or 'passed'}", flush=True)
-            if not fault:
-                del self.faults[name]
+            if stall > STALL:
+                fault, _ = self.run(name, self.tests[name], f"{self.network}.{201 + at % 50}", f"{name}.again")
+                print(f"{name}: once more, since the host stalled for {stall:.1f} s: {fault or 'passed'}", flush=True)
+                if not fault:
+                    del self.faults[name]
 
     def watch(self) -> None:
         """Ends all if a test takes too long, or all of them do, and says which ran and where they were."""
@@ -155,11 +156,16 @@ def run(folder, tftp, tftpd, *names) -> int:
     """Runs the named tests, or all, in this folder. Returns the status."""
     began, tests = time.monotonic(), known_tests()
     if names:
-        tests = {name: tests[name] for name in names}
+        of_files = {it.__name__: {*tests_of([it])} for it in MODULES}
+        chosen = set().union(*(of_files.get(name, {name}) for name in names))
+        if not chosen <= {*tests}:
+            sys.exit(f"loopback: no test {', '.join(sorted(chosen - {*tests}))}")
+        tests = {name: test for name, test in tests.items() if name in chosen}
     it = Run({"tftp": tftp, "tftpd": tftpd}, folder, tests)
     it.run_all()
     print(f"loopback: {it.ran} tests in {time.monotonic() - began:.0f} s, {len(it.faults)} failed")
-    return 1 if it.faults or it.ran < (len(names) or TESTS_AT_LEAST) else 0
+    rows.ended(it.ran)
+    return 1 if it.faults or it.ran < len(tests) else 0
 
 
 def run_apart(folder, words) -> int:
@@ -183,6 +189,7 @@ def main() -> None:
         for number in (signal.SIGHUP, signal.SIGINT, signal.SIGTERM):
             signal.signal(number, signal.SIG_DFL)
         sys.exit(run(*sys.argv[2:]))
+    rows.listed(known_tests())
     if len(sys.argv) == 2 or sys.argv[1:2] == ["--help"]:
         sys.exit(__doc__)
     paths = programs(["tftp", "tftpd"], sys.argv[1:3]).values()

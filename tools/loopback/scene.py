@@ -64,14 +64,14 @@ class Client:
     def __init__(self, process) -> None:
         self.process = process
 
-    def ends(self, status, printed="", errors="") -> None:
+    def ends(self, status, printed="", errors="", life=LIFE) -> None:
         """It ends with this status, and has written exactly this; None is for a stream that the test reads."""
-        wrote = [text if text is None else text.decode() for text in self.process.communicate(timeout=LIFE)]
+        wrote = [text if text is None else text.decode() for text in self.process.communicate(timeout=life)]
         expect((self.process.returncode, *wrote), (status, printed, errors), "the client")
 
-    def completes(self, length) -> None:
-        """It reports a complete transfer of a file of this length."""
-        self.ends(0, f"complete {length}\n")
+    def completes(self, length, life=LIFE) -> None:
+        """It reports a complete transfer of a file of this length, within so many seconds."""
+        self.ends(0, f"complete {length}\n", life=life)
 
     def fails(self, outcome, cause=None) -> None:
         """It reports a transfer that failed with this outcome, and then its cause, in a line on standard error each."""

@@ -272,10 +272,17 @@ def test_few_transfers_of_one_client(scene) -> None:
 
 
 def test_lines_have_times(scene) -> None:
-    """Each line of the log begins with the time between the start of the server and its end, in UTC."""
+    """Each line of the log begins with the time between the start of the server and its end, in UTC, wherever it runs."""
     scene.make("a", b"ABC")
+    for place in ["UTC", "Asia/Kolkata", "UTC+11"]:
+        has_times(scene, place)
+
+
+def has_times(scene, place) -> None:
+    """The lines of a server in the time zone of a place."""
     before = datetime.now(timezone.utc) - timedelta(milliseconds=1)
-    process = scene.start("tftpd", [".", "--listen", f"{scene.address}:0", "--log", "--log-time", "--rounds", "2000"])
+    words = [".", "--listen", f"{scene.address}:0", "--log", "--log-time", "--rounds", "2000", "--transfers", "1"]
+    process = scene.start("tftpd", words, env={**os.environ, "TZ": place})
     word = first_line(process).split()[1]
     end = End(scene.port(), (scene.address, int(word.split(":")[1])))
     end.send(rrq("a", **PATIENT))

@@ -6,7 +6,7 @@ import time
 
 from both_programs import bytes_of
 from datagrams import PATIENCE, PATIENT, End, ack, data, error, expect, free_ports, oack, rrq, wrq
-from scene import LIFE, next_line
+from scene import LIFE, Server, next_line, preloaded
 from server_alone import ACCESS_VIOLATION, FILE_NOT_FOUND, first_block_of, is_refused, opened
 
 # Datagrams come with the time of the kernel, of `asm/socket.h`
@@ -182,6 +182,53 @@ def timed_port(scene) -> socket.socket:
         expect(time.monotonic() < end, True, "whether the system notes when a datagram came")
 
 
+# how many times as fast the time of a server goes in a test of its waits, and how much later than its wait by that time, in
+# seconds, a timeout may come: a round, and what a busy host takes
+QUICKER, LATE = 10, 4
+
+
+def serve_quickly(scene, *words) -> Server:
+    """A server of four retries whose time goes faster."""
+    words = scene.server_words(".", scene.address, ["--retries", "4", "--transfers", "1", *words])
+    return scene.server_of(scene.start("tftpd", words, env=preloaded(scene, "quick_time.c", QUICKER=QUICKER)))
+
+
+def waits_of(scene, *words) -> list[float]:
+    """How long a server waits for each of its timeouts, in seconds of its own time, while a client that gets a file is silent;
+    the last ends in the close."""
+    server, port, times = serve_quickly(scene, *words), scene.port(), []
+    port.send(rrq("a"), server.address)
+    for _ in range(5):
+        expect(port.receive()[0], data(1, b"ABC"), "the block, and the same again")
+        times.append(time.monotonic())
+    server.has_closed("TimedOut")
+    times.append(time.monotonic())
+    return [(later - earlier) * QUICKER for earlier, later in zip(times, times[1:])]
+
+
+def test_waits_double(scene) -> None:
+    """With `--backoff` a server waits twice as long after each timeout, up to eight times, and else as long each time."""
+    scene.make("a", b"ABC")
+    for words, expected in [(["--backoff"], [1, 2, 4, 8, 8]), ([], [1, 1, 1, 1, 1])]:
+        waits = waits_of(scene, *words)
+        are_so = [wait - 0.2 <= found <= wait + LATE for found, wait in zip(waits, expected)]
+        expect(are_so, [True] * 5, f"whether the waits {waits} are about {expected} s, with {words}")
+
+
+def test_a_receiver_that_repeats_nothing_completes(scene) -> None:
+    """A client whose timer starts anew at each datagram takes what comes once it has waited, as some do for five seconds: with
+    `--backoff` the server still has retries then, and without them it has closed."""
+    scene.make("a", b"ABC")
+    for words, outcome in [(["--backoff"], "Complete"), ([], "TimedOut")]:
+        server, port = serve_quickly(scene, *words), scene.port()
+        port.send(rrq("a"), server.address)
+        block, transfer = port.receive()
+        expect(block, data(1, b"ABC"), "the block")
+        time.sleep(9 / QUICKER)
+        port.send(ack(1), transfer)
+        server.has_closed(outcome)
+
+
 def test_a_deadline_runs_from_a_slow_opening(scene) -> None:
     """The opening of a file takes longer than the timeout of its transfer: what answers the request is sent again a
     timeout after it was sent, not at once."""
@@ -219,29 +266,37 @@ def served_ports(scene, server, count) -> list[int]:
     return ports
 
 
-def test_ports_are_used_each_once_before_any_again(scene) -> None:
-    """Transfers use the ports of `--ports` alone, each once before any again, and two servers in another order."""
+def are_apart(places, least) -> bool:
+    """Whether no two of these are nearer than that."""
+    return all(later - earlier >= least for earlier, later in zip(places, places[1:]))
+
+
+def test_ports_are_drawn_anew(scene) -> None:
+    """Transfers use the ports of `--ports` alone. What was seen of them does not foretell the next: a second round has another
+    order, and so has another server. No port comes again before half of the range was used."""
     scene.make("a", b"ABC")
     first = free_ports(12)
     last, orders = first + 11, []
     for _ in range(2):
-        server = scene.serve("--ports", f"{first}:{last}", "--transfers", "36")
-        ports = served_ports(scene, server, 36)
-        server.has_closed(*["Complete"] * 36)
-        expect(sorted(ports[:12]), list(range(first, last + 1)), "the ports of the first cycle")
-        expect(ports[12:], ports[:12] * 2, "the ports of two more")
-        orders.append(ports[:12])
-    expect(orders[0] == orders[1], False, f"whether two servers have the same order {orders[0]}")
+        server = scene.serve("--ports", f"{first}:{last}", "--transfers", "48")
+        ports = served_ports(scene, server, 48)
+        server.has_closed(*["Complete"] * 48)
+        expect([port for port in ports if not first <= port <= last], [], "the ports beside the range")
+        for port in set(ports):
+            places = [place for place, used in enumerate(ports) if used == port]
+            expect(are_apart(places, 7), True, f"whether {port} comes again after half of the others, in {ports}")
+        orders += [tuple(ports[at:at + 12]) for at in range(0, 48, 12)]
+    expect(len(set(orders)), len(orders), f"how many of the orders {orders} differ")
 
 
-def test_a_port_that_refuses_a_write_comes_after_all_others(scene) -> None:
-    """A draft that cannot be replaced is in the way at one port of four: every fourth write is refused, and no other.
-    What stands there is a folder here; it may be a file of another user in a folder whose sticky bit is set."""
+def test_a_port_that_refuses_a_write_comes_after_others(scene) -> None:
+    """A draft that cannot be replaced is in the way at one port of four: a write is refused there, and not the next two, nor
+    another. What stands there is a folder here; it may be a file of another user in a folder whose sticky bit is set."""
     first = free_ports(4)
     scene.make_folder(f".tftp-{first + 2}")
     server = scene.serve("--ports", f"{first}:{first + 3}", "--transfers", "100")
     answers = []
-    for number in range(16):
+    for number in range(24):
         port = scene.port()
         port.send(wrq(f"n{number}", **PATIENT), server.address)
         answer, transfer = port.receive()
@@ -249,8 +304,9 @@ def test_a_port_that_refuses_a_write_comes_after_all_others(scene) -> None:
         if transfer != server.address:
             port.send(error(0, "stop"), transfer)
     refused = [number for number, answer in enumerate(answers) if answer == ACCESS_VIOLATION]
-    expect(refused, list(range(refused[0] if refused else 0, 16, 4)), "which writes are refused")
-    expect([answer for answer in answers if answer != ACCESS_VIOLATION], [oack(**PATIENT)] * 12, "the answers to the others")
+    expect(are_apart(refused, 3), True, f"whether two others come between the refusals {refused}")
+    others = [answer for answer in answers if answer != ACCESS_VIOLATION]
+    expect(others, [oack(**PATIENT)] * len(others), "the answers to the others")
 
 
 def test_ports_in_use_are_passed_over(scene) -> None:

@@ -152,8 +152,8 @@ NOT_OF_SEVERAL = {
         "test_requests_take_turns_with_transfers", "test_a_sync_waits_until_no_port_is_ready",
         "test_a_long_put_is_synced_on_its_way", "test_each_kind_of_sync_that_fails"],
     "the range of ports is divided": [
-        "test_ports_are_used_each_once_before_any_again", "test_ports_in_use_are_passed_over",
-        "test_a_port_that_refuses_a_write_comes_after_all_others",
+        "test_ports_are_drawn_anew", "test_ports_in_use_are_passed_over",
+        "test_a_port_that_refuses_a_write_comes_after_others",
         "test_a_draft_of_a_failed_transfer", "test_two_servers_share_a_folder",
         "test_a_transfer_never_has_the_port_that_is_handed_over"],
     "each server measures a text for itself": ["test_a_text_is_read_once", "test_a_text_is_measured_once"],

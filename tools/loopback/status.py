@@ -1,8 +1,11 @@
 """The file of --status: its text while a server serves, beside its log, of several servers, and where it cannot be."""
 import os
 import re
+import stat
+import subprocess
 import threading
 import time
+from itertools import product
 from pathlib import Path
 from typing import Optional
 
@@ -92,6 +95,48 @@ def test_an_open_transfer_has_a_line(scene) -> None:
     wanted = re.compile(rf"^# {transfer[1]} {port.word} RRQ a octet .*: 0 bytes of 5000, \d+ s, 0 sent again$", re.MULTILINE)
     wait_until(lambda: wanted.search((scene.folder / STATUS).read_text()), "the line of the transfer")
     expect(value(read(scene.folder / STATUS), "tftpd_transfers_open", direction="read"), 1, "the open transfers")
+    server.process.kill()
+
+
+# the labels of each metric, with the values of each; `server` is that of one of several
+WAYS = ["read", "write"]
+ENDS = ["complete", "timed_out", "peer_error", "illegal", "refused", "too_large", "store_fault", "source_fault", "not_netascii"]
+LABELS: dict[str, dict[str, list[str]]] = {
+    "tftpd_requests_total": {"answer": ["opened", "refused", "busy", "ignored", "lost"]},
+    "tftpd_transfers_total": {"direction": WAYS, "outcome": ENDS}, "tftpd_bytes_total": {"direction": WAYS},
+    "tftpd_blocks_sent_again_total": {}, "tftpd_datagrams_total": {"way": ["received", "sent"]},
+    "tftpd_transfers_open": {"direction": WAYS}, "tftpd_transfers_limit": {}, "tftpd_start_time_seconds": {},
+}
+
+
+def test_each_sample(scene) -> None:
+    """Each metric has each of its labels, as tftpd(8) lists them, and the version is that of `--version`; an open transfer is
+    shown with its mode and its options; everybody may read the file."""
+    scene.make(f"{ROOT}/a", b"a line\n" * 100)
+    server = serve(scene)
+    found = read(scene.folder / STATUS)
+    for name, labels in LABELS.items():
+        samples = [dict(has) for (metric, has) in found if metric == name]
+        expected = [dict(zip(labels, values)) for values in product(*labels.values())]
+        own = [{label: text for label, text in sample.items() if label in labels} for sample in samples]
+        expect(sorted(map(str, own)), sorted(map(str, expected)), f"the samples of {name}")
+    printed = subprocess.run([scene.programs["tftpd"], "--version"], capture_output=True, text=True, check=True).stdout
+    version = printed.strip().removeprefix("tftpd ")
+    expect(value(found, "tftpd_build_info", version=version), 1, f"the version among {[*found][-1]}")
+    wanted = []
+    for at, (mode, options) in enumerate([("octet", {"blksize": 100}), ("netascii", {"timeout": 200}), ("octet", {"timeout": 250})]):
+        port, request = scene.port(), (rrq("a", mode, **options) if at < 2 else wrq("n", mode, **options))
+        port.send(request, server.address)
+        _, transfer = port.receive()
+        ask = " ".join([f"{transfer[1]} {port.word} {'RRQ a' if at < 2 else 'WRQ n'} {mode}"] +
+                       [f"{name}={number}" for name, number in options.items()])
+        wanted.append(re.compile(rf"(?m)^# {re.escape(ask)}: .*0 bytes.*, \d+ s, \d+ sent again$"))
+    for pattern in wanted:
+        wait_until(lambda: pattern.search((scene.folder / STATUS).read_text()), f"the line {pattern.pattern}")
+    mode = stat.S_IMODE((scene.folder / STATUS).stat().st_mode)
+    mask = os.umask(0)
+    os.umask(mask)
+    expect(f"{mode:o}", f"{0o666 & ~mask:o}", "the permissions of the file")
     server.process.kill()
 
 

@@ -7,8 +7,8 @@ numbers of its own from the seed: raw clients at five servers, hostile servers, 
 longest file, and faults of the host. It uses 127.0.0.0/8 alone and one temporary folder; each process has a limit, and
 is ended by its number. Prints what was tried; on a failure the seed, and the last datagrams as lines for tftp-show.
 
-A trial that fails is run again by its seed, with nothing beside it: once if this host let a process wait for longer than
-tests in real time can bear, and else twice, of which neither may fail. That is said last, and what failed is shown.
+A trial that fails while this host lets a process wait for longer than tests in real time can bear is run once more by its
+seed, with nothing beside it. That is said last, and what failed is shown.
 """
 import random
 import subprocess
@@ -26,6 +26,7 @@ import lossy
 import raw
 import vectors
 from ports import LAST
+from lib import rows
 from lib.process import Failure
 from lib.programs import programs
 from lib.seeds import commit_seed
@@ -113,6 +114,7 @@ def main() -> int:
     if sys.argv[1:2] == ["--one"]:
         name, number, seed, seconds, tftp, tftpd, place = sys.argv[2:]
         return run_one(name, int(number), int(seed), float(seconds), {"tftp": tftp, "tftpd": tftpd}, place)
+    rows.listed(TRIALS)
     seconds = float((sys.argv[1:2] or ["30"])[0])
     seed = int(sys.argv[2]) if len(sys.argv) > 2 else commit_seed()
     words = list(programs(["tftp", "tftpd"], sys.argv[3:5]).values())
@@ -128,15 +130,15 @@ def main() -> int:
             texts.append(printed)
             statuses.append(status)
         for at, trial in [(at, trial) for at, trial in enumerate(trials) if statuses[at]]:
-            stalled = statuses[at] == 3
+            if statuses[at] != 3:
+                failed.append(trial.name)
+                continue
             repeated.append(trial.name)
-            for run in range(1 if stalled else 2):
-                status, printed = Trial(trial.name, at, seed, seconds, words, f"{folder}/{at}.again{run}").ended()
-                print(f"once more{', since the host stalled' * stalled}: {printed}", end="", flush=True)
-                failed += [trial.name] * (status != 0)
-                # what it saw counts, too
-                texts[at] = printed
-    failed = list(dict.fromkeys(failed))
+            status, printed = Trial(trial.name, at, seed, seconds, words, f"{folder}/{at}.again").ended()
+            print(f"once more, since the host stalled: {printed}", end="", flush=True)
+            failed += [trial.name] * (status != 0)
+            # what it saw counts, too
+            texts[at] = printed
     if not sys.argv[5:] and not failed:
         failed += [f"no ERROR `{text}`" for text in unseen("".join(texts))]
         opened = counts_of("".join(text for text in texts if text.startswith("raw clients")))["transfers"]
@@ -144,6 +146,7 @@ def main() -> int:
     more = f"; once more: {', '.join(repeated)}" if repeated else ""
     print(f"soak: seed {seed}, {time.monotonic() - began:.0f} s; {len(names) - len(failed)} passed, {len(failed)} failed"
           f"{': ' if failed else ''}{', '.join(failed)}{more}")
+    rows.ended(len(names))
     return bool(failed)
 
 

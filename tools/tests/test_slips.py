@@ -110,8 +110,11 @@ class Few(unittest.TestCase):
 
     def test_one_proves_whose_crate_has_changed(self) -> None:
         status, said = self.ends(a=True, b=False)
-        self.assertEqual(status, 0)
-        self.assertRegex(said, "slip b/two: NOT REFUSED: so; no failure, since")
+        self.assertEqual(status, 1)
+        self.assertIn("slip b/two: NOT REFUSED: so\n", said)
+
+    def test_what_is_tried_is_counted(self) -> None:
+        self.assertEqual(self.ends(a=True, b=True)[1].splitlines()[-1], "2 run, 0 skipped")
 
     def test_there_is_no_time(self) -> None:
         status, said = self.ends(a=None, b=None)
@@ -120,7 +123,7 @@ class Few(unittest.TestCase):
 
     def test_none_is_known(self) -> None:
         self.record.write_text("a/two -\nb/two 0123456789\n")
-        self.assertEqual(self.ends(a=False, b=False)[0], 0)
+        self.assertEqual(self.ends(a=False, b=True)[0], 1)
 
     def test_one_that_was_an_edit_of_the_gate(self) -> None:
         slip, edit = (self.top / "crates/a" / folder / "two.edit" for folder in ("slips", "must-fail"))

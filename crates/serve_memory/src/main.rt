@@ -5,6 +5,7 @@
 use std::alloc::Global;
 use std::process::ExitCode;
 use tftp_arguments::{WordsFault, own_words};
+use tftp_ends::Backoff;
 use tftp_file::{Path, StoreFault, path_of};
 use tftp_loop::{Ending, LoopConfig, LoopFault, serve};
 use tftp_server::{Config, Server};
@@ -64,6 +65,7 @@ fn config_of(words: &[String]) -> Option<LoopConfig> {
             rounds: u64::MAX,
         },
         longest: None,
+        backoff: Backoff::Constant,
         requests_only: false,
         per_client: None,
         drains: false,

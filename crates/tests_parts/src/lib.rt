@@ -11,6 +11,8 @@ mod append_rows;
 #[cfg(test)]
 mod asked_rows;
 #[cfg(test)]
+mod backoff_rows;
+#[cfg(test)]
 mod calls;
 #[cfg(test)]
 mod cut_rows;

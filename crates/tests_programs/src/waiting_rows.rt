@@ -29,8 +29,8 @@ fn a_watch_goes_on(rt: HostRuntime) {
     }
 }
 
-/// A timeout interval in seconds, and when a transfer of the time 700 is due.
-const DEADLINES: [(u8, u64); 2] = [(1, 1_700), (255, 255_700)];
+/// The seconds until a timeout, and when a transfer of the time 700 is due.
+const DEADLINES: [(u16, u64); 2] = [(1, 1_700), (2_040, 2_040_700)];
 
 #[test]
 fn a_transfer_is_due(rt: HostRuntime) {

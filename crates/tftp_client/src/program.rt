@@ -19,13 +19,16 @@ use std::net::Net;
 use std::rt::Runtime;
 use tftp_arguments::{own_words, print_no_memory, print_words_fault};
 use tftp_disk::laws::gives_in_order;
-use tftp_disk::{Disk, Looks, SystemDisk};
+use tftp_disk::{Disk, LockFiles, Looks, SystemDisk};
 use tftp_file::{Sink, Source};
 use tftp_sockets::{ClientUdp, SystemUdp, Udp};
 
 /// Runs `tftp` with the program's own command line, as [`tftp_words`] does, and returns its exit
 /// status.
-pub fn tftp_command<R: Runtime + AllocGlobal + Net, E: IsTerminal>(rt: &R, errors: &E) -> u8
+pub fn tftp_command<R: Runtime + LockFiles + AllocGlobal + Net, E: IsTerminal>(
+    rt: &R,
+    errors: &E,
+) -> u8
     ensures { result ≤ 2 }
 {
     match own_words(rt) {
@@ -40,7 +43,7 @@ pub fn tftp_command<R: Runtime + AllocGlobal + Net, E: IsTerminal>(rt: &R, error
 /// `--help` and `--version` return 0. The status of a transfer is that of the [`ClientOutcome`]
 /// whose line is printed. The status is 2 for an invalid command line, which is reported on
 /// standard error, when out of memory, and if an output cannot be written.
-pub fn tftp_words<R: Runtime + AllocGlobal + Net, S: AsStr, E: IsTerminal>(
+pub fn tftp_words<R: Runtime + LockFiles + AllocGlobal + Net, S: AsStr, E: IsTerminal>(
     rt: &R,
     words: &[S],
     errors: &E,

@@ -16,6 +16,7 @@ use Rattle.tftp_negotiate.specs.declared.asked.Asked.{Asked}
 use Rattle.tftp_file.specs.declared.files.Files.{Files}
 use Rattle.tftp_file.specs.declared.files.Files.TheVariants.{Source as A_source, Sink}
 use Rattle.tftp_file.specs.declared.fault.StoreFault.TheVariants.{Memory}
+use Rattle.tftp_ends.specs.declared.backoff.Backoff.TheVariants.{Constant}
 use Rattle.tftp_ends.specs.declared.endpoint.Endpoint.{Endpoint}
 use Rattle.tftp_ends.specs.declared.action.Response.TheVariants.{Complete}
 use Rattle.tftp_ends.specs.declared.outcome.Outcome.TheVariants as outcomes
@@ -29,7 +30,7 @@ use Rattle.tftp_ends.specs.Step.{response_turn}
 use Rattle.tftp_ends.specs.Waiting.{default_terms}
 use Rattle.tftp_server.specs.Draft.{KeepsStore, files_in}
 use Rattle.tftp_server.specs.Request.{A_transfer, AsksToRead, AsksToWrite, left_by}
-use Rattle.tftp_server.specs.State.{ServerState, TransferState, at, with_next}
+use Rattle.tftp_server.specs.State.{ServerState, TransferState, at, is_closed, with_next}
 use Rattle.tftp_server.specs.Steps.{StepIn}
 use Rattle.tftp_server.specs.declared.config.Config.{Config}
 use Rattle.tftp_lines.specs.Printed.{line_text}
@@ -194,6 +195,8 @@ timed peer marked look_at received = record {
   port = 1024;
   peer = peer;
   interval = 1;
+  backoff = Constant;
+  timeouts = 0;
   deadline = 1000;
   marked = marked;
   look_at = look_at;
@@ -336,7 +339,7 @@ module _ (old : Loop) (index : ℕ) (timer : Timer) (transfer : Held) (from : En
   }
 
   unfoldable pub handles : old.now ≤ timer.age_limit → timer.received < most_in_round → index < length old.timers → timer ≡ slice_index_or old.timers index timer →
-      at timer.port old.server.held ≡ Some transfer →
+      at timer.port old.server.held ≡ Some transfer → is_closed transfer ≡ false →
       StepIn stores sources from bytes transfer.end
       (files_in old.server.store transfer.path old.server.config.overwrite transfer.files) turn
       (files_in its_store transfer.path old.server.config.overwrite files) →
@@ -348,7 +351,7 @@ module _ (old : Loop) (index : ℕ) (timer : Timer) (transfer : Held) (from : En
         timers = slice_set old.timers index port_after.timer;
         events = port_after.events;
       })
-  handles in_time few within is_timer found steps lends stays kind = At_port (record {
+  handles in_time few within is_timer found still steps lends stays kind = At_port (record {
     index = index;
     timer = timer;
     within = within;
@@ -366,6 +369,7 @@ module _ (old : Loop) (index : ℕ) (timer : Timer) (transfer : Held) (from : En
           transfer = transfer;
           next = handled;
           found = found;
+          still = still;
           takes = record {
             turn = turn;
             steps = steps;
@@ -393,7 +397,7 @@ is_acknowledged = record { decoded = Some (Ack 1); says = ack_spelled 1 (omega a
 unfoldable pub completes_read : Step g2 g3
 completes_read =
     handles g2 0 (timed getter false 500 0) (read_by reading) getter (ack_bytes 1) completes Nothing store (A_source read)
-    (omega arith) (omega arith) (omega arith) refl refl is_acknowledged refl refl tt
+    (omega arith) (omega arith) (omega arith) refl refl refl is_acknowledged refl refl tt
 
 unfoldable pub closes_read : Step g3 g4
 closes_read = Transfer_closed (record {
@@ -531,7 +535,7 @@ stores_block = record {
 unfoldable pub stores_write : Step p2 p3
 stores_write =
     handles p2 0 (timed putter false 500 0) (written_by receiving draft) putter (data_bytes 1 (66 ∷ [])) keeps
-    LastSent ended (Sink whole) (omega arith) (omega arith) (omega arith) refl refl stores_block refl tt tt
+    LastSent ended (Sink whole) (omega arith) (omega arith) (omega arith) refl refl refl stores_block refl tt tt
 
 abbrev pub puts : Run (LoopStep stores sources) s0 p3
 puts = Then (Then (Then Start asks_to_write) opens_write) stores_write

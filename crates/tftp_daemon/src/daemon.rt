@@ -24,7 +24,7 @@ use std::io::{self, ErrorKind};
 use std::process::ExitStatus;
 use std::time::Clock;
 use tftp_disk::Disk;
-use tftp_ends::Endpoint;
+use tftp_ends::{Backoff, Endpoint};
 use tftp_file::Source;
 use tftp_folder::{FolderSource, FolderStore};
 use tftp_lines::{Reason, reason_of};
@@ -114,6 +114,7 @@ impl DaemonConfig<'_> {
             ports: self.ports,
             ending: self.ending,
             longest: self.longest,
+            backoff: Backoff::Constant,
             requests_only: self.requests_only,
             per_client: self.per_client,
             drains: self.drain.is_some(),

@@ -142,7 +142,7 @@ fn with_folder_and_ports<'a>(alloc: Global, command: Command<'a>) -> Result<Comm
         alloc,
         PORTS,
         "A:B",
-        "UDP ports of transfers, A to B, each used once before any again",
+        "UDP ports of transfers, A to B, each drawn at random",
     );
     Ok(command.arg(ports)?)
 }

@@ -21,7 +21,7 @@ use std::rt::Runtime;
 use std::time::Clock;
 use std::{fmt, io};
 use tftp_arguments::{own_words, print_no_memory, print_words_fault};
-use tftp_disk::{Disk, SystemDisk};
+use tftp_disk::{Disk, LockFiles, SystemDisk};
 use tftp_file::Source;
 use tftp_folder::{FolderSource, FolderStore};
 use tftp_lines::Reason;
@@ -34,7 +34,9 @@ use tftp_status::Counted;
 /// Runs `tftpd` with the program's own command line, and this standard input, and returns its status.
 ///
 /// See [`tftpd_words`].
-pub fn tftpd_command<R: Runtime + AllocGlobal + Net + RandomSource + ErrorLines + Supervise>(
+pub fn tftpd_command<
+    R: Runtime + LockFiles + AllocGlobal + Net + RandomSource + ErrorLines + Supervise,
+>(
     rt: &R,
     input: Input,
 ) -> u8
@@ -54,7 +56,7 @@ pub fn tftpd_command<R: Runtime + AllocGlobal + Net + RandomSource + ErrorLines 
 /// reported on standard error, and when out of memory. A second line names the folder or the address
 /// that was refused, and why.
 pub fn tftpd_words<
-    R: Runtime + AllocGlobal + Net + RandomSource + ErrorLines + Supervise,
+    R: Runtime + LockFiles + AllocGlobal + Net + RandomSource + ErrorLines + Supervise,
     S: AsStr,
 >(rt: &R, words: &[S], input: Input) -> u8
     ensures { result ≤ 2 }

@@ -10,11 +10,11 @@ use Rattle.tftp_file.specs.Netascii.{wire_byte, wire_text, netascii_text}
 use Rattle.tftp_disk.specs.DiskTrace.{DiskEvent}
 use Rattle.tftp_disk.specs.DiskTrace.DiskEvent.{Given}
 use Rattle.tftp_disk.specs.Given.{GaveBytes}
-use Rattle.tftp_disk.specs.DiskSource.{pending, source_calls, source_mode, AppendsRead, GivesPiece, HoldsAhead, Passes}
+use Rattle.tftp_disk.specs.DiskSource.{pending, source_calls, source_error, source_mode, AppendsRead, GivesPiece, HoldsAhead, Passes}
 use Rattle.tftp_disk.specs.declared.disk_file.DiskFile.{DiskFile}
 use Rattle.tftp_disk.specs.declared.disk_source.DiskSource.{DiskSource}
 use Rattle.std.specs.declared.io.Error.{Error}
-use Rattle.tftp_disk.specs.ReadBuffer.{ReadsSome}
+use Rattle.tftp_disk.specs.ReadBuffer.{ReadsSome, Refills}
 use Rattle.tftp_disk.specs.DiskSourceLaws.{no_text}
 use Rattle.tftp_disk.proofs.ReadLemmas.{no_length, reads_more, reads_nothing}
 
@@ -193,3 +193,68 @@ module _ {F : Type 0} where
   gives_ahead before after empty same_mode sound holds failed =
       ahead_by before after (no_length before.ahead empty) same_mode (no_error before.error sound) holds failed
       after.error refl
+
+  -- a call that gave a piece, and then one that gave nothing, and did not fail
+  pub gives_then : (a b c : DiskSource F) (piece same : List ℕ) → GivesPiece a piece b → GivesPiece b [] c
+      → source_error c ≡ None → same ≡ piece → GivesPiece a same c
+  gives_then a b c piece same first second sound is =
+      let later = second.text sound in
+      let before = first.text later.0 in
+      let wire : wire_text (source_mode a) second.bytes ≡ wire_text (source_mode b) second.bytes =
+      ap (λ m. wire_text m second.bytes) (sym first.mode) in
+      record {
+        mode = second.mode ∙ first.mode;
+        bytes = first.bytes ++ second.bytes;
+        reads = reads_more (source_calls a) (source_calls b) (source_calls c) first.bytes second.bytes first.reads second.reads;
+        text = λ none. (
+          before.0,
+          ap (λ l. pending a ++ l) (wire_more (source_mode a) first.bytes second.bytes)
+              ∙ sym (append_assoc (pending a) (wire_text (source_mode a) first.bytes) (wire_text (source_mode a) second.bytes))
+              ∙ ap (λ l. l ++ wire_text (source_mode a) second.bytes) before.1
+              ∙ append_assoc piece (pending b) (wire_text (source_mode a) second.bytes)
+              ∙ ap (λ l. piece ++ (pending b ++ l)) wire
+              ∙ ap (λ l. piece ++ l) later.1
+              ∙ ap (λ l. l ++ pending c) (sym is),
+        );
+        none = λ failed. absurd (let no : true ≡ false = sym failed ∙ ap is_some sound in cc);
+      }
+
+  -- and failed: nothing is given
+  pub gives_failed : (a b c : DiskSource F) (piece none : List ℕ) → GivesPiece a piece b → GivesPiece b [] c
+      → IsSome (source_error c) → none ≡ [] → GivesPiece a none c
+  gives_failed a b c piece none first second failed is = record {
+    mode = second.mode ∙ first.mode;
+    bytes = first.bytes ++ second.bytes;
+    reads = reads_more (source_calls a) (source_calls b) (source_calls c) first.bytes second.bytes first.reads second.reads;
+    text = λ sound. absurd (let no : true ≡ false = sym failed ∙ ap is_some sound in cc);
+    none = λ some. is;
+  }
+
+  -- nothing is left, and the next read returned some text, or none
+  pub gives_refilled : (before after : DiskSource F) (left : List ℕ) → length before.ahead ≤ 0
+      → after.ahead ≡ before.ahead → after.mode ≡ before.mode → is_some before.error ≡ false
+      → Refills before.mode (source_calls before) (source_calls after) before.buffer after.buffer
+      → GivesPiece before [] after
+  gives_refilled before after left empty ahead same_mode sound refills = record {
+    mode = same_mode;
+    bytes = refills.bytes;
+    reads = refills.reads;
+    text = λ still. (
+      no_error before.error sound,
+      append_assoc before.ahead before.buffer (wire_text before.mode refills.bytes)
+          ∙ ap (λ l. before.ahead ++ l) (sym refills.added)
+          ∙ ap (λ l. l ++ after.buffer) (sym ahead),
+    );
+    none = λ failed. refl;
+  }
+
+  -- a read that failed, or that returned too much, gives nothing
+  pub gives_no_more : (before after : DiskSource F) → after.mode ≡ before.mode → IsSome (source_error after)
+      → ReadsSome (source_calls before) (source_calls after) → GivesPiece before [] after
+  gives_no_more before after same_mode failed reads = record {
+    mode = same_mode;
+    bytes = reads.0;
+    reads = reads.1;
+    text = λ sound. absurd (let no : true ≡ false = sym failed ∙ ap is_some sound in cc);
+    none = λ some. refl;
+  }

@@ -3,14 +3,15 @@ use Rattle.std.specs.Prelude.{◌≡◌, ◌⊎◌, ⊤, List, [], ◌∷◌, Ok
 use Rattle.std.specs.IoError.{error_kind}
 use Rattle.std.specs.declared.io.ErrorKind.TheVariants as kinds
 use Rattle.tftp_disk.specs.DiskTrace.{DiskEvent, Done}
-use Rattle.tftp_disk.specs.DiskTrace.DiskEvent.{Made, Linked, Renamed, Removed}
+use Rattle.tftp_disk.specs.DiskTrace.DiskEvent.{Made, Locked, Linked, Renamed, Removed}
 use Rattle.tftp_disk.specs.DiskTrace.DiskEvent.{Folder_opened, Folder_synced}
 
--- the calls that make, name or remove a file, and those that open and sync a folder, whatever their
--- answer; all others only look, open a file and read
+-- the calls that make, lock, name or remove a file, and those that open and sync a folder, whatever
+-- their answer; all others only look, open a file and read
 abbrev pub changes : List DiskEvent → List DiskEvent
 changes [] = []
 changes (Made path answer ∷ events) = Made path answer ∷ changes events
+changes (Locked path answer ∷ events) = Locked path answer ∷ changes events
 changes (Linked file from to answer ∷ events) = Linked file from to answer ∷ changes events
 changes (Renamed file from to answer ∷ events) = Renamed file from to answer ∷ changes events
 changes (Removed path answer ∷ events) = Removed path answer ∷ changes events

@@ -3,7 +3,7 @@ use Rattle.std.specs.Prelude.{length}
 use Rattle.tftp_disk.specs.Calls.{path_text, read_event, write_event}
 use Rattle.tftp_disk.specs.DiskTrace.{DiskEvent, state_of, folder_at}
 use Rattle.tftp_disk.specs.DiskTrace.DiskEvent.{Looked, Followed, Resolved, Opened, Tried, Created}
-use Rattle.tftp_disk.specs.DiskTrace.DiskEvent.{Made, Linked, Renamed, Removed, Folder_opened}
+use Rattle.tftp_disk.specs.DiskTrace.DiskEvent.{Made, Locked, Linked, Renamed, Removed, Folder_opened}
 use Rattle.tftp_disk.specs.DiskTrace.DiskEvent.{Folder_synced, Examined, Sought, Synced, Mode_set}
 use Rattle.tftp_disk.specs.declared.disk_event_ref.DiskEventRef.{DiskEventRef}
 use Rattle.tftp_disk.specs.declared.disk_event_ref.DiskEventRef.TheVariants as refs
@@ -17,6 +17,7 @@ disk_event (refs.Opened path answer) = Opened path.now answer
 disk_event (refs.Tried path answer) = Tried path.now answer
 disk_event (refs.Created path disk) = Created path.now (length disk.now.events)
 disk_event (refs.Made path answer) = Made path.now answer
+disk_event (refs.Locked path answer) = Locked path.now answer
 disk_event (refs.Linked file from to answer) =
     Linked (state_of file.now.events) from.now to.now answer
 disk_event (refs.Renamed file from to answer) =

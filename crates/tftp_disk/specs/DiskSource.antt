@@ -6,7 +6,7 @@ use Rattle.tftp_file.specs.Block.{IsPrefixOf}
 use Rattle.tftp_file.specs.Netascii.{wire_text}
 use Rattle.tftp_disk.specs.DiskTrace.{DiskEvent}
 use Rattle.tftp_disk.specs.DiskTrace.DiskEvent.{Given}
-use Rattle.tftp_disk.specs.Given.{given, GaveBytes}
+use Rattle.tftp_disk.specs.Given.{given, GaveBytes, IsAtEnd}
 use Rattle.tftp_disk.specs.declared.disk_source.DiskSource.{DiskSource}
 
 -- these calls read bytes: a piece was appended to a buffer, and what is left of what was left
@@ -73,6 +73,12 @@ module _ {F : Type 0} where
     pub text : source_error after ≡ None → (source_error before ≡ None)
         × (pending before ++ wire_text (source_mode before) bytes ≡ piece ++ pending after)
     pub none : IsSome (source_error after) → piece ≡ []
+
+  -- the text has ended, by the newest read, and nothing of it is left
+  pub record HasEnded (source : DiskSource F) : Type 0 where
+    pub sound : source_error source ≡ None
+    pub none : pending source ≡ []
+    pub end : IsAtEnd (source_calls source)
 
   -- what a source has given is a beginning of the wire text of what reads of its file returned, in
   -- order and each byte once: all but what it has left, unless a read failed

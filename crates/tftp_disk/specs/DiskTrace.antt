@@ -8,13 +8,15 @@ use Rattle.tftp_disk.specs.declared.found.Found.{Found}
 
 -- what an open file is, by the calls on it: where it was made, if it was, and how many calls its
 -- disk had seen by then; the bytes that were written to it; whether a sync succeeded after the last
--- write; and whether a sync failed
+-- write; whether a sync failed; and the modes that it was to have, whatever the answer, the newest
+-- first
 pub record FileState : Type 0 where
   pub made_at : Option (List ℕ)
   pub made_when : Option ℕ
   pub written : List ℕ
   pub is_synced : Bool
   pub sync_failed : Bool
+  pub modes : List ℕ
 
 -- the answer of a call that returns nothing
 abbrev pub Done : Type 0
@@ -40,6 +42,8 @@ pub data DiskEvent : Type 0 where
   Created : (path : List ℕ) (calls : ℕ) → DiskEvent
   -- a file was made, to be written; none was there
   Made : (path : List ℕ) (answer : Done) → DiskEvent
+  -- a file was opened to be written, and locked: no other open file had its lock
+  Locked : (path : List ℕ) (answer : Done) → DiskEvent
   -- an open file's path got a second name, which no file had
   Linked : (file : FileState) (from to : List ℕ) (answer : Done) → DiskEvent
   -- an open file's path was exchanged for another, over any file that had that
@@ -106,6 +110,12 @@ sync_failed [] = false
 sync_failed (Synced (Err error) ∷ events) = true
 sync_failed (event ∷ events) = sync_failed events
 
+-- the modes that it was to have, whatever the answer, the newest first
+abbrev pub modes_asked : List DiskEvent → List ℕ
+modes_asked [] = []
+modes_asked (Mode_set mode answer ∷ events) = mode ∷ modes_asked events
+modes_asked (event ∷ events) = modes_asked events
+
 -- what the open file of these calls is
 abbrev pub state_of : List DiskEvent → FileState
 state_of events =
@@ -115,4 +125,5 @@ state_of events =
       written = written events;
       is_synced = is_synced events;
       sync_failed = sync_failed events;
+      modes = modes_asked events;
     }

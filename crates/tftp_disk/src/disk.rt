@@ -13,7 +13,7 @@ ghost use Rattle.tftp_disk.specs.Calls.{path_text};
 ghost use Rattle.tftp_disk.specs.DiskTrace.{DiskEvent, done, folder_at, state_of};
 ghost use Rattle.tftp_disk.specs.DiskTrace.DiskEvent.{Created, Followed, Looked, Opened, Resolved};
 ghost use Rattle.tftp_disk.specs.DiskTrace.DiskEvent.{Folder_opened, Folder_synced, Tried};
-ghost use Rattle.tftp_disk.specs.DiskTrace.DiskEvent.{Linked, Made, Removed, Renamed};
+ghost use Rattle.tftp_disk.specs.DiskTrace.DiskEvent.{Linked, Locked, Made, Removed, Renamed};
 
 use crate::disk_file::{DiskFile, DiskFolder};
 use crate::found::Found;
@@ -26,6 +26,9 @@ use std::path::PathBuf;
 pub trait Looks {
     /// What was asked and answered, the newest first.
     ghost log: { Self → List DiskEvent };
+
+    /// The seconds since 1970 by the clock of the system, or none if that cannot be read.
+    fn seconds(&self) -> Option<i64>;
 
     /// Looks at a path itself: no link is followed.
     fn look(&mut self, path: &str) -> io::Result<Found>
@@ -74,6 +77,21 @@ pub trait Disk: Looks + Drop {
         ensures noted { Self.log self.new ≡ Made path.now (done result) ∷ Self.log self.old }
         ensures file { IfOk result (λ file. file.trace.events
             ≡ Created path.now (length (Self.log self.old)) ∷ []) };
+
+    /// Makes a file, to be written, where none is, and locks it without waiting (`flock`): as long
+    /// as it is open, no other open file of the folder's programs has its lock. `WouldBlock` if one
+    /// took it first: the file is that one's.
+    fn make_locked(&mut self, path: &str) -> io::Result<DiskFile<Self::File>>
+        ensures noted { Self.log self.new ≡ Made path.now (done result) ∷ Self.log self.old }
+        ensures file { IfOk result (λ file. file.trace.events ≡ Locked path.now (Ok tt)
+            ∷ Created path.now (length (Self.log self.old)) ∷ []) };
+
+    /// Opens a file to be written, and locks it without waiting. `WouldBlock` if another open file
+    /// has its lock.
+    fn lock(&mut self, path: &str) -> io::Result<DiskFile<Self::File>>
+        ensures noted { Self.log self.new ≡ Locked path.now (done result) ∷ Self.log self.old }
+        ensures file { IfOk result (λ file. file.trace.events
+            ≡ Locked path.now (Ok tt) ∷ []) };
 
     /// Gives the file at a path a second name, if no file has that.
     fn link(&mut self, file: &DiskFile<Self::File>, from: &str, to: &str) -> io::Result<()>

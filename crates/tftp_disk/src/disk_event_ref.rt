@@ -27,6 +27,8 @@ pub(crate) enum DiskEventRef<'a> {
     Created(&'a str, &'a DiskTrace),
     /// A file was made.
     Made(&'a str, io::Result<()>),
+    /// A file was opened to be written, and locked.
+    Locked(&'a str, io::Result<()>),
     /// The path of an open file got a second name.
     Linked(&'a DiskTrace, &'a str, &'a str, io::Result<()>),
     /// The path of an open file was exchanged.

@@ -36,6 +36,13 @@ impl<F> DiskFile<F> {
         }
     }
 
+    /// Notes a call on it, which its disk made.
+    pub(crate) fn note(&mut self, event: &DiskEventRef<'_>)
+        ensures { self.new.trace.events ≡ disk_event event.now ∷ self.old.trace.events }
+    {
+        self.trace.note(event);
+    }
+
     /// The trace of its calls.
     pub fn trace(&self) -> &DiskTrace
         ensures { result.now ≡ self.now.trace }

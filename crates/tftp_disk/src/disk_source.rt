@@ -12,7 +12,7 @@ use crate::ahead_buffer::AheadBuffer;
 use crate::disk_file::DiskFile;
 use crate::read_buffer::ReadBuffer;
 use std::alloc::{AllocError, Global};
-use std::io::{self, Read};
+use std::io::{self, ErrorKind, Read};
 use tftp_file::{FileFault, Source};
 use tftp_wire::Mode;
 
@@ -120,6 +120,63 @@ impl<F: Read> Source for DiskSource<F> {
         self.error = self
             .ahead
             .read(&mut self.file, &mut self.buffer, self.mode, self.size);
+    }
+}
+
+impl<F: Read> DiskSource<F> {
+    ghost use Rattle.std.specs.Prelude.{None, IsSome, OnOk, true, false};
+    ghost use Rattle.tftp_disk.specs.DiskSource.{GivesPiece, HasEnded};
+    ghost use Rattle.tftp_file.specs.Source.{Fills, added_to};
+
+    /// A fill that is to be the last: it fails, as each after it, if there is more text than it
+    /// requests.
+    pub fn fill_last(&mut self, want: usize, out: &mut Vec<u8>) -> Result<usize, FileFault>
+        ensures fills { Fills None None want out.old.items out.new.items result }
+        ensures fails { IsSome (source_error self.old) → result ≡ Err FileFault.Read }
+        ensures gives { GivesPiece self.old (added_to out.old.items out.new.items) self.new }
+        ensures capacity { vec_capacity out.old ≤ vec_capacity out.new }
+        ensures ends { OnOk result (HasEnded self.new) }
+    {
+        let start = out.len();
+        match self.fill(want, out) {
+            Ok(count) => {
+                if self.ends() {
+                    return Ok(count);
+                }
+                out.truncate(start);
+                Err(FileFault::Read)
+            }
+            Err(fault) => Err(fault),
+        }
+    }
+
+    /// Whether the text that was given is all of it: nothing is left, and a read returns nothing. If
+    /// there is more, or the read fails, the source fails from now on.
+    fn ends(&mut self) -> bool
+        ensures gives { GivesPiece self.old [] self.new }
+        ensures ends { result ≡ true → HasEnded self.new }
+        ensures failed { result ≡ false → IsSome (source_error self.new) }
+    {
+        if self.error.is_some() {
+            return false;
+        }
+        if self.ahead.len() > 0 {
+            self.error = Some(io::Error::from(ErrorKind::InvalidData));
+            return false;
+        }
+        match self.buffer.refill(&mut self.file, self.mode) {
+            Ok(()) => {
+                if self.buffer.len() == 0 {
+                    return true;
+                }
+                self.error = Some(io::Error::from(ErrorKind::InvalidData));
+                false
+            }
+            Err(error) => {
+                self.error = Some(error);
+                false
+            }
+        }
     }
 }
 

@@ -35,4 +35,4 @@ pub use folder::{folder_of, folder_or_root};
 pub use found::{FileId, Found, Kind};
 pub use measuring::{TextLength, count_netascii};
 pub use named_folder::NamedFolder;
-pub use system_disk::SystemDisk;
+pub use system_disk::{LockFiles, SystemDisk};

@@ -12,19 +12,35 @@ use crate::disk_file::{DiskFile, DiskFolder};
 use crate::disk_trace::{DiskEvents, DiskTrace};
 use crate::found::{Found, found_of};
 use std::alloc::Global;
-use std::fs::{self, OpenOptions};
+use std::fs::{self, File, OpenOptions};
 use std::io;
 use std::path::PathBuf;
 use std::rt::Files;
+use std::time::Clock;
+
+/// Files of the system that can be locked.
+pub trait LockFiles: Files {
+    /// Locks an open file without waiting: `WouldBlock` if another open file has the lock.
+    fn try_lock(&self, file: &Self::File) -> io::Result<()>;
+}
+
+impl LockFiles for HostRuntime {
+    fn try_lock(&self, file: &File) -> io::Result<()> {
+        match file.try_lock() {
+            Ok(()) => Ok(()),
+            Err(error) => Err(io::Error::from(error)),
+        }
+    }
+}
 
 /// The disk of the system. It is its own view: code that has a [`View`] has the calls of that alone.
 #[derive(Drop)]
-pub struct SystemDisk<'a, R: Files> {
+pub struct SystemDisk<'a, R: Files + Clock> {
     files: &'a R,
     trace: DiskTrace,
 }
 
-impl<'a, R: Files> SystemDisk<'a, R> {
+impl<'a, R: Files + Clock> SystemDisk<'a, R> {
     /// The disk, of which nothing was asked.
     pub fn new(files: &'a R) -> SystemDisk<'a, R>
         ensures { ⟦<SystemDisk<'a, R> as Looks>⟧.log result ≡ [] }
@@ -36,8 +52,15 @@ impl<'a, R: Files> SystemDisk<'a, R> {
     }
 }
 
-impl<'a, R: Files> Looks for SystemDisk<'a, R> {
+impl<'a, R: Files + Clock> Looks for SystemDisk<'a, R> {
     ghost log = { λ disk. disk.trace.events };
+
+    fn seconds(&self) -> Option<i64> {
+        match self.files.since_1970() {
+            Ok(time) => i64::try_from(time.as_secs()).ok(),
+            Err(_) => None,
+        }
+    }
 
     fn look(&mut self, path: &str) -> io::Result<Found> {
         let answer = found_of(fs::symlink_metadata(self.files, path));
@@ -58,7 +81,7 @@ impl<'a, R: Files> Looks for SystemDisk<'a, R> {
     }
 }
 
-impl<'a, R: Files> View for SystemDisk<'a, R> {
+impl<'a, R: Files + Clock> View for SystemDisk<'a, R> {
     type File = R::File;
 
     fn open(&mut self, path: &str) -> io::Result<DiskFile<R::File>> {
@@ -68,7 +91,7 @@ impl<'a, R: Files> View for SystemDisk<'a, R> {
     }
 }
 
-impl<'a, R: Files> Disk for SystemDisk<'a, R> {
+impl<'a, R: LockFiles + Clock> Disk for SystemDisk<'a, R> {
     type File = R::File;
 
     type View = SystemDisk<'a, R>;
@@ -92,6 +115,26 @@ impl<'a, R: Files> Disk for SystemDisk<'a, R> {
         let file = DiskFile::of(made, &DiskEventRef::Created(path, &self.trace));
         self.trace.note(&DiskEventRef::Made(path, done(&file)));
         file
+    }
+
+    fn make_locked(&mut self, path: &str) -> io::Result<DiskFile<R::File>> {
+        let made = OpenOptions::new()
+            .write(true)
+            .create_new(true)
+            .open(self.files, path);
+        let locked = locked(self.files, made);
+        let made = DiskFile::of(locked, &DiskEventRef::Created(path, &self.trace));
+        self.trace.note(&DiskEventRef::Made(path, done(&made)));
+        let mut file = made?;
+        file.note(&DiskEventRef::Locked(path, Ok(())));
+        Ok(file)
+    }
+
+    fn lock(&mut self, path: &str) -> io::Result<DiskFile<R::File>> {
+        let opened = OpenOptions::new().write(true).open(self.files, path);
+        let locked = locked(self.files, opened);
+        self.trace.note(&DiskEventRef::Locked(path, done(&locked)));
+        DiskFile::of(locked, &DiskEventRef::Locked(path, Ok(())))
     }
 
     fn link(&mut self, file: &DiskFile<R::File>, from: &str, to: &str) -> io::Result<()> {
@@ -126,5 +169,16 @@ impl<'a, R: Files> Disk for SystemDisk<'a, R> {
         let event = DiskEventRef::FolderSynced(folder.trace(), answer);
         self.trace.note(&event);
         answer
+    }
+}
+
+/// The file that was opened, if it can be locked; else it is closed.
+fn locked<R: LockFiles>(files: &R, opened: io::Result<R::File>) -> io::Result<R::File> {
+    match opened {
+        Ok(file) => match files.try_lock(&file) {
+            Ok(()) => Ok(file),
+            Err(error) => Err(error),
+        },
+        Err(error) => Err(error),
     }
 }

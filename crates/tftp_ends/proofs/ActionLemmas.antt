@@ -279,3 +279,22 @@ pub data_acts_fit : (e : EndState) (from : Endpoint) (bytes : List ℕ) (terms :
 data_acts_fit e from bytes terms stored block piece sound phase spelled =
     subst (λ (p : Phase). BytesFit e bytes (packet_action e from (Some (Data block piece)) p)) phase
     (packet_fits e from bytes (Some (Data block piece)) sound spelled)
+
+-- the same of a sender: the ACK of its newest DATA from its peer
+pub ack_acts : (e : EndState) (from : Endpoint) (bytes : List ℕ) (terms : Terms) (number : ℕ) →
+    e.position.phase ≡ Sending terms number →
+    is_wrong_peer (terms_of e.position.phase) e.position.last_sent_to from ≡ false →
+    datagram_action e from bytes (Some (Ack number)) ≡ acked_action e.role.length terms number number
+ack_acts e from bytes terms number phase peer =
+    chosen_last (is_wrong_peer (terms_of e.position.phase) e.position.last_sent_to from) (has_error_opcode bytes)
+    (if has_error_opcode bytes then Respond Ignore else Respond WrongPeer) (Respond (garbled_response e.position.phase))
+    (packet_action e from (Some (Ack number)) e.position.phase) peer
+    ∙ ap (λ (p : Phase). packet_action e from (Some (Ack number)) p) phase
+
+-- what it requires
+pub ack_acts_fit : (e : EndState) (from : Endpoint) (bytes : List ℕ) (terms : Terms) (number : ℕ) →
+    IsSound e → e.position.phase ≡ Sending terms number → Spells (Ack number) bytes →
+    BytesFit e bytes (acked_action e.role.length terms number number)
+ack_acts_fit e from bytes terms number sound phase spelled =
+    subst (λ (p : Phase). BytesFit e bytes (packet_action e from (Some (Ack number)) p)) phase
+    (packet_fits e from bytes (Some (Ack number)) sound spelled)

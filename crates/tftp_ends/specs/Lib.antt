@@ -2,6 +2,7 @@ pub mod Outcome
 pub mod ErrorReply
 pub mod Fault
 pub mod End
+pub mod Backoff
 pub mod Phase
 pub mod Text
 pub mod Laws

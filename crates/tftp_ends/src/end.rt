@@ -8,13 +8,13 @@ mod sides;
 mod storing;
 
 ghost use Rattle.std.specs.Prelude.{◌≡◌, ◌↔◌, ◌+◌, ◌++◌, ◌≤◌, length, option_map, Option};
-ghost use Rattle.std.specs.Prelude.{Some, false, IfOk, IfSome, OnErr, IsErrOf, IsSome, is_some};
+ghost use Rattle.std.specs.Prelude.{Some, false, true, IfOk, IfSome, OnErr, IsErrOf, IsSome, is_some};
 ghost use Rattle.std.specs.Prelude.{vec_len, vec_capacity};
 ghost use Rattle.tftp_wire.specs.Borrowed.{owned};
 ghost use Rattle.tftp_wire.specs.Spelling.{Spells};
 ghost use Rattle.tftp_wire.specs.declared.packet.Packet.{Packet};
-ghost use Rattle.tftp_wire.specs.declared.packet.Packet.TheVariants.{Data};
-ghost use Rattle.tftp_ends.specs.declared.phase.Phase.TheVariants.{Receiving};
+ghost use Rattle.tftp_wire.specs.declared.packet.Packet.TheVariants.{Ack, Data};
+ghost use Rattle.tftp_ends.specs.declared.phase.Phase.TheVariants.{Receiving, Sending};
 
 use crate::action::{Action, Response};
 use crate::endpoint::Endpoint;
@@ -26,7 +26,7 @@ use crate::phase::{Dally, Phase, Terms};
 use crate::receiver::{dally_response, data_action, receiver_action};
 use crate::record::{DEFAULT_INTERVAL, Held, Record, Step};
 use crate::role::Role;
-use crate::sender::sender_action;
+use crate::sender::{acked_action, acknowledges, sender_action};
 use crate::waiting::{reader_action, writer_action};
 use std::marker::Model;
 use tftp_file::{Files, NetDecoder, Sink, Source};
@@ -85,6 +85,7 @@ impl Model for End {
 impl End {
     ghost use Rattle.tftp_ends.specs.End.{record_of, held_by, outcome_of, terms_of, interval_of};
     ghost use Rattle.tftp_ends.specs.End.{is_sender};
+    ghost use Rattle.tftp_ends.specs.Backoff.{timeouts_of};
     ghost use Rattle.tftp_ends.specs.Action.{Decodes, HandledBy, datagram_action, packet_action};
     ghost use Rattle.tftp_ends.specs.Action.{garbled_response, is_wrong_peer, timeout_response};
     ghost use Rattle.tftp_ends.specs.Action.{timeout_action};
@@ -140,6 +141,14 @@ impl End {
     {
         let agreed = self.phase.terms().and_then(|terms| terms.timeout);
         agreed.unwrap_or(DEFAULT_INTERVAL)
+    }
+
+    /// The timeouts since the opening or the last progress: the retries that are used up. With
+    /// [`End::interval`] they say how long the end waits ([`Backoff::wait`](crate::Backoff::wait)).
+    pub fn timeouts(&self) -> u8
+        ensures { result ≡ timeouts_of self.now }
+    {
+        self.role.retries.saturating_sub(self.retries_left)
     }
 
     /// Whether a datagram is not from the peer or, while the peer is unknown, not from the server's
@@ -298,6 +307,77 @@ impl End {
             Action::Store { .. } => Some(action),
             Action::Send { .. } => None,
             Action::Respond(_) => None,
+        }
+    }
+
+    /// How a sender handles the ACK of its newest DATA from its peer.
+    #[inline(always)]
+    fn ack_step(&self, from: Endpoint, bytes: &[u8], terms: Terms, number: u16) -> Action
+        requires phase { self.now.position.phase ≡ Sending terms number }
+        requires peer { is_wrong_peer (terms_of self.now.position.phase)
+            self.now.position.last_sent_to from ≡ false }
+        requires spelled { Spells (Ack number) bytes.now }
+        ensures action { result
+            ≡ datagram_action self.now from bytes.now (Some (Ack number)) }
+        ensures fits { ActionFits self.now result }
+        ensures bytes { BytesFit self.now bytes.now result }
+    {
+        self.sound();
+        acked_action(self.role.length, terms, number, number)
+    }
+
+    /// The action of a sender that sends the next block, if the datagram is the ACK of its newest
+    /// from the peer.
+    #[inline(always)]
+    fn next_ack(&self, from: Endpoint, bytes: &[u8]) -> Option<Action>
+        ensures action { IfSome result (λ action. (decoded : Option Packet)
+            × Decodes bytes.now decoded
+            × (action ≡ datagram_action self.now from bytes.now decoded)) }
+        ensures fits { IfSome result (λ action. ActionFits self.now action) }
+        ensures bytes { IfSome result (λ action. BytesFit self.now bytes.now action) }
+    {
+        let Phase::Sending { terms, number } = self.phase else {
+            return None;
+        };
+        if self.is_wrong_peer(from) {
+            return None;
+        }
+        if !acknowledges(bytes, number) {
+            return None;
+        }
+        let action = self.ack_step(from, bytes, terms, number);
+        match action {
+            Action::Send { .. } => Some(action),
+            Action::Store { .. } => None,
+            Action::Respond(_) => None,
+        }
+    }
+
+    /// How a sender handles any datagram.
+    #[inline(never)]
+    fn any_sender_action(&self, from: Endpoint, bytes: &[u8]) -> Action
+        requires { is_sender self.now.role.side ≡ true }
+        ensures action { (decoded : Option Packet) × Decodes bytes.now decoded
+            × (result ≡ datagram_action self.now from bytes.now decoded) }
+        ensures fits { ActionFits self.now result }
+        ensures bytes { BytesFit self.now bytes.now result }
+    {
+        self.datagram_action(true, from, bytes)
+    }
+
+    /// How a sender handles a datagram. Most are the ACK of its newest DATA: its action is not copied
+    /// between calls.
+    #[inline(always)]
+    fn action_as_sender(&self, from: Endpoint, bytes: &[u8]) -> Action
+        requires { is_sender self.now.role.side ≡ true }
+        ensures action { (decoded : Option Packet) × Decodes bytes.now decoded
+            × (result ≡ datagram_action self.now from bytes.now decoded) }
+        ensures fits { ActionFits self.now result }
+        ensures bytes { BytesFit self.now bytes.now result }
+    {
+        match self.next_ack(from, bytes) {
+            Some(action) => action,
+            None => self.any_sender_action(from, bytes),
         }
     }
 

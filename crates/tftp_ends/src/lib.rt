@@ -9,6 +9,7 @@
 #![tactic(auto)]
 
 mod action;
+mod backoff;
 mod config;
 mod decoding;
 mod end;
@@ -31,6 +32,7 @@ mod side;
 mod waiting;
 
 pub use action::{Action, Response};
+pub use backoff::Backoff;
 pub use config::EndConfig;
 pub use decoding::decode_packet;
 pub use end::End;

@@ -1,7 +1,9 @@
 //! How a sender handles a packet from its peer, whether it is a client's or the server's.
 
-ghost use Rattle.std.specs.Prelude.{◌≡◌, ◌*◌, ◌<◌, option_map};
+ghost use Rattle.std.specs.Prelude.{◌≡◌, ◌*◌, ◌<◌, true, option_map};
 ghost use Rattle.tftp_wire.specs.Borrowed.{owned};
+ghost use Rattle.tftp_wire.specs.Spelling.{Spells};
+ghost use Rattle.tftp_wire.specs.declared.packet.Packet.TheVariants.{Ack};
 ghost use Rattle.tftp_ends.specs.End.{is_client};
 ghost use Rattle.tftp_ends.specs.Fits.{FitsSender};
 ghost use Rattle.tftp_ends.specs.Sender.{illegal_action, peer_error, acked_action, sender_action};
@@ -33,9 +35,19 @@ pub(crate) fn peer_error(code: u16) -> Action
     })
 }
 
+/// Whether a datagram is the ACK of this block (RFC 1350, section 5).
+#[inline(always)]
+pub(crate) fn acknowledges(bytes: &[u8], block: u16) -> bool
+    ensures { result ≡ true → Spells (Ack block) bytes.now }
+{
+    let [high, low] = block.to_be_bytes();
+    bytes == [0, 4, high, low].as_slice()
+}
+
 /// An ACK of the newest block requests the next one, or ends the transfer. An older ACK is ignored:
 /// to answer it by DATA would double every later datagram (RFC 1123, section 4.2.3.1).
-fn acked_action(length: u64, terms: Terms, number: u16, acked: u16) -> Action
+#[inline(always)]
+pub(crate) fn acked_action(length: u64, terms: Terms, number: u16, acked: u16) -> Action
     requires size { 0 < terms.size }
     requires fits { length < 65535 * terms.size }
     ensures action { result ≡ acked_action length terms number acked }

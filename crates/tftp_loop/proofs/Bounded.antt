@@ -1,4 +1,4 @@
--- In each state of a run a deadline is an interval away at most, and no end has more than its retries. For Expiring
+-- In each state of a run a deadline is a wait away at most, and no end has more than its retries. For Expiring
 -- and PortCounts.
 use Rattle.std.proofs.Common.{arith, ◌≡◌, ◌<◌, ◌≤◌, ℕ, true, false, List, [], ◌∷◌, length, map}
 use Rattle.std.proofs.Common.{Option, Some, None, IsSome, refl, sym, ap, subst, ◌∙◌, inl, inr}
@@ -10,6 +10,7 @@ use Rattle.tftp_wire.specs.declared.mode.Mode.{Mode}
 use Rattle.tftp_negotiate.specs.declared.known.Known.{Known}
 use Rattle.tftp_file.specs.Source.{SourceMeaning}
 use Rattle.tftp_file.specs.declared.fault.StoreFault.{StoreFault}
+use Rattle.tftp_ends.specs.declared.backoff.Backoff.{Backoff}
 use Rattle.tftp_ends.specs.End.{EndState}
 use Rattle.tftp_ends.specs.Opening.{ServesRead, serving_read, serving_write}
 use Rattle.tftp_ends.specs.declared.endpoint.Endpoint.{Endpoint}
@@ -30,8 +31,9 @@ use Rattle.tftp_loop.specs.Steps.LoopStep.{Drain_begun}
 use Rattle.tftp_loop.specs.Expiry.{IsIdleAt, ReceivesNoneAt}
 use Rattle.tftp_loop.specs.MayWait.{AreKept}
 use Rattle.tftp_loop.proofs.LoopStays.{all_appended, all_removed, all_set, other_port, some_none}
-use Rattle.tftp_loop.proofs.PortEnds.{HasLimit, IsNear, at_transfer, changes_limit, changes_near, restarted_near}
-use Rattle.tftp_loop.proofs.PortEnds.{same_config, same_timer, set_near}
+use Rattle.tftp_loop.proofs.PortEnds.{HasLimit, HasSpent, IsNear, at_transfer, changes_limit, changes_near, changes_spent}
+use Rattle.tftp_loop.proofs.PortEnds.{expiring_near, same_config, same_timer, set_near}
+use Rattle.tftp_loop.proofs.EndSteps.{most_left}
 use Rattle.tftp_loop.proofs.PortStays.{stays_at}
 use Rattle.tftp_loop.proofs.Sleeping.{step_kept}
 use Rattle.tftp_loop.proofs.Tables.{inserted_apart, inserted_own, removed_apart}
@@ -117,11 +119,13 @@ module _ {S F D : Type 0} (meaning : StoreMeaning S D) (sources : SourceMeaning 
       taken_limit old from bytes _ goes.draft goes.store came goes.goes_on
 
   -- ---- at each timer
-  -- the deadline of a timer, and the retries of its transfer, are within their limits
+  -- the deadline of a timer, the retries of its transfer and its timeouts are within their limits
   pub record IsBounded (server : ServerState S F D) (now : ℕ) (timer : Timer) : Type 0 where
     pub near : IsNear now timer
     pub limit : (transfer : TransferState F D) → at timer.port server.held ≡ Some transfer
         → HasLimit server.config.retries transfer.end
+    pub spent : (transfer : TransferState F D) → at timer.port server.held ≡ Some transfer
+        → HasSpent server.config.retries timer transfer.end
 
   -- what is at the port of a timer is as it was
   same_bounded : (old new : ServerState S F D) (now : ℕ) (timer : Timer) → new.config ≡ old.config
@@ -130,6 +134,8 @@ module _ {S F D : Type 0} (meaning : StoreMeaning S D) (sources : SourceMeaning 
     near = bounded.near;
     limit = λ transfer found. subst (λ (n : ℕ). HasLimit n transfer.end) (sym (ap (λ (c : Config). c.retries) config))
         (bounded.limit transfer (sym same ∙ found));
+    spent = λ transfer found. subst (λ (n : ℕ). HasSpent n timer transfer.end) (sym (ap (λ (c : Config). c.retries) config))
+        (bounded.spent transfer (sym same ∙ found));
   }
 
   set_bounded : (s : LoopState S F D) (index : ℕ) (timer : Timer) (next : PortState S F D) → index < length s.timers
@@ -164,19 +170,30 @@ module _ {S F D : Type 0} (meaning : StoreMeaning S D) (sources : SourceMeaning 
             s.server.config.retries (own.limit some.0 some.1) in
             subst (λ (t : TransferState F D). HasLimit next.server.config.retries t.end) here
             (subst (λ (n : ℕ). HasLimit n changed.next.end) (sym (ap (λ (c : Config). c.retries) config)) limit);
+        spent = λ transfer found.
+            let here : changed.next ≡ transfer = same_Some changed.next transfer
+            (sym changed.found ∙ (ap (λ (p : ℕ). at p next.server.held) (sym same.port) ∙ found)) in
+            let limit = changes_limit (IsIdleAt meaning sources does)
+            (ReceivesNoneAt meaning sources does) s.now timer next.timer some.0.end changed.next.end changed.changes
+            s.server.config.retries (own.limit some.0 some.1) in
+            let spent = changes_spent (IsIdleAt meaning sources does)
+            (ReceivesNoneAt meaning sources does) s.now timer next.timer some.0.end changed.next.end changed.changes
+            s.server.config.retries limit (own.spent some.0 some.1) in
+            subst (λ (t : TransferState F D). HasSpent next.server.config.retries next.timer t.end) here
+            (subst (λ (n : ℕ). HasSpent n next.timer changed.next.end) (sym (ap (λ (c : Config). c.retries) config)) spent);
       }) k d (omega arith) h
 
-  opened_bounded : (now : ℕ) (longest : Option ℕ) (from : Endpoint) (tid : ℕ) (old : ServerState S F D) (timers : List Timer)
+  opened_bounded : (now : ℕ) (longest : Option ℕ) (backoff : Backoff) (from : Endpoint) (tid : ℕ) (old : ServerState S F D) (timers : List Timer)
       (came : Came S F D) → at tid old.held ≡ None → InCame old.config.retries came → AreKept old.held timers
       → All (IsBounded old now) timers → All (IsBounded (left_by came old from tid).new now)
-      (with_timer now longest from (left_by came old from tid).opened.tid (left_by came old from tid).new.held timers)
-  opened_bounded now longest from tid old timers Nothing free limit kept bounded = bounded
-  opened_bounded now longest from tid old timers (Error_reply reply store) free limit kept bounded =
+      (with_timer now longest backoff from (left_by came old from tid).opened.tid (left_by came old from tid).new.held timers)
+  opened_bounded now longest backoff from tid old timers Nothing free limit kept bounded = bounded
+  opened_bounded now longest backoff from tid old timers (Error_reply reply store) free limit kept bounded =
       λ k d h. same_bounded old (record old { store = store }) now (slice_index_or timers k d) refl refl
       (bounded k d h)
-  opened_bounded now longest from tid old timers (A_transfer transfer store) free limit kept bounded =
+  opened_bounded now longest backoff from tid old timers (A_transfer transfer store) free limit kept bounded =
       let new : ServerState S F D = record old { store = store; held = with_new tid transfer old.held } in
-      let timer = started now longest tid from (interval_at (at tid (with_new tid transfer old.held))) in
+      let timer = started now longest backoff tid from (interval_at (at tid (with_new tid transfer old.held))) in
       let own = inserted_own tid transfer old.held in
       all_appended (IsBounded new now) timers timer
       (λ k d h.
@@ -185,9 +202,13 @@ module _ {S F D : Type 0} (meaning : StoreMeaning S D) (sources : SourceMeaning 
       (ap (λ (p : ℕ). at p old.held) e ∙ free) in
       same_bounded old new now t refl (inserted_apart tid t.port transfer old.held apart) (bounded k d h))
       (record {
-        near = restarted_near now timer;
+        near = expiring_near now 0 timer;
         limit = λ held found. subst (λ (t : TransferState F D). HasLimit old.config.retries t.end)
             (same_Some transfer held (sym own ∙ found)) limit;
+        spent = λ held found. subst (λ (t : TransferState F D). HasSpent old.config.retries timer t.end)
+            (same_Some transfer held (sym own ∙ found))
+            (let most = most_left transfer.end.position.phase transfer.end.position.retries_left old.config.retries
+            limit.left in omega (arith, most));
       })
 
   removed_bounded : (old : ServerState S F D) (now : ℕ) (timers : List Timer) (index : ℕ) (timer : Timer)
@@ -220,13 +241,14 @@ module _ {S F D : Type 0} (meaning : StoreMeaning S D) (sources : SourceMeaning 
       let timer = slice_index_or s.timers k e in
       let was = bounded k e h' in
       subst (IsBounded s.server d.watch.now) (sym (waited_at d.watch.now d.ports s.timers k e h'))
-      (record { near = set_near s.now d.watch.now timer.provisional timer d.by.forward was.near; limit = was.limit }))
+      (record { near = set_near s.now d.watch.now timer.provisional timer d.by.forward was.near; limit = was.limit; spent = was.spent }))
   step_bounded s t (Clock_read d) kept bounded =
       subst AreBounded (sym d.is)
       (λ k e h. let was = bounded k e h in record {
         near =
             later_near s.now d.watch.now (slice_index_or s.timers k e) d.by.forward was.near;
         limit = was.limit;
+        spent = was.spent;
       })
   step_bounded s t (At_port d) kept bounded = subst AreBounded (sym d.is)
       (set_bounded s d.index d.timer d.next d.within d.is_timer d.does kept bounded)
@@ -237,8 +259,8 @@ module _ {S F D : Type 0} (meaning : StoreMeaning S D) (sources : SourceMeaning 
   step_bounded s t (Request_answered d) kept bounded =
       subst AreBounded (sym d.is)
       (subst (λ (left : Left S F D). All (IsBounded left.new s.now)
-      (with_timer s.now s.longest d.from left.opened.tid left.new.held s.timers)) (sym d.steps.left)
-      (opened_bounded s.now s.longest d.from d.tid s.server s.timers d.steps.came d.free
+      (with_timer s.now s.longest s.backoff d.from left.opened.tid left.new.held s.timers)) (sym d.steps.left)
+      (opened_bounded s.now s.longest s.backoff d.from d.tid s.server s.timers d.steps.came d.free
       (goes_limit s.server d.from d.bytes _ d.steps.came d.steps.goes) kept bounded))
   step_bounded s t (Request_lost d) kept bounded = subst AreBounded (sym d.is) bounded
   step_bounded s t (Store_set d) kept bounded =

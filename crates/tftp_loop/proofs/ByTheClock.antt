@@ -2,6 +2,7 @@
 use Rattle.std.proofs.Common.{arith, ◌≡◌, ◌≤◌, ◌<◌, ◌+◌, ◌-◌, min, max, ℕ, Bool, true, false, refl, ap}
 use Rattle.std.specs.Prelude.{◌*◌, if◌then◌else◌}
 use Rattle.tftp_file.specs.Source.{SourceMeaning}
+use Rattle.tftp_ends.specs.Backoff.{wait_of}
 use Rattle.tftp_store.specs.Store.{StoreMeaning}
 use Rattle.tftp_sockets.specs.Watch.{last_moment}
 use Rattle.tftp_sockets.specs.declared.watch.Watch.{Watch}
@@ -12,7 +13,7 @@ use Rattle.tftp_loop.specs.Steps.{LoopState, LoopStep, IsReadBy, round_end}
 use Rattle.tftp_loop.specs.Steps.LoopStep.{Waited, At_port, Request_received, No_request_found, Request_not_received}
 use Rattle.tftp_loop.specs.Steps.LoopStep.{Request_noted, Request_answered, Request_lost, Clock_read, Store_set}
 use Rattle.tftp_loop.specs.Steps.LoopStep.{Transfer_closed, Drain_begun}
-use Rattle.tftp_loop.specs.Expiry.{Idles, in_millis}
+use Rattle.tftp_loop.specs.Expiry.{Idles, in_millis, waits_of}
 use Rattle.tftp_loop.specs.Expiry.Idles.{At_first, After}
 use Rattle.tftp_loop.specs.Seconds.{ClosesByTheClock, ClosesOverAgeByTheClock, PassesWithTheClock, TimesOutByTheClock}
 use Rattle.tftp_loop.specs.Seconds.{cut_along, cut_by, cut_in, cut_of}
@@ -96,24 +97,24 @@ module _ {S F D : Type 0} (meaning : StoreMeaning S D) (sources : SourceMeaning 
   pub closes_by_the_clock : ClosesByTheClock meaning sources
   closes_by_the_clock start first last new timer empty run has idles waits late soon =
       closes_without_progress meaning sources start first last new timer empty run has idles waits
-      (later_by_now timer.provisional (in_millis timer.interval)
-      ((in_millis timer.interval + LONGEST_WAIT) * max 1 first.server.config.retries) first.reading first.now last.reading
+      (later_by_now timer.provisional (waits_of timer.backoff timer.interval (max 1 first.server.config.retries))
+      (in_millis (wait_of timer.backoff timer.interval (max 1 first.server.config.retries))) first.reading first.now last.reading
       last.now (cut_in meaning sources idles) late (passes meaning sources idles)) soon
 
   -- `times_out_in_silence`, with times that the clock was read at
   pub times_out_by_the_clock : TimesOutByTheClock meaning sources
   times_out_by_the_clock start first last new timer transfer empty run has found idles silent waits late soon =
       times_out_in_silence meaning sources start first last new timer transfer empty run has found idles silent waits
-      (later_by_now timer.provisional (in_millis timer.interval)
-      ((in_millis timer.interval + LONGEST_WAIT) * max 1 first.server.config.retries) first.reading first.now last.reading
+      (later_by_now timer.provisional (waits_of timer.backoff timer.interval (max 1 first.server.config.retries))
+      (in_millis (wait_of timer.backoff timer.interval (max 1 first.server.config.retries))) first.reading first.now last.reading
       last.now (cut_in meaning sources idles) late (passes meaning sources idles)) soon
 
   -- `closes_over_age`, with times that the clock was read at
   pub closes_over_age_by_the_clock : ClosesOverAgeByTheClock meaning sources
   closes_over_age_by_the_clock start first last new timer transfer empty run has found aged goes waits late soon =
       closes_over_age meaning sources start first last new timer transfer empty run has found aged goes waits
-      (later_by_now timer.provisional (in_millis timer.interval)
-      ((in_millis timer.interval + LONGEST_WAIT) * max 1 first.server.config.retries) first.reading first.now last.reading
+      (later_by_now timer.provisional (waits_of timer.backoff timer.interval (max 1 first.server.config.retries))
+      (in_millis (wait_of timer.backoff timer.interval (max 1 first.server.config.retries))) first.reading first.now last.reading
       last.now (cut_along meaning sources goes) late (passes_along meaning sources goes)) soon
 
   -- the time of the program passes with the clock's, a second at most for each reading

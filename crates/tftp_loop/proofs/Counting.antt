@@ -4,6 +4,7 @@ use Rattle.std.proofs.Common.{refl, sym, ap, subst, ◌∙◌}
 use Rattle.std.specs.Prelude.{All}
 use Rattle.std.proofs.lemmas.List.{length-map}
 use Rattle.tftp_file.specs.Source.{SourceMeaning}
+use Rattle.tftp_ends.specs.declared.backoff.Backoff.{Backoff}
 use Rattle.tftp_ends.specs.declared.endpoint.Endpoint.{Endpoint}
 use Rattle.tftp_ends.specs.Step.{Reply}
 use Rattle.tftp_server.specs.State.{TransferState, at}
@@ -104,12 +105,12 @@ module _ {S F D : Type 0} (meaning : StoreMeaning S D) (sources : SourceMeaning 
   port_few now s t (A_missed_timeout d) few = same_few s.timer t.timer (ap (λ (u : Timer). u.received) d.timer) few
   port_few now s t (Work d) few = same_few s.timer t.timer (ap (λ (u : Timer). u.received) d.timer) few
 
-  with_few : (now : ℕ) (longest : Option ℕ) (from : Endpoint) (opened : Option ℕ)
+  with_few : (now : ℕ) (longest : Option ℕ) (backoff : Backoff) (from : Endpoint) (opened : Option ℕ)
       (held : List (ℕ × TransferState F D)) (timers : List Timer) → All IsFew timers
-      → All IsFew (with_timer now longest from opened held timers)
-  with_few now longest from None held timers few = few
-  with_few now longest from (Some port) held timers few =
-      all_appended IsFew timers (started now longest port from (interval_at (at port held)))
+      → All IsFew (with_timer now longest backoff from opened held timers)
+  with_few now longest backoff from None held timers few = few
+  with_few now longest backoff from (Some port) held timers few =
+      all_appended IsFew timers (started now longest backoff port from (interval_at (at port held)))
       (λ k d h. few k d h) (omega arith)
 
   waited_few : (time : ℕ) (ports : List ℕ) (timers : List Timer)
@@ -132,7 +133,7 @@ module _ {S F D : Type 0} (meaning : StoreMeaning S D) (sources : SourceMeaning 
   step_few s t (Request_not_received d) few = subst AreFew (sym d.is) few
   step_few s t (Request_noted d) few = subst AreFew (sym d.is) few
   step_few s t (Request_answered d) few =
-      subst AreFew (sym d.is) (with_few s.now s.longest d.from d.left.opened.tid d.left.new.held s.timers few)
+      subst AreFew (sym d.is) (with_few s.now s.longest s.backoff d.from d.left.opened.tid d.left.new.held s.timers few)
   step_few s t (Request_lost d) few = subst AreFew (sym d.is) few
   step_few s t (Clock_read d) few = subst AreFew (sym d.is) few
   step_few s t (Store_set d) few = subst AreFew (sym d.is) few

@@ -26,7 +26,7 @@ use Rattle.tftp_loop.specs.Run.{Run}
 use Rattle.tftp_loop.specs.Run.Run.{Start, Then}
 use Rattle.tftp_loop.specs.Steps.{Timer, PortState, LoopState, PortStep, LoopStep, Waits, answering_port}
 use Rattle.tftp_loop.specs.Steps.{deadline_by, interval_at, marked_by, port_state, set_by, started}
-use Rattle.tftp_loop.specs.Steps.{with_timer}
+use Rattle.tftp_loop.specs.Steps.{wait_in, with_timer}
 use Rattle.tftp_loop.specs.Steps.PortStep.{A_datagram, A_lost_datagram, A_late_datagram, Nothing_found}
 use Rattle.tftp_loop.specs.Steps.PortStep.{A_failed_receive, A_timeout, A_missed_timeout, Work}
 use Rattle.tftp_loop.specs.Steps.LoopStep.{Waited, At_port, Request_received, No_request_found, Request_not_received}
@@ -39,11 +39,11 @@ use Rattle.tftp_loop.specs.Expiry.{PrintsClose, ReceivesNone, ReceivesNoneAt, cl
 use Rattle.tftp_loop.specs.MayWait.{AreKept}
 use Rattle.tftp_loop.proofs.Adding.{Adds, adds_more, step_adds, step_forward}
 use Rattle.tftp_loop.proofs.Bounded.{some_at, sound_along}
-use Rattle.tftp_loop.proofs.EndSteps.{most_left, open_left, timeouts_left}
+use Rattle.tftp_loop.proofs.EndSteps.{open_left, timeouts_left}
 use Rattle.tftp_loop.proofs.InTime.{InTime, at_last, changes_closes, changes_complete, changes_in_time, first_time}
-use Rattle.tftp_loop.proofs.InTime.{latest, latest_later, no_later, rested, set_early}
+use Rattle.tftp_loop.proofs.InTime.{last_of, latest, latest_later, no_later, rested, set_early}
 use Rattle.tftp_loop.proofs.ListLemmas.{set_long}
-use Rattle.tftp_loop.proofs.PortEnds.{SameTimer, at_transfer, same_timer}
+use Rattle.tftp_loop.proofs.PortEnds.{HasSpent, SameTimer, at_transfer, same_timer}
 use Rattle.tftp_loop.proofs.PortStays.{stays_at}
 use Rattle.tftp_loop.proofs.Rounds.{InRound, begins_round, next_round, step_round, wait_or_work}
 use Rattle.tftp_loop.proofs.Sleeping.{step_kept}
@@ -53,23 +53,15 @@ use Rattle.tftp_loop.proofs.Waits.{deadline_later, waited_at}
 
 module _ {S F D : Type 0} (meaning : StoreMeaning S D) (sources : SourceMeaning F) (first : LoopState S F D)
     (timer : Timer) (e0 : EndState) where
-  abbrev millis : ℕ
-  millis = timer.interval * 1000
-
-  abbrev round : ℕ
-  round = LONGEST_WAIT
-
   abbrev most : ℕ
   most = max 1 first.server.config.retries
 
   abbrev start : ℕ
   start = counted_from first.now timer
 
-  abbrev last_of : ℕ → Timer → ℕ
-  last_of since here = latest millis round since here.provisional here.deadline
-
   abbrev CountsDown : ℕ → Timer → ℕ → Type 0
-  CountsDown since here left = 1 ≤ left → InTime start millis round most since (last_of since here) left
+  CountsDown since here left =
+      1 ≤ left → InTime start timer.backoff timer.interval most since (last_of since here) here.timeouts left
 
   -- the transfer is held still
   record Lasts (Quiet : Type 0) (since : ℕ) (s : LoopState S F D) : Type 0 where
@@ -130,7 +122,7 @@ module _ {S F D : Type 0} (meaning : StoreMeaning S D) (sources : SourceMeaning 
       → index < length s.timers → own ≡ slice_index_or s.timers index own
       → (does : PortStep meaning sources s.now (port_state s own) next) → AreKept s.server.held s.timers
       → (More → Quiet) → (own.port ≡ timer.port → IsIdleAt meaning sources does)
-      → (More → own.port ≡ timer.port → ReceivesNoneAt meaning sources does) → s.now ≤ since + round
+      → (More → own.port ≡ timer.port → ReceivesNoneAt meaning sources does) → s.now ≤ since + LONGEST_WAIT
       → Adds s.events next.events → Lasts Quiet since s
       → Lasts More since
       (record s { server = next.server; timers = slice_set s.timers index next.timer; events = next.events })
@@ -146,8 +138,9 @@ module _ {S F D : Type 0} (meaning : StoreMeaning S D) (sources : SourceMeaning 
             let same = same_timer meaning sources s.now (port_state s own) next does in
             let changed = at_transfer meaning sources s.now (port_state s own) next does lasts.transfer
             (ap (λ (p : ℕ). at p s.server.held) port_is ∙ lasts.found) in
-            let interval : own.interval * 1000 ≡ millis =
-            ap (λ (t : Timer). t.interval * 1000) own_is ∙ ap (λ (n : ℕ). n * 1000) lasts.same.interval in
+            let interval : own.interval ≡ timer.interval =
+            ap (λ (t : Timer). t.interval) own_is ∙ lasts.same.interval in
+            let backoff : own.backoff ≡ timer.backoff = ap (λ (t : Timer). t.backoff) own_is ∙ lasts.same.backoff in
             let counts : CountsDown since own (timeouts_left lasts.transfer.end) =
             subst (λ (t : Timer). CountsDown since t (timeouts_left lasts.transfer.end))
             (sym own_is) lasts.counts in
@@ -161,19 +154,20 @@ module _ {S F D : Type 0} (meaning : StoreMeaning S D) (sources : SourceMeaning 
               same = record {
                 port = same.port ∙ port_is;
                 peer = same.peer ∙ (ap (λ (t : Timer). t.peer) own_is ∙ lasts.same.peer);
-                interval = same.interval ∙ (ap (λ (t : Timer). t.interval) own_is ∙ lasts.same.interval);
+                interval = same.interval ∙ interval;
+                backoff = same.backoff ∙ backoff;
                 age = same.age ∙ (ap (λ (t : Timer). t.age_limit) own_is ∙ lasts.same.age);
               };
               transfer = changed.next;
               found = ap (λ (p : ℕ). at p next.server.held) (sym port_is) ∙ changed.found;
-              counts = changes_in_time start millis round most Idle Silent s.now since own next.timer
-                  lasts.transfer.end changed.next.end changed.changes (idle port_is) interval soon counts;
+              counts = changes_in_time start timer.backoff timer.interval most Idle Silent s.now since own next.timer
+                  lasts.transfer.end changed.next.end changed.changes (idle port_is) interval backoff soon counts;
               complete = λ quiet.
-                  changes_complete start millis round most Idle Silent s.now since own next.timer
+                  changes_complete start timer.backoff timer.interval most Idle Silent s.now since own next.timer
                   lasts.transfer.end changed.next.end changed.changes (silent quiet port_is)
                   ∙ lasts.complete (fewer quiet);
               closes = λ quiet.
-                  changes_closes start millis round most Idle Silent s.now since own next.timer lasts.transfer.end
+                  changes_closes start timer.backoff timer.interval most Idle Silent s.now since own next.timer lasts.transfer.end
                   changed.next.end changed.changes (silent quiet port_is) e0 (lasts.complete (fewer quiet))
                   (lasts.closes (fewer quiet));
               adds = adds_more first.events s.events next.events lasts.adds adds;
@@ -204,7 +198,7 @@ module _ {S F D : Type 0} (meaning : StoreMeaning S D) (sources : SourceMeaning 
       → Lasts More since (record s {
         server = (left_by came s.server from tid).new;
         pending = None;
-        timers = with_timer s.now s.longest from (left_by came s.server from tid).opened.tid
+        timers = with_timer s.now s.longest s.backoff from (left_by came s.server from tid).opened.tid
             (left_by came s.server from tid).new.held s.timers;
         events = es;
       })
@@ -213,7 +207,7 @@ module _ {S F D : Type 0} (meaning : StoreMeaning S D) (sources : SourceMeaning 
   opens_lasts Quiet More since from tid s es (Error_reply reply store) free kept fewer adds lasts =
       same_lasts Quiet More since s _ fewer adds refl refl lasts
   opens_lasts Quiet More since from tid s es (A_transfer transfer store) free kept fewer adds lasts =
-      let opened = started s.now s.longest tid from (interval_at (at tid (with_new tid transfer s.server.held))) in
+      let opened = started s.now s.longest s.backoff tid from (interval_at (at tid (with_new tid transfer s.server.held))) in
       let long = appended_long s.timers opened in
       let inside = lasts.within in
       let apart : timer.port ≡ tid → ⊥ = λ e. none-some lasts.transfer
@@ -244,14 +238,14 @@ module _ {S F D : Type 0} (meaning : StoreMeaning S D) (sources : SourceMeaning 
 
   step_lives : (Quiet More : Type 0) (since : ℕ) (s t : LoopState S F D) (does : LoopStep meaning sources s t)
       → IsNoWait meaning sources does → IsIdle meaning sources timer.port does → (More → Quiet)
-      → (More → ReceivesNone meaning sources timer.port does) → t.now ≤ since + round → AreKept s.server.held s.timers
+      → (More → ReceivesNone meaning sources timer.port does) → t.now ≤ since + LONGEST_WAIT → AreKept s.server.held s.timers
       → Lasts Quiet since s → Lives More since t
   step_lives Quiet More since s t (Waited d) is idle fewer silent soon kept lasts = absurd is
   step_lives Quiet More since s t (At_port d) is idle fewer silent soon kept lasts =
       let adds = step_adds meaning sources s t (At_port d) in
       inr (subst (Lasts More since) (sym d.is)
       (step_at Quiet More since s d.index d.timer d.next d.within d.is_timer d.does kept fewer idle silent
-      (subst (λ (u : LoopState S F D). u.now ≤ since + round) d.is soon)
+      (subst (λ (u : LoopState S F D). u.now ≤ since + LONGEST_WAIT) d.is soon)
       (subst (λ (u : LoopState S F D). Adds s.events u.events) d.is adds) lasts))
   step_lives Quiet More since s t (Request_received d) is idle fewer silent soon kept lasts =
       passes Quiet More since s t _ (Request_received d) fewer d.is refl refl lasts
@@ -270,7 +264,7 @@ module _ {S F D : Type 0} (meaning : StoreMeaning S D) (sources : SourceMeaning 
         server = left.new;
         pending = None;
         timers =
-            with_timer s.now s.longest d.from left.opened.tid left.new.held s.timers;
+            with_timer s.now s.longest s.backoff d.from left.opened.tid left.new.held s.timers;
         events = fs;
       })) (sym d.steps.left)
       (opens_lasts Quiet More since d.from d.tid s fs d.steps.came d.free kept fewer adds lasts)))
@@ -335,7 +329,7 @@ module _ {S F D : Type 0} (meaning : StoreMeaning S D) (sources : SourceMeaning 
       passes Quiet More since s t _ (Drain_begun d) fewer d.is refl refl lasts
 
   -- ---- at a wait
-  due_later : (now : ℕ) (here : Timer) → (now < here.deadline) ⊎ (here.deadline ≡ deadline_of now here.interval)
+  due_later : (now : ℕ) (here : Timer) → (now < here.deadline) ⊎ (here.deadline ≡ deadline_of now (wait_in here))
       → now ≤ last_moment → now ≤ here.deadline
   due_later now here (inl early) soon = omega (arith, early)
   due_later now here (inr starts) soon = omega (arith, starts, soon)
@@ -344,7 +338,7 @@ module _ {S F D : Type 0} (meaning : StoreMeaning S D) (sources : SourceMeaning 
       → (lasts : Lasts Quiet since s) → s.now ≤ lasts.here.deadline
   rests_early Quiet since s t waits soon lasts =
       due_later s.now lasts.here
-      (subst (λ (u : Timer). (s.now < u.deadline) ⊎ (u.deadline ≡ deadline_of s.now u.interval)) (lasts.is timer)
+      (subst (λ (u : Timer). (s.now < u.deadline) ⊎ (u.deadline ≡ deadline_of s.now (wait_in u))) (lasts.is timer)
       (waits.may.transfers lasts.index timer lasts.within).due) soon
 
   rests_lives : (Quiet More : Type 0) (since : ℕ) (s t : LoopState S F D) → Waits meaning sources s t → (More → Quiet)
@@ -359,8 +353,8 @@ module _ {S F D : Type 0} (meaning : StoreMeaning S D) (sources : SourceMeaning 
       let within_limit = waits.by.soon in
       let most_soon = in_round.soon in
       let most_limit = in_round.limit in
-      let set = set_early millis round since waits.watch.now here.provisional here
-      (ap (λ (n : ℕ). n * 1000) lasts.same.interval) (omega (arith, within_limit, most_soon, most_limit)) in
+      let set = set_early since waits.watch.now here.provisional here
+      (omega (arith, within_limit, most_soon, most_limit)) in
       let deadline = deadline_by waits.watch.now here.provisional here in
       let adds = subst (λ (u : LoopState S F D). Adds s.events u.events) waits.is
       (step_adds meaning sources s t (Waited waits)) in
@@ -374,14 +368,16 @@ module _ {S F D : Type 0} (meaning : StoreMeaning S D) (sources : SourceMeaning 
           port = lasts.same.port;
           peer = lasts.same.peer;
           interval = lasts.same.interval;
+          backoff = lasts.same.backoff;
           age = lasts.same.age;
         };
         transfer = lasts.transfer;
         found = lasts.found;
-        counts = λ some. rested start millis round most since deadline s.now
+        counts = λ some. rested start timer.backoff timer.interval most since deadline s.now here.timeouts
             (timeouts_left lasts.transfer.end) (omega (arith, early, later))
-            (no_later start millis round most since (last_of since here) deadline (timeouts_left lasts.transfer.end)
-            (timeouts_left lasts.transfer.end) set (omega arith) (lasts.counts some));
+            (no_later start timer.backoff timer.interval most since (last_of since here) deadline here.timeouts
+            here.timeouts (timeouts_left lasts.transfer.end) (timeouts_left lasts.transfer.end) set (omega arith)
+            (omega arith) (lasts.counts some));
         complete = λ quiet. lasts.complete (fewer quiet);
         closes = λ quiet. lasts.closes (fewer quiet);
         adds = adds_more first.events s.events _ lasts.adds adds;
@@ -525,7 +521,7 @@ module _ {S F D : Type 0} (meaning : StoreMeaning S D) (sources : SourceMeaning 
       }
 
   too_late : (Quiet : Type 0) (since : ℕ) (s t : LoopState S F D) → Waits meaning sources s t → s.now ≤ last_moment
-      → closing_time start timer.interval first.server.config.retries < s.now → Lasts Quiet since s → ⊥
+      → closing_time start timer.backoff timer.interval first.server.config.retries < s.now → Lasts Quiet since s → ⊥
   too_late Quiet since s t waits soon late lasts =
       let early = rests_early Quiet since s t waits soon lasts in
       let port_is : (slice_index_or s.timers lasts.index timer).port ≡ timer.port =
@@ -537,17 +533,17 @@ module _ {S F D : Type 0} (meaning : StoreMeaning S D) (sources : SourceMeaning 
       let some = open_left lasts.transfer.end.position.phase lasts.transfer.end.position.retries_left
       (not_taken (is_closed lasts.transfer) (record_of lasts.transfer.end, draft_of lasts.transfer.files)
       not_closed) in
-      let later = latest_later millis round since lasts.here.provisional lasts.here.deadline in
-      let last = at_last start millis round most since (last_of since lasts.here) s.now
-      (timeouts_left lasts.transfer.end) some (omega (arith, early, later)) (lasts.counts some) in
+      let later = latest_later since lasts.here.provisional (wait_in lasts.here) lasts.here.deadline in
+      let last = at_last start timer.backoff timer.interval most since (last_of since lasts.here) s.now
+      lasts.here.timeouts (timeouts_left lasts.transfer.end) some (omega (arith, early, later)) (lasts.counts some) in
       omega (arith, last, late)
 
 -- ---- the laws
--- at first each deadline is an interval away at most, from when on it counts
+-- at first each deadline is a wait away at most, from when on it counts
 near_first : (now : ℕ) (b : Bool) (timer : Timer) → timer.provisional ≡ b
-    → timer.deadline ≤ now + timer.interval * 1000
-    → latest (timer.interval * 1000) LONGEST_WAIT now b timer.deadline
-    ≤ (if b then now + LONGEST_WAIT else now) + timer.interval * 1000
+    → timer.deadline ≤ now + wait_in timer * 1000
+    → latest now b (wait_in timer) timer.deadline
+    ≤ (if b then now + LONGEST_WAIT else now) + wait_in timer * 1000
 near_first now true timer is near = omega (arith, near)
 near_first now false timer is near = near
 
@@ -566,11 +562,10 @@ module _ {S F D : Type 0} (meaning : StoreMeaning S D) (sources : SourceMeaning 
       let bounded = sound.bounded has.0 timer has.1 in
       let is : (d : Timer) → slice_index_or first.timers has.0 d ≡ timer =
       λ d. any_default first.timers has.0 d timer has.1 ∙ has.2 in
-      let near : timer.deadline ≤ first.now + timer.interval * 1000 =
-      subst (λ (t : Timer). t.deadline ≤ first.now + t.interval * 1000) has.2 bounded.near in
-      let limit = bounded.limit transfer (ap (λ (t : Timer). at t.port first.server.held) has.2 ∙ found) in
-      let few = most_left transfer.end.position.phase transfer.end.position.retries_left first.server.config.retries
-      limit.left in
+      let near : timer.deadline ≤ first.now + wait_in timer * 1000 =
+      subst (λ (t : Timer). t.deadline ≤ first.now + wait_in t * 1000) has.2 bounded.near in
+      let few = subst (λ (t : Timer). HasSpent first.server.config.retries t transfer.end) has.2
+      (bounded.spent transfer (ap (λ (t : Timer). at t.port first.server.held) has.2 ∙ found)) in
       record {
         since = first.now;
         in_round = begins_round meaning sources first;
@@ -580,12 +575,11 @@ module _ {S F D : Type 0} (meaning : StoreMeaning S D) (sources : SourceMeaning 
           here = timer;
           within = has.1;
           is = is;
-          same = record { port = refl; peer = refl; interval = refl; age = refl };
+          same = record { port = refl; peer = refl; interval = refl; backoff = refl; age = refl };
           transfer = transfer;
           found = found;
-          counts = λ some. first_time (counted_from first.now timer) (timer.interval * 1000) LONGEST_WAIT
-              (max 1 first.server.config.retries) first.now
-              (latest (timer.interval * 1000) LONGEST_WAIT first.now timer.provisional timer.deadline)
+          counts = λ some. first_time (counted_from first.now timer) timer.backoff timer.interval
+              (max 1 first.server.config.retries) first.now (last_of first.now timer) timer.timeouts
               (timeouts_left transfer.end) (counted_later first.now timer.provisional)
               (near_first first.now timer.provisional timer refl near) few;
           complete = λ quiet. refl;
@@ -601,7 +595,7 @@ module _ {S F D : Type 0} (meaning : StoreMeaning S D) (sources : SourceMeaning 
       → at timer.port first.server.held ≡ Some transfer
       → (idles : Idles meaning sources timer.port first last) → NoneReceived meaning sources idles
       → Waits meaning sources last new
-      → closing_time (counted_from first.now timer) timer.interval first.server.config.retries < last.now
+      → closing_time (counted_from first.now timer) timer.backoff timer.interval first.server.config.retries < last.now
       → last.now ≤ last_moment
       → (outcome : Outcome) × PrintsClose timer.port timer.peer.port outcome first.events last.events
       × ClosesInSilence transfer.end.position.phase outcome
@@ -619,7 +613,7 @@ module _ {S F D : Type 0} (meaning : StoreMeaning S D) (sources : SourceMeaning 
       → start.timers ≡ [] → Run (LoopStep meaning sources) start first
       → Contains first.timers timer
       → Idles meaning sources timer.port first last → Waits meaning sources last new
-      → closing_time (counted_from first.now timer) timer.interval first.server.config.retries < last.now
+      → closing_time (counted_from first.now timer) timer.backoff timer.interval first.server.config.retries < last.now
       → last.now ≤ last_moment
       → (outcome : Outcome) × PrintsClose timer.port timer.peer.port outcome first.events last.events
   closes_without_progress start first last new timer empty run has idles waits late soon =
@@ -642,7 +636,7 @@ module _ {S F D : Type 0} (meaning : StoreMeaning S D) (sources : SourceMeaning 
       → Contains first.timers timer → at timer.port first.server.held ≡ Some transfer
       → timer.age_limit < first.now
       → Run (LoopStep meaning sources) first last → Waits meaning sources last new
-      → closing_time (counted_from first.now timer) timer.interval first.server.config.retries < last.now
+      → closing_time (counted_from first.now timer) timer.backoff timer.interval first.server.config.retries < last.now
       → last.now ≤ last_moment
       → (outcome : Outcome) × PrintsClose timer.port timer.peer.port outcome first.events last.events
       × ClosesInSilence transfer.end.position.phase outcome

@@ -1,146 +1,198 @@
 -- The time that is left to a transfer that makes no progress, and what a step at its port leaves of it. For Expiring.
-use Rattle.std.proofs.Common.{arith, ◌≡◌, ◌≤◌, ◌+◌, ◌*◌, ◌-◌, max, mul-add, ℕ, Bool, true, false, Some, sym, ap, ◌∙◌}
+use Rattle.std.proofs.Common.{arith, ◌≡◌, ◌≤◌, ◌+◌, ◌*◌, max, ℕ, zero, suc, Bool, true, false, Some, refl, sym, ap, ◌∙◌}
 use Rattle.std.proofs.Common.{inl, inr}
+use Rattle.std.proofs.lemmas.Bool.{cases_eq}
+use Rattle.tftp_ends.specs.Backoff.{wait_of}
+use Rattle.tftp_ends.specs.declared.backoff.Backoff.{Backoff}
 use Rattle.tftp_ends.specs.declared.outcome.Outcome.{Outcome}
 use Rattle.tftp_ends.specs.End.{EndState, is_complete, outcome_of}
 use Rattle.tftp_ends.specs.Step.{after_turn, timeout_turn}
 use Rattle.tftp_sockets.specs.Watch.{deadline_of}
-use Rattle.tftp_loop.specs.Expiry.{ClosesInSilence}
-use Rattle.tftp_loop.specs.Steps.{Timer, deadline_by, timer_after}
+use Rattle.tftp_sockets.specs.declared.watch.TheConstants.{LONGEST_WAIT}
+use Rattle.tftp_loop.specs.Expiry.{ClosesInSilence, in_millis, waits_of}
+use Rattle.tftp_loop.specs.Steps.{Timer, deadline_by, timeouts_after, timer_after, wait_in}
+use Rattle.tftp_loop.proofs.BackoffLemmas.{wait_more}
 use Rattle.tftp_loop.proofs.EndSteps.{timeout_spends, timeouts_left}
-use Rattle.tftp_loop.proofs.PortEnds.{By_datagram, By_late_timeout, By_nothing, By_timeout, Changes}
+use Rattle.tftp_loop.proofs.PortEnds.{By_datagram, By_late_timeout, By_nothing, By_timeout, Changes, spent_after}
 
--- so many timeouts are over, and each took an interval and a round at most
-pub record InTime (start millis round most since deadline left : ℕ) : Type 0 where
+-- so many timeouts are over, and each took a wait and a round
+pub record InTime (start : ℕ) (backoff : Backoff) (interval most since deadline timeouts left : ℕ) : Type 0 where
   pub spent : ℕ
   pub few : left + spent ≤ most + 1
-  pub due : deadline ≤ start + (millis + round) * spent + millis
-  pub newest : since ≤ start + (millis + round) * spent + millis
+  pub used : timeouts ≤ spent
+  pub due : deadline ≤ start + waits_of backoff interval spent + in_millis (wait_of backoff interval spent)
+  pub newest : since ≤ start + waits_of backoff interval spent + in_millis (wait_of backoff interval spent)
 
-module _ (start millis round most : ℕ) where
+module _ (start : ℕ) (backoff : Backoff) (interval most : ℕ) where
+  -- the latest deadline after so many timeouts
+  abbrev until : ℕ → ℕ
+  until n = waits_of backoff interval n + in_millis (wait_of backoff interval n)
+
+  until_next : (n : ℕ) → until n ≤ until (suc n)
+  until_next n =
+      let next : waits_of backoff interval (suc n)
+      ≡ waits_of backoff interval n + (in_millis (wait_of backoff interval n) + LONGEST_WAIT) = refl in
+      omega (arith, next)
+
+  until_more : (n m : ℕ) → n ≤ m → until n ≤ until m
+  until_more n zero h =
+      let same : until n ≡ until zero = ap until (let e : n ≡ zero = omega (arith, h) in e) in omega (arith, same)
+  until_more n (suc m) h = elim (cases_eq n (suc m)) [
+    | inl e ↦ let same : until n ≡ until (suc m) = ap until e in omega (arith, same)
+    | inr other ↦
+        let before = until_more n m (omega (arith, h, other)) in
+        let next = until_next m in
+        omega (arith, before, next)
+  ]
+
   -- a timer that was set in this round is in time
-  pub first_time : (since deadline left : ℕ) → since ≤ start → deadline ≤ start + millis → left ≤ most + 1
-      → InTime start millis round most since deadline left
-  first_time since deadline left from near few =
-      let none : (millis + round) * 0 ≡ 0 = omega arith in
-      record { spent = 0; few = omega (arith, few); due = omega (arith, near, none); newest = omega (arith, from, none) }
+  pub first_time : (since deadline timeouts left : ℕ) → since ≤ start
+      → deadline ≤ start + in_millis (wait_of backoff interval timeouts) → timeouts + left ≤ most + 1
+      → InTime start backoff interval most since deadline timeouts left
+  first_time since deadline timeouts left from near few = record {
+    spent = timeouts;
+    few = omega (arith, few);
+    used = omega arith;
+    due = omega (arith, near);
+    newest = omega (arith, from);
+  }
 
   -- an earlier deadline and fewer timeouts are in time, too
-  pub no_later : (since deadline deadline' left left' : ℕ) → deadline' ≤ deadline → left' ≤ left
-      → InTime start millis round most since deadline left → InTime start millis round most since deadline' left'
-  no_later since deadline deadline' left left' sooner fewer t =
+  pub no_later : (since deadline deadline' timeouts timeouts' left left' : ℕ) → deadline' ≤ deadline
+      → timeouts' ≤ timeouts → left' ≤ left → InTime start backoff interval most since deadline timeouts left
+      → InTime start backoff interval most since deadline' timeouts' left'
+  no_later since deadline deadline' timeouts timeouts' left left' sooner less fewer t =
       let few = t.few in
+      let used = t.used in
       let due = t.due in
-      record { spent = t.spent; few = omega (arith, few, fewer); due = omega (arith, due, sooner); newest = t.newest }
+      record {
+        spent = t.spent;
+        few = omega (arith, few, fewer);
+        used = omega (arith, used, less);
+        due = omega (arith, due, sooner);
+        newest = t.newest;
+      }
 
   -- a timeout in the round in which it was due
-  timed_out : (since deadline deadline' now left left' : ℕ) → now ≤ since + round → deadline' ≤ now + millis
-      → left' + 1 ≤ left → InTime start millis round most since deadline left
-      → InTime start millis round most since deadline' left'
-  timed_out since deadline deadline' now left left' soon near fewer t =
+  timed_out : (since deadline deadline' timeouts timeouts' left left' : ℕ)
+      → deadline' ≤ since + LONGEST_WAIT + in_millis (wait_of backoff interval timeouts') → timeouts' ≤ timeouts + 1
+      → left' + 1 ≤ left → InTime start backoff interval most since deadline timeouts left
+      → InTime start backoff interval most since deadline' timeouts' left'
+  timed_out since deadline deadline' timeouts timeouts' left left' near more fewer t =
       let few = t.few in
+      let used = t.used in
       let newest = t.newest in
-      let more : (millis + round) * (t.spent + 1) ≡ (millis + round) * t.spent + (millis + round) * 1 =
-      mul-add (millis + round) t.spent 1 in
-      let one : (millis + round) * 1 ≡ millis + round = omega arith in
+      let next : waits_of backoff interval (suc t.spent)
+      ≡ waits_of backoff interval t.spent + (in_millis (wait_of backoff interval t.spent) + LONGEST_WAIT) = refl in
+      let longer = wait_more backoff interval timeouts' (suc t.spent) (omega (arith, more, used)) in
       record {
-        spent = t.spent + 1;
+        spent = suc t.spent;
         few = omega (arith, few, fewer);
-        due =
-            omega (arith, newest, soon, near, more, one);
-        newest = omega (arith, newest, more, one);
+        used = omega (arith, more, used);
+        due = omega (arith, newest, near, next, longer);
+        newest = omega (arith, newest, next);
       }
 
   -- at a wait the deadline is to come
-  pub rested : (since deadline now left : ℕ) → now ≤ deadline → InTime start millis round most since deadline left
-      → InTime start millis round most now deadline left
-  rested since deadline now left before t =
+  pub rested : (since deadline now timeouts left : ℕ) → now ≤ deadline
+      → InTime start backoff interval most since deadline timeouts left
+      → InTime start backoff interval most now deadline timeouts left
+  rested since deadline now timeouts left before t =
       let due = t.due in
-      record { spent = t.spent; few = t.few; due = t.due; newest = omega (arith, due, before) }
+      record { spent = t.spent; few = t.few; used = t.used; due = t.due; newest = omega (arith, due, before) }
 
   -- a timer that is in time is due before the retries are spent
-  pub at_last : (since deadline now left : ℕ) → 1 ≤ left → now ≤ deadline
-      → InTime start millis round most since deadline left → now ≤ start + millis + (millis + round) * most
-  at_last since deadline now left some before t =
+  pub at_last : (since deadline now timeouts left : ℕ) → 1 ≤ left → now ≤ deadline
+      → InTime start backoff interval most since deadline timeouts left
+      → now ≤ start + waits_of backoff interval most + in_millis (wait_of backoff interval most)
+  at_last since deadline now timeouts left some before t =
       let few = t.few in
       let due = t.due in
-      let rest = most - t.spent in
-      let all : (millis + round) * (t.spent + rest) ≡ (millis + round) * t.spent + (millis + round) * rest =
-      mul-add (millis + round) t.spent rest in
-      let sum : t.spent + rest ≡ most = omega (arith, few, some) in
-      let same : (millis + round) * (t.spent + rest) ≡ (millis + round) * most =
-      ap (λ (n : ℕ). (millis + round) * n) sum in
-      omega (arith, due, before, all, same)
+      let last = until_more t.spent most (omega (arith, few, some)) in
+      omega (arith, due, before, last)
 
--- the latest that a deadline may be in this round: a provisional one is yet to be set
-abbrev pub latest : ℕ → ℕ → ℕ → Bool → ℕ → ℕ
-latest millis round since true deadline = max deadline (since + round + millis)
-latest millis round since false deadline = deadline
+-- the latest that a deadline may be in this round, with a wait of so many seconds: a provisional one is yet to be set
+abbrev pub latest : ℕ → Bool → ℕ → ℕ → ℕ
+latest since true seconds deadline = max deadline (since + LONGEST_WAIT + in_millis seconds)
+latest since false seconds deadline = deadline
+
+-- the same of a timer
+abbrev pub last_of : ℕ → Timer → ℕ
+last_of since timer = latest since timer.provisional (wait_in timer) timer.deadline
 
 -- a deadline is not after the latest that it may be
-pub latest_later : (millis round since : ℕ) (b : Bool) (deadline : ℕ) → deadline ≤ latest millis round since b deadline
-latest_later millis round since true deadline = omega arith
-latest_later millis round since false deadline = omega arith
+pub latest_later : (since : ℕ) (b : Bool) (seconds deadline : ℕ) → deadline ≤ latest since b seconds deadline
+latest_later since true seconds deadline = omega arith
+latest_later since false seconds deadline = omega arith
 
 -- a deadline that is set from a reading of this round is not after the latest
-pub set_early : (millis round since time : ℕ) (b : Bool) (timer : Timer) → timer.interval * 1000 ≡ millis
-    → time ≤ since + round → deadline_by time b timer ≤ latest millis round since b timer.deadline
-set_early millis round since time true timer interval soon =
-    let own : deadline_of time timer.interval ≤ time + timer.interval * 1000 = omega arith in
-    omega (arith, own, interval, soon)
-set_early millis round since time false timer interval soon = omega arith
+pub set_early : (since time : ℕ) (b : Bool) (timer : Timer) → time ≤ since + LONGEST_WAIT
+    → deadline_by time b timer ≤ latest since b (wait_in timer) timer.deadline
+set_early since time true timer soon =
+    let own : deadline_of time (wait_in timer) ≤ time + wait_in timer * 1000 = omega arith in
+    omega (arith, own, soon)
+set_early since time false timer soon = omega arith
 
 -- ---- what a step at the port leaves
-module _ (start millis round most : ℕ) (Idle Silent : Type 0) (now since : ℕ) (timer timer' : Timer) (e e' : EndState)
-    (changes : Changes Idle Silent now timer timer' e e') where
+module _ (start : ℕ) (backoff : Backoff) (interval most : ℕ) (Idle Silent : Type 0) (now since : ℕ) (timer timer' : Timer)
+    (e e' : EndState) (changes : Changes Idle Silent now timer timer' e e') where
+  abbrev KeepsTime : Timer → EndState → Type 0
+  KeepsTime t f =
+      InTime start backoff interval most since (last_of since t) t.timeouts (timeouts_left f)
+
   -- a step that makes no progress leaves the transfer in time
-  pub changes_in_time : Idle → timer.interval * 1000 ≡ millis → now ≤ since + round
-      → (1 ≤ timeouts_left e
-      → InTime start millis round most since (latest millis round since timer.provisional timer.deadline)
-      (timeouts_left e))
-      → 1 ≤ timeouts_left e'
-      → InTime start millis round most since (latest millis round since timer'.provisional timer'.deadline)
-      (timeouts_left e')
-  changes_in_time idle interval soon before some = elim changes [
+  pub changes_in_time : Idle → timer.interval ≡ interval → timer.backoff ≡ backoff → now ≤ since + LONGEST_WAIT
+      → (1 ≤ timeouts_left e → KeepsTime timer e) → 1 ≤ timeouts_left e' → KeepsTime timer' e'
+  changes_in_time idle interval_is backoff_is soon before some = elim changes [
     | By_datagram progress handled is_idle silent is ↦
         let still = is_idle idle in
         let fewer = handled.left still in
-        let last = λ (t : Timer). latest millis round since t.provisional t.deadline in
-        let deadline : last timer' ≡ last timer =
-        ap last (is ∙ ap (λ (b : Bool). timer_after now b timer) still) in
-        no_later start millis round most since (last timer) (last timer') (timeouts_left e) (timeouts_left e')
-        (omega (arith, deadline)) fewer (before (omega (arith, some, fewer)))
-    | By_timeout end is ↦
+        let same = is ∙ ap (λ (b : Bool). timer_after now b timer) still in
+        let deadline : last_of since timer' ≡ last_of since timer = ap (last_of since) same in
+        let timeouts : timer'.timeouts ≡ timer.timeouts = ap (λ (t : Timer). t.timeouts) same in
+        no_later start backoff interval most since (last_of since timer) (last_of since timer') timer.timeouts
+        timer'.timeouts (timeouts_left e) (timeouts_left e') (omega (arith, deadline)) (omega (arith, timeouts)) fewer
+        (before (omega (arith, some, fewer)))
+    | By_timeout again live end is ↦
         let same : timeouts_left e' ≡ timeouts_left (after_turn e (timeout_turn e)) =
         ap (λ (f : EndState). timeouts_left f) end in
         let spends : timeouts_left (after_turn e (timeout_turn e)) + 1 ≤ timeouts_left e =
         (timeout_spends e).left (omega (arith, some, same)) in
-        let last = λ (t : Timer). latest millis round since t.provisional t.deadline in
-        let deadline : last timer' ≡ max (deadline_of now timer.interval) (since + round + millis) = ap last is in
-        let own : deadline_of now timer.interval ≤ now + timer.interval * 1000 = omega arith in
-        timed_out start millis round most since (last timer) (last timer') (since + round) (timeouts_left e)
-        (timeouts_left e') (omega arith) (omega (arith, deadline, own, soon, interval)) (omega (arith, spends, same))
-        (before (omega (arith, spends)))
+        let later = timeouts_after again timer.timeouts in
+        let timeouts : timer'.timeouts ≡ later = ap (λ (t : Timer). t.timeouts) is in
+        let more = spent_after again timer.timeouts in
+        let own = wait_of timer.backoff timer.interval later in
+        let wait : own ≡ wait_of backoff interval timer'.timeouts =
+        ap (λ (b : Backoff). wait_of b timer.interval later) backoff_is
+        ∙ (ap (λ (i : ℕ). wait_of backoff i later) interval_is
+        ∙ ap (λ (n : ℕ). wait_of backoff interval n) (sym timeouts)) in
+        let deadline : last_of since timer' ≡ max (deadline_of now own) (since + LONGEST_WAIT + in_millis own) =
+        ap (last_of since) is in
+        let near : deadline_of now own ≤ now + own * 1000 = omega arith in
+        timed_out start backoff interval most since (last_of since timer) (last_of since timer') timer.timeouts
+        timer'.timeouts (timeouts_left e) (timeouts_left e') (omega (arith, deadline, near, soon, wait))
+        (omega (arith, timeouts, more)) (omega (arith, spends, same)) (before live)
     | By_late_timeout end none is ↦
         let same : timeouts_left e' ≡ timeouts_left e = ap (λ (f : EndState). timeouts_left f) end in
         absurd (omega (arith, some, same, none))
-    | By_nothing end deadline interval' provisional ↦
+    | By_nothing end deadline wait timeouts provisional ↦
         let same : timeouts_left e' ≡ timeouts_left e = ap (λ (f : EndState). timeouts_left f) end in
-        let last = λ (t : Timer). latest millis round since t.provisional t.deadline in
-        let here : last timer' ≡ last timer =
-        ap (λ (b : Bool). latest millis round since b timer'.deadline) provisional
-        ∙ ap (λ (n : ℕ). latest millis round since timer.provisional n) deadline in
-        no_later start millis round most since (last timer) (last timer') (timeouts_left e) (timeouts_left e')
-        (omega (arith, here)) (omega (arith, same)) (before (omega (arith, some, same)))
+        let here : last_of since timer' ≡ last_of since timer =
+        ap (λ (b : Bool). latest since b (wait_in timer') timer'.deadline) provisional
+        ∙ (ap (λ (n : ℕ). latest since timer.provisional n timer'.deadline) wait
+        ∙ ap (λ (n : ℕ). latest since timer.provisional (wait_in timer) n) deadline) in
+        no_later start backoff interval most since (last_of since timer) (last_of since timer') timer.timeouts
+        timer'.timeouts (timeouts_left e) (timeouts_left e') (omega (arith, here)) (omega (arith, timeouts))
+        (omega (arith, same)) (before (omega (arith, some, same)))
   ]
 
   -- a step without a datagram of the peer does not complete the transfer
   pub changes_complete : Silent → is_complete e'.position.phase ≡ is_complete e.position.phase
   changes_complete quiet = elim changes [
     | By_datagram progress handled is_idle silent is ↦ absurd (silent quiet)
-    | By_timeout end is ↦ ap (λ (f : EndState). is_complete f.position.phase) end ∙ (timeout_spends e).complete
+    | By_timeout again live end is ↦ ap (λ (f : EndState). is_complete f.position.phase) end ∙ (timeout_spends e).complete
     | By_late_timeout end none is ↦ ap (λ (f : EndState). is_complete f.position.phase) end
-    | By_nothing end deadline interval provisional ↦ ap (λ (f : EndState). is_complete f.position.phase) end
+    | By_nothing end deadline wait timeouts provisional ↦ ap (λ (f : EndState). is_complete f.position.phase) end
   ]
 
   -- from the end before to the first one
@@ -157,10 +209,10 @@ module _ (start millis round most : ℕ) (Idle Silent : Type 0) (now since : ℕ
       → (o : Outcome) → outcome_of e'.position.phase ≡ Some o → ClosesInSilence e0.position.phase o
   changes_closes quiet e0 complete closes o closed = elim changes [
     | By_datagram progress handled is_idle silent is ↦ absurd (silent quiet)
-    | By_timeout end is ↦
+    | By_timeout again live end is ↦
         closes_first e0 o complete closes ((timeout_spends e).closes o
         (sym (ap (λ (f : EndState). outcome_of f.position.phase) end) ∙ closed))
     | By_late_timeout end none is ↦ closes o (sym (ap (λ (f : EndState). outcome_of f.position.phase) end) ∙ closed)
-    | By_nothing end deadline interval provisional ↦ closes o (sym (ap (λ (f : EndState). outcome_of f.position.phase) end)
+    | By_nothing end deadline wait timeouts provisional ↦ closes o (sym (ap (λ (f : EndState). outcome_of f.position.phase) end)
         ∙ closed)
   ]

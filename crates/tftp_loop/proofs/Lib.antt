@@ -1,6 +1,7 @@
 pub mod PortLemmas
 pub mod RunLemmas
 pub mod PortRuns
+pub mod BackoffLemmas
 pub mod ListLemmas
 pub mod LoopRuns
 pub mod NoteLemmas

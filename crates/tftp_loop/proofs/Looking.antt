@@ -1,10 +1,12 @@
 -- A port of a transfer that is not marked is drained, or is left for a while. For Sleeping.
 use Rattle.std.proofs.Common.{arith, ◌≡◌, ◌≤◌, ◌<◌, ◌==◌, ◌||◌, ◌&&◌, ◌+◌, ◌⊎◌, not, ℕ, Bool, true, false, List, ◌∷◌}
 use Rattle.std.proofs.Common.{length, map, Option, Some, None, inl, inr, refl, sym, ap, subst, ◌∙◌}
-use Rattle.std.specs.Prelude.{slice_index_or, All, ◌≢◌}
+use Rattle.std.specs.Prelude.{slice_index_or, All, ◌≢◌, ◌*◌, is_some}
 use Rattle.std.specs.List.{swap_remove}
 use Rattle.std.proofs.lemmas.List.{length-map}
 use Rattle.tftp_file.specs.Source.{SourceMeaning}
+use Rattle.tftp_ends.specs.Backoff.{wait_of}
+use Rattle.tftp_ends.specs.declared.backoff.Backoff.{Backoff}
 use Rattle.tftp_ends.specs.declared.endpoint.Endpoint.{Endpoint}
 use Rattle.tftp_store.specs.Store.{StoreMeaning}
 use Rattle.tftp_server.specs.State.{TransferState, at}
@@ -15,7 +17,8 @@ use Rattle.tftp_sockets.specs.Trace.SocketEvent.{Received, Elapsed, Watched, Qui
 use Rattle.tftp_sockets.specs.Trace.QuietEvent.{Empty, Failed, Slept, Woke}
 use Rattle.tftp_sockets.specs.Quiet.{is_among, is_drained}
 use Rattle.tftp_loop.specs.Steps.{Timer, PortState, LoopState, PortStep, LoopStep, answering_port, interval_at, look_after}
-use Rattle.tftp_loop.specs.Steps.{deadline_by, marked_by, next_look, port_state, restarted, set_by, started, timer_after}
+use Rattle.tftp_loop.specs.Steps.{deadline_by, marked_by, next_look, port_state, restarted, set_by, started}
+use Rattle.tftp_loop.specs.Steps.{timeouts_after, timer_after, wait_in}
 use Rattle.tftp_loop.specs.Steps.{with_timer}
 use Rattle.tftp_loop.specs.Steps.PortStep.{A_datagram, A_lost_datagram, A_late_datagram, Nothing_found}
 use Rattle.tftp_loop.specs.Steps.PortStep.{A_failed_receive, A_timeout, A_missed_timeout, Work}
@@ -24,6 +27,7 @@ use Rattle.tftp_loop.specs.Steps.LoopStep.{Request_noted}
 use Rattle.tftp_loop.specs.Steps.LoopStep.{Request_answered, Request_lost, Clock_read, Store_set, Transfer_closed}
 use Rattle.tftp_loop.specs.Steps.LoopStep.{Drain_begun}
 use Rattle.tftp_loop.specs.MayWait.{HavePortsApart}
+use Rattle.tftp_loop.proofs.BackoffLemmas.{wait_least, wait_most}
 use Rattle.tftp_loop.proofs.Drained.{answered_drained, either_drained, other_drained, port_drained, replied_drained}
 use Rattle.tftp_loop.proofs.LoopStays.{all_appended, all_removed, all_set, other_port}
 use Rattle.tftp_loop.proofs.NoteLemmas.{note_drained}
@@ -49,19 +53,25 @@ looked_at_rest timer events now unmarked (Marked m) = absurd (let e : true ≡ f
 looked_at_rest timer events now unmarked (Drained d) = inl d
 looked_at_rest timer events now unmarked (Left l) = inr l.soon
 
-short_after : (now n interval : ℕ) → now ≤ n → next_look now interval ≡ deadline_of now interval
+short_after : (now n interval wait : ℕ) → now ≤ n → interval ≤ wait → next_look now wait ≡ deadline_of now wait
     → deadline_of n interval ≤ n + look_after
-short_after now n interval h e = omega (arith, h, e)
+short_after now n interval wait h least e = omega (arith, h, least, e)
+
+-- if the interval is so short, each wait is
+short_wait : (n interval wait : ℕ) → wait ≤ 8 * interval → deadline_of n interval ≤ n + look_after
+    → deadline_of n wait ≤ n + look_after
+short_wait n interval wait most short = omega (arith, most, short)
 
 soon_after : (now interval : ℕ) → next_look now interval ≤ now + look_after
 soon_after now interval = omega arith
 
 -- a timer that starts, or that progress restarts
-left_now : (now : ℕ) (timer : Timer) → timer.deadline ≡ deadline_of now timer.interval
-    → timer.look_at ≡ next_look now timer.interval → IsLeft now timer
+left_now : (now : ℕ) (timer : Timer) → timer.deadline ≡ deadline_of now (wait_in timer)
+    → timer.look_at ≡ next_look now (wait_in timer) → IsLeft now timer
 left_now now timer due look = record {
-  soon = let s = soon_after now timer.interval in omega (arith, s, look);
-  short = λ same n h. short_after now n timer.interval h (sym look ∙ (same ∙ due));
+  soon = let s = soon_after now (wait_in timer) in omega (arith, s, look);
+  short = λ same n h. short_after now n timer.interval (wait_in timer) h
+      (wait_least timer.backoff timer.interval timer.timeouts) (sym look ∙ (same ∙ due));
 }
 
 -- what an event leaves that drains no port of a transfer
@@ -86,13 +96,18 @@ after_datagram : (es : List SocketEvent) (now : ℕ) (progress : Bool) (timer : 
 after_datagram es now true timer = Left (left_now now (timer_after now true timer) refl refl)
 after_datagram es now false timer = Marked refl
 
-after_timeout : (es fs : List SocketEvent) (now : ℕ) (timer : Timer) → timer.look_at ≡ timer.deadline
+after_timeout : (es fs : List SocketEvent) (now : ℕ) (again : Bool) (timer : Timer) → timer.look_at ≡ timer.deadline
     → (is_drained timer.port es ≡ true → is_drained timer.port fs ≡ true)
-    → IsLooked es now timer → IsLooked fs now (restarted now timer)
-after_timeout es fs now timer looked on (Marked m) = Marked m
-after_timeout es fs now timer looked on (Drained d) = Drained (on d)
-after_timeout es fs now timer looked on (Left l) = Left
-    (record { soon = l.short looked now (omega arith); short = λ e n k. l.short looked n k })
+    → IsLooked es now timer → IsLooked fs now (restarted now again timer)
+after_timeout es fs now again timer looked on (Marked m) = Marked m
+after_timeout es fs now again timer looked on (Drained d) = Drained (on d)
+after_timeout es fs now again timer looked on (Left l) =
+    let timeouts = timeouts_after again timer.timeouts in
+    Left (record {
+      soon = short_wait now timer.interval (wait_of timer.backoff timer.interval timeouts)
+          (wait_most timer.backoff timer.interval timeouts) (l.short looked now (omega arith));
+      short = λ e n k. l.short looked n k;
+    })
 
 -- a reading of the clock sets a provisional deadline
 set_left : (now time : ℕ) (b : Bool) (timer : Timer) → now ≤ time → IsLeft now timer
@@ -101,7 +116,8 @@ set_left now time true timer h l =
     let soon = l.soon in
     record {
       soon = omega (arith, soon, h);
-      short = λ e n k. omega (arith, e, soon, h, k);
+      short = λ e n k. let least = wait_least timer.backoff timer.interval timer.timeouts in
+          omega (arith, e, soon, h, k, least);
     }
 set_left now time false timer h l =
     let soon = l.soon in
@@ -152,22 +168,22 @@ module _ {S F D : Type 0} (meaning : StoreMeaning S D) (sources : SourceMeaning 
   at_own now old new (A_timeout d) h =
       let elapsed = Elapsed old.timer.port now ∷ old.events in
       subst (IsLooked new.events now) (sym d.timer)
-      (after_timeout old.events new.events now old.timer d.looked
+      (after_timeout old.events new.events now (is_some d.step.to) old.timer d.looked
       (λ k. subst (λ (es : List SocketEvent). is_drained old.timer.port es ≡ true) (sym d.times_out.events)
       (answered_drained old.timer.port old.timer.port _ elapsed k)) h)
   at_own now old new (A_missed_timeout d) h =
       subst (IsLooked new.events now) (sym d.timer)
-      (after_timeout old.events new.events now old.timer d.looked
+      (after_timeout old.events new.events now false old.timer d.looked
       (λ k. subst (λ (es : List SocketEvent). is_drained old.timer.port es ≡ true) (sym d.events) k) h)
   at_own now old new (Work d) h = subst (IsLooked new.events now) (sym d.timer)
       (subst (λ (es : List SocketEvent). IsLooked es now old.timer) (sym d.events) h)
 
-  with_looked : (es : List SocketEvent) (now : ℕ) (longest : Option ℕ) (from : Endpoint) (tid : Option ℕ) (held : List (ℕ × TransferState F D))
+  with_looked : (es : List SocketEvent) (now : ℕ) (longest : Option ℕ) (backoff : Backoff) (from : Endpoint) (tid : Option ℕ) (held : List (ℕ × TransferState F D))
       (timers : List Timer)
-      → All (IsLooked es now) timers → All (IsLooked es now) (with_timer now longest from tid held timers)
-  with_looked es now longest from None held timers h = h
-  with_looked es now longest from (Some port) held timers h =
-      let timer = started now longest port from (interval_at (at port held)) in
+      → All (IsLooked es now) timers → All (IsLooked es now) (with_timer now longest backoff from tid held timers)
+  with_looked es now longest backoff from None held timers h = h
+  with_looked es now longest backoff from (Some port) held timers h =
+      let timer = started now longest backoff port from (interval_at (at port held)) in
       all_appended (IsLooked es now) timers timer h (Left (left_now now timer refl refl))
 
   -- a step of the loop leaves each port marked, drained or left for a while
@@ -233,7 +249,7 @@ module _ {S F D : Type 0} (meaning : StoreMeaning S D) (sources : SourceMeaning 
   step_looked s t (Request_answered d) own apart looked =
       let port = answering_port s.requests d.left.opened.tid in
       subst AreLooked (sym d.is)
-      (with_looked _ s.now s.longest d.from d.left.opened.tid d.left.new.held s.timers
+      (with_looked _ s.now s.longest s.backoff d.from d.left.opened.tid d.left.new.held s.timers
       (λ k e h.
       let timer = slice_index_or s.timers k e in
       still s.events _ s.now timer (replied_drained timer.port port d.left.opened.to d.left.sent s.events)

@@ -26,12 +26,13 @@ use Rattle.tftp_loop.proofs.ListLemmas.{map_is, map_within, map_set, set_itself,
 
 -- equal parts, equal states
 pub same_state : {S F D : Type 0} (s t : LoopState S F D)
-    → s.requests ≡ t.requests → s.range ≡ t.range → s.longest ≡ t.longest → s.requests_only ≡ t.requests_only → s.per_client ≡ t.per_client → s.server ≡ t.server → s.pending ≡ t.pending → s.timers ≡ t.timers
+    → s.requests ≡ t.requests → s.range ≡ t.range → s.longest ≡ t.longest → s.backoff ≡ t.backoff → s.requests_only ≡ t.requests_only → s.per_client ≡ t.per_client → s.server ≡ t.server → s.pending ≡ t.pending → s.timers ≡ t.timers
     → watch_of s ≡ watch_of t → s.limit ≡ t.limit → s.woken ≡ t.woken → s.marked ≡ t.marked → s.asked ≡ t.asked → s.drain ≡ t.drain → s.left ≡ t.left → s.rounds ≡ t.rounds → s.events ≡ t.events → s ≡ t
-same_state {S} {F} {D} s t a r o v p b c d e l w f q n g h k = λ i. record {
+same_state {S} {F} {D} s t a r o z v p b c d e l w f q n g h k = λ i. record {
   requests = a i;
   range = r i;
   longest = o i;
+  backoff = z i;
   requests_only = v i;
   per_client = p i;
   server = b i;
@@ -166,7 +167,7 @@ module _ {S F D : Type 0} (meaning : StoreMeaning S D) (sources : SourceMeaning 
             left = s.left - 1;
             events = close_printed timer.port timer.peer (Some outcome) s.events;
           })
-          refl refl refl refl refl (rest ∙ ap (λ h. record s.server { held = h }) held) refl refl refl refl refl refl refl refl refl refl
+          refl refl refl refl refl refl (rest ∙ ap (λ h. record s.server { held = h }) held) refl refl refl refl refl refl refl refl refl refl
           printed;
     },
     refl,

@@ -6,6 +6,8 @@ use Rattle.std.specs.Prelude.{slice_set, slice_index_or, is_some, All}
 use Rattle.std.specs.List.{swap_remove}
 use Rattle.std.proofs.lemmas.Bool.{cases_eq}
 use Rattle.tftp_file.specs.Source.{SourceMeaning}
+use Rattle.tftp_ends.specs.Backoff.{wait_of}
+use Rattle.tftp_ends.specs.declared.backoff.Backoff.{Backoff}
 use Rattle.tftp_ends.specs.declared.endpoint.Endpoint.{Endpoint}
 use Rattle.tftp_store.specs.Store.{StoreMeaning}
 use Rattle.tftp_server.specs.State.{TransferState, ServerState, at, with_new, without}
@@ -252,29 +254,29 @@ module _ {S F D : Type 0} (meaning : StoreMeaning S D) (sources : SourceMeaning 
             (record { there = ap is_some (inserted_own timer.port transfer held); look = look });
       }
 
-  answered_kept : (now : ℕ) (longest : Option ℕ) (from : Endpoint) (tid : ℕ) (old : ServerState S F D) (timers : List Timer)
+  answered_kept : (now : ℕ) (longest : Option ℕ) (backoff : Backoff) (from : Endpoint) (tid : ℕ) (old : ServerState S F D) (timers : List Timer)
       (came : Came S F D) → at tid old.held ≡ None → AreKept old.held timers
-      → AreKept (left_by came old from tid).new.held (with_timer now longest from (left_by came old from tid).opened.tid
+      → AreKept (left_by came old from tid).new.held (with_timer now longest backoff from (left_by came old from tid).opened.tid
       (left_by came old from tid).new.held timers)
-  answered_kept now longest from tid old timers Nothing free kept = kept
-  answered_kept now longest from tid old timers (Error_reply reply store) free kept = kept
-  answered_kept now longest from tid old timers (A_transfer transfer store) free kept =
-      opened_kept old.held timers (started now longest tid from (interval_at (at tid (with_new tid transfer old.held))))
+  answered_kept now longest backoff from tid old timers Nothing free kept = kept
+  answered_kept now longest backoff from tid old timers (Error_reply reply store) free kept = kept
+  answered_kept now longest backoff from tid old timers (A_transfer transfer store) free kept =
+      opened_kept old.held timers (started now longest backoff tid from (interval_at (at tid (with_new tid transfer old.held))))
       transfer free
-      (looks_first now (interval_at (at tid (with_new tid transfer old.held)))) kept
+      (looks_first now (wait_of backoff (interval_at (at tid (with_new tid transfer old.held))) 0)) kept
 
-  answered_read : (now : ℕ) (longest : Option ℕ) (from : Endpoint) (tid : ℕ) (old : ServerState S F D) (timers : List Timer)
+  answered_read : (now : ℕ) (longest : Option ℕ) (backoff : Backoff) (from : Endpoint) (tid : ℕ) (old : ServerState S F D) (timers : List Timer)
       (came : Came S F D) (es fs : List SocketEvent) → KeepsTries es fs
       → All (IsRead es) timers →
-      All (IsRead fs) (with_timer now longest from (left_by came old from tid).opened.tid
+      All (IsRead fs) (with_timer now longest backoff from (left_by came old from tid).opened.tid
       (left_by came old from tid).new.held timers)
-  answered_read now longest from tid old timers Nothing es fs tries read =
+  answered_read now longest backoff from tid old timers Nothing es fs tries read =
       λ k d h. other_read es fs (slice_index_or timers k d) tries (read k d h)
-  answered_read now longest from tid old timers (Error_reply reply store) es fs tries read =
+  answered_read now longest backoff from tid old timers (Error_reply reply store) es fs tries read =
       λ k d h. other_read es fs (slice_index_or timers k d) tries (read k d h)
-  answered_read now longest from tid old timers (A_transfer transfer store) es fs tries read =
+  answered_read now longest backoff from tid old timers (A_transfer transfer store) es fs tries read =
       let R = IsRead fs in
-      all_appended R timers (started now longest tid from (interval_at (at tid (with_new tid transfer old.held))))
+      all_appended R timers (started now longest backoff tid from (interval_at (at tid (with_new tid transfer old.held))))
       (λ k d h. other_read es fs (slice_index_or timers k d) tries (read k d h))
       (λ marked. absurd (let f : false ≡ true = marked in cc))
 
@@ -333,12 +335,12 @@ module _ {S F D : Type 0} (meaning : StoreMeaning S D) (sources : SourceMeaning 
         tries = tries;
         kept = λ h.
             subst (λ (left : Left S F D). AreKept left.new.held
-            (with_timer s.now s.longest d.from left.opened.tid left.new.held s.timers)) (sym d.steps.left)
-            (answered_kept s.now s.longest d.from d.tid s.server s.timers d.steps.came d.free h);
+            (with_timer s.now s.longest s.backoff d.from left.opened.tid left.new.held s.timers)) (sym d.steps.left)
+            (answered_kept s.now s.longest s.backoff d.from d.tid s.server s.timers d.steps.came d.free h);
         read = λ h.
             subst (λ (left : Left S F D). All (IsRead fs)
-            (with_timer s.now s.longest d.from left.opened.tid left.new.held s.timers)) (sym d.steps.left)
-            (answered_read s.now s.longest d.from d.tid s.server s.timers d.steps.came s.events fs tries h);
+            (with_timer s.now s.longest s.backoff d.from left.opened.tid left.new.held s.timers)) (sym d.steps.left)
+            (answered_read s.now s.longest s.backoff d.from d.tid s.server s.timers d.steps.came s.events fs tries h);
         tried =
             λ h m. tries s.requests (still_tried (reads_requests s) (is_some s.pending) (was_tried s.requests s.events ≡ true) h
             m);

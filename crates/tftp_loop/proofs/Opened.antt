@@ -7,6 +7,7 @@ use Rattle.tftp_wire.specs.declared.mode.Mode.{Mode}
 use Rattle.tftp_negotiate.specs.declared.known.Known.{Known}
 use Rattle.tftp_file.specs.Source.{SourceMeaning}
 use Rattle.tftp_file.specs.declared.fault.StoreFault.{StoreFault}
+use Rattle.tftp_ends.specs.declared.backoff.Backoff.{Backoff}
 use Rattle.tftp_ends.specs.declared.endpoint.Endpoint.{Endpoint}
 use Rattle.tftp_ends.specs.End.{EndState, outcome_of, record_of}
 use Rattle.tftp_ends.specs.Opening.{ServesRead, serving_write}
@@ -91,15 +92,15 @@ module _ {S F D : Type 0} (meaning : StoreMeaning S D) (sources : SourceMeaning 
   opens_open (Writes path mode agreed) transfer store h = taken_open _ h.draft h.store transfer store h.goes_on
 
   -- what was unclosed stays so, and what opened is
-  answered_open : (now tid : ℕ) (longest : Option ℕ) (timers : List Timer) (ask : Ask) (came : Came S F D) → at tid old.held ≡ None →
+  answered_open : (now tid : ℕ) (longest : Option ℕ) (backoff : Backoff) (timers : List Timer) (ask : Ask) (came : Came S F D) → at tid old.held ≡ None →
       AreKept old.held timers → All (IsOpen old.held) timers → Goes meaning sources old from bytes ask came
-      → All (IsOpen (left_by came old from tid).new.held) (with_timer now longest from (left_by came old from tid).opened.tid
+      → All (IsOpen (left_by came old from tid).new.held) (with_timer now longest backoff from (left_by came old from tid).opened.tid
       (left_by came old from tid).new.held timers)
-  answered_open now tid longest timers ask Nothing free kept unclosed goes = unclosed
-  answered_open now tid longest timers ask (Error_reply reply store) free kept unclosed goes = unclosed
-  answered_open now tid longest timers ask (A_transfer transfer store) free kept unclosed goes =
+  answered_open now tid longest backoff timers ask Nothing free kept unclosed goes = unclosed
+  answered_open now tid longest backoff timers ask (Error_reply reply store) free kept unclosed goes = unclosed
+  answered_open now tid longest backoff timers ask (A_transfer transfer store) free kept unclosed goes =
       let held = with_new tid transfer old.held in
-      all_appended (IsOpen held) timers (started now longest tid from (interval_at (at tid held)))
+      all_appended (IsOpen held) timers (started now longest backoff tid from (interval_at (at tid held)))
       (λ k d h.
       let port = (slice_index_or timers k d).port in
       ap (λ (o : Option (TransferState F D)). taken_of o)
@@ -126,8 +127,8 @@ module _ {S F D : Type 0} (meaning : StoreMeaning S D) (sources : SourceMeaning 
   ends_open s t (inl d) kept unclosed =
       subst (λ (u : LoopState S F D). All (IsOpen u.server.held) u.timers) (sym d.is)
       (subst (λ (left : Left S F D). All (IsOpen left.new.held)
-      (with_timer s.now s.longest d.from left.opened.tid left.new.held s.timers)) (sym d.steps.left)
-      (answered_open meaning sources s.server d.from d.bytes s.now d.tid s.longest s.timers _ d.steps.came d.free kept unclosed
+      (with_timer s.now s.longest s.backoff d.from left.opened.tid left.new.held s.timers)) (sym d.steps.left)
+      (answered_open meaning sources s.server d.from d.bytes s.now d.tid s.longest s.backoff s.timers _ d.steps.came d.free kept unclosed
       d.steps.goes))
   ends_open s t (inr d) kept unclosed =
       subst (λ (u : LoopState S F D). All (IsOpen u.server.held) u.timers) (sym d.is) unclosed
@@ -168,19 +169,19 @@ module _ {S F D : Type 0} (meaning : StoreMeaning S D) (sources : SourceMeaning 
     prepared_few s t (Then {middle} run (Sets_store d)) few =
         subst few_in (sym d.is) (prepared_few s middle run few)
 
-    with_few : (now : ℕ) (longest : Option ℕ) (from : Endpoint) (opened : Option ℕ)
+    with_few : (now : ℕ) (longest : Option ℕ) (backoff : Backoff) (from : Endpoint) (opened : Option ℕ)
         (held : List (ℕ × TransferState F D)) (timers : List Timer) → All (ReceivedFew most) timers
-        → All (ReceivedFew most) (with_timer now longest from opened held timers)
-    with_few now longest from None held timers few = few
-    with_few now longest from (Some port) held timers few =
-        all_appended (ReceivedFew most) timers (started now longest port from (interval_at (at port held)))
+        → All (ReceivedFew most) (with_timer now longest backoff from opened held timers)
+    with_few now longest backoff from None held timers few = few
+    with_few now longest backoff from (Some port) held timers few =
+        all_appended (ReceivedFew most) timers (started now longest backoff port from (interval_at (at port held)))
         (λ k d h. few k d h) (omega arith)
 
     pub concludes_few : (s t : LoopState S F D) → Concludes meaning sources s t → few_in s → few_in t
     concludes_few s t c few = elim c.ends [
       | inl d ↦
           subst few_in (sym d.is)
-          (with_few c.middle.now c.middle.longest d.from d.left.opened.tid d.left.new.held c.middle.timers
+          (with_few c.middle.now c.middle.longest c.middle.backoff d.from d.left.opened.tid d.left.new.held c.middle.timers
           (prepared_few s c.middle c.prepares few))
       | inr d ↦ subst few_in (sym d.is) (prepared_few s c.middle c.prepares few)
     ]

@@ -3,6 +3,7 @@ use Rattle.std.proofs.Common.{arith, ◌≡◌, ◌≢◌, ◌<◌, ℕ, List, [
 use Rattle.std.specs.Prelude.{All, IfSome}
 use Rattle.std.proofs.lemmas.List.{length-map}
 use Rattle.tftp_file.specs.Source.{SourceMeaning}
+use Rattle.tftp_ends.specs.declared.backoff.Backoff.{Backoff}
 use Rattle.tftp_ends.specs.declared.endpoint.Endpoint.{Endpoint}
 use Rattle.tftp_server.specs.State.{TransferState, ServerState, at}
 use Rattle.tftp_store.specs.Store.{StoreMeaning}
@@ -35,12 +36,12 @@ module _ {S F D : Type 0} (meaning : StoreMeaning S D) (sources : SourceMeaning 
   abbrev AreOthers : LoopState S F D → Type 0
   AreOthers s = All (IsOther s.requests) s.timers
 
-  with_other : (requests now : ℕ) (longest : Option ℕ) (from : Endpoint) (opened : Option ℕ)
+  with_other : (requests now : ℕ) (longest : Option ℕ) (backoff : Backoff) (from : Endpoint) (opened : Option ℕ)
       (held : List (ℕ × TransferState F D)) (timers : List Timer) → IfSome opened (λ port. port ≢ requests)
-      → All (IsOther requests) timers → All (IsOther requests) (with_timer now longest from opened held timers)
-  with_other requests now longest from None held timers own others = others
-  with_other requests now longest from (Some port) held timers own others =
-      all_appended (IsOther requests) timers (started now longest port from (interval_at (at port held)))
+      → All (IsOther requests) timers → All (IsOther requests) (with_timer now longest backoff from opened held timers)
+  with_other requests now longest backoff from None held timers own others = others
+  with_other requests now longest backoff from (Some port) held timers own others =
+      all_appended (IsOther requests) timers (started now longest backoff port from (interval_at (at port held)))
       (λ k d h. others k d h) own
 
   waited_other : (requests time : ℕ) (ports : List ℕ) (timers : List Timer) → All (IsOther requests) timers
@@ -67,7 +68,7 @@ module _ {S F D : Type 0} (meaning : StoreMeaning S D) (sources : SourceMeaning 
   step_others s t (Request_noted d) others = subst AreOthers (sym d.is) others
   step_others s t (Request_answered d) others =
       subst AreOthers (sym d.is)
-      (with_other s.requests s.now s.longest d.from d.left.opened.tid d.left.new.held s.timers d.own others)
+      (with_other s.requests s.now s.longest s.backoff d.from d.left.opened.tid d.left.new.held s.timers d.own others)
   step_others s t (Request_lost d) others = subst AreOthers (sym d.is) others
   step_others s t (Clock_read d) others = subst AreOthers (sym d.is) others
   step_others s t (Store_set d) others = subst AreOthers (sym d.is) others

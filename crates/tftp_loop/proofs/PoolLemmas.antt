@@ -1,9 +1,8 @@
 -- Which ports an order has. For four functions.
 use Rattle.std.proofs.Common.{arith, ◌≡◌, ◌≤◌, ◌<◌, ◌+◌, ◌-◌, ◌==◌, ◌||◌, ℕ, zero, suc, Bool, true, false, List, [], ◌∷◌, ◌++◌}
-use Rattle.std.proofs.Common.{length, take, drop, eq-eqb, Option, Some, None, ap, refl, sym, subst, ◌∙◌}
+use Rattle.std.proofs.Common.{length, eq-eqb, Option, Some, None, ap, refl, sym, subst, ◌∙◌}
 use Rattle.std.specs.Prelude.{All, IfSome, IsPermutation, IsSome, MatchOption}
 use Rattle.std.specs.List.{range_with_len}
-use Rattle.std.proofs.lemmas.List.{append-nil, length-drop, length-take}
 use Rattle.std.proofs.lemmas.List.Elements.{All-nil, All-cons, All-head, All-tail, All-same, All-append, All-push}
 use Rattle.std.proofs.lemmas.List.Sorted.{All-permutation, IsPermutation-append_comm, IsPermutation-sym}
 use Rattle.std.proofs.lemmas.List.Sorted.{IsPermutation-trans, length_permutation}
@@ -13,12 +12,11 @@ use Rattle.tftp_sockets.specs.Trace.QuietEvent.{New_socket, No_socket}
 use Rattle.tftp_sockets.specs.Quiet.{is_among}
 use Rattle.tftp_sockets.specs.declared.sockets.ServerSocket.{ServerSocket}
 use Rattle.tftp_loop.specs.Run.Run.{Start, Then}
-use Rattle.tftp_loop.specs.PortOrder.{HasPorts, IsOneOf, IsOrderOf, UsesNext, coming, ports_of}
+use Rattle.tftp_loop.specs.PortOrder.{HasPorts, IsOneOf, IsOrderOf, Mixes, UsesNext, coming, ports_of}
 use Rattle.tftp_loop.specs.PortPool.{AreAllMissed, Binds, Tries, TriesInVain, TriesPorts, after_bind, missed_last}
-use Rattle.tftp_loop.specs.PortsInTurn.{UsesPorts}
 use Rattle.tftp_loop.specs.declared.port_order.PortOrder.{PortOrder}
 use Rattle.tftp_loop.specs.declared.port_order.PortRange.{PortRange}
-use Rattle.tftp_loop.proofs.PortUses.{come_last, long}
+use Rattle.tftp_loop.proofs.PortUses.{ComesLast, rest_long}
 
 all_counted : (P : ℕ → Type 0) (a n : ℕ) → ((x : ℕ) → a ≤ x → x < a + n → P x) → All P (range_with_len a n)
 all_counted P a zero f = All-nil P
@@ -76,6 +74,21 @@ module _ (old new : PortOrder) (port : ℕ) (has : HasPorts old) (uses : UsesNex
         (All-push (IsOneOf (Some old.range)) uses.others port
         (All-tail (IsOneOf (Some old.range)) port uses.others comes) used_within));
   }
+
+-- an order whose first ports are mixed has them still
+pub mixed_within : (among : ℕ) (old new : PortOrder) → HasPorts old → Mixes among old new → HasPorts new
+mixed_within among old new has mixes =
+    let long = length_permutation (coming old) (coming new) mixes.all in
+    let some = has.some in
+    record {
+      all =
+          subst (λ (r : PortRange). IsPermutation (ports_of r) (coming new)) (sym mixes.range)
+          (IsPermutation-trans (ports_of old.range) (coming old) (coming new) has.all mixes.all);
+      some = omega (arith, long, some);
+      each =
+          subst (λ (r : PortRange). All (IsOneOf (Some r)) (coming new)) (sym mixes.range)
+          (All-permutation (IsOneOf (Some old.range)) (coming old) (coming new) mixes.all has.each);
+    }
 
 -- the same, whether or not a port comes
 abbrev MayUseNext : PortOrder → PortOrder → Option ℕ → Type 0
@@ -157,30 +170,18 @@ module _ (port : ℕ) (es fs : List SocketEvent) (is : fs ≡ Quiet (No_socket p
   pub missed_more : (ports : List ℕ) → All (IsMissed es) ports → All (IsMissed fs) (ports ++ port ∷ [])
   missed_more ports all = All-push (IsMissed fs) ports port (λ k d h. missed_still _ (all k d h)) missed_now
 
-all_come : (P : ℕ → Type 0) (ports rest coming : List ℕ) → coming ≡ ports ++ rest → length ports ≡ length coming
-    → All P ports → All P coming
-all_come P ports [] coming was same all = All-same P coming (ports ++ []) was
-    (subst (All P) (sym (append-nil ports)) all)
-all_come P ports (next ∷ rest) coming was same all =
-    let e : length coming ≡ length ports + length (next ∷ rest) =
-    ap (λ (xs : List ℕ). length xs) was ∙ long ports (next ∷ rest) in
-    absurd (omega (arith, e, same))
+none_left : (xs : List ℕ) → length xs ≡ 0 → xs ≡ []
+none_left [] h = refl
+none_left (x ∷ xs) h = absurd (omega (arith, h))
 
 -- as many ports as come were used and missed: these are all of the range
-pub all_missed : (range : PortRange) (first last : PortOrder) (ports : List ℕ) (es : List SocketEvent) → HasPorts first
-    → first.range ≡ range → UsesPorts first ports last → length ports ≡ length (coming first)
-    → All (IsMissed es) ports → AreAllMissed (Some range) es
-all_missed range first last ports es has same uses whole all =
-    let before = come_last first last ports uses (omega (arith, whole)) in
-    let came = all_come (IsMissed es) ports before.rest (coming first) before.was whole all in
-    subst (λ (r : PortRange). All (IsMissed es) (ports_of r)) same
-    (All-permutation (IsMissed es) (coming first) (ports_of first.range)
-    (IsPermutation-sym (ports_of first.range) (coming first) has.all) came)
-
--- as many come as there are
-pub coming_long : (order : PortOrder) → length (coming order) ≡ length order.ports.items
-coming_long order =
-    let cut = long (drop order.next order.ports.items) (take order.next order.ports.items) in
-    let dropped = length-drop order.next order.ports.items in
-    let taken = length-take order.next order.ports.items in
-    omega (arith, cut, dropped, taken)
+pub all_missed : (range : PortRange) (before used after : List ℕ) (es : List SocketEvent)
+    → IsPermutation (ports_of range) before → ComesLast before used after → length used ≡ length before
+    → All (IsMissed es) used → AreAllMissed (Some range) es
+all_missed range before used after es has last whole all =
+    let many = rest_long before used after last in
+    let none : length last.rest ≡ 0 = omega (arith, many, whole) in
+    let come : All (IsMissed es) after =
+    All-same (IsMissed es) after used (last.is ∙ ap (λ (xs : List ℕ). xs ++ used) (none_left last.rest none)) all in
+    All-permutation (IsMissed es) after (ports_of range)
+    (IsPermutation-sym (ports_of range) after (IsPermutation-trans (ports_of range) before after has last.all)) come

@@ -4,6 +4,7 @@ use Rattle.std.proofs.Common.{refl, sym, ap, subst, ◌∙◌, inl, inr}
 use Rattle.std.specs.Prelude.{All, if◌then◌else◌, is_some, slice_index_or, slice_set}
 use Rattle.std.proofs.lemmas.Bool.{cases_eq, eq-eqb, ne_eqb}
 use Rattle.tftp_file.specs.Source.{SourceMeaning}
+use Rattle.tftp_ends.specs.declared.backoff.Backoff.{Backoff}
 use Rattle.tftp_ends.specs.declared.endpoint.Endpoint.{Endpoint}
 use Rattle.tftp_ends.specs.Step.{Reply}
 use Rattle.tftp_server.specs.State.{TransferState, at}
@@ -183,13 +184,13 @@ module _ {S F D : Type 0} (meaning : StoreMeaning S D) (sources : SourceMeaning 
                 }
           ]
 
-      with_counted : (n opened now : ℕ) (longest : Option ℕ) (from : Endpoint) (tid : Option ℕ)
+      with_counted : (n opened now : ℕ) (longest : Option ℕ) (backoff : Backoff) (from : Endpoint) (tid : Option ℕ)
           (held : List (ℕ × TransferState F D)) (timers : List Timer) → n ≤ base + (64 * opened + 64)
-          → All (Counts n opened) timers → All (Counts n (opened + 1)) (with_timer now longest from tid held timers)
-      with_counted n opened now longest from None held timers all each k d h =
+          → All (Counts n opened) timers → All (Counts n (opened + 1)) (with_timer now longest backoff from tid held timers)
+      with_counted n opened now longest backoff from None held timers all each k d h =
           λ there. let was = each k d h there in omega (arith, was)
-      with_counted n opened now longest from (Some tid) held timers all each k d h =
-          all_appended (Counts n (opened + 1)) timers (started now longest tid from (interval_at (at tid held)))
+      with_counted n opened now longest backoff from (Some tid) held timers all each k d h =
+          all_appended (Counts n (opened + 1)) timers (started now longest backoff tid from (interval_at (at tid held)))
           (λ k d h there. let was = each k d h there in omega (arith, was)) (λ there. omega (arith, all)) k d h
 
       pending_some : (o : Option (Endpoint × List ℕ)) (p : Endpoint × List ℕ) → o ≡ Some p → one (is_some o) ≡ 1
@@ -242,8 +243,8 @@ module _ {S F D : Type 0} (meaning : StoreMeaning S D) (sources : SourceMeaning 
             each =
                 subst
                 (λ (m : ℕ). All (Counts m (c.opened + 1))
-                (with_timer s.now s.longest d.from d.left.opened.tid d.left.new.held s.timers)) (sym events)
-                (with_counted n c.opened s.now s.longest d.from d.left.opened.tid d.left.new.held s.timers all c.each);
+                (with_timer s.now s.longest s.backoff d.from d.left.opened.tid d.left.new.held s.timers)) (sym events)
+                (with_counted n c.opened s.now s.longest s.backoff d.from d.left.opened.tid d.left.new.held s.timers all c.each);
           })
       step_counted s t (Request_lost d) own kept few c =
           let before = c.few in

@@ -1,12 +1,14 @@
 -- What a step at a port does to the end of its transfer, and to the timer. For `ServerLoop::visit` and seven other
 -- files.
 use Rattle.std.proofs.Common.{arith, ◌≡◌, ◌≤◌, ◌+◌, ◌*◌, ℕ, Bool, true, false, not, List, Option, Some}
-use Rattle.std.proofs.Common.{refl, sym, ap, subst, ◌∙◌}
-use Rattle.std.specs.Prelude.{⊤}
+use Rattle.std.proofs.Common.{refl, sym, ap, subst, ◌∙◌, inl, inr}
+use Rattle.std.specs.Prelude.{⊤, is_some, max}
+use Rattle.std.proofs.lemmas.Bool.{cases_eq}
 use Rattle.std.specs.BTreeMap.{is_at}
 use Rattle.std.specs.Ordering.{nat_cmp}
 use Rattle.std.proofs.lemmas.Option.{same_Some}
 use Rattle.tftp_file.specs.Source.{SourceMeaning}
+use Rattle.tftp_ends.specs.Backoff.{wait_of}
 use Rattle.tftp_ends.specs.End.{EndState, is_progress}
 use Rattle.tftp_ends.specs.Step.{after_turn, timeout_turn}
 use Rattle.tftp_ends.specs.declared.record.Step.{Step}
@@ -19,11 +21,13 @@ use Rattle.tftp_server.specs.Work.{WorksAt}
 use Rattle.tftp_sockets.specs.Watch.{deadline_of}
 use Rattle.tftp_loop.specs.Run.{Run}
 use Rattle.tftp_loop.specs.Run.Run.{Start, Then}
-use Rattle.tftp_loop.specs.Steps.{Timer, PortState, PortStep, deadline_by, marked_as, restarted, timer_after}
+use Rattle.tftp_loop.specs.MayWait.{IsTimed}
+use Rattle.tftp_loop.specs.Steps.{Timer, PortState, PortStep, deadline_by, expiring, marked_as, restarted, timeouts_after}
+use Rattle.tftp_loop.specs.Steps.{timer_after, wait_in}
 use Rattle.tftp_loop.specs.Steps.PortStep.{A_datagram, A_lost_datagram, A_late_datagram, Nothing_found}
 use Rattle.tftp_loop.specs.Steps.PortStep.{A_failed_receive, A_timeout, A_missed_timeout, Work}
 use Rattle.tftp_loop.specs.Expiry.{IsIdleAt, ReceivesNoneAt}
-use Rattle.tftp_loop.proofs.EndSteps.{Moves, closed_left, datagram_left, datagram_moves, moves_limit, timeout_spends}
+use Rattle.tftp_loop.proofs.EndSteps.{Moves, closed_left, datagram_left, datagram_moves, most_left, moves_limit, open_left, timeout_spends}
 use Rattle.tftp_loop.proofs.EndSteps.{timeouts_left}
 use Rattle.tftp_loop.proofs.PortLemmas.{set_found}
 
@@ -37,64 +41,72 @@ pub record HandledSo (e e' : EndState) (progress : Bool) : Type 0 where
 pub data Changes (Idle Silent : Type 0) (now : ℕ) (timer timer' : Timer) (e e' : EndState) : Type 0 where
   By_datagram : (progress : Bool) → HandledSo e e' progress → (Idle → progress ≡ false) → (Silent → ⊥)
       → timer' ≡ timer_after now progress timer → Changes Idle Silent now timer timer' e e'
-  By_timeout : e' ≡ after_turn e (timeout_turn e) → timer' ≡ restarted now timer
+  By_timeout : (again : Bool) → 1 ≤ timeouts_left e → e' ≡ after_turn e (timeout_turn e)
+      → timer' ≡ restarted now again timer → Changes Idle Silent now timer timer' e e'
+  By_late_timeout : e' ≡ e → timeouts_left e ≡ 0 → timer' ≡ restarted now false timer
       → Changes Idle Silent now timer timer' e e'
-  By_late_timeout : e' ≡ e → timeouts_left e ≡ 0 → timer' ≡ restarted now timer
-      → Changes Idle Silent now timer timer' e e'
-  By_nothing : e' ≡ e → timer'.deadline ≡ timer.deadline → timer'.interval ≡ timer.interval
-      → timer'.provisional ≡ timer.provisional → Changes Idle Silent now timer timer' e e'
+  By_nothing : e' ≡ e → timer'.deadline ≡ timer.deadline → wait_in timer' ≡ wait_in timer
+      → timer'.timeouts ≡ timer.timeouts → timer'.provisional ≡ timer.provisional → Changes Idle Silent now timer timer' e e'
 
 -- ---- timers
--- a step leaves the port, the peer, the interval and the age limit of a timer
+-- a step leaves the port, the peer, the interval, the backoff and the age limit of a timer
 pub record SameTimer (timer timer' : Timer) : Type 0 where
   pub port : timer'.port ≡ timer.port
   pub peer : timer'.peer ≡ timer.peer
   pub interval : timer'.interval ≡ timer.interval
+  pub backoff : timer'.backoff ≡ timer.backoff
   pub age : timer'.age_limit ≡ timer.age_limit
 
 same_by : (timer timer' after : Timer) → timer' ≡ after → SameTimer timer after → SameTimer timer timer'
 same_by timer timer' after e same = subst (SameTimer timer) (sym e) same
 
 after_same : (now : ℕ) (progress : Bool) (timer : Timer) → SameTimer timer (timer_after now progress timer)
-after_same now true timer = record { port = refl; peer = refl; interval = refl; age = refl }
-after_same now false timer = record { port = refl; peer = refl; interval = refl; age = refl }
+after_same now true timer = record { port = refl; peer = refl; interval = refl; backoff = refl; age = refl }
+after_same now false timer = record { port = refl; peer = refl; interval = refl; backoff = refl; age = refl }
 
--- the deadline is an interval away at most
+-- the deadline is a wait away at most
 abbrev pub IsNear : ℕ → Timer → Type 0
-IsNear now timer = timer.deadline ≤ now + timer.interval * 1000
+IsNear now timer = timer.deadline ≤ now + wait_in timer * 1000
 
 near_by : (now : ℕ) (timer timer' : Timer) → timer' ≡ timer → IsNear now timer → IsNear now timer'
 near_by now timer timer' e near = subst (IsNear now) (sym e) near
 
 after_near : (now : ℕ) (progress : Bool) (timer : Timer) → IsNear now timer
     → IsNear now (timer_after now progress timer)
-after_near now true timer near = (let h : deadline_of now timer.interval ≤ now + timer.interval * 1000 =
-    omega arith in h)
+after_near now true timer near =
+    let wait = wait_of timer.backoff timer.interval 0 in
+    (let h : deadline_of now wait ≤ now + wait * 1000 = omega arith in h)
 after_near now false timer near = near
 
 -- also once it is set
 pub set_near : (now time : ℕ) (b : Bool) (timer : Timer) → now ≤ time → IsNear now timer
-    → deadline_by time b timer ≤ time + timer.interval * 1000
+    → deadline_by time b timer ≤ time + wait_in timer * 1000
 set_near now time true timer h near =
-    let own : deadline_of time timer.interval ≤ time + timer.interval * 1000 = omega arith in
+    let own : deadline_of time (wait_in timer) ≤ time + wait_in timer * 1000 = omega arith in
     omega (arith, own, near, h)
 set_near now time false timer h near = omega (arith, near, h)
 
--- a deadline that was set now is an interval away
-pub restarted_near : (now : ℕ) (timer : Timer) → IsNear now (restarted now timer)
-restarted_near now timer = (let h : deadline_of now timer.interval ≤ now + timer.interval * 1000 = omega arith in h)
+-- a deadline that was set now is a wait away
+pub expiring_near : (now timeouts : ℕ) (timer : Timer) → IsNear now (expiring now timeouts timer)
+expiring_near now timeouts timer =
+    let wait = wait_of timer.backoff timer.interval timeouts in
+    (let h : deadline_of now wait ≤ now + wait * 1000 = omega arith in h)
 
--- a step leaves it an interval away at most
+-- and timed
+pub restarted_timed : (now : ℕ) (again : Bool) (timer : Timer) → IsTimed now (restarted now again timer)
+restarted_timed now again timer = record { due = inr refl; look = inr (inl refl) }
+
+-- a step leaves it a wait away at most
 pub changes_near : (Idle Silent : Type 0) (now : ℕ) (timer timer' : Timer) (e e' : EndState)
     → Changes Idle Silent now timer timer' e e' → IsNear now timer → IsNear now timer'
 changes_near Idle Silent now timer timer' e e' (By_datagram progress handled idle silent is) near =
     near_by now (timer_after now progress timer) timer' is (after_near now progress timer near)
-changes_near Idle Silent now timer timer' e e' (By_timeout end is) near =
-    near_by now (restarted now timer) timer' is (restarted_near now timer)
+changes_near Idle Silent now timer timer' e e' (By_timeout again some end is) near =
+    near_by now (restarted now again timer) timer' is (expiring_near now (timeouts_after again timer.timeouts) timer)
 changes_near Idle Silent now timer timer' e e' (By_late_timeout end none is) near =
-    near_by now (restarted now timer) timer' is (restarted_near now timer)
-changes_near Idle Silent now timer timer' e e' (By_nothing end deadline interval provisional) near =
-    let same : timer'.interval * 1000 ≡ timer.interval * 1000 = ap (λ (i : ℕ). i * 1000) interval in
+    near_by now (restarted now false timer) timer' is (expiring_near now timer.timeouts timer)
+changes_near Idle Silent now timer timer' e e' (By_nothing end deadline wait timeouts provisional) near =
+    let same : wait_in timer' * 1000 ≡ wait_in timer * 1000 = ap (λ (i : ℕ). i * 1000) wait in
     omega (arith, near, deadline, same)
 
 -- ---- retries
@@ -116,13 +128,53 @@ pub changes_limit : (Idle Silent : Type 0) (now : ℕ) (timer timer' : Timer) (e
     → Changes Idle Silent now timer timer' e e' → (retries : ℕ) → HasLimit retries e → HasLimit retries e'
 changes_limit Idle Silent now timer timer' e e' (By_datagram progress handled idle silent is) retries limit =
     limit_moves retries e e' handled.role handled.moves limit
-changes_limit Idle Silent now timer timer' e e' (By_timeout end is) retries limit =
+changes_limit Idle Silent now timer timer' e e' (By_timeout again some end is) retries limit =
     subst (HasLimit retries) (sym end) (limit_moves retries e (after_turn e (timeout_turn e)) refl
     (timeout_spends e).moves limit)
 changes_limit Idle Silent now timer timer' e e' (By_late_timeout end none is) retries limit =
     subst (HasLimit retries) (sym end) limit
-changes_limit Idle Silent now timer timer' e e' (By_nothing end deadline interval provisional) retries limit =
+changes_limit Idle Silent now timer timer' e e' (By_nothing end deadline wait timeouts provisional) retries limit =
     subst (HasLimit retries) (sym end) limit
+
+-- as many timeouts are over and left as there are retries, and one more, at most
+abbrev pub HasSpent : ℕ → Timer → EndState → Type 0
+HasSpent retries timer e = timer.timeouts + timeouts_left e ≤ max 1 retries + 1
+
+pub spent_after : (again : Bool) (timeouts : ℕ) → timeouts_after again timeouts ≤ timeouts + 1
+spent_after true timeouts = omega arith
+spent_after false timeouts = omega arith
+
+-- a step leaves no more of both
+pub changes_spent : (Idle Silent : Type 0) (now : ℕ) (timer timer' : Timer) (e e' : EndState)
+    → Changes Idle Silent now timer timer' e e' → (retries : ℕ) → HasLimit retries e' → HasSpent retries timer e
+    → HasSpent retries timer' e'
+changes_spent Idle Silent now timer timer' e e' (By_datagram true handled idle silent is) retries limit spent =
+    let none : timer'.timeouts ≡ 0 = ap (λ (t : Timer). t.timeouts) is in
+    let most = most_left e'.position.phase e'.position.retries_left retries limit.left in
+    omega (arith, none, most)
+changes_spent Idle Silent now timer timer' e e' (By_datagram false handled idle silent is) retries limit spent =
+    let same : timer'.timeouts ≡ timer.timeouts = ap (λ (t : Timer). t.timeouts) is in
+    let fewer = handled.left refl in
+    omega (arith, same, fewer, spent)
+changes_spent Idle Silent now timer timer' e e' (By_timeout again some end is) retries limit spent =
+    let same : timer'.timeouts ≡ timeouts_after again timer.timeouts = ap (λ (t : Timer). t.timeouts) is in
+    let more = spent_after again timer.timeouts in
+    let left : timeouts_left e' ≡ timeouts_left (after_turn e (timeout_turn e)) =
+    ap (λ (f : EndState). timeouts_left f) end in
+    elim (cases_eq (timeouts_left e') 0) [
+      | inl none ↦ omega (arith, same, more, some, none, spent)
+      | inr other ↦
+          let spends : timeouts_left (after_turn e (timeout_turn e)) + 1 ≤ timeouts_left e =
+          (timeout_spends e).left (omega (arith, other, left)) in
+          omega (arith, same, more, left, spends, spent)
+    ]
+changes_spent Idle Silent now timer timer' e e' (By_late_timeout end none is) retries limit spent =
+    let same : timer'.timeouts ≡ timer.timeouts = ap (λ (t : Timer). t.timeouts) is in
+    let left : timeouts_left e' ≡ timeouts_left e = ap (λ (f : EndState). timeouts_left f) end in
+    omega (arith, same, left, spent)
+changes_spent Idle Silent now timer timer' e e' (By_nothing end deadline wait timeouts provisional) retries limit spent =
+    let left : timeouts_left e' ≡ timeouts_left e = ap (λ (f : EndState). timeouts_left f) end in
+    omega (arith, timeouts, left, spent)
 
 closed_by : (b : Bool) → not b ≡ false → b ≡ true
 closed_by true h = refl
@@ -136,19 +188,20 @@ module _ {S F D : Type 0} (meaning : StoreMeaning S D) (sources : SourceMeaning 
   same_timer now old new (A_datagram d) = same_by old.timer new.timer
       (timer_after now d.step.progress old.timer) d.timer (after_same now d.step.progress old.timer)
   same_timer now old new (A_lost_datagram d) = same_by old.timer new.timer (timer_after now false old.timer) d.timer
-      (record { port = refl; peer = refl; interval = refl; age = refl })
+      (record { port = refl; peer = refl; interval = refl; backoff = refl; age = refl })
   same_timer now old new (A_late_datagram d) = same_by old.timer new.timer (timer_after now false old.timer) d.timer
-      (record { port = refl; peer = refl; interval = refl; age = refl })
+      (record { port = refl; peer = refl; interval = refl; backoff = refl; age = refl })
   same_timer now old new (Nothing_found d) = same_by old.timer new.timer (marked_as false old.timer) d.timer
-      (record { port = refl; peer = refl; interval = refl; age = refl })
+      (record { port = refl; peer = refl; interval = refl; backoff = refl; age = refl })
   same_timer now old new (A_failed_receive d) = same_by old.timer new.timer (marked_as true old.timer) d.timer
-      (record { port = refl; peer = refl; interval = refl; age = refl })
-  same_timer now old new (A_timeout d) = same_by old.timer new.timer (restarted now old.timer) d.timer
-      (record { port = refl; peer = refl; interval = refl; age = refl })
-  same_timer now old new (A_missed_timeout d) = same_by old.timer new.timer (restarted now old.timer) d.timer
-      (record { port = refl; peer = refl; interval = refl; age = refl })
+      (record { port = refl; peer = refl; interval = refl; backoff = refl; age = refl })
+  same_timer now old new (A_timeout d) = same_by old.timer new.timer
+      (restarted now (is_some d.step.to) old.timer) d.timer
+      (record { port = refl; peer = refl; interval = refl; backoff = refl; age = refl })
+  same_timer now old new (A_missed_timeout d) = same_by old.timer new.timer (restarted now false old.timer) d.timer
+      (record { port = refl; peer = refl; interval = refl; backoff = refl; age = refl })
   same_timer now old new (Work d) = same_by old.timer new.timer old.timer d.timer
-      (record { port = refl; peer = refl; interval = refl; age = refl })
+      (record { port = refl; peer = refl; interval = refl; backoff = refl; age = refl })
 
   -- the configuration never changes
   pub same_config : (now : ℕ) (old new : PortState S F D) → PortStep meaning sources now old new
@@ -219,24 +272,24 @@ module _ {S F D : Type 0} (meaning : StoreMeaning S D) (sources : SourceMeaning 
         next = keeps.0;
         found = put_next old.timer.port old.server.held new.server.held transfer keeps.0 found keeps.2;
         changes = By_nothing keeps.1.end (ap (λ (t : Timer). t.deadline) d.timer)
-            (ap (λ (t : Timer). t.interval) d.timer) (ap (λ (t : Timer). t.provisional) d.timer);
+            (ap (λ (t : Timer). wait_in t) d.timer) (ap (λ (t : Timer). t.timeouts) d.timer) (ap (λ (t : Timer). t.provisional) d.timer);
       }
   at_transfer now old new (A_late_datagram d) transfer found = record {
     next = transfer;
     found = ap (λ (s : ServerState S F D). at old.timer.port s.held) d.server ∙ found;
-    changes = By_nothing refl (ap (λ (t : Timer). t.deadline) d.timer) (ap (λ (t : Timer). t.interval) d.timer)
+    changes = By_nothing refl (ap (λ (t : Timer). t.deadline) d.timer) (ap (λ (t : Timer). wait_in t) d.timer) (ap (λ (t : Timer). t.timeouts) d.timer)
         (ap (λ (t : Timer). t.provisional) d.timer);
   }
   at_transfer now old new (Nothing_found d) transfer found = record {
     next = transfer;
     found = ap (λ (s : ServerState S F D). at old.timer.port s.held) d.server ∙ found;
-    changes = By_nothing refl (ap (λ (t : Timer). t.deadline) d.timer) (ap (λ (t : Timer). t.interval) d.timer)
+    changes = By_nothing refl (ap (λ (t : Timer). t.deadline) d.timer) (ap (λ (t : Timer). wait_in t) d.timer) (ap (λ (t : Timer). t.timeouts) d.timer)
         (ap (λ (t : Timer). t.provisional) d.timer);
   }
   at_transfer now old new (A_failed_receive d) transfer found = record {
     next = transfer;
     found = ap (λ (s : ServerState S F D). at old.timer.port s.held) d.server ∙ found;
-    changes = By_nothing refl (ap (λ (t : Timer). t.deadline) d.timer) (ap (λ (t : Timer). t.interval) d.timer)
+    changes = By_nothing refl (ap (λ (t : Timer). t.deadline) d.timer) (ap (λ (t : Timer). wait_in t) d.timer) (ap (λ (t : Timer). t.timeouts) d.timer)
         (ap (λ (t : Timer). t.provisional) d.timer);
   }
   at_transfer now old new (A_timeout d) transfer found =
@@ -247,7 +300,8 @@ module _ {S F D : Type 0} (meaning : StoreMeaning S D) (sources : SourceMeaning 
         found = put_next old.timer.port old.server.held new.server.held t.transfer
             (with_end t.end t.transfer) t.found t.held;
         changes = subst (λ (u : TransferState F D). Changes ⊤ ⊤ now old.timer new.timer u.end t.end) own
-            (By_timeout t.carries.state d.timer);
+            (By_timeout (is_some d.step.to) (open_left t.transfer.end.position.phase
+            t.transfer.end.position.retries_left t.still) t.carries.state d.timer);
       }
   at_transfer now old new (A_missed_timeout d) transfer found = record {
     next = transfer;
@@ -265,6 +319,6 @@ module _ {S F D : Type 0} (meaning : StoreMeaning S D) (sources : SourceMeaning 
         next = works.0;
         found = put_next old.timer.port old.server.held new.server.held transfer works.0 found works.2;
         changes = By_nothing (ap (λ (t : TransferState F D). t.end) works.1.rest)
-            (ap (λ (t : Timer). t.deadline) d.timer) (ap (λ (t : Timer). t.interval) d.timer)
+            (ap (λ (t : Timer). t.deadline) d.timer) (ap (λ (t : Timer). wait_in t) d.timer) (ap (λ (t : Timer). t.timeouts) d.timer)
             (ap (λ (t : Timer). t.provisional) d.timer);
       }

@@ -2,7 +2,7 @@
 -- `PortVisit::take_timeout` and LoopRuns.
 use Rattle.std.proofs.Common.{◌≡◌, ◌≤◌, ◌<◌, ◌⊎◌, ℕ, true, false, List, ◌∷◌, Option, Some, None, inl, inr, refl, ap, subst}
 use Rattle.std.proofs.Common.{◌∙◌}
-use Rattle.std.specs.Prelude.{MatchOption}
+use Rattle.std.specs.Prelude.{MatchOption, is_some}
 use Rattle.tftp_file.specs.Source.{SourceMeaning}
 use Rattle.tftp_ends.specs.declared.endpoint.Endpoint.{Endpoint}
 use Rattle.tftp_ends.specs.declared.record.Step.{Step}
@@ -15,7 +15,7 @@ use Rattle.tftp_sockets.specs.Quiet.{was_tried}
 use Rattle.tftp_loop.specs.Run.{Run}
 use Rattle.tftp_loop.specs.Run.Run.{Then}
 use Rattle.tftp_loop.specs.Steps.{Timer, PortState, PortStep, AnswersDatagram, LosesDatagram, WorksAtPort}
-use Rattle.tftp_loop.specs.Steps.{AnswersTimeout, marked_as, most_in_round, restarted, timer_after}
+use Rattle.tftp_loop.specs.Steps.{AnswersTimeout, marked_as, most_in_round, restarted, sends_again, timer_after}
 use Rattle.tftp_loop.specs.Steps.PortStep.{A_datagram, A_lost_datagram, A_late_datagram, Nothing_found}
 use Rattle.tftp_loop.specs.Steps.PortStep.{A_failed_receive, A_timeout, A_missed_timeout, Work}
 use Rattle.tftp_loop.proofs.RunLemmas.{once, idle, onward}
@@ -109,7 +109,7 @@ module _ {S F D : Type 0} (meaning : StoreMeaning S D) (sources : SourceMeaning 
       (step : Step)
       → timer.deadline ≤ now → was_tried timer.port es ≡ true → timer.look_at ≡ timer.deadline
       → before ≡ Elapsed tid now ∷ es → tid ≡ timer.port
-      → AnswersTimeout timer.port old new before es' step → timer' ≡ restarted now timer
+      → AnswersTimeout timer.port old new before es' step → timer' ≡ restarted now (is_some step.to) timer
       → Runs (here old timer es) (here new timer' es')
   elapses old new timer timer' es before es' tid step due tried looked noted same times_out timed =
       let At : List SocketEvent → Type 0 = λ before. AnswersTimeout timer.port old new before es' step in
@@ -126,7 +126,7 @@ module _ {S F D : Type 0} (meaning : StoreMeaning S D) (sources : SourceMeaning 
   pub elapses_missed : (old new : ServerState S F D) (timer timer' : Timer) (es before es' : List SocketEvent) (tid : ℕ)
       → timer.deadline ≤ now → timer.look_at ≡ timer.deadline → before ≡ Elapsed tid now ∷ es → tid ≡ timer.port
       → is_open (at timer.port old.held) ≡ false → new ≡ old → es' ≡ before
-      → timer' ≡ restarted now timer → Runs (here old timer es) (here new timer' es')
+      → timer' ≡ restarted now false timer → Runs (here old timer es) (here new timer' es')
   elapses_missed old new timer timer' es before es' tid due looked noted same closed unmoved events timed =
       once (A_missed_timeout (record {
         due = due;
@@ -144,7 +144,7 @@ module _ {S F D : Type 0} (meaning : StoreMeaning S D) (sources : SourceMeaning 
       → before ≡ Elapsed tid now ∷ es → tid ≡ timer.port → port ≡ timer.port
       → MatchOption made ((is_open (at port old.held) ≡ false) × (new ≡ old) × (es' ≡ before))
       (λ step. AnswersTimeout port old new before es' step)
-      → timer' ≡ restarted now timer → Runs (here old timer es) (here new timer' es')
+      → timer' ≡ restarted now (sends_again made) timer → Runs (here old timer es) (here new timer' es')
   elapses_either old new timer timer' es before es' tid None port due tried looked noted same here_too steps timed =
       let At : ℕ → Type 0 = λ p. is_open (at p old.held) ≡ false in
       elapses_missed old new timer timer' es before es' tid due looked noted same

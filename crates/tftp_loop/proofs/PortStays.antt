@@ -7,6 +7,8 @@ use Rattle.std.specs.Ordering.{nat_cmp}
 use Rattle.std.proofs.lemmas.Bool.{eq-eqb}
 use Rattle.tftp_file.specs.Source.{SourceMeaning}
 use Rattle.tftp_ends.specs.declared.endpoint.Endpoint.{Endpoint}
+use Rattle.std.specs.Prelude.{is_some}
+use Rattle.tftp_ends.specs.Backoff.{wait_of}
 use Rattle.tftp_ends.specs.Step.{Reply}
 use Rattle.tftp_store.specs.Store.{StoreMeaning}
 use Rattle.tftp_server.specs.State.{TransferState, ServerState, at, with_next}
@@ -95,15 +97,15 @@ module _ {F D : Type 0} where
 -- ---- timers
 
 -- a port is looked at again not after its deadline
-pub looks_first : (now interval : ℕ) → next_look now interval ≤ deadline_of now interval
-looks_first now interval = omega arith
+pub looks_first : (now seconds : ℕ) → next_look now seconds ≤ deadline_of now seconds
+looks_first now seconds = omega arith
 
 -- a timer that was read at its deadline at the latest still is
 abbrev Looks : Timer → Type 0
 Looks timer = timer.look_at ≤ timer.deadline
 
 after_looks : (now : ℕ) (progress : Bool) (timer : Timer) → Looks (timer_after now progress timer)
-after_looks now true timer = looks_first now timer.interval
+after_looks now true timer = looks_first now (wait_of timer.backoff timer.interval 0)
 after_looks now false timer = omega arith
 
 -- the timer after a step has the same port
@@ -199,7 +201,7 @@ module _ {S F D : Type 0} (meaning : StoreMeaning S D) (sources : SourceMeaning 
       record {
         port = port;
         held = next_held old.timer.port old.server.held new.server.held _ d.times_out.times_out.held;
-        look = λ h. looks_by (restarted now old.timer) new.timer d.timer (omega arith);
+        look = λ h. looks_by (restarted now (is_some d.step.to) old.timer) new.timer d.timer (omega arith);
         tries = λ q h. more q h;
         read = λ h. read_by old.timer new.timer new.events port (more old.timer.port d.tried);
       }
@@ -209,7 +211,7 @@ module _ {S F D : Type 0} (meaning : StoreMeaning S D) (sources : SourceMeaning 
       record {
         port = ap (λ (t : Timer). t.port) d.timer;
         held = same_server old.timer.port old.server new.server d.server;
-        look = λ h. looks_by (restarted now old.timer) new.timer d.timer (omega arith);
+        look = λ h. looks_by (restarted now false old.timer) new.timer d.timer (omega arith);
         tries = more;
         read = λ h. subst (IsRead new.events) (sym d.timer) (λ m. more old.timer.port (h m));
       }

@@ -1,27 +1,25 @@
--- The ports that are used, one after the other, are those that were to come, in their order. For
--- `a_range_gives_each_port_once`, `bind_next` and PoolLemmas.
+-- The ports that are used, one after the other, come last, in their order. For `a_range_gives_no_port_twice`, `bind_next`
+-- and PoolLemmas.
 use Rattle.std.proofs.Common.{arith, ◌≡◌, ◌<◌, ◌≤◌, ◌+◌, ◌-◌, ℕ, zero, suc, false, List, []}
-use Rattle.std.proofs.Common.{◌∷◌, ◌++◌, length, refl, sym, ap, subst, ◌∙◌, inl, inr}
+use Rattle.std.proofs.Common.{◌∷◌, ◌++◌, ◌/◌, length, take, drop, refl, sym, ap, subst, ◌∙◌, inl, inr}
 use Rattle.std.specs.Prelude.{nat_eq, IsPermutation}
 use Rattle.std.specs.List.{AllByRecursion, IsDistinct, range_with_len}
 use Rattle.std.proofs.lemmas.Bool.{cases_eq, cases_lt, eq-eqb, ne_eqb}
-use Rattle.std.proofs.lemmas.List.{append_assoc}
+use Rattle.std.proofs.Math.Seq.{drop-append_seam}
+use Rattle.std.proofs.lemmas.List.{append_assoc, drop-drop, take-append-drop}
+use Rattle.std.proofs.lemmas.List.Sorted.{IsPermutation-append_comm, IsPermutation-refl, IsPermutation-trans}
 use Rattle.std.proofs.lemmas.List.Sorted.{length_permutation}
 use Rattle.std.proofs.lemmas.Map.Keys.{IsDistinct-IsPermutation}
 use Rattle.tftp_loop.specs.declared.port_order.PortOrder.{PortOrder}
 use Rattle.tftp_loop.specs.declared.port_order.PortRange.{PortRange}
-use Rattle.tftp_loop.specs.PortOrder.{coming, ports_of}
+use Rattle.tftp_loop.specs.PortOrder.{IsOrderOf, Mixes, UsesNext, coming, drawn_from, port_count, ports_of}
 use Rattle.tftp_loop.specs.PortsInTurn.{Unused, Uses, UsesPorts}
-
-abbrev first_of : List ℕ → ℕ
-first_of [] = 0
-first_of (x ∷ xs) = x
 
 abbrev others_of : List ℕ → List ℕ
 others_of [] = []
 others_of (x ∷ xs) = xs
 
-nothing_after : (xs : List ℕ) → xs ++ [] ≡ xs
+pub nothing_after : (xs : List ℕ) → xs ++ [] ≡ xs
 nothing_after [] = refl
 nothing_after (x ∷ xs) = ap (λ (ys : List ℕ). x ∷ ys) (nothing_after xs)
 
@@ -68,53 +66,94 @@ ports_distinct first last = elim (cases_lt last first) [
       (last_above 0 0 last (omega arith))
 ]
 
--- ---- prefixes
-all_before : (P : ℕ → Type 0) (xs ys : List ℕ) → AllByRecursion P (xs ++ ys) → AllByRecursion P xs
-all_before P [] ys h = tt
-all_before P (x ∷ xs) ys h = (h.0, all_before P xs ys h.1)
-
-begins_distinct : (xs ys : List ℕ) → IsDistinct nat_eq (xs ++ ys) → IsDistinct nat_eq xs
+-- ---- suffixes
+ends_distinct : (xs ys : List ℕ) → IsDistinct nat_eq (xs ++ ys) → IsDistinct nat_eq ys
 unfolding IsDistinct
-begins_distinct [] ys h = tt
-begins_distinct (x ∷ xs) ys h = (all_before (λ (y : ℕ). nat_eq x y ≡ false) xs ys h.0, begins_distinct xs ys h.1)
+ends_distinct [] ys h = h
+ends_distinct (x ∷ xs) ys h = ends_distinct xs ys h.1
+
+some_drawn : (n : ℕ) → 1 ≤ ((n + 1) + 1) / 2
+some_drawn n = omega arith
 
 -- ---- used
--- those that are used are the first that were to come, and then come last
+-- those that are used come last, in their order, and the rest first
 pub record ComesLast (before used after : List ℕ) : Type 0 where
   pub rest : List ℕ
-  pub was : before ≡ used ++ rest
+  pub all : IsPermutation before after
   pub is : after ≡ rest ++ used
 
-one_comes_last : (before used rest others middle after : List ℕ) (port : ℕ) → before ≡ used ++ rest
-    → middle ≡ rest ++ used → length used < length before → middle ≡ port ∷ others → after ≡ others ++ port ∷ []
+-- as many ports come as there are, less those that were used
+pub rest_long : (before used after : List ℕ) (last : ComesLast before used after)
+    → length last.rest + length used ≡ length before
+rest_long before used after last =
+    let same = length_permutation before after last.all in
+    let sum : length after ≡ length last.rest + length used = ap (λ (xs : List ℕ). length xs) last.is ∙ long last.rest used in
+    omega (arith, same, sum)
+
+-- if no more than the rest is mixed, those that were used stay
+mixed_last : (among : ℕ) (rest used mixed : List ℕ) → among ≤ length rest
+    → drop among mixed ≡ drop among (rest ++ used) → mixed ≡ take (length rest) mixed ++ used
+mixed_last among rest used mixed few same =
+    let n = length rest in
+    let left = n - among in
+    let sum : among + left ≡ n = omega (arith, few) in
+    let behind : (xs : List ℕ) → drop n xs ≡ drop left (drop among xs) =
+    λ xs. ap (λ (m : ℕ). drop m xs) (sym sum) ∙ sym (drop-drop left among xs) in
+    let used_is : drop n mixed ≡ used =
+    behind mixed ∙ (ap (λ (xs : List ℕ). drop left xs) same ∙ (sym (behind (rest ++ used)) ∙ drop-append_seam rest used)) in
+    sym (take-append-drop n mixed) ∙ ap (λ (xs : List ℕ). take n mixed ++ xs) used_is
+
+one_comes_last : (before used rest others mixed after : List ℕ) (port : ℕ) → IsPermutation before mixed
+    → mixed ≡ rest ++ used → 1 ≤ length rest → mixed ≡ port ∷ others → after ≡ others ++ port ∷ []
     → ComesLast before (used ++ port ∷ []) after
-one_comes_last before used [] others middle after port was is fewer first last =
-    let e : length before ≡ length used + 0 = ap length was ∙ long used [] in
-    absurd (omega (arith, e, fewer))
-one_comes_last before used (next ∷ rest) others middle after port was is fewer first last =
+one_comes_last before used [] others mixed after port all is some first last =
+    absurd (let h : 1 ≤ 0 = some in omega (arith, h))
+one_comes_last before used (next ∷ rest) others mixed after port all is some first last =
     let same : next ∷ (rest ++ used) ≡ port ∷ others = sym is ∙ first in
-    let head : next ≡ port = ap (λ (xs : List ℕ). first_of xs) same in
     let tail : rest ++ used ≡ others = ap (λ (xs : List ℕ). others_of xs) same in
+    let moved : IsPermutation before (port ∷ others) = subst (λ (xs : List ℕ). IsPermutation before xs) first all in
     record {
       rest = rest;
-      was = was ∙ (ap (λ (p : ℕ). used ++ p ∷ rest) head ∙ sym (append_assoc used (port ∷ []) rest));
+      all =
+          subst (λ (xs : List ℕ). IsPermutation before xs) (sym last)
+          (IsPermutation-trans before (port ∷ others) (others ++ port ∷ []) moved
+          (IsPermutation-append_comm (port ∷ []) others));
       is = last ∙ (ap (λ (xs : List ℕ). xs ++ port ∷ []) (sym tail) ∙ append_assoc rest used (port ∷ []));
     }
 
--- after so many uses at most the used ports come last, in their order
-pub come_last : (first last : PortOrder) (ports : List ℕ) → UsesPorts first ports last → length ports ≤ length (coming first)
-    → ComesLast (coming first) ports (coming last)
-come_last first last ports Unused fewer = record {
-  rest = coming first;
-  was = refl;
-  is =
-      sym (nothing_after (coming first));
-}
-come_last first last ports (Uses {ports = used} {middle} {last = after} {port} uses step) fewer =
+-- a port that is drawn from the rest, or from fewer, comes last, too
+pub drawn_last : (before used : List ℕ) (old mixed new : PortOrder) (among port : ℕ)
+    → (last : ComesLast before used (coming old)) → among ≤ length last.rest → 1 ≤ length last.rest
+    → Mixes among old mixed → UsesNext mixed new port → ComesLast before (used ++ port ∷ []) (coming new)
+drawn_last before used old mixed new among port last few some mixes uses =
+    let is = mixed_last among last.rest used (coming mixed) few
+    (mixes.rest ∙ ap (λ (xs : List ℕ). drop among xs) last.is) in
+    let all = IsPermutation-trans before (coming old) (coming mixed) last.all mixes.all in
+    let whole : length (coming mixed) ≡ length (take (length last.rest) (coming mixed)) + length used =
+    ap (λ (xs : List ℕ). length xs) is ∙ long (take (length last.rest) (coming mixed)) used in
+    let many = rest_long before used (coming old) last in
+    let same = length_permutation before (coming mixed) all in
+    one_comes_last before used (take (length last.rest) (coming mixed)) uses.others (coming mixed) (coming new) port all is
+    (omega (arith, whole, many, same, some)) uses.was uses.is
+
+-- after so few uses the used ports come last, in their order
+pub come_last : (first last : PortOrder) (ports : List ℕ) → UsesPorts first ports last
+    → length ports + drawn_from first.range ≤ length (coming first) + 1 → 1 ≤ drawn_from first.range
+    → ComesLast (coming first) ports (coming last) × (last.range ≡ first.range)
+come_last first last ports Unused few some = (
+  record { rest = coming first; all = IsPermutation-refl (coming first); is = sym (nothing_after (coming first)) },
+  refl,
+)
+come_last first last ports (Uses {ports = used} {middle} {last = after} {port} uses draws) few some =
     let more : length (used ++ port ∷ []) ≡ length used + 1 = long used (port ∷ []) in
-    let before = come_last first middle used uses (omega (arith, more, fewer)) in
-    one_comes_last (coming first) used before.rest step.others (coming middle) (coming after) port before.was before.is
-    (omega (arith, more, fewer)) step.was step.is
+    let before = come_last first middle used uses (omega (arith, more, few)) some in
+    let many = rest_long (coming first) used (coming middle) before.0 in
+    let half : drawn_from middle.range ≡ drawn_from first.range = ap drawn_from before.1 in
+    let among = draws.few in (
+      drawn_last (coming first) used middle draws.mixed after draws.among port before.0
+          (omega (arith, many, more, few, half, among)) (omega (arith, many, more, few, some)) draws.mixes draws.uses,
+      draws.uses.range ∙ (draws.mixes.range ∙ before.1),
+    )
 
 flips : (x y : ℕ) → nat_eq x y ≡ nat_eq y x
 flips x y = elim (cases_eq x y) [
@@ -122,18 +161,22 @@ flips x y = elim (cases_eq x y) [
   | inr apart ↦ ne_eqb x y apart ∙ sym (ne_eqb y x (λ same. apart (sym same)))
 ]
 
--- as many uses as the range has ports are of different ports
+-- so few uses are of different ports
 pub uses_no_port_twice : (range : PortRange) (first last : PortOrder) (ports : List ℕ)
-    → IsPermutation (ports_of range) (coming first) → UsesPorts first ports last
-    → length ports ≤ range.last - range.first + 1
-    → IsDistinct nat_eq ports
-uses_no_port_twice range first last ports moved uses fewer =
+    → IsOrderOf range first → UsesPorts first ports last
+    → length ports + drawn_from range ≤ port_count range + 1 → IsDistinct nat_eq ports
+uses_no_port_twice range first last ports order uses few =
+    let moved = order.all in
     let all : length (coming first) ≡ length (ports_of range) =
     length_permutation (ports_of range) (coming first) moved in
     let sum : length (ports_of range) ≡ length (range_with_len range.first (range.last - range.first)) + 1 =
     long (range_with_len range.first (range.last - range.first)) (range.last ∷ []) in
     let count = range_long range.first (range.last - range.first) in
-    let before = come_last first last ports uses (omega (arith, all, sum, count, fewer)) in
-    begins_distinct ports before.rest (subst (IsDistinct nat_eq) before.was
-    (IsDistinct-IsPermutation nat_eq flips (ports_of range) (coming first) moved
-    (ports_distinct range.first range.last)))
+    let half : drawn_from first.range ≡ drawn_from range = ap drawn_from order.same in
+    let some : 1 ≤ drawn_from range = some_drawn (range.last - range.first) in
+    let after = come_last first last ports uses (omega (arith, all, sum, count, half, few)) (omega (arith, half, some)) in
+    let distinct : IsDistinct nat_eq (coming last) =
+    IsDistinct-IsPermutation nat_eq flips (ports_of range) (coming last)
+    (IsPermutation-trans (ports_of range) (coming first) (coming last) moved after.0.all)
+    (ports_distinct range.first range.last) in
+    ends_distinct after.0.rest ports (subst (IsDistinct nat_eq) after.0.is distinct)

@@ -6,6 +6,8 @@ use Rattle.std.proofs.lemmas.Bool.{cases_eq}
 use Rattle.std.proofs.lemmas.Option.{none-some}
 use Rattle.std.proofs.lemmas.List.{length-map}
 use Rattle.tftp_file.specs.Source.{SourceMeaning}
+use Rattle.tftp_ends.specs.declared.backoff.Backoff.{Backoff}
+use Rattle.tftp_ends.specs.declared.backoff.Backoff.TheVariants.{Constant}
 use Rattle.tftp_ends.specs.declared.endpoint.Endpoint.{Endpoint}
 use Rattle.tftp_store.specs.Store.{StoreMeaning}
 use Rattle.tftp_server.specs.State.{TransferState, ServerState, at, taken_of, with_new}
@@ -170,21 +172,21 @@ module _ {S F D : Type 0} (meaning : StoreMeaning S D) (sources : SourceMeaning 
             })
       ]
 
-  opens_due : (port now : ℕ) (longest : Option ℕ) (from : Endpoint) (tid : ℕ) (s : LoopState S F D) (es : List SocketEvent) (came : Came S F D) →
+  opens_due : (port now : ℕ) (longest : Option ℕ) (backoff : Backoff) (from : Endpoint) (tid : ℕ) (s : LoopState S F D) (es : List SocketEvent) (came : Came S F D) →
       at tid s.server.held ≡ None → AreKept s.server.held s.timers → IsDue port s
       → IsDue port (record s {
         server = (left_by came s.server from tid).new;
         pending = None;
         timers =
-            with_timer now longest from (left_by came s.server from tid).opened.tid (left_by came s.server from tid).new.held
+            with_timer now longest backoff from (left_by came s.server from tid).opened.tid (left_by came s.server from tid).new.held
             s.timers;
         events = es;
       })
-  opens_due port now longest from tid s es Nothing free kept due = same_due port s _ refl refl due
-  opens_due port now longest from tid s es (Error_reply reply store) free kept due = same_due port s _ refl refl due
-  opens_due port now longest from tid s es (A_transfer transfer store) free kept due =
+  opens_due port now longest backoff from tid s es Nothing free kept due = same_due port s _ refl refl due
+  opens_due port now longest backoff from tid s es (Error_reply reply store) free kept due = same_due port s _ refl refl due
+  opens_due port now longest backoff from tid s es (A_transfer transfer store) free kept due =
       let held = with_new tid transfer s.server.held in
-      let timer = started now longest tid from (interval_at (at tid held)) in
+      let timer = started now longest backoff tid from (interval_at (at tid held)) in
       let long = appended_long s.timers timer in
       let apart : port ≡ tid → ⊥ =
       λ e. some_none (at (slice_index_or s.timers due.index timer).port s.server.held)
@@ -233,10 +235,10 @@ module _ {S F D : Type 0} (meaning : StoreMeaning S D) (sources : SourceMeaning 
       (record s {
         server = left.new;
         pending = None;
-        timers = with_timer s.now s.longest d.from left.opened.tid left.new.held s.timers;
+        timers = with_timer s.now s.longest s.backoff d.from left.opened.tid left.new.held s.timers;
         events = fs;
       })) (sym d.steps.left)
-      (opens_due port s.now s.longest d.from d.tid s fs d.steps.came d.free kept due)))
+      (opens_due port s.now s.longest s.backoff d.from d.tid s fs d.steps.came d.free kept due)))
   step_reads port s t (Request_lost d) is kept (inl tried) = subst (Reads port) (sym d.is) (inl tried)
   step_reads port s t (Request_lost d) is kept (inr due) =
       subst (Reads port) (sym d.is) (inr (same_due port s _ refl refl due))
@@ -307,7 +309,7 @@ module _ {S F D : Type 0} (meaning : StoreMeaning S D) (sources : SourceMeaning 
             (is_among (slice_index_or old.timers has.0 d).port waits.ports)
             (ap (λ (p : ℕ). is_among p waits.ports) (port_of d) ∙ among);
         unclosed =
-            (let d = started 0 None 0 (record { ip = []; port = 0 }) 0 in ap (λ (p : ℕ). taken_of (at p old.server.held))
+            (let d = started 0 None Constant 0 (record { ip = []; port = 0 }) 0 in ap (λ (p : ℕ). taken_of (at p old.server.held))
             (sym (port_of d)) ∙ (waits.may.transfers has.0 d within).not_closed);
       })
 
@@ -328,7 +330,7 @@ module _ {S F D : Type 0} (meaning : StoreMeaning S D) (sources : SourceMeaning 
       elim end.reads [
         | inl tried ↦ tried
         | inr due ↦
-            let d = started 0 None 0 (record { ip = []; port = 0 }) 0 in
+            let d = started 0 None Constant 0 (record { ip = []; port = 0 }) 0 in
             subst (λ (p : ℕ). was_tried p last.events ≡ true) (due.has_port d)
             ((next.may.transfers due.index d due.within).read (due.marked d))
       ]

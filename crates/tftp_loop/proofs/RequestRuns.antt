@@ -247,7 +247,7 @@ module _ {S F D : Type 0} (meaning : StoreMeaning S D) (sources : SourceMeaning 
       → t ≡ record s {
         server = new;
         pending = None;
-        timers = with_timer s.now s.longest from opened.tid new.held s.timers;
+        timers = with_timer s.now s.longest s.backoff from opened.tid new.held s.timers;
         events = replied (answering_port s.requests opened.tid) opened.to out s.events;
       }
       → Concludes meaning sources s t
@@ -281,7 +281,7 @@ module _ {S F D : Type 0} (meaning : StoreMeaning S D) (sources : SourceMeaning 
           is = is ∙ ap (λ (bs : List ℕ). record s {
             server = new;
             pending = None;
-            timers = with_timer s.now s.longest from opened.tid new.held s.timers;
+            timers = with_timer s.now s.longest s.backoff from opened.tid new.held s.timers;
             events = replied (answering_port s.requests opened.tid) opened.to bs s.events;
           }) put;
         });

@@ -302,7 +302,7 @@ module _ {S F D : Type 0} (meaning : StoreMeaning S D) (sources : SourceMeaning 
               events = Watched new.sockets.watch ∷ waited.events;
             })
             (woken.requests ∙ requests) (woken.range ∙ (slept.range ∙ reads.range))
-            (woken.longest ∙ (slept.longest ∙ reads.longest))
+            (woken.longest ∙ (slept.longest ∙ reads.longest)) (woken.backoff ∙ (slept.backoff ∙ reads.backoff))
             (woken.requests_only ∙ (slept.requests_only ∙ reads.requests_only))
             (woken.per_client ∙ (slept.per_client ∙ reads.per_client))
             (woken.server ∙ (slept.server ∙ reads.server))

@@ -1,9 +1,12 @@
 -- How long a server holds a transfer that makes no progress (RFC 1350, section 2).
 use Rattle.std.specs.Prelude.{ℕ, ◌≡◌, ◌≤◌, ◌<◌, ◌+◌, ◌*◌, ◌⊎◌, max, ⊤, true, false, if◌then◌else◌}
-use Rattle.std.specs.Prelude.{List, [], ◌∷◌, ◌++◌, Some}
+use Rattle.std.specs.Prelude.{List, [], ◌∷◌, ◌++◌, Some, zero, suc}
 use Rattle.std.specs.List.{Contains}
 use Rattle.tftp_file.specs.Source.{SourceMeaning}
+use Rattle.tftp_ends.specs.Backoff.{wait_of}
 use Rattle.tftp_ends.specs.End.{is_complete, outcome_of}
+use Rattle.tftp_ends.specs.declared.backoff.Backoff.{Backoff}
+use Rattle.tftp_ends.specs.declared.backoff.Backoff.TheVariants.{Constant, Doubling}
 use Rattle.tftp_ends.specs.declared.outcome.Outcome.{Outcome}
 use Rattle.tftp_ends.specs.declared.outcome.Outcome.TheVariants.{Complete, TimedOut}
 use Rattle.tftp_ends.specs.declared.phase.Phase.{Phase}
@@ -24,12 +27,36 @@ use Rattle.tftp_loop.specs.Steps.LoopStep.{At_port}
 abbrev pub in_millis : ℕ → ℕ
 in_millis seconds = seconds * 1000
 
--- when a transfer that makes no progress from now on has closed, in milliseconds: after an interval
--- of so many seconds, and for each retry, or for the second timeout of a dally, after another
--- interval and a round, whose one reading of the clock advances the time by a second at most
-abbrev pub closing_time : (now interval retries : ℕ) → ℕ
-closing_time now interval retries =
-    now + in_millis interval + (in_millis interval + LONGEST_WAIT) * max 1 retries
+-- how long a transfer waits for so many timeouts in sequence, in milliseconds: each time the wait
+-- after the timeouts before, and then a round, whose one reading of the clock advances the time by a
+-- second at most
+abbrev pub waits_of : (backoff : Backoff) (interval timeouts : ℕ) → ℕ
+waits_of backoff interval zero = 0
+waits_of backoff interval (suc timeouts) =
+    waits_of backoff interval timeouts
+    + (in_millis (wait_of backoff interval timeouts) + LONGEST_WAIT)
+
+-- when a transfer that makes no progress from now on has closed, in milliseconds: after a wait, and
+-- for each retry, or for the second timeout of a dally, after another wait and a round
+abbrev pub closing_time : (now : ℕ) (backoff : Backoff) (interval retries : ℕ) → ℕ
+closing_time now backoff interval retries =
+    now + waits_of backoff interval (max 1 retries)
+    + in_millis (wait_of backoff interval (max 1 retries))
+
+-- if each wait is the interval
+abbrev pub ClosesAfterIntervals : Type 0
+ClosesAfterIntervals =
+    (now interval retries : ℕ)
+    → closing_time now Constant interval retries
+    ≡ now + in_millis interval + (in_millis interval + LONGEST_WAIT) * max 1 retries
+
+-- if each is twice the one before, up to eight intervals: the first three are of one, two and four
+abbrev pub ClosesAfterDoubling : Type 0
+ClosesAfterDoubling =
+    (now interval more : ℕ)
+    → closing_time now Doubling interval (more + 3)
+    ≡ now + in_millis (interval * 15) + LONGEST_WAIT * 3
+    + (in_millis (interval * 8) + LONGEST_WAIT) * more
 
 -- from when on it counts: from now, or from a second later if its deadline is provisional, since
 -- that is set within this round
@@ -92,8 +119,8 @@ module _ {S F D : Type 0} (meaning : StoreMeaning S D) (sources : SourceMeaning 
       → start.timers ≡ [] → Run (LoopStep meaning sources) start first
       → Contains first.timers timer
       → Idles timer.port first last → Waits meaning sources last new
-      → closing_time (counted_from first.now timer) timer.interval first.server.config.retries
-      < last.now
+      → closing_time (counted_from first.now timer) timer.backoff timer.interval
+      first.server.config.retries < last.now
       → last.now ≤ last_moment
       → (outcome : Outcome)
       × PrintsClose timer.port timer.peer.port outcome first.events last.events
@@ -106,8 +133,8 @@ module _ {S F D : Type 0} (meaning : StoreMeaning S D) (sources : SourceMeaning 
       → Contains first.timers timer → at timer.port first.server.held ≡ Some transfer
       → (idles : Idles timer.port first last) → NoneReceived idles
       → Waits meaning sources last new
-      → closing_time (counted_from first.now timer) timer.interval first.server.config.retries
-      < last.now
+      → closing_time (counted_from first.now timer) timer.backoff timer.interval
+      first.server.config.retries < last.now
       → last.now ≤ last_moment
       → (outcome : Outcome)
       × PrintsClose timer.port timer.peer.port outcome first.events last.events
@@ -122,8 +149,8 @@ module _ {S F D : Type 0} (meaning : StoreMeaning S D) (sources : SourceMeaning 
       → Contains first.timers timer → at timer.port first.server.held ≡ Some transfer
       → timer.age_limit < first.now
       → Run (LoopStep meaning sources) first last → Waits meaning sources last new
-      → closing_time (counted_from first.now timer) timer.interval first.server.config.retries
-      < last.now
+      → closing_time (counted_from first.now timer) timer.backoff timer.interval
+      first.server.config.retries < last.now
       → last.now ≤ last_moment
       → (outcome : Outcome)
       × PrintsClose timer.port timer.peer.port outcome first.events last.events

@@ -35,6 +35,8 @@ timer_of port =
       port = port.socket.udp.port;
       peer = port.socket.peer;
       interval = port.socket.interval;
+      backoff = port.socket.backoff;
+      timeouts = port.socket.timeouts;
       deadline = port.socket.deadline;
       marked = port.is_ready;
       look_at = port.look_at;
@@ -118,6 +120,7 @@ module _ {S F D : Type 0} where
         requests = d.sockets.requests.port;
         range = d.sockets.pool.range;
         longest = d.longest;
+        backoff = d.backoff;
         requests_only = d.requests_only;
         per_client = d.per_client;
         server = d.server;
@@ -201,13 +204,14 @@ module _ {S F D : Type 0} where
     pub requests : new.sockets.requests.port ≡ old.sockets.requests.port
     pub range : new.sockets.pool.range ≡ old.sockets.pool.range
     pub longest : new.longest ≡ old.longest
+    pub backoff : new.backoff ≡ old.backoff
     pub requests_only : new.requests_only ≡ old.requests_only
     pub per_client : new.per_client ≡ old.per_client
     pub port : IfSome opened.tid (IsOneOf old.sockets.pool.range)
     pub own : IfSome opened.tid (λ port. port ≢ old.sockets.requests.port)
     pub server : new.server ≡ old.server
     pub timers : map timer_of new.ports.items
-        ≡ with_timer old.sockets.watch.now old.longest from opened.tid old.server.held
+        ≡ with_timer old.sockets.watch.now old.longest old.backoff from opened.tid old.server.held
         (map timer_of old.ports.items)
     pub watch : new.sockets.watch ≡ old.sockets.watch
     pub limit : new.sockets.limit ≡ old.sockets.limit

@@ -30,7 +30,7 @@ use Rattle.tftp_loop.specs.Run.{Run}
 use Rattle.tftp_loop.specs.Steps.{Timer, PortState, LoopState, AnswersRequest, Closes}
 use Rattle.tftp_loop.specs.Steps.{LosesRequest}
 use Rattle.tftp_loop.specs.Steps.{NotesRequest, SetsStore, deadline_by, next_look, marked_by}
-use Rattle.tftp_loop.specs.Steps.{is_draining, reads_requests, round_end, set_by}
+use Rattle.tftp_loop.specs.Steps.{is_draining, reads_requests, round_end, set_by, wait_in}
 use Rattle.tftp_loop.specs.LoopStates.{HasRoom, OnlyServesPort, close_reported, loop_state}
 use Rattle.tftp_loop.specs.LoopStates.{state_of, timer_of}
 
@@ -55,9 +55,9 @@ IsRead events timer = timer.marked ≡ true → was_tried timer.port events ≡ 
 
 -- the timer is not due, or started at this moment
 pub record IsTimed (now : ℕ) (timer : Timer) : Type 0 where
-  pub due : (now < timer.deadline) ⊎ (timer.deadline ≡ deadline_of now timer.interval)
+  pub due : (now < timer.deadline) ⊎ (timer.deadline ≡ deadline_of now (wait_in timer))
   pub look : (now < timer.look_at) ⊎ ((timer.look_at ≡ timer.deadline)
-      ⊎ (timer.look_at ≡ next_look now timer.interval))
+      ⊎ (timer.look_at ≡ next_look now (wait_in timer)))
 
 -- how many datagrams were received at a port when a visit of this pass begins, at most
 abbrev pub before_visit : Pass → ℕ
@@ -68,8 +68,8 @@ before_visit passes.Due = MOST_AT_ONCE
 abbrev pub LeavesTimer : PortStatus → ℕ → Timer → Type 0
 LeavesTimer statuses.Empty now timer = timer.look_at ≡ timer.deadline
 LeavesTimer statuses.Onward now timer =
-    (timer.deadline ≡ deadline_of now timer.interval)
-    × (timer.look_at ≡ next_look now timer.interval)
+    (timer.deadline ≡ deadline_of now (wait_in timer))
+    × (timer.look_at ≡ next_look now (wait_in timer))
 LeavesTimer statuses.Unfinished now timer = timer.look_at ≡ timer.deadline
 LeavesTimer statuses.Closed now timer = ⊤
 
@@ -245,6 +245,7 @@ module _ {S F D : Type 0} where
     pub requests : new.sockets.requests.port ≡ old.sockets.requests.port
     pub range : new.sockets.pool.range ≡ old.sockets.pool.range
     pub longest : new.longest ≡ old.longest
+    pub backoff : new.backoff ≡ old.backoff
     pub requests_only : new.requests_only ≡ old.requests_only
     pub per_client : new.per_client ≡ old.per_client
     pub server : new.server ≡ old.server
@@ -271,6 +272,7 @@ module _ {S F D : Type 0} where
     pub requests : new.sockets.requests.port ≡ old.sockets.requests.port
     pub range : new.sockets.pool.range ≡ old.sockets.pool.range
     pub longest : new.longest ≡ old.longest
+    pub backoff : new.backoff ≡ old.backoff
     pub requests_only : new.requests_only ≡ old.requests_only
     pub per_client : new.per_client ≡ old.per_client
     pub server : new.server ≡ old.server
@@ -293,6 +295,7 @@ module _ {S F D : Type 0} where
     pub requests : new.sockets.requests.port ≡ old.sockets.requests.port
     pub range : new.sockets.pool.range ≡ old.sockets.pool.range
     pub longest : new.longest ≡ old.longest
+    pub backoff : new.backoff ≡ old.backoff
     pub requests_only : new.requests_only ≡ old.requests_only
     pub per_client : new.per_client ≡ old.per_client
     pub server : new.server ≡ old.server

@@ -1,5 +1,5 @@
 -- The order in which a server uses its ports (ours).
-use Rattle.std.specs.Prelude.{ℕ, ◌≡◌, ◌≤◌, ◌-◌, ◌+◌, ⊤, List, [], ◌∷◌, ◌++◌, length, take, drop}
+use Rattle.std.specs.Prelude.{ℕ, ◌≡◌, ◌≤◌, ◌-◌, ◌+◌, ◌/◌, ⊤, List, [], ◌∷◌, ◌++◌, length, drop}
 use Rattle.std.specs.Prelude.{Option, Some, None, All, IsPermutation}
 use Rattle.std.specs.List.{range_with_len}
 use Rattle.tftp_loop.specs.declared.port_order.PortOrder.{PortOrder}
@@ -22,27 +22,32 @@ abbrev pub IsOneOf : Option PortRange → ℕ → Type 0
 IsOneOf None port = ⊤
 IsOneOf (Some range) port = IsRange range → (range.first ≤ port) × (port ≤ range.last)
 
--- the ports from this index on, and then those before it
-abbrev pub coming_from : ℕ → List ℕ → List ℕ
-coming_from index ports = drop index ports ++ take index ports
-
--- the ports in the order in which they come next, each once
+-- the ports in the order in which they come next, each once: the first is unused for longest
 abbrev pub coming : PortOrder → List ℕ
-coming order = coming_from order.next order.ports.items
+coming order = order.ports.items
 
--- an order of the ports of this range: each comes once before any again
+-- how many ports the next one is drawn from: the half of them that is unused for longest
+abbrev pub drawn_from : PortRange → ℕ
+drawn_from range = (port_count range + 1) / 2
+
+-- an order of the ports of this range
 pub record IsOrderOf (range : PortRange) (order : PortOrder) : Type 0 where
   pub same : order.range ≡ range
   pub all : IsPermutation (ports_of range) (coming order)
 
--- some port comes, each that comes is one of the range, and each of the range comes once before any
--- again
+-- some port comes, each that comes is one of the range, and each of the range comes
 pub record HasPorts (order : PortOrder) : Type 0 where
   pub all : IsPermutation (ports_of order.range) (coming order)
   pub some : 1 ≤ length (coming order)
   pub each : All (IsOneOf (Some order.range)) (coming order)
 
--- the first port is used: it comes again only after all others
+-- the ports that come next, so many, are mixed: those behind them come as before
+pub record Mixes (among : ℕ) (old new : PortOrder) : Type 0 where
+  pub range : new.range ≡ old.range
+  pub all : IsPermutation (coming old) (coming new)
+  pub rest : drop among (coming new) ≡ drop among (coming old)
+
+-- the first port is used: it comes last then
 pub record UsesNext (old new : PortOrder) (port : ℕ) : Type 0 where
   pub range : new.range ≡ old.range
   pub others : List ℕ

@@ -56,8 +56,8 @@ module _ {S F D : Type 0} (meaning : StoreMeaning S D) (sources : SourceMeaning 
       → start.timers ≡ [] → Run (LoopStep meaning sources) start first
       → Contains first.timers timer
       → (idles : Idles meaning sources timer.port first last) → Waits meaning sources last new
-      → closing_time (counted_from first.reading timer) timer.interval first.server.config.retries
-      + cut_in idles < last.reading
+      → closing_time (counted_from first.reading timer) timer.backoff timer.interval
+      first.server.config.retries + cut_in idles < last.reading
       → last.now ≤ last_moment
       → (outcome : Outcome)
       × PrintsClose timer.port timer.peer.port outcome first.events last.events
@@ -70,8 +70,8 @@ module _ {S F D : Type 0} (meaning : StoreMeaning S D) (sources : SourceMeaning 
       → Contains first.timers timer → at timer.port first.server.held ≡ Some transfer
       → (idles : Idles meaning sources timer.port first last) → NoneReceived meaning sources idles
       → Waits meaning sources last new
-      → closing_time (counted_from first.reading timer) timer.interval first.server.config.retries
-      + cut_in idles < last.reading
+      → closing_time (counted_from first.reading timer) timer.backoff timer.interval
+      first.server.config.retries + cut_in idles < last.reading
       → last.now ≤ last_moment
       → (outcome : Outcome)
       × PrintsClose timer.port timer.peer.port outcome first.events last.events
@@ -85,8 +85,8 @@ module _ {S F D : Type 0} (meaning : StoreMeaning S D) (sources : SourceMeaning 
       → Contains first.timers timer → at timer.port first.server.held ≡ Some transfer
       → timer.age_limit < first.now
       → (run : Run (LoopStep meaning sources) first last) → Waits meaning sources last new
-      → closing_time (counted_from first.reading timer) timer.interval first.server.config.retries
-      + cut_along run < last.reading
+      → closing_time (counted_from first.reading timer) timer.backoff timer.interval
+      first.server.config.retries + cut_along run < last.reading
       → last.now ≤ last_moment
       → (outcome : Outcome)
       × PrintsClose timer.port timer.peer.port outcome first.events last.events

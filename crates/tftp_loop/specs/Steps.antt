@@ -13,6 +13,8 @@ use Rattle.tftp_ends.specs.declared.record.Record.{Record}
 use Rattle.tftp_ends.specs.declared.record.Step.{Step}
 use Rattle.tftp_ends.specs.declared.record.TheConstants.{DEFAULT_INTERVAL}
 use Rattle.tftp_ends.specs.Action.{same_address}
+use Rattle.tftp_ends.specs.Backoff.{wait_of}
+use Rattle.tftp_ends.specs.declared.backoff.Backoff.{Backoff}
 use Rattle.tftp_ends.specs.End.{interval_of, terms_of}
 use Rattle.tftp_ends.specs.Shortage.{AppendsNothing}
 use Rattle.tftp_ends.specs.Step.{timeout_turn}
@@ -53,6 +55,10 @@ pub record Timer : Type 0 where
   pub port : ℕ
   pub peer : Endpoint
   pub interval : ℕ
+  -- how long it waits after timeouts, and how many made it send again since the opening or the
+  -- newest progress
+  pub backoff : Backoff
+  pub timeouts : ℕ
   pub deadline : ℕ
   -- whether a datagram may be at the port
   pub marked : Bool
@@ -80,6 +86,8 @@ pub record LoopState (S F D : Type 0) : Type 0 where
   pub range : Option PortRange
   -- the age behind which a transfer makes no progress, in seconds, if there is one
   pub longest : Option ℕ
+  -- how long a transfer waits after timeouts
+  pub backoff : Backoff
   -- whether only requests are handled at the request port
   pub requests_only : Bool
   -- how many transfers one address has open at most, if there is a limit
@@ -157,14 +165,34 @@ age_limit_of now (Some seconds) = deadline_of now seconds
 abbrev pub round_end : ℕ → ℕ → ℕ
 round_end now limit = min limit (min (now + LONGEST_WAIT) last_moment)
 
--- the timer, expiring one interval from now
-abbrev pub restarted : ℕ → Timer → Timer
-restarted now timer =
+-- how long a transfer waits for its next timeout, in seconds (RFC 1123, section 4.2.3.2)
+abbrev pub wait_in : Timer → ℕ
+wait_in timer = wait_of timer.backoff timer.interval timer.timeouts
+
+-- the timer with this number of timeouts, expiring one wait from now
+abbrev pub expiring : ℕ → ℕ → Timer → Timer
+expiring now timeouts timer =
     record timer {
-      deadline = deadline_of now timer.interval;
-      look_at = deadline_of now timer.interval;
+      timeouts = timeouts;
+      deadline = deadline_of now (wait_of timer.backoff timer.interval timeouts);
+      look_at = deadline_of now (wait_of timer.backoff timer.interval timeouts);
       provisional = true;
     }
+
+-- how many timeouts made a transfer send again after one more, which did, or did not: as many as a
+-- byte counts
+abbrev pub timeouts_after : Bool → ℕ → ℕ
+timeouts_after true timeouts = min (timeouts + 1) 255
+timeouts_after false timeouts = timeouts
+
+-- whether a timeout made a transfer send again; if none is open, it did not
+abbrev pub sends_again : Option Step → Bool
+sends_again None = false
+sends_again (Some step) = is_some step.to
+
+-- the timer after a timeout that made the transfer send again, or did not
+abbrev pub restarted : ℕ → Bool → Timer → Timer
+restarted now again timer = expiring now (timeouts_after again timer.timeouts) timer
 
 -- the timer whose port may have a datagram, or has none: it is read when it is marked, or when the
 -- timer expires
@@ -176,9 +204,10 @@ marked_as marked timer = record timer { marked = marked; look_at = timer.deadlin
 abbrev pub timer_after : ℕ → Bool → Timer → Timer
 timer_after now true timer =
     record timer {
-      deadline = deadline_of now timer.interval;
+      timeouts = 0;
+      deadline = deadline_of now (wait_of timer.backoff timer.interval 0);
       marked = false;
-      look_at = next_look now timer.interval;
+      look_at = next_look now (wait_of timer.backoff timer.interval 0);
       provisional = true;
       received = timer.received + 1;
     }
@@ -186,25 +215,27 @@ timer_after now false timer =
     record timer { marked = true; look_at = timer.deadline; received = timer.received + 1 }
 
 -- the timer of a transfer that opens now, and is over age after so many seconds, if it ever is
-abbrev pub started : ℕ → Option ℕ → ℕ → Endpoint → ℕ → Timer
-started now longest port peer interval =
+abbrev pub started : ℕ → Option ℕ → Backoff → ℕ → Endpoint → ℕ → Timer
+started now longest backoff port peer interval =
     record {
       port = port;
       peer = peer;
       interval = interval;
-      deadline = deadline_of now interval;
+      backoff = backoff;
+      timeouts = 0;
+      deadline = deadline_of now (wait_of backoff interval 0);
       marked = false;
-      look_at = next_look now interval;
+      look_at = next_look now (wait_of backoff interval 0);
       provisional = true;
       age_limit = age_limit_of now longest;
       received = 0;
     }
 
--- the deadline after a reading of the clock, if it was provisional or not: an interval from a time
+-- the deadline after a reading of the clock, if it was provisional or not: a wait from a time
 -- that was read after the opening, the progress or the timeout that it counts from, and never
 -- earlier than before (RFC 2349, "Timeout Interval Option Specification")
 abbrev pub deadline_by : ℕ → Bool → Timer → ℕ
-deadline_by time true timer = max timer.deadline (deadline_of time timer.interval)
+deadline_by time true timer = max timer.deadline (deadline_of time (wait_in timer))
 deadline_by time false timer = timer.deadline
 
 -- the timer after a reading of the clock: its deadline is set
@@ -313,7 +344,7 @@ module _ {S F D : Type 0} (meaning : StoreMeaning S D) (sources : SourceMeaning 
       pub looked : old.timer.look_at ≡ old.timer.deadline
       pub times_out : AnswersTimeout old.timer.port old.server new.server
           (Elapsed old.timer.port now ∷ old.events) new.events step
-      pub timer : new.timer ≡ restarted now old.timer
+      pub timer : new.timer ≡ restarted now (is_some step.to) old.timer
 
     -- a due timeout finds no open transfer, and nothing is sent
     pub record MissesTimeout : Type 0 where
@@ -321,7 +352,7 @@ module _ {S F D : Type 0} (meaning : StoreMeaning S D) (sources : SourceMeaning 
       pub looked : old.timer.look_at ≡ old.timer.deadline
       pub closed : is_open (at old.timer.port old.server.held) ≡ false
       pub server : new.server ≡ old.server
-      pub timer : new.timer ≡ restarted now old.timer
+      pub timer : new.timer ≡ restarted now false old.timer
       pub events : new.events ≡ Elapsed old.timer.port now ∷ old.events
 
     -- the file of the transfer reads ahead or is written back
@@ -356,11 +387,11 @@ module _ {F D : Type 0} where
   interval_at (Some held) = interval_of (terms_of held.end.position.phase)
 
   -- the timers after a request: the timer of an opened transfer starts now
-  abbrev pub with_timer : ℕ → Option ℕ → Endpoint → Option ℕ → List (ℕ × TransferState F D)
-      → List Timer → List Timer
-  with_timer now longest from None held timers = timers
-  with_timer now longest from (Some port) held timers =
-      timers ++ started now longest port from (interval_at (at port held)) ∷ []
+  abbrev pub with_timer : ℕ → Option ℕ → Backoff → Endpoint → Option ℕ
+      → List (ℕ × TransferState F D) → List Timer → List Timer
+  with_timer now longest backoff from None held timers = timers
+  with_timer now longest backoff from (Some port) held timers =
+      timers ++ started now longest backoff port from (interval_at (at port held)) ∷ []
 
 module _ {S F D : Type 0} where
   -- the state at the port of a transfer with this timer
@@ -373,7 +404,7 @@ module _ {S F D : Type 0} where
       record old {
         server = left.new;
         pending = None;
-        timers = with_timer old.now old.longest from left.opened.tid left.new.held
+        timers = with_timer old.now old.longest old.backoff from left.opened.tid left.new.held
             old.timers;
         events = replied (answering_port old.requests left.opened.tid) left.opened.to left.sent
             old.events;
@@ -479,9 +510,9 @@ module _ {S F D : Type 0} where
   -- or its timer started at this moment; and if it closed it is removed
   pub record IsServed (old : LoopState S F D) (timer : Timer) : Type 0 where
     pub read : timer.marked ≡ true → was_tried timer.port old.events ≡ true
-    pub due : (old.now < timer.deadline) ⊎ (timer.deadline ≡ deadline_of old.now timer.interval)
+    pub due : (old.now < timer.deadline) ⊎ (timer.deadline ≡ deadline_of old.now (wait_in timer))
     pub look : (old.now < timer.look_at) ⊎ ((timer.look_at ≡ timer.deadline)
-        ⊎ (timer.look_at ≡ next_look old.now timer.interval))
+        ⊎ (timer.look_at ≡ next_look old.now (wait_in timer)))
     pub not_closed : taken_of (at timer.port old.server.held) ≡ None
 
   -- the state once the clock was read before a wait: each deadline is set
@@ -694,6 +725,7 @@ at_start config requests server reading events =
       requests = requests;
       range = config.ports;
       longest = config.longest;
+      backoff = config.backoff;
       requests_only = config.requests_only;
       per_client = config.per_client;
       server = server;

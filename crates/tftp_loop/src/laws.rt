@@ -2,6 +2,7 @@
 
 ghost use Rattle.tftp_loop.specs.Draining.{DrainsByASignal, OnlyFinishes};
 ghost use Rattle.tftp_loop.specs.Dropped.{AnswersOnlyRequests, DropsNoRequest, DropsOnlyIfTold};
+ghost use Rattle.tftp_loop.specs.Expiry.{ClosesAfterDoubling, ClosesAfterIntervals};
 ghost use Rattle.tftp_loop.specs.Expiry.{ClosesOverAge, ClosesWithoutProgress, TimesOutInSilence};
 ghost use Rattle.tftp_loop.specs.Fair.{CountsReceived, ReceivesFew, ReceivesFewAtAPort};
 ghost use Rattle.tftp_loop.specs.Handled.{HandlesBeforeItSleeps, HandlesByTheNextWait};
@@ -59,14 +60,17 @@ pub fn a_server_drops_no_request<T: Store>()
 {}
 
 /// A transfer that makes no progress is closed in time, whatever is sent to its port. At each wait
-/// later than an interval, and an interval and a second for each retry, its line was printed: in a
-/// round the clock is read once, which advances the time by a second at most. If nothing came to
-/// the port, it was not complete, unless it was before. A transfer that is over age is closed so
-/// whatever it receives (RFC 1350, section 2).
+/// later than its waits for a timeout, and a second for each retry, its line was printed: in a
+/// round the clock is read once, which advances the time by a second at most. Each of these waits is
+/// an interval, or twice as long as the one before, up to eight intervals (RFC 1123, section
+/// 4.2.3.2). If nothing came to the port, it was not complete, unless it was before. A transfer that
+/// is over age is closed so whatever it receives (RFC 1350, section 2).
 pub fn a_server_closes_what_makes_no_progress<T: Store>()
     ensures closes { ClosesWithoutProgress T.meaning T.Source.meaning }
     ensures silent { TimesOutInSilence T.meaning T.Source.meaning }
     ensures over_age { ClosesOverAge T.meaning T.Source.meaning }
+    ensures intervals { ClosesAfterIntervals }
+    ensures doubling { ClosesAfterDoubling }
 {}
 
 /// The same by the clock that the server read. At each wait before which the readings of the clock
@@ -82,8 +86,9 @@ pub fn a_server_closes_by_the_clock<T: Store>()
     ensures passes { PassesWithTheClock T.meaning T.Source.meaning }
 {}
 
-/// A server with a range of ports takes no port of it twice before it has taken each.
-pub fn a_range_gives_each_port_once()
+/// A server with a range of ports takes a port of it again only after half of the range: the port is
+/// drawn from the other half.
+pub fn a_range_gives_no_port_twice()
     ensures { UsesNoPortTwice }
 {}
 

@@ -1,11 +1,14 @@
 //! The order in which transfers use the ports of a range.
 
 ghost use Rattle.std.specs.Prelude.{◌≡◌, ◌≤◌, [], length, IfOk, MatchOption};
-ghost use Rattle.tftp_loop.specs.PortOrder.{IsOrderOf, UsesNext, coming, coming_from};
+ghost use Rattle.tftp_loop.specs.PortOrder.{IsOrderOf, Mixes, UsesNext, coming, drawn_from};
 ghost use Rattle.tftp_loop.specs.PortOrder.{port_count, ports_of};
 
+use rand::RngExt;
+use rand::rngs::StdRng;
 use rand::seq::SliceRandom;
 use std::alloc::{AllocError, Global};
+use std::collections::VecDeque;
 use std::io;
 use tftp_sockets::ServerUdp;
 
@@ -23,15 +26,23 @@ impl PortRange {
     {
         usize::from(self.last.saturating_sub(self.first)) + 1
     }
+
+    /// The number of ports that the next one is drawn from: half of them.
+    pub(crate) fn drawn_from(self) -> usize
+        ensures { result ≡ drawn_from self }
+    {
+        (self.len() + 1) / 2
+    }
 }
 
-/// The ports of a range in an order that an outsider cannot foretell: each once before any again.
+/// The ports of a range in an order that an outsider cannot foretell: the next one is drawn, for each
+/// transfer anew, from the half of them that is unused for longest.
 #[derive(Drop)]
 pub struct PortOrder {
     range: PortRange,
-    ports: Vec<u16>,
-    /// The index of the next port.
-    next: usize,
+    /// The ports in the order in which they come, the one that is unused for longest first.
+    ports: VecDeque<u16>,
+    rng: StdRng,
 }
 
 impl PortOrder {
@@ -45,8 +56,8 @@ impl PortOrder {
         ports.as_mut_slice().shuffle(&mut rng);
         Ok(PortOrder {
             range,
-            ports,
-            next: 0,
+            ports: VecDeque::from_vec(ports),
+            rng,
         })
     }
 
@@ -59,9 +70,21 @@ impl PortOrder {
 
     /// The number of ports.
     pub fn len(&self) -> usize
-        ensures { result ≡ length self.now.ports.items }
+        ensures { result ≡ length (coming self.now) }
     {
         self.ports.len()
+    }
+
+    /// Draws a port from the next ones, so many, as the first that comes. The random bytes are of the
+    /// generator that the system has seeded.
+    pub fn mix(&mut self, among: usize)
+        ensures { Mixes among self.old self.new }
+    {
+        let most = among.min(self.ports.len());
+        if most > 0 {
+            let drawn = self.rng.random_range(0..most);
+            self.ports.swap(0, drawn);
+        }
     }
 
     /// The next port, which is then the last one. `None` if there are none.
@@ -70,25 +93,11 @@ impl PortOrder {
             ((coming self.old ≡ []) × (self.new ≡ self.old))
             (λ port. UsesNext self.old self.new port) }
     {
-        let index = self.index();
-        if index >= self.ports.len() {
+        let Some(&port) = self.ports.front() else {
             return None;
-        }
-        let port = self.ports[index];
-        self.next = index + 1;
+        };
+        self.ports.rotate_left(1);
         Some(port)
-    }
-
-    /// The index of the next port. The first port follows the last one.
-    fn index(&self) -> usize
-        ensures same { coming self.now ≡ coming_from result self.now.ports.items }
-        ensures none { length self.now.ports.items ≤ result → self.now.ports.items ≡ [] }
-    {
-        if self.next < self.ports.len() {
-            self.next
-        } else {
-            0
-        }
     }
 }
 

@@ -2,7 +2,8 @@
 
 ghost use Rattle.std.specs.Prelude.{◌≡◌, IfOk, IfSome, IsSome, None, Some, option_map};
 ghost use Rattle.tftp_sockets.specs.Bound.{IsBoundTo};
-ghost use Rattle.tftp_loop.specs.PortOrder.{HasPorts, IsOneOf, IsOrderOf, UsesNext};
+ghost use Rattle.tftp_loop.specs.PortOrder.{HasPorts, IsOneOf, IsOrderOf, Mixes, UsesNext};
+ghost use Rattle.tftp_loop.specs.declared.port_order.PortOrder.{PortOrder};
 ghost use Rattle.tftp_loop.specs.PortPool.{IsOfPool, Tries, after_bind, most_of};
 ghost use Rattle.tftp_loop.specs.PortsInTurn.{TriesInTurn};
 
@@ -66,7 +67,7 @@ impl PortPool {
 
     /// Binds a port: the next of the order to which the system binds a socket, if there is an order.
     /// `None` if that fails: each port of the order was tried, and each failure is noted. If no transfer opens there the
-    /// port comes again after all others, as one that was used.
+    /// port counts as one that was used.
     pub(crate) fn bind_port<N: ServerUdp>(&mut self, net: &mut N) -> Option<ServerSocket>
         ensures same { self.new ≡ self.old }
         ensures port { IfSome result (IsOfPool self.old) }
@@ -143,9 +144,10 @@ fn bind_next<N: ServerUdp>(
     ensures told { N.told net.new ≡ N.told net.old }
     ensures file { N.file net.new ≡ N.file net.old }
 {
+    let half = order.range().drawn_from();
     let mut left = order.len();
     loop {
-        let port = next_port(order)?;
+        let port = draw_port(order, half.min(left))?;
         if let Some(socket) = bind_at(net, ip, port, bind_error) {
             return Some(socket);
         }
@@ -154,6 +156,21 @@ fn bind_next<N: ServerUdp>(
         }
         left -= 1;
     }
+}
+
+/// The next port of the order, drawn from so many, which is then the last one. `None` if there are
+/// none.
+fn draw_port(order: &mut PortOrder, among: usize) -> Option<u16>
+    requires { HasPorts order.old }
+    ensures range { order.new.range ≡ order.old.range }
+    ensures ports { HasPorts order.new }
+    ensures port { IfSome result (IsOneOf (Some order.old.range)) }
+    ensures draws { IfSome result (λ port. (mixed : PortOrder) × Mixes among order.old mixed
+        × UsesNext mixed order.new port) }
+    ensures some { IsSome result }
+{
+    order.mix(among);
+    next_port(order)
 }
 
 /// The next port of the order, which is then the last one. `None` if there are none.

@@ -8,7 +8,7 @@ ghost use Rattle.tftp_loop.specs.Fair.{ReceivesAtMost};
 ghost use Rattle.tftp_loop.specs.PortVisit.{AnswersReceived, HasStatus, IsTried, ServesVisit};
 ghost use Rattle.tftp_loop.specs.PortVisit.{at_visit};
 ghost use Rattle.tftp_loop.specs.Steps.{AnswersTimeout};
-ghost use Rattle.tftp_loop.specs.Steps.{Timer, WorksAtPort, most_in_round, restarted, timer_after};
+ghost use Rattle.tftp_loop.specs.Steps.{Timer, WorksAtPort, most_in_round, sends_again, timer_after};
 ghost use Rattle.tftp_loop.specs.LoopStates.{OnlyServesPort, at_port, timer_of};
 ghost use Rattle.tftp_loop.specs.MayWait.{IsNotVisited, IsTimed, IsUnclosedBy};
 ghost use Rattle.tftp_loop.specs.MayWait.{LeavesTimer};
@@ -244,17 +244,16 @@ impl<N: ServerUdp, S: Store> PortVisit<'_, N, S> {
         requires tried { IsTried N.log self.old }
         requires look { self.old.port.now.look_at ≡ self.old.port.now.socket.deadline }
         ensures serves { ServesVisit N.log S.meaning S.Source.meaning 0 self.old self.new }
-        ensures timer { timer_of self.new.port.now
-            ≡ restarted self.new.now (timer_of self.old.port.now) }
+        ensures timed { IsTimed self.new.now (timer_of self.new.port.now) }
         ensures open { UnlessClosed result (StaysOpen (at_visit N.log self.old)
             (at_visit N.log self.new)) }
         ensures file { N.file self.new.net.now ≡ N.file self.old.net.now }
     {
-        restart(self.port, self.now);
         let number = self.port.socket.udp.port();
         self.net.elapsed(number, self.now);
         let socket = &self.port.socket;
         let step = time_out(self.server, &socket.udp, &socket.log_entry, self.net);
+        restart(self.port, self.now, sends_again(&step));
         status_of_timeout(step)
     }
 }
@@ -300,6 +299,16 @@ fn work_after<S: Store>(server: &mut Server<S>, port: &TransferPort, step: &Step
         return;
     }
     work_at(server, port);
+}
+
+/// Whether a timeout made a transfer send again. If none was open, it did not.
+fn sends_again(step: &Option<Step>) -> bool
+    ensures { result ≡ sends_again step.now }
+{
+    match step {
+        Some(step) => step.to.is_some(),
+        None => false,
+    }
 }
 
 /// The result of a timeout's step, if a transfer was open.

@@ -501,15 +501,16 @@ impl<S: ServedStore<Reason> + Drop> ServerLoop<S> {
         log_entry: Option<LogEntry>,
     ) -> TransferPort
         ensures tid { result.tid ≡ bound.port }
+        ensures registered { result.socket.udp.is_registered ≡ true }
         ensures timer { timer_of result
-            ≡ started self.now.sockets.watch.now self.now.longest bound.port peer
+            ≡ started self.now.sockets.watch.now self.now.longest self.now.backoff bound.port peer
             (interval_at (at bound.port self.now.server.held)) }
     {
         let mut udp = bound;
         self.sockets.register(&mut udp);
         let tid = udp.port();
         let interval = interval_of(&self.server, tid);
-        let times_out_at = deadline(self.sockets.watch.now, interval);
+        let times_out_at = deadline(self.sockets.watch.now, self.backoff.wait(interval, 0));
         Port {
             tid,
             look_at: times_out_at.min(next_look(self.sockets.watch.now)),
@@ -518,6 +519,8 @@ impl<S: ServedStore<Reason> + Drop> ServerLoop<S> {
                 udp,
                 peer,
                 interval,
+                backoff: self.backoff,
+                timeouts: 0,
                 deadline: times_out_at,
                 is_provisional: true,
                 moved_at: self.sockets.watch.now,

@@ -25,7 +25,7 @@ use crate::serving::{LoopConfig, LoopFault};
 use crate::sockets::Sockets;
 use crate::transfer_port::{Survey, TransferPort, wake_all, work_at};
 use std::alloc::{AllocError, Global};
-use tftp_ends::{Endpoint, Record};
+use tftp_ends::{Backoff, Endpoint, Record};
 use tftp_lines::Reason;
 use tftp_server::{Server, Store};
 use tftp_sockets::{DATAGRAM_BUFFER, DrainSignal, LONGEST_WAIT, Reports, ServerUdp, index_of};
@@ -53,6 +53,8 @@ pub(crate) struct ServerLoop<S: Store + Drop> {
     pub(crate) rounds: u64,
     /// The age of a transfer, in seconds, behind which its datagrams are dropped.
     pub(crate) longest: Option<u32>,
+    /// How long a transfer waits after timeouts without progress.
+    pub(crate) backoff: Backoff,
     /// Whether what does not begin as a request is dropped at the request port.
     pub(crate) requests_only: bool,
     /// How many transfers one address has open at most.
@@ -115,6 +117,7 @@ impl<S: ServedStore<Reason> + Drop> ServerLoop<S> {
         ensures left { result.left ≡ config.now.ending.transfers }
         ensures rounds { result.rounds ≡ config.now.ending.rounds }
         ensures longest { result.longest ≡ config.now.longest }
+        ensures backoff { result.backoff ≡ config.now.backoff }
         ensures requests_only { result.requests_only ≡ config.now.requests_only }
         ensures per_client { result.per_client ≡ config.now.per_client }
         ensures drain { result.drain ≡ drain_of config.now.drains }
@@ -132,6 +135,7 @@ impl<S: ServedStore<Reason> + Drop> ServerLoop<S> {
             left: config.ending.transfers,
             rounds: config.ending.rounds,
             longest: config.longest,
+            backoff: config.backoff,
             requests_only: config.requests_only,
             per_client: config.per_client,
             drain: Drain::of(config.drains),
@@ -596,6 +600,10 @@ impl<S: ServedStore<Reason> + Drop> ServerLoop<S> {
 
 /// The number of polls before a wait of at most `millis` milliseconds, with this number of active
 /// transfers: so many, if several are.
-fn polls_before(millis: u64, active: usize, polls: u32) -> u32 {
+fn polls_before(millis: u64, active: usize, polls: u32) -> u32
+    ensures most { result ≤ polls }
+    ensures asleep { millis ≡ 0 → result ≡ 0 }
+    ensures alone { active ≤ 1 → result ≡ 0 }
+{
     if millis > 0 && active > 1 { polls } else { 0 }
 }

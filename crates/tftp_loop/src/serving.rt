@@ -9,7 +9,7 @@ use crate::reserved::Reserved;
 use crate::server_loop::{Buffers, ServerLoop};
 use crate::sockets::Sockets;
 use std::alloc::Global;
-use tftp_ends::Endpoint;
+use tftp_ends::{Backoff, Endpoint};
 use tftp_lines::{Printed, Reason, reason_of};
 use tftp_server::Server;
 use tftp_sockets::{DrainSignal, LONGEST_WAIT, ServerUdp};
@@ -27,6 +27,8 @@ pub struct LoopConfig {
     /// The age of a transfer, in seconds, behind which its datagrams are dropped, so that it times
     /// out once its retries are over; `None` for no limit.
     pub longest: Option<u32>,
+    /// How long a transfer waits after timeouts without progress.
+    pub backoff: Backoff,
     /// Whether what arrives at the request port and begins neither as RRQ nor as WRQ is dropped, as if
     /// the network had lost it.
     pub requests_only: bool,

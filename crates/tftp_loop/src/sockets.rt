@@ -1,6 +1,6 @@
 //! The request port of a server, and the ports for its transfers.
 
-ghost use Rattle.std.specs.Prelude.{◌≡◌, ◌||◌, true, false, IfOk, IfSome};
+ghost use Rattle.std.specs.Prelude.{◌≡◌, ◌||◌, true, false, IfOk, IfSome, OnOk};
 ghost use Rattle.tftp_server.specs.Port.{asks_store};
 ghost use Rattle.tftp_sockets.specs.Bound.{IsBoundTo};
 ghost use Rattle.tftp_sockets.specs.Quiet.{is_among};
@@ -50,6 +50,7 @@ impl Sockets {
             ≡ record { ip = config.now.listen.ip; range = config.now.ports }) }
         ensures marked { IfOk result (λ sockets. sockets.is_ready ≡ true) }
         ensures asked { IfOk result (λ sockets. sockets.has_received ≡ false) }
+        ensures registered { IfOk result (λ sockets. sockets.requests.is_registered ≡ true) }
     {
         let mut requests = net.bind(config.listen)?;
         let poll = poll_for(net, &mut requests)?;
@@ -127,7 +128,8 @@ impl Sockets {
 
     /// Adds the port of a transfer to the poll.
     pub(crate) fn register(&self, bound: &mut ServerSocket)
-        ensures { bound.new.port ≡ bound.old.port }
+        ensures port { bound.new.port ≡ bound.old.port }
+        ensures registered { bound.new.is_registered ≡ true }
     {
         // If this fails, the transfer's datagrams are received when its port is due.
         let _ = bound.register(&self.poll);
@@ -138,6 +140,7 @@ impl Sockets {
 fn poll_for<N: ServerUdp>(net: &N, requests: &mut ServerSocket) -> io::Result<PortPoll>
     ensures port { requests.new.port ≡ requests.old.port }
     ensures ip { requests.new.ip ≡ requests.old.ip }
+    ensures registered { OnOk result (requests.new.is_registered ≡ true) }
 {
     let poll = net.poll()?;
     requests.register(&poll)?;

@@ -7,13 +7,14 @@ ghost use Rattle.tftp_sockets.specs.Trace.{replied};
 ghost use Rattle.tftp_sockets.specs.Watch.{last_moment};
 ghost use Rattle.tftp_loop.specs.Fair.{ReceivesAtMost};
 ghost use Rattle.tftp_loop.specs.Steps.{WorksAtPort, age_limit_of, look_after, marked_as};
-ghost use Rattle.tftp_loop.specs.Steps.{most_in_round, open_of, restarted, timer_after};
+ghost use Rattle.tftp_loop.specs.Steps.{most_in_round, open_of, restarted, timeouts_after};
+ghost use Rattle.tftp_loop.specs.Steps.{timer_after, wait_in};
 ghost use Rattle.tftp_loop.specs.LoopStates.{timer_of};
 ghost use Rattle.tftp_loop.specs.MayWait.{IsSurveyOf, earlier, marked_if, set_if, wait_until};
 ghost use Rattle.tftp_loop.specs.MayWait.{woken_if};
 
 use crate::log_entry::LogEntry;
-use tftp_ends::{Endpoint, Step};
+use tftp_ends::{Backoff, Endpoint, Step};
 use tftp_lines::Reason;
 use tftp_server::{Server, Store};
 use tftp_sockets::{LONGEST_WAIT, Port, ServerSocket, ServerUdp, deadline};
@@ -32,8 +33,12 @@ pub(crate) struct TransferSocket {
     pub(crate) udp: ServerSocket,
     /// The endpoint that asked for the transfer.
     pub(crate) peer: Endpoint,
-    /// The seconds without progress before a timeout.
+    /// The timeout interval in seconds: the wait for a timeout after an opening or progress.
     pub(crate) interval: u8,
+    /// How long it waits after timeouts.
+    pub(crate) backoff: Backoff,
+    /// How many timeouts made it send again since the opening or the newest progress.
+    pub(crate) timeouts: u8,
     /// When the transfer times out, in milliseconds. The port may be due earlier, to be read again.
     pub(crate) deadline: u64,
     /// Whether the deadline counts from a time that was read before the newest opening, progress or
@@ -183,7 +188,8 @@ fn note_progress(port: &mut TransferPort, now: u64)
     requires { port.old.socket.received < most_in_round }
     ensures { timer_of port.new ≡ timer_after now true (timer_of port.old) }
 {
-    let deadline = deadline(now, port.socket.interval);
+    port.socket.timeouts = 0;
+    let deadline = deadline(now, port.socket.backoff.wait(port.socket.interval, 0));
     port.socket.received += 1;
     port.socket.moved_at = now;
     port.socket.deadline = deadline;
@@ -275,13 +281,34 @@ pub(crate) fn work_at<S: Store>(server: &mut Server<S>, port: &TransferPort)
     server.work(port.socket.udp.port());
 }
 
-/// Restarts the timer of a transfer.
-pub(crate) fn restart(port: &mut TransferPort, now: u64)
-    ensures { timer_of port.new ≡ restarted now (timer_of port.old) }
+/// Restarts the timer of a transfer after a timeout, which made it send again, or did not.
+pub(crate) fn restart(port: &mut TransferPort, now: u64, again: bool)
+    ensures { timer_of port.new ≡ restarted now again (timer_of port.old) }
 {
-    port.look_at = deadline(now, port.socket.interval);
+    port.socket.timeouts = timeouts_after(again, port.socket.timeouts);
+    port.look_at = deadline(now, wait_in(port));
     port.socket.deadline = port.look_at;
     port.socket.is_provisional = true;
+}
+
+/// How many timeouts made a transfer send again after one more, which did, or did not.
+fn timeouts_after(again: bool, timeouts: u8) -> u8
+    ensures { result ≡ timeouts_after again timeouts }
+{
+    if again {
+        timeouts.saturating_add(1)
+    } else {
+        timeouts
+    }
+}
+
+/// How long a transfer waits for its next timeout, in seconds (RFC 1123, section 4.2.3.2).
+fn wait_in(port: &TransferPort) -> u16
+    ensures { result ≡ wait_in (timer_of port.now) }
+{
+    port.socket
+        .backoff
+        .wait(port.socket.interval, port.socket.timeouts)
 }
 
 /// Sets the deadline of a transfer at a reading of the clock, if it is provisional.
@@ -291,7 +318,7 @@ fn set_deadline(port: &mut TransferPort, time: u64)
     if !port.socket.is_provisional {
         return;
     }
-    let latest = deadline(time, port.socket.interval);
+    let latest = deadline(time, wait_in(port));
     port.socket.deadline = port.socket.deadline.max(latest);
     port.socket.is_provisional = false;
 }

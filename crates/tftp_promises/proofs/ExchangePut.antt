@@ -169,7 +169,7 @@ stores_block = record {
 stores_write : Step p2 p3
 stores_write =
     handles p2 0 (timed writer false 500 0) (written_by receiving new_draft) writer (data_bytes 1 write_file) stores
-    LastSent with_both (Sink committed) (omega arith) (omega arith) (omega arith) refl refl stores_block refl tt tt
+    LastSent with_both (Sink committed) (omega arith) (omega arith) (omega arith) refl refl refl stores_block refl tt tt
 
 abbrev server : ServerProgram memory_meaning memory_source requests
 server = record {

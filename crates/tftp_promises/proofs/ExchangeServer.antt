@@ -27,7 +27,7 @@ use Rattle.tftp_store.specs.Store.{Stored, Drafted}
 use Rattle.tftp_rules.specs.Machine.{Endpoint}
 use Rattle.tftp_server.specs.Draft.{KeepsStore, files_in}
 use Rattle.tftp_server.specs.Request.{A_transfer, AsksToRead, left_by}
-use Rattle.tftp_server.specs.State.{at, with_next}
+use Rattle.tftp_server.specs.State.{at, is_closed, with_next}
 use Rattle.tftp_server.specs.Steps.{StepIn}
 use Rattle.tftp_sockets.specs.Trace.{answered}
 use Rattle.tftp_sockets.specs.Trace.SocketEvent.{Received}
@@ -66,7 +66,7 @@ module _ (old : Loop) (index : ℕ) (timer : Timer) (transfer : Held) (from : En
   }
 
   unfoldable pub handles : old.now ≤ timer.age_limit → timer.received < most_in_round → index < length old.timers → timer ≡ slice_index_or old.timers index timer →
-      at timer.port old.server.held ≡ Some transfer →
+      at timer.port old.server.held ≡ Some transfer → is_closed transfer ≡ false →
       StepIn memory_meaning memory_source from bytes transfer.end
       (files_in old.server.store transfer.path old.server.config.overwrite transfer.files) turn
       (files_in store transfer.path old.server.config.overwrite files) →
@@ -78,7 +78,7 @@ module _ (old : Loop) (index : ℕ) (timer : Timer) (transfer : Held) (from : En
         timers = slice_set old.timers index port_after.timer;
         events = port_after.events;
       })
-  handles in_time few within is_timer found steps lends stays kind = At_port (record {
+  handles in_time few within is_timer found still steps lends stays kind = At_port (record {
     index = index;
     timer = timer;
     within = within;
@@ -96,6 +96,7 @@ module _ (old : Loop) (index : ℕ) (timer : Timer) (transfer : Held) (from : En
           transfer = transfer;
           next = handled;
           found = found;
+          still = still;
           takes = record {
             turn = turn;
             steps = steps;
@@ -205,7 +206,7 @@ refuses_wrong_peer =
 pub answers_wrong_peer : Step s2 s3
 answers_wrong_peer =
     handles s2 0 (timed reader false 500 0) (read_by reading_0 read_file) stranger (ack_bytes 0) at_stranger
-    (Error UnknownTransferId) store (Source read_file) (omega arith) (omega arith) (omega arith) refl refl refuses_wrong_peer refl refl
+    (Error UnknownTransferId) store (Source read_file) (omega arith) (omega arith) (omega arith) refl refl refl refuses_wrong_peer refl refl
     tt
 
 -- the block is read and sent
@@ -232,7 +233,7 @@ reads_block = record {
 pub sends_block : Step s3 s4
 sends_block =
     handles s3 0 (timed reader true 1000 1) (read_by reading_0 read_file) reader (ack_bytes 0) sends LastSent store
-    (Source []) (omega arith) (omega arith) (omega arith) refl refl reads_block refl refl tt
+    (Source []) (omega arith) (omega arith) (omega arith) refl refl refl reads_block refl refl tt
 
 -- it is acknowledged, and the transfer closes
 is_acknowledged : StepIn memory_meaning memory_source reader (ack_bytes 1) reading_1 (Source []) completes (Source [])
@@ -241,7 +242,7 @@ is_acknowledged = record { decoded = Some (Ack 1); says = ack_spelled 1 (omega a
 pub completes_read : Step s4 s5
 completes_read =
     handles s4 0 (timed reader false 500 2) (read_by reading_1 []) reader (ack_bytes 1) completes Nothing store (Source [])
-    (omega arith) (omega arith) (omega arith) refl refl is_acknowledged refl refl tt
+    (omega arith) (omega arith) (omega arith) refl refl refl is_acknowledged refl refl tt
 
 pub closes_read : Step s5 s6
 closes_read = Transfer_closed (record {

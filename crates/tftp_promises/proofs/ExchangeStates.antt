@@ -3,6 +3,7 @@ use Rattle.std.proofs.Common.{ℕ, Bool, true, false, List, [], ◌∷◌, Some,
 use Rattle.tftp_wire.specs.declared.mode.Mode.TheVariants.{Octet}
 use Rattle.tftp_file.specs.declared.files.Files.TheVariants.{Source}
 use Rattle.tftp_ends.specs.declared.action.Response.TheVariants.{Complete, WrongPeer}
+use Rattle.tftp_ends.specs.declared.backoff.Backoff.TheVariants.{Constant}
 use Rattle.tftp_ends.specs.declared.error_reply.ErrorReply.TheVariants.{UnknownTransferId}
 use Rattle.tftp_ends.specs.declared.outcome.Outcome.TheVariants as outcomes
 use Rattle.tftp_ends.specs.declared.phase.Terms.{Terms}
@@ -43,6 +44,7 @@ service = record {
   ports = None;
   ending = record { transfers = 2; rounds = 2 };
   longest = None;
+  backoff = Constant;
   requests_only = false;
   per_client = None;
   drains = false;
@@ -92,6 +94,8 @@ timed peer marked look_at received =
       port = 1024;
       peer = peer;
       interval = 1;
+      backoff = Constant;
+      timeouts = 0;
       deadline = 1000;
       marked = marked;
       look_at = look_at;

@@ -256,7 +256,7 @@ module _ {S F D G K : Type 0} {stores : StoreMeaning S D} {sources : SourceMeani
 
   -- ---- the answer
   kept_by : PortAnswers stores sources server answers.from answers.bytes answers.steps.decoded answers.steps.repeated answers.steps.came → IsKept pad now
-  kept_by (Silent is) = silent_keeps kept answers added noted is
+  kept_by (Silent is why) = silent_keeps kept answers added noted is
   kept_by (Says_error r) = refusal_keeps kept answers added noted r
   kept_by (Begins_to_send path mode options asked opens) =
       sending_keeps path mode options asked

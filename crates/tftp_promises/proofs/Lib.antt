@@ -76,3 +76,12 @@ pub mod AnyKept
 pub mod KeptStrays
 pub mod ClientsRun
 pub mod ServersRun
+pub mod ClientLives
+pub mod TransferLives
+pub mod TraceLives
+pub mod SeenLives
+pub mod GivingUp
+pub mod Outlasting
+pub mod Fated
+pub mod Failing
+pub mod Explaining

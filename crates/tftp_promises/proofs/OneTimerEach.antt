@@ -7,6 +7,7 @@ use Rattle.std.specs.BTreeMap.{is_at}
 use Rattle.std.specs.Ordering.{nat_cmp}
 use Rattle.std.proofs.lemmas.Bool.{cases_eq}
 use Rattle.tftp_file.specs.Source.{SourceMeaning}
+use Rattle.tftp_ends.specs.declared.backoff.Backoff.{Backoff}
 use Rattle.tftp_ends.specs.declared.endpoint.Endpoint.{Endpoint}
 use Rattle.tftp_ends.specs.declared.record.Record.{Record}
 use Rattle.tftp_store.specs.Store.{StoreMeaning}
@@ -159,14 +160,14 @@ module _ {S F D : Type 0} (stores : StoreMeaning S D) (sources : SourceMeaning F
   }
 
   -- what the request port leaves
-  answers_matched : (now : ℕ) (longest : Option ℕ) (from : Endpoint) (tid : ℕ) (old : ServerState S F D) (timers : List Timer)
+  answers_matched : (now : ℕ) (longest : Option ℕ) (backoff : Backoff) (from : Endpoint) (tid : ℕ) (old : ServerState S F D) (timers : List Timer)
       (came : Came S F D) → at tid old.held ≡ None → AreMatched timers old.held →
-      AreMatched (with_timer now longest from (left_by came old from tid).opened.tid
+      AreMatched (with_timer now longest backoff from (left_by came old from tid).opened.tid
       (left_by came old from tid).new.held timers) (left_by came old from tid).new.held
-  answers_matched now longest from tid old timers Nothing free matched = matched
-  answers_matched now longest from tid old timers (Error_reply reply store) free matched = matched
-  answers_matched now longest from tid old timers (A_transfer transfer store) free matched =
-      opens_matched timers old.held (started now longest tid from (interval_at (at tid (with_new tid transfer old.held))))
+  answers_matched now longest backoff from tid old timers Nothing free matched = matched
+  answers_matched now longest backoff from tid old timers (Error_reply reply store) free matched = matched
+  answers_matched now longest backoff from tid old timers (A_transfer transfer store) free matched =
+      opens_matched timers old.held (started now longest backoff tid from (interval_at (at tid (with_new tid transfer old.held))))
       transfer free matched
 
   -- the state of a server at its ports
@@ -195,9 +196,9 @@ module _ {S F D : Type 0} (stores : StoreMeaning S D) (sources : SourceMeaning F
   step_matched old new (Request_noted d) matched = subst IsMatched (sym d.is) matched
   step_matched old new (Request_answered d) matched =
       subst IsMatched (sym d.is)
-      (subst (λ (left : Left S F D). AreMatched (with_timer old.now old.longest d.from left.opened.tid left.new.held
+      (subst (λ (left : Left S F D). AreMatched (with_timer old.now old.longest old.backoff d.from left.opened.tid left.new.held
       old.timers) left.new.held) (sym d.steps.left)
-      (answers_matched old.now old.longest d.from d.tid old.server old.timers d.steps.came d.free matched))
+      (answers_matched old.now old.longest old.backoff d.from d.tid old.server old.timers d.steps.came d.free matched))
   step_matched old new (Request_lost d) matched = subst IsMatched (sym d.is) matched
   step_matched old new (Clock_read d) matched = subst IsMatched (sym d.is) matched
   step_matched old new (Store_set d) matched = subst IsMatched (sym d.is) matched

@@ -3,6 +3,7 @@ use Rattle.std.proofs.Common.{◌≡◌, ℕ, ◌*◌, ◌^◌, ◌<◌, ◌≤�
 use Rattle.std.proofs.Common.{Result, Ok, Err, refl, sym, ap, ◌∙◌, subst, inl, inr, arith}
 use Rattle.std.specs.Prelude.{◌⊎◌, if◌then◌else◌, nat_lt}
 use Rattle.std.proofs.lemmas.Bool.{ltb-true}
+use Rattle.tftp_wire.specs.Reading.{has_error_opcode}
 use Rattle.tftp_wire.specs.declared.limits.TheConstants.{MAX_BLOCK}
 use Rattle.tftp_wire.specs.declared.mode.Mode.{Mode}
 use Rattle.tftp_wire.specs.declared.options.RawOption.{RawOption}
@@ -99,7 +100,7 @@ module _ {S F D : Type 0} (meaning : StoreMeaning S D) (sources : SourceMeaning 
 
   -- the answer to a datagram
   pub data PortAnswers (decoded : Option WirePacket) (repeated : Bool) (came : Came S F D) : Type 0 where
-    Silent : came ≡ Nothing → PortAnswers decoded repeated came
+    Silent : came ≡ Nothing → (has_error_opcode bytes ≡ true) ⊎ (repeated ≡ true) → PortAnswers decoded repeated came
     Says_error : IsRefused came → PortAnswers decoded repeated came
     Begins_to_send : (path : List ℕ) (mode : Mode) (options : List RawOption) →
         IsAsked decoded repeated false path mode options → OpensToSend path mode came → PortAnswers decoded repeated came
@@ -231,9 +232,9 @@ module _ {S F D : Type 0} (meaning : StoreMeaning S D) (sources : SourceMeaning 
 
     -- ---- what the port decided
     decided : (decoded : Option WirePacket) (repeated : Bool) (ask : Ask) →
-        Implies old.config.limits repeated decoded ask → Goes meaning sources old from bytes ask came →
+        Implies old.config.limits repeated bytes decoded ask → Goes meaning sources old from bytes ask came →
         PortAnswers decoded repeated came
-    decided decoded repeated Ignores implied h = Silent h
+    decided decoded repeated Ignores implied h = Silent h implied
     decided decoded repeated (Refuses reply) implied h = Says_error (refuses came reply h)
     decided decoded repeated (Reads path mode options) implied h = elim (read_answered path mode options h) [
       | inl refused ↦ Says_error refused
@@ -252,4 +253,4 @@ module _ {S F D : Type 0} (meaning : StoreMeaning S D) (sources : SourceMeaning 
   port_answers max tid result h =
       decided max h.came h.decoded h.repeated (asks old.config.cap (length old.held) h.repeated old.config.limits
       bytes h.decoded)
-      (asks_imply old.config.limits h.repeated old.config.cap (length old.held) bytes h.decoded) h.goes
+      (asks_imply old.config.limits h.repeated bytes old.config.cap (length old.held) h.decoded) h.goes

@@ -1,6 +1,6 @@
 -- What the request port's decision implies for the request.
-use Rattle.std.proofs.Common.{◌≡◌, ℕ, Bool, true, false, List, Option, Some, None, Result, Ok, Err, refl, subst}
-use Rattle.std.specs.Prelude.{if◌then◌else◌, nat_le}
+use Rattle.std.proofs.Common.{◌≡◌, ℕ, Bool, true, false, List, Option, Some, None, Result, Ok, Err, refl, subst, inl, inr}
+use Rattle.std.specs.Prelude.{◌⊎◌, if◌then◌else◌, nat_le}
 use Rattle.tftp_wire.specs.declared.mode.Mode.{Mode}
 use Rattle.tftp_wire.specs.declared.options.RawOption.{RawOption}
 use Rattle.tftp_wire.specs.declared.packet.Packet.{Packet as WirePacket}
@@ -36,10 +36,10 @@ pub record IsAsked (decoded : Option WirePacket) (repeated write : Bool) (path :
   pub same_options : request.options ≡ options
   pub new : repeated ≡ false
 
-module _ (limits : Limits) (repeated : Bool) where
+module _ (limits : Limits) (repeated : Bool) (bytes : List ℕ) where
   -- what is known of the request if the port decides so
   abbrev pub Implies : Option WirePacket → Ask → Type 0
-  Implies decoded Ignores = Unit {0}
+  Implies decoded Ignores = (has_error_opcode bytes ≡ true) ⊎ (repeated ≡ true)
   Implies decoded (Refuses reply) = Unit {0}
   Implies decoded (Reads path mode options) = IsAsked decoded repeated false path mode options
   Implies decoded (Writes path mode agreed) =
@@ -57,7 +57,7 @@ module _ (limits : Limits) (repeated : Bool) where
 
     unless_repeated : (decoded : Option WirePacket) (ask : Ask) → (repeated ≡ false → Implies decoded ask) →
         Implies decoded (by_repeat repeated ask)
-    unless_repeated decoded ask implies = if_either (Implies decoded) repeated Ignores ask (λ b. tt) implies
+    unless_repeated decoded ask implies = if_either (Implies decoded) repeated Ignores ask inr implies
 
     asked_to_read : (r : WireRequest) (path : List ℕ) → path_of_name r.name ≡ Ok path → repeated ≡ false →
         Implies (Some (Read r)) (by_kind kinds.Read r.mode r.options limits path)
@@ -98,22 +98,22 @@ module _ (limits : Limits) (repeated : Bool) where
     implied (Some (Oack options)) = tt
 
     -- it is known of each decision
-    pub asks_imply : (bytes : List ℕ) (decoded : Option WirePacket) →
+    pub asks_imply : (decoded : Option WirePacket) →
         Implies decoded (asks cap count repeated limits bytes decoded)
-    asks_imply bytes decoded =
+    asks_imply decoded =
         if_either (Implies decoded) (has_error_opcode bytes) Ignores (by_packet cap count repeated limits decoded)
-        (λ b. tt) (λ b. implied decoded)
+        inl (λ b. implied decoded)
 
     -- the store is asked to read only by a request to read, in this mode and with these options
-    pub reads_by : (bytes : List ℕ) (decoded : Option WirePacket) (path : List ℕ) (mode : Mode)
+    pub reads_by : (decoded : Option WirePacket) (path : List ℕ) (mode : Mode)
         (options : List RawOption) →
         asks cap count repeated limits bytes decoded ≡ Reads path mode options →
         IsAsked decoded repeated false path mode options
-    reads_by bytes decoded path mode options e = subst (Implies decoded) e (asks_imply bytes decoded)
+    reads_by decoded path mode options e = subst (Implies decoded) e (asks_imply decoded)
 
     -- and to write only by a request to write, whose options the server answers so
-    pub writes_by : (bytes : List ℕ) (decoded : Option WirePacket) (path : List ℕ) (mode : Mode) (agreed : List Known) →
+    pub writes_by : (decoded : Option WirePacket) (path : List ℕ) (mode : Mode) (agreed : List Known) →
         asks cap count repeated limits bytes decoded ≡ Writes path mode agreed →
         (options : List RawOption) × IsAsked decoded repeated true path mode options
         × (answer options kinds.Write mode 0 limits ≡ Ok agreed)
-    writes_by bytes decoded path mode agreed e = subst (Implies decoded) e (asks_imply bytes decoded)
+    writes_by decoded path mode agreed e = subst (Implies decoded) e (asks_imply decoded)

@@ -22,3 +22,9 @@ pub mod Joint
 pub mod Witness
 pub mod Timers
 pub mod Lines
+pub mod Lived
+pub mod GivesUp
+pub mod Failed
+pub mod Fates
+pub mod Explained
+pub mod Outlasting

@@ -7,6 +7,10 @@ ghost use Rattle.tftp_promises.specs.Alone.{EachTakesOne, OthersHaveNothing};
 ghost use Rattle.tftp_promises.specs.Blamed.{EachIsUnblamed, ProgramsAreUnblamed};
 ghost use Rattle.tftp_promises.specs.ClientPrograms.{ClientsArePrograms};
 ghost use Rattle.tftp_promises.specs.ClientRuns.{ClientsAreRuns};
+ghost use Rattle.tftp_promises.specs.Explained.{ProgramsAreExplained, SeveralAreExplained};
+ghost use Rattle.tftp_promises.specs.Fates.{RequestsAreSettled};
+ghost use Rattle.tftp_promises.specs.Outlasting.{ProgramsOutlastLoss};
+ghost use Rattle.tftp_promises.specs.GivesUp.{ClientsGiveUpUnanswered, ClientsTimeOutSo, TransfersGiveUpUnanswered};
 ghost use Rattle.tftp_promises.specs.Hosts.{ClientsAreThere, ServerIsThere, StrangersAreElsewhere};
 ghost use Rattle.tftp_promises.specs.Joined.{ProgramsKeepAnyFiles, ServersAloneAreJoined};
 ghost use Rattle.tftp_promises.specs.Joint.{TracesAreJoint};
@@ -136,4 +140,45 @@ pub fn each_transfer_has_one_timer<T: Store>()
 /// other.
 pub fn each_line_is_a_close<T: Store>()
     ensures { EachLineIsAClose T.meaning T.Source.meaning }
+{}
+
+/// A client that has a peer times out only for want of an answer: it sent its newest datagram once
+/// and for each retry. If the transfer that serves it handled a copy, then that transfer is
+/// complete, or failed for another reason, or has sent the answer; and the client handled no copy
+/// of it. So all copies of one datagram were lost (RFC 1350, section 2).
+pub fn a_client_gives_up_unanswered<T: Store, G: Source, K: Sink>()
+    ensures clients { ClientsGiveUpUnanswered T.meaning T.Source.meaning G.meaning K.meaning }
+    // with or without a peer
+    ensures all { ClientsTimeOutSo T.meaning T.Source.meaning G.meaning K.meaning }
+    // and the transfer of a client that timed out
+    ensures transfers { TransfersGiveUpUnanswered T.meaning T.Source.meaning G.meaning K.meaning }
+{}
+
+/// A server settles each datagram that it received at its request port: it opens a transfer, whose
+/// first datagram it sends at once; it answers by an ERROR; it sends nothing, since the datagram
+/// repeats the request of a transfer that is open; or it loses it, and states why (RFC 1350, section
+/// 4).
+pub fn each_request_is_settled<T: Store>()
+    ensures { RequestsAreSettled T.meaning T.Source.meaning }
+{}
+
+/// A client that is not complete is so for a stated reason: it goes on; its file or its store failed,
+/// an ERROR came, or its peer's file is no netascii; without a peer it refused its first answer; or of
+/// one datagram, its request or a later one, all copies were lost, or all answers. It sent that once
+/// and for each retry, and handled no answer; and the server, if it handled a copy, answered, or its
+/// transfer failed (RFC 1350, sections 2 and 7).
+pub fn a_client_ends_for_a_reason<T: Store, G: Source, K: Sink>()
+    ensures one { ProgramsAreExplained T.meaning T.Source.meaning G.meaning K.meaning }
+    // of each of several servers and a client that takes its answer
+    ensures several { SeveralAreExplained T.meaning T.Source.meaning G.meaning K.meaning }
+{}
+
+/// A client and the transfer that serves it outlast a loss that is bounded: if each datagram of one
+/// of the two is handled by the other before more than `limit` timeouts of the two have passed, or
+/// the other has closed by then, if both answer before more than `slack` have, and both have at
+/// least `2 * limit + slack` retries, then none of the two times out, but if the other is complete
+/// or failed for another reason. So if none of the two failed, a get that has ended is complete; so
+/// is the transfer of a put, once it has ended (RFC 1350, section 2).
+pub fn a_client_outlasts_loss<T: Store, G: Source, K: Sink>()
+    ensures { ProgramsOutlastLoss T.meaning T.Source.meaning G.meaning K.meaning }
 {}

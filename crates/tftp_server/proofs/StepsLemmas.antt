@@ -1,6 +1,6 @@
 -- How a transfer handles a datagram with its file, and why an event was not handled. For eight functions and
 -- ShortageLemmas.
-use Rattle.std.proofs.Common.{◌≡◌, ◌↔◌, ℕ, Bool, true, false, List, Option, Some, Result, Err, refl, sym, ap, subst}
+use Rattle.std.proofs.Common.{◌≡◌, ◌↔◌, ℕ, Bool, true, false, List, Option, Some, Result, Ok, Err, refl, sym, ap, subst}
 use Rattle.std.proofs.Common.{◌∙◌}
 use Rattle.std.specs.Prelude.{not, IsErrOf}
 use Rattle.std.proofs.lemmas.Bool.{false_from_ne_true}
@@ -136,6 +136,13 @@ module _ {F D R : Type 0} (held : TransferState F D) where
       false_from_ne_true (is_closed held)
       (λ h. let e : IsErrOf {T = R} (Err ends.Memory) ends.Closed = closed.1 h in cc)
 
+  -- and so is one that handled an event
+  pub handled_open : (answer : R) → (IsErrOf {T = R} (Ok answer) ends.Closed ↔ (is_closed held ≡ true)) →
+      is_closed held ≡ false
+  handled_open answer closed =
+      false_from_ne_true (is_closed held)
+      (λ h. let e : IsErrOf {T = R} (Ok answer) ends.Closed = closed.1 h in cc)
+
   -- why a timeout was not handled
   pub timeout_fault : (fault : EndFault) → (IsErrOf {T = R} (Err fault) ends.Closed ↔ (is_closed held ≡ true)) →
       (IsErrOf {T = R} (Err fault) ends.Memory →
@@ -157,14 +164,15 @@ module _ {F D R : Type 0} (held : TransferState F D) where
 module _ {F D : Type 0} (tid : ℕ) {held : List (ℕ × TransferState F D)} {transfer next : TransferState F D}
     (found : Some transfer ≡ at tid held) where
   -- a timeout of the transfer is one of the table
-  pub times_out : (gives : Gives) {step : Step} →
+  pub times_out : (gives : Gives) {step : Step} → is_closed transfer ≡ false →
       gives transfer.end (timeout_turn transfer.end) next.end step.to
       × (step ≡ reported transfer.end (timeout_turn transfer.end)) × (next ≡ with_end next.end transfer) →
       TimesOutBy gives tid held (with_next tid next held) step
-  times_out gives h =
+  times_out gives still h =
       record {
         transfer = transfer;
         found = sym found;
+        still = still;
         end = next.end;
         carries = h.0;
         reports = h.1;

@@ -1,5 +1,6 @@
 -- A server whose caller has the files: what a step that is lent a source or a sink leaves.
 use Rattle.std.specs.Prelude.{ℕ, ◌≡◌, Bool, false, not, ◌&&◌, List, Option, Some, None}
+use Rattle.tftp_wire.specs.declared.mode.Mode.{Mode}
 use Rattle.tftp_file.specs.Source.{SourceMeaning}
 use Rattle.tftp_file.specs.Sink.{SinkMeaning}
 use Rattle.tftp_ends.specs.declared.endpoint.Endpoint.{Endpoint}
@@ -39,6 +40,13 @@ asked_path Ignores = None
 asked_path (Refuses reply) = None
 asked_path (Reads path mode options) = Some path
 asked_path (Writes path mode agreed) = Some path
+
+-- the mode of either
+abbrev pub asked_mode : Ask → Option Mode
+asked_mode Ignores = None
+asked_mode (Refuses reply) = None
+asked_mode (Reads path mode options) = Some mode
+asked_mode (Writes path mode agreed) = Some mode
 
 module _ {F D : Type 0} where
   -- there is a transfer that is open and sends, or that is open and stores

@@ -40,6 +40,8 @@ module _ {F D : Type 0} where
       (step : Step) : Type 0 where
     pub transfer : TransferState F D
     pub found : at tid old ≡ Some transfer
+    -- it is open
+    pub still : is_closed transfer ≡ false
     pub end : EndState
     pub carries : gives transfer.end (timeout_turn transfer.end) end step.to
     pub reports : step ≡ reported transfer.end (timeout_turn transfer.end)
@@ -107,6 +109,8 @@ module _ {S F D : Type 0} (meaning : StoreMeaning S D) (sources : SourceMeaning 
     pub transfer : TransferState F D
     pub next : TransferState F D
     pub found : at tid old.held ≡ Some transfer
+    -- it is open
+    pub still : is_closed transfer ≡ false
     pub takes : TakesBy gives old.config.overwrite from bytes old.store new.store transfer next step
     pub held : new.held ≡ with_next tid next old.held
 

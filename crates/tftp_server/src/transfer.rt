@@ -2,6 +2,7 @@
 
 ghost use Rattle.std.specs.Prelude.{◌≡◌, ◌↔◌, true, false, IsTrue, IfOk, OnErr, IsErrOf, Option, Some};
 ghost use Rattle.std.specs.Prelude.{option_copied, vec_len, vec_capacity};
+ghost use Rattle.tftp_ends.specs.Backoff.{timeouts_of};
 ghost use Rattle.tftp_ends.specs.End.{record_of};
 ghost use Rattle.tftp_server.specs.State.{is_closed, draft_of, Repeats};
 ghost use Rattle.tftp_wire.specs.Borrowed.{owned};
@@ -96,6 +97,20 @@ impl<F, D> Transfer<F, D> {
         ensures { result.now ≡ self.now.path }
     {
         &self.path
+    }
+
+    /// How many timeouts its end has had since its opening or its last progress.
+    pub fn timeouts(&self) -> u8
+        ensures { result ≡ timeouts_of self.now.end }
+    {
+        self.end.timeouts()
+    }
+
+    /// Its source or its draft.
+    pub(crate) fn files(&self) -> &Files<F, D>
+        ensures { result.now ≡ self.now.files }
+    {
+        &self.files
     }
 
     /// Its draft, if it stores.

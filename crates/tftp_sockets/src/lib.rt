@@ -7,6 +7,7 @@
 
 mod address;
 mod bound;
+mod calls;
 mod clock;
 mod entry;
 mod error_lines;

@@ -4,13 +4,9 @@ ghost use Rattle.std.specs.Prelude.{◌≡◌, ◌≢◌, [], true, false, IfOk}
 ghost use Rattle.tftp_sockets.specs.Trace.{polled};
 
 use crate::event_ref::EventRef;
-use crate::reader::has_lost_reader;
 use crate::trace::Trace;
 use mio::{Events, Poll};
 use std::alloc::{AllocError, Global};
-use std::io;
-use std::net::Net;
-use std::time::Duration;
 
 /// The number of polls before a wait: some 25 microseconds.
 pub(crate) const POLLS: u32 = 64;
@@ -21,24 +17,15 @@ pub struct PortPoll {
     pub(crate) poll: Poll,
 }
 
-impl PortPoll {
-    /// A poll of no socket yet.
-    pub(crate) fn new<N: Net>(net: &N) -> io::Result<PortPoll> {
-        Ok(PortPoll {
-            poll: Poll::new(net)?,
-        })
-    }
-}
-
 /// The ports that a wait reports: datagrams may be there.
 #[derive(Drop)]
 pub struct Reports {
-    events: Events,
-    ports: Vec<u16>,
+    pub(crate) events: Events,
+    pub(crate) ports: Vec<u16>,
     /// Whether they are of a poll without a wait that is not noted yet.
-    is_unnoted: bool,
+    pub(crate) is_unnoted: bool,
     /// Whether a poll has reported that nobody reads standard output any more: it does so once.
-    has_lost_reader: bool,
+    pub(crate) has_lost_reader: bool,
 }
 
 impl Reports {
@@ -62,7 +49,7 @@ impl Reports {
     }
 
     /// Whether the newest wait reported a port.
-    fn has_port(&self) -> bool
+    pub(crate) fn has_port(&self) -> bool
         ensures { result ≡ true → self.now.ports.items ≢ [] }
     {
         !self.ports.is_empty()
@@ -71,16 +58,6 @@ impl Reports {
     /// Whether a poll by now has reported that nobody reads standard output any more.
     pub(crate) fn has_lost_reader(&self) -> bool {
         self.has_lost_reader
-    }
-
-    /// Polls without waiting. Returns whether a port is reported: then the poll is yet to be noted.
-    pub(crate) fn poll_now(&mut self, poll: &mut PortPoll) -> bool
-        ensures some { result ≡ true → self.new.ports.items ≢ [] }
-        ensures unnoted { self.new.is_unnoted ≡ result }
-    {
-        self.poll(poll, 0);
-        self.is_unnoted = self.has_port();
-        self.is_unnoted
     }
 
     /// Notes a poll that took no time and reported these ports, once.
@@ -94,40 +71,5 @@ impl Reports {
             trace.note(&EventRef::Woke(self.ports()));
         }
         self.is_unnoted = false;
-    }
-
-    /// Polls for at most `millis` milliseconds. An interrupted poll reports no port.
-    pub(crate) fn poll(&mut self, poll: &mut PortPoll, millis: u64)
-        ensures { self.new.is_unnoted ≡ false }
-    {
-        self.ports.clear();
-        self.is_unnoted = false;
-        let time = Some(Duration::from_millis(millis));
-        if poll.poll.poll(&mut self.events, time).is_err() {
-            return;
-        }
-        for event in self.events.iter() {
-            match u16::try_from(event.token().0) {
-                Ok(port) => {
-                    // There is room for as many ports as events.
-                    let _ = self.ports.push(port);
-                }
-                Err(_) => self.has_lost_reader |= has_lost_reader(event),
-            }
-        }
-    }
-
-    /// Polls up to so many times without a sleep, until a port is reported. Returns whether one is.
-    pub(crate) fn poll_often(&mut self, poll: &mut PortPoll, polls: u32) -> bool
-        ensures some { result ≡ true → self.new.ports.items ≢ [] }
-        ensures once { result ≡ true → self.new.is_unnoted ≡ false }
-    {
-        for _ in 0..polls {
-            self.poll(poll, 0);
-            if self.has_port() {
-                return true;
-            }
-        }
-        false
     }
 }

@@ -14,7 +14,7 @@
 ghost use Rattle.std.specs.Prelude.{◌≡◌, [], None};
 
 use crate::address::address_of;
-use crate::bound::{bound_socket, client_socket, same_socket};
+use crate::calls::{bound_socket, client_socket, same_socket};
 use crate::clock::{micros, read_clock, utc_millis};
 use crate::entry::{Entry, OpenTransfer};
 use crate::error_lines::{ErrorLines, WholeLines};

@@ -147,7 +147,8 @@ pub trait ServerUdp: Udp {
         ensures fits { Fits buffer.new result }
         ensures file { Self.file self.new ≡ Self.file self.old };
 
-    /// The sender of the first datagram that has arrived, if one has. It stays there.
+    /// The sender of the first datagram that has arrived, if one has that begins as RRQ or WRQ. It
+    /// stays there.
     fn first_sender(&self, socket: &ServerSocket) -> Option<Endpoint>;
 
     /// Leaves a datagram that has arrived to the other servers that have the socket, and notes a

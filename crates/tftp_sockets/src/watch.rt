@@ -67,7 +67,7 @@ impl Watch {
 
 /// The deadline, in milliseconds, of a transfer whose newest opening, progress or timeout is at
 /// `now`: `seconds` later (RFC 2349, "Timeout Interval Option Specification").
-pub fn deadline(now: u64, seconds: u8) -> u64
+pub fn deadline(now: u64, seconds: u16) -> u64
     ensures value { result ≡ deadline_of now seconds }
     ensures later { now ≤ result }
 {

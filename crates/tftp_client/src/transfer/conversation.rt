@@ -91,7 +91,7 @@ impl Conversation {
             × (conversation.deadline ≡ deadline_at 0 end)) }
     {
         let watch = net.start_watch();
-        let due = deadline(0, end.interval());
+        let due = deadline(0, u16::from(end.interval()));
         let (kind, progress) = how;
         Ok(Conversation {
             alloc,
@@ -344,7 +344,7 @@ impl Conversation {
         ensures ready { IsReady self.new }
     {
         let now = self.watch.now;
-        let seconds = self.end.interval();
+        let seconds = u16::from(self.end.interval());
         let Ok((step, outgoing)) = self.end.handle_timeout() else {
             return;
         };
@@ -488,7 +488,7 @@ fn deadline_after(step: &Step, now: u64, seconds: u8, current: u64) -> u64
     ensures { result ≡ deadline_after step.now.progress now seconds current }
 {
     if step.progress {
-        deadline(now, seconds)
+        deadline(now, u16::from(seconds))
     } else {
         current
     }

@@ -21,6 +21,7 @@ use tftp_file::{Sink, Source};
 
 impl End {
     /// As [`End::handle_datagram`], for a sender alone: `source` is its file.
+    #[inline(always)]
     pub fn handle_datagram_as_sender<S: Source>(
         &mut self,
         source: &mut S,
@@ -50,7 +51,7 @@ impl End {
             return Err(EndFault::Closed);
         }
         let before = self.phase();
-        let action = self.datagram_action(true, from, bytes);
+        let action = self.action_as_sender(from, bytes);
         let (to, outgoing) = self.act_as_sender(action, source, from)?;
         Ok((before.step_to(self.phase(), to), outgoing))
     }

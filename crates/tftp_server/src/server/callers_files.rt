@@ -4,9 +4,11 @@
 ghost use Rattle.std.specs.Prelude.{◌≡◌, ◌↔◌, ◌⊎◌, List, ℕ, Some, None, false, option_copied};
 ghost use Rattle.std.specs.Prelude.{option_map};
 ghost use Rattle.std.specs.Prelude.{is_some, if◌then◌else◌, IfOk, IfErr, IsErrOf, IsSome, OnOk, OnErr};
+ghost use Rattle.tftp_ends.specs.Backoff.{timeouts_of};
 ghost use Rattle.tftp_ends.specs.End.{record_of};
 ghost use Rattle.tftp_ends.specs.Files.{AreFilesOf, KeepsSource, KeepsSink};
-ghost use Rattle.tftp_server.specs.CallersFiles.{asked_path, read_path, refusal, write_path};
+ghost use Rattle.tftp_server.specs.CallersFiles.{asked_mode, asked_path, read_path, refusal};
+ghost use Rattle.tftp_server.specs.CallersFiles.{write_path};
 ghost use Rattle.tftp_server.specs.CallersFiles.{is_open_sender, is_open_receiver, SendsLent, StoresLent};
 ghost use Rattle.tftp_server.specs.Request.{ask_of};
 ghost use Rattle.tftp_server.specs.State.{at, with_new, without};
@@ -18,6 +20,7 @@ use crate::transfer::Transfer;
 use tftp_ends::{End, Endpoint, ErrorReply, Outgoing, Record, Step};
 use tftp_file::{Files, Path, Sink, Source};
 use tftp_store::Store;
+use tftp_wire::Mode;
 
 impl<'a> Admission<'a> {
     /// The ERROR that answers the datagram, if it is refused.
@@ -53,6 +56,20 @@ impl<'a> Admission<'a> {
             PortAction::Nothing => None,
             PortAction::Refuse(_) => None,
             PortAction::Read(_) => None,
+        }
+    }
+}
+
+impl<'a> Admission<'a> {
+    /// The mode of the transfer, if the request may be served.
+    pub fn mode(&self) -> Option<Mode>
+        ensures { result ≡ asked_mode self.now.ask }
+    {
+        match &self.action {
+            PortAction::Read(read) => Some(read.mode),
+            PortAction::Write(write) => Some(write.mode),
+            PortAction::Nothing => None,
+            PortAction::Refuse(_) => None,
         }
     }
 }
@@ -116,6 +133,27 @@ impl<S: Store> Server<S> {
         {
             Ok(()) => Ok(()),
             Err(_) => Err(ServerFault::Memory),
+        }
+    }
+
+    /// How many timeouts the transfer at the identifier has had since its opening or its last
+    /// progress, if one is held.
+    pub fn timeouts(&self, tid: u16) -> Option<u8>
+        ensures { result ≡ option_map (λ held. timeouts_of held.end) (at tid self.now.held) }
+    {
+        match self.table.get(tid) {
+            Some(transfer) => Some(transfer.timeouts()),
+            None => None,
+        }
+    }
+
+    /// The files of the transfer at the identifier, open or closed, if one is held.
+    pub fn files(&self, tid: u16) -> Option<&Files<S::Source, S::Draft>>
+        ensures { option_copied result ≡ option_map (λ held. held.files) (at tid self.now.held) }
+    {
+        match self.table.get(tid) {
+            Some(transfer) => Some(transfer.files()),
+            None => None,
         }
     }
 

@@ -1,22 +1,30 @@
-use Rattle.std.proofs.Common.{arith, refl, ap, subst, ◌∙◌, ◌++◌, ◌∷◌, [], Some}
+use Rattle.std.proofs.Common.{arith, ◌≡◌, min, refl, sym, ap, subst, ◌∙◌, ◌++◌, ◌∷◌, [], Some}
+use Rattle.std.proofs.lemmas.List.Sorted.{IsPermutation-refl}
 use Rattle.tftp_loop.specs.Run.Run.{Start}
-use Rattle.tftp_loop.specs.PortOrder.{IsOneOf}
+use Rattle.tftp_loop.specs.PortOrder.{IsOneOf, coming, drawn_from}
 use Rattle.tftp_loop.specs.PortPool.{after_bind}
-use Rattle.tftp_loop.specs.PortsInTurn.{Unused, Uses}
+use Rattle.tftp_loop.specs.PortsInTurn.{DrawsNext, Unused, Uses}
 use Rattle.tftp_loop.specs.declared.port_order.PortRange.{PortRange}
-use Rattle.tftp_loop.proofs.PoolLemmas.{all_missed, coming_long, in_vain, missed_more, tried_more}
-use Rattle.tftp_loop.proofs.PortUses.{long}
+use Rattle.tftp_loop.proofs.PoolLemmas.{all_missed, in_vain, missed_more, tried_more}
+use Rattle.tftp_loop.proofs.PortUses.{drawn_last, long, nothing_after, rest_long}
 use Rattle.tftp_loop.proofs.port_pool.bind_next.Goals as goal
 
 pub loop-port-init : goal.loop-port-init
 loop-port-init g c =
-    let many = coming_long c.args.order.now in
     let some = c.requires.some in
+    let ports = coming c.args.order.now in
     record {
       range = refl;
       ports = c.requires;
-      turns = ([], Unused, omega (arith, many, c.len-left.ensures), λ k d h. absurd (omega (arith, h)));
-      left = omega (arith, many, some, c.len-left.ensures);
+      turns = (
+        [],
+        Unused,
+        omega (arith, c.len-left.ensures),
+        λ k d h. absurd (omega (arith, h)),
+        record { rest = ports; all = IsPermutation-refl ports; is = sym (nothing_after ports) },
+      );
+      left = omega (arith, some, c.len-left.ensures);
+      half = c.drawn_from-half.ensures ∙ ap drawn_from c.range.ensures;
       tries = Start;
       told = refl;
       file = refl;
@@ -31,16 +39,31 @@ loop-port-preserved g c =
     let more = long before.turns.0 (port ∷ []) in
     let test = c.if-left-le1.false in
     let many = before.turns.2 in
+    let draws = c.in_ok-port.ensures.draws in
+    let last = before.turns.4 in
+    let whole = rest_long (coming c.args.order.now) before.turns.0 (coming c.loop-port.order) last in
+    let left = before.left in
+    let half = before.half in
+    let same = ap drawn_from before.range in
     record {
-      range = c.next_port.ensures.range ∙ before.range;
-      ports = c.next_port.ensures.ports;
+      range = c.draw_port.ensures.range ∙ before.range;
+      ports = c.draw_port.ensures.ports;
       turns = (
         before.turns.0 ++ port ∷ [],
-        Uses before.turns.1 c.in_ok-port.ensures.uses,
+        Uses before.turns.1 (record {
+          among = c.min.result;
+          few = omega (arith, c.min.ensures, half, same);
+          mixed = draws.0;
+          mixes = draws.1;
+          uses = draws.2;
+        }),
         omega (arith, more, test, many),
         missed_more port (g.N.Udp.log c.loop-port.net) _ noted before.turns.0 before.turns.3,
+        drawn_last (coming c.args.order.now) before.turns.0 c.loop-port.order draws.0 c.draw_port.new.order c.min.result port
+            last (omega (arith, c.min.ensures, whole, many)) (omega (arith, whole, many, left)) draws.1 draws.2,
       );
       left = omega (arith, test);
+      half = half;
       tries =
           tried_more port (g.N.Udp.log c.args.net.now) (g.N.Udp.log c.loop-port.net) _
           (subst (λ (range : PortRange). IsOneOf (Some range) port) before.range c.in_ok-port.ensures.port) noted
@@ -53,13 +76,44 @@ pub returns-in-Some-clause-turns : goal.returns-in-Some-clause-turns
 returns-in-Some-clause-turns g c =
     let before = c.loop-port.invariant in
     let port = c.in_ok-port.port in
+    let draws = c.in_ok-port.ensures.draws in
+    let half = before.half in
+    let same = ap drawn_from before.range in
     record {
       ports = before.turns.0;
       middle = c.loop-port.order;
       port = port;
       earlier = before.turns.1;
-      last = c.in_ok-port.ensures.uses;
+      last = record {
+        among = c.min.result;
+        few = omega (arith, c.min.ensures, half, same);
+        mixed = draws.0;
+        mixes = draws.1;
+        uses = draws.2;
+      };
       bound = c.in-Some.ensures.bound;
+    }
+
+pub returns-then-left-le1-clause-turns : goal.returns-then-left-le1-clause-turns
+returns-then-left-le1-clause-turns g c =
+    let before = c.loop-port.invariant in
+    let port = c.in_ok-port.port in
+    let draws = c.in_ok-port.ensures.draws in
+    let half = before.half in
+    let same = ap drawn_from before.range in
+    record {
+      ports = before.turns.0;
+      middle = c.loop-port.order;
+      port = port;
+      earlier = before.turns.1;
+      last = record {
+        among = c.min.result;
+        few = omega (arith, c.min.ensures, half, same);
+        mixed = draws.0;
+        mixes = draws.1;
+        uses = draws.2;
+      };
+      bound = tt;
     }
 
 pub returns-then-left-le1-clause-tries : goal.returns-then-left-le1-clause-tries
@@ -73,9 +127,15 @@ returns-then-left-le1-clause-tries g c =
     let test = c.if-left-le1.true in
     let many = before.turns.2 in
     let left = before.left in
+    let draws = c.in_ok-port.ensures.draws in
+    let last = before.turns.4 in
+    let whole = rest_long (coming c.args.order.now) before.turns.0 (coming c.loop-port.order) last in
     let within =
     subst (λ (range : PortRange). IsOneOf (Some range) port) before.range c.in_ok-port.ensures.port in
     in_vain port (g.N.Udp.log c.args.net.now) es _ within noted before.tries
-    (all_missed c.args.order.now.range c.args.order.now c.next_port.new.order (before.turns.0 ++ port ∷ []) _ c.requires refl
-    (Uses before.turns.1 c.in_ok-port.ensures.uses) (omega (arith, more, test, many, left))
+    (all_missed c.args.order.now.range (coming c.args.order.now) (before.turns.0 ++ port ∷ []) (coming c.draw_port.new.order) _
+    c.requires.all
+    (drawn_last (coming c.args.order.now) before.turns.0 c.loop-port.order draws.0 c.draw_port.new.order c.min.result port
+    last (omega (arith, c.min.ensures, whole, many)) (omega (arith, whole, many, left)) draws.1 draws.2)
+    (omega (arith, more, test, many, left))
     (missed_more port es _ noted before.turns.0 before.turns.3))

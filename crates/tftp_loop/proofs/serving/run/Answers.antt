@@ -57,7 +57,7 @@ returns-clause-runs g c =
           (at_start c.args.config.now c.args.sockets.requests.port c.args.server c.args.sockets.watch.reading
           (g.N.Udp.log c.args.net.now))
           (ap (λ (s : Sockets). s.requests.port) made.sockets)
-          (ap (λ (s : Sockets). s.pool.range) made.sockets ∙ c.requires.range) made.longest made.requests_only made.per_client made.server
+          (ap (λ (s : Sockets). s.pool.range) made.sockets ∙ c.requires.range) made.longest made.backoff made.requests_only made.per_client made.server
           (ap (λ (p : Option (Endpoint × ℕ)). pending_in p request) made.pending) (ap (map timer_of) made.ports)
           (ap (λ (s : Sockets). s.watch) made.sockets ∙ ap started_at c.requires.time)
           (ap (λ (s : Sockets). s.limit) made.sockets ∙ c.requires.limit) refl

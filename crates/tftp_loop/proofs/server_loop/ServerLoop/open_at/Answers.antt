@@ -22,7 +22,7 @@ returns-in-Ok-clause-answers g c =
     refl c.requires.admitted c.requires.handled c.set_store.ensures.rest c.set_store.ensures.same c.set_store.ensures.behind
     c.in-Ok.ensures.carries_out free a.port a.own c.set_store.ensures.set c.requires.few
     c.clear.ensures.items
-    (same_state _ _ a.requests a.range a.longest a.requests_only a.per_client a.server refl a.timers a.watch a.limit refl a.marked a.asked a.drain a.left_to_close a.rounds a.events)
+    (same_state _ _ a.requests a.range a.longest a.backoff a.requests_only a.per_client a.server refl a.timers a.watch a.limit refl a.marked a.asked a.drain a.left_to_close a.rounds a.events)
 
 pub returns-in-Ok-clause-rounds : goal.returns-in-Ok-clause-rounds
 returns-in-Ok-clause-rounds g c = c.answer_opened.ensures.answers.rounds
@@ -44,7 +44,7 @@ returns-in-Err-clause-answers g c =
     d.from d.bytes.now c.args.admission _ _ c.set_store.ensures.rest c.requires.admitted c.clear.ensures.len
     (let capacity = c.clear.ensures.capacity in let longest = c.requires.room.longest in omega (arith, capacity, longest))
     (why.why is_memory))
-    (same_state _ _ refl refl refl refl refl why.err.0 refl refl refl refl refl refl refl refl refl refl lost)
+    (same_state _ _ refl refl refl refl refl refl why.err.0 refl refl refl refl refl refl refl refl refl refl lost)
 
 pub returns-in-Ok-clause-room : goal.returns-in-Ok-clause-room
 returns-in-Ok-clause-room g c =

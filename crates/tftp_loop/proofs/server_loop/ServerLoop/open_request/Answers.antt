@@ -23,7 +23,7 @@ returns-in_default-clause-answers g c =
     tries_in_vain g.S.Store.meaning g.S.Source.Source.meaning s _ d.from d.bytes.now
     (g.N.Udp.log c.port_for.new.net) refl opens c.in_default.ensures.tries
     (same_state _ _ (ap (λ (s : Sockets). s.requests.port) same) (ap (λ (s : Sockets). s.pool.range) same) refl refl refl refl refl
-    refl (ap (λ (s : Sockets). s.watch) same) (ap (λ (s : Sockets). s.limit) same) refl
+    refl refl (ap (λ (s : Sockets). s.watch) same) (ap (λ (s : Sockets). s.limit) same) refl
     (ap (λ (s : Sockets). s.is_ready) same) (ap (λ (s : Sockets). s.has_received) same) refl refl refl c.lose.ensures.events)
 
 pub returns-then-is_taken-clause-answers : goal.returns-then-is_taken-clause-answers
@@ -42,7 +42,7 @@ returns-then-is_taken-clause-answers g c =
     (g.N.Udp.log c.port_for.new.net) c.in-Some.bound.port refl opens c.in-Some.ensures.port.port
     c.in-Some.ensures.tries taken
     (same_state _ _ (ap (λ (s : Sockets). s.requests.port) same) (ap (λ (s : Sockets). s.pool.range) same) refl refl refl refl refl
-    refl (ap (λ (s : Sockets). s.watch) same) (ap (λ (s : Sockets). s.limit) same) refl
+    refl refl (ap (λ (s : Sockets). s.watch) same) (ap (λ (s : Sockets). s.limit) same) refl
     (ap (λ (s : Sockets). s.is_ready) same) (ap (λ (s : Sockets). s.has_received) same) refl refl refl c.lose-then-is_taken.ensures.events)
 
 pub returns-clause-answers : goal.returns-clause-answers
@@ -60,7 +60,7 @@ returns-clause-answers g c =
     (subst (λ (u : LoopState _ _ _). Concludes g.S.Store.meaning g.S.Source.Source.meaning u
     (loop_state None c.open_at.new.self (g.N.Udp.log c.open_at.new.net)))
     (same_state _ tried (ap (λ (s : Sockets). s.requests.port) same) (ap (λ (s : Sockets). s.pool.range) same) refl refl refl refl
-    refl refl (ap (λ (s : Sockets). s.watch) same) (ap (λ (s : Sockets). s.limit) same) refl
+    refl refl refl (ap (λ (s : Sockets). s.watch) same) (ap (λ (s : Sockets). s.limit) same) refl
     (ap (λ (s : Sockets). s.is_ready) same) (ap (λ (s : Sockets). s.has_received) same) refl refl refl refl)
     c.open_at.ensures.answers)
 

@@ -15,6 +15,7 @@ returns-clause-reads g c =
       requests = refl;
       range = refl;
       longest = refl;
+      backoff = refl;
       requests_only = refl;
       per_client = refl;
       server = refl;

@@ -1,7 +1,7 @@
 -- What the transfer at the identifier does is what the server does; its fault is the server's.
 use Rattle.std.proofs.Common.{refl, sym}
 use Rattle.tftp_ends.specs.Step.{UsesFile}
-use Rattle.tftp_server.proofs.StepsLemmas.{datagram_fault, nothing_changed, returned, when_closed, when_memory}
+use Rattle.tftp_server.proofs.StepsLemmas.{datagram_fault, handled_open, nothing_changed, returned, when_closed, when_memory}
 use Rattle.tftp_server.proofs.server.Server.handle_datagram.Goals as goal
 
 pub returns-clause-takes : goal.returns-clause-takes
@@ -11,6 +11,7 @@ returns-clause-takes g c =
       transfer = c.in-Some.transfer.now;
       next = c.handle_datagram.new.self;
       found = sym c.in-Some.ensures.value;
+      still = handled_open c.in-Some.transfer.now c.in_ok-handle_datagram.field-0 c.in_ok-handle_datagram.ensures.closed;
       takes = c.in_ok-handle_datagram.ensures.takes;
       held = refl;
     })

@@ -1,13 +1,14 @@
 -- What the transfer at the identifier does is what the server does; its fault is the server's.
 use Rattle.std.proofs.Common.{refl, sym}
 use Rattle.tftp_server.specs.Steps.{appends}
-use Rattle.tftp_server.proofs.StepsLemmas.{timeout_fault, times_out, nothing_changed, returned, when_memory}
+use Rattle.tftp_server.proofs.StepsLemmas.{handled_open, timeout_fault, times_out, nothing_changed, returned, when_memory}
 use Rattle.tftp_server.proofs.server.Server.on_timeout.Goals as goal
 
 pub returns-clause-steps : goal.returns-clause-steps
 returns-clause-steps g c =
     rw (← c.self.view_is)
     (times_out c.args.tid c.in-Some.ensures.value (appends c.args.out.now.items c.on_timeout.new.out.items)
+    (handled_open c.in-Some.transfer.now c.in_ok-on_timeout.field-0 c.in_ok-on_timeout.ensures.closed)
     c.in_ok-on_timeout.ensures.steps)
 
 pub returns-in_err-on_timeout-clause-fault : goal.returns-in_err-on_timeout-clause-fault

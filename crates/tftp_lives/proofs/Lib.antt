@@ -1,0 +1,15 @@
+pub mod Stands
+pub mod StandsMore
+pub mod Spelled
+pub mod StandActions
+pub mod StandPeers
+pub mod StandClients
+pub mod StandSteps
+pub mod OpenEnds
+pub mod StandTimes
+pub mod StandOpens
+pub mod LivesStand
+pub mod Answering
+pub mod Unanswered
+pub mod OneOrder
+pub mod Outlasts

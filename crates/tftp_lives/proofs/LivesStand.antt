@@ -1,0 +1,79 @@
+-- Every end stands so by what it has heard and sent.
+use Rattle.std.proofs.Common.{◌≡◌, ℕ, true, false, List, ◌∷◌, Option}
+use Rattle.std.proofs.Common.{sym, ap, ◌∙◌, subst, inl, inr}
+use Rattle.std.specs.Prelude.{is_some}
+use Rattle.std.proofs.lemmas.Bool.{true≢false}
+use Rattle.tftp_file.specs.Source.{SourceMeaning}
+use Rattle.tftp_file.specs.Sink.{SinkMeaning}
+use Rattle.tftp_file.specs.declared.files.Files.{Files}
+use Rattle.tftp_ends.specs.declared.endpoint.Endpoint.{Endpoint}
+use Rattle.tftp_ends.specs.declared.outcome.Outcome.{Outcome}
+use Rattle.tftp_ends.specs.declared.phase.Phase.{Phase}
+use Rattle.tftp_ends.specs.declared.phase.Phase.TheVariants.{Waiting, Sending, Receiving, Dallying, Closed}
+use Rattle.tftp_ends.specs.Action.{datagram_action}
+use Rattle.tftp_ends.specs.End.{EndState, is_complete, outcome_of}
+use Rattle.tftp_ends.specs.Run.{IsOpen}
+use Rattle.tftp_ends.specs.Step.{Turn, Acts, DatagramStep, after_turn, with_position}
+use Rattle.tftp_lives.specs.Lives.{Act, Took, Life, Opens, Hears, Loses, Times}
+use Rattle.tftp_lives.specs.Lives.{with_reply}
+use Rattle.tftp_lives.specs.Unanswered.{Begins}
+use Rattle.tftp_lives.proofs.Stands.{Stands, Asks, Gives, Takes, Over}
+use Rattle.tftp_lives.proofs.StandsMore.{stands_lost}
+use Rattle.tftp_lives.proofs.OpenEnds.{in_phase_of, still_copied}
+use Rattle.tftp_lives.proofs.StandOpens.{begins_so}
+use Rattle.tftp_lives.proofs.StandSteps.{asks_goes, dallies_on, gives_goes, takes_goes}
+use Rattle.tftp_lives.proofs.StandTimes.{waits}
+
+-- ---- after a datagram
+module _ {S K : Type 0} (sources : SourceMeaning S) (sinks : SinkMeaning K) (from : Endpoint) (bytes : List ℕ)
+    (acts : List Act) (e : EndState) where
+  abbrev at : Phase → EndState
+  at p = with_position (record e.position { phase = p }) e
+
+  module _ (turn : Turn) (files files' : Files S K) (d : DatagramStep sources sinks from bytes e files turn files') where
+    -- how the end stands after the step, if it was in this phase
+    abbrev Going : Phase → Type 0
+    Going p =
+        Acts sources sinks (datagram_action (at p) from bytes d.decoded) from bytes (at p) files turn files' →
+        Stands (with_reply turn.reply (Took from bytes ∷ acts)) (after_turn (at p) turn)
+
+    goes_in : (p : Phase) → e.position.phase ≡ p → Going p →
+        Stands (with_reply turn.reply (Took from bytes ∷ acts)) (after_turn e turn)
+    goes_in p is goes = subst Going (sym is) goes d.acts
+
+    over_goes : (p : Phase) → is_some (outcome_of p) ≡ false → is_complete p ≡ true → Going p
+    over_goes (Waiting asked limit) o complete = absurd (true≢false (sym complete))
+    over_goes (Sending t n) o complete = absurd (true≢false (sym complete))
+    over_goes (Receiving t n) o complete = absurd (true≢false (sym complete))
+    over_goes (Dallying t n dally) o complete =
+        λ made. dallies_on sources sinks e from bytes acts t n dally d.decoded turn files files' made
+    over_goes (Closed t n done outcome) o complete = absurd (true≢false o)
+
+    hears : IsOpen e → Stands acts e →
+        Stands (with_reply turn.reply (Took from bytes ∷ acts)) (after_turn e turn)
+    hears o (Asks asked limit is client askable none c) =
+        let p = Waiting asked limit in
+        goes_in p (in_phase_of e p o is)
+        (λ made. asks_goes sources sinks e from bytes acts asked limit client askable none (still_copied e p o is acts c) d.decoded d.says turn files
+        files' made)
+    hears o (Gives t n is g f c) =
+        let p = Sending t n in
+        goes_in p (in_phase_of e p o is)
+        (λ made. gives_goes sources sinks e from bytes acts t n g f (still_copied e p o is acts c) d.decoded d.says turn files files' made)
+    hears o (Takes t n is g c) =
+        let p = Receiving t n in
+        goes_in p (in_phase_of e p o is)
+        (λ made. takes_goes sources sinks e from bytes acts t n g (still_copied e p o is acts c) d.decoded d.says turn files files' made)
+    hears o (Over (inl complete)) = over_goes e.position.phase o complete d.acts
+    hears o (Over (inr closes)) =
+        absurd (true≢false (sym (ap (λ (z : Option Outcome). is_some z) closes.1) ∙ o))
+
+module _ {S K : Type 0} (sources : SourceMeaning S) (sinks : SinkMeaning K) where
+  -- so stands every end
+  pub life_stands : {first e : EndState} {acts : List Act} → Begins first → Life sources sinks first acts e →
+      Stands acts e
+  life_stands {first = first} opening Opens = begins_so first opening
+  life_stands opening (Hears {acts} {e} {turn} {files} {files'} life o from bytes d) =
+      hears sources sinks from bytes acts e turn files files' d o (life_stands opening life)
+  life_stands opening (Loses {acts} {e} life o from bytes) = stands_lost from bytes acts e (life_stands opening life)
+  life_stands opening (Times {acts} {e} life o) = waits acts e o (life_stands opening life)

@@ -1,0 +1,3 @@
+pub mod Lives
+pub mod Unanswered
+pub mod Outlasting

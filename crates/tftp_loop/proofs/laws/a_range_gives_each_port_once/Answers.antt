@@ -1,6 +1,0 @@
--- The lemma that is the law.
-use Rattle.tftp_loop.proofs.PortUses.{uses_no_port_twice}
-use Rattle.tftp_loop.proofs.laws.a_range_gives_each_port_once.Goals as goal
-
-pub returns : goal.returns
-returns c = λ range first last ports moved uses fewer. uses_no_port_twice range first last ports moved uses fewer

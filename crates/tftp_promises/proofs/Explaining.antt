@@ -1,0 +1,104 @@
+-- Each client that is not complete is so for a stated reason. For the law a_client_ends_for_a_reason.
+use Rattle.std.proofs.Common.{◌≡◌, ℕ, Bool, true, false, not, List, Option, Some, None, refl, sym, ap, ◌∙◌, inl, inr}
+use Rattle.std.specs.Prelude.{◌⊎◌, slice_get}
+use Rattle.std.proofs.lemmas.Bool.{true≢false}
+use Rattle.tftp_file.specs.Sink.{SinkMeaning}
+use Rattle.tftp_file.specs.Source.{SourceMeaning}
+use Rattle.tftp_ends.specs.End.{is_complete, is_sender}
+use Rattle.tftp_store.specs.Store.{StoreMeaning}
+use Rattle.tftp_rules.specs.Machine.{Endpoint}
+use Rattle.tftp_lives.specs.Outlasting.{GaveUp}
+use Rattle.tftp_lives.specs.Unanswered.{IsOver}
+use Rattle.tftp_promises.specs.Alone.{alone, heard_with}
+use Rattle.tftp_promises.specs.AnyFiles.{client_end, peer_of}
+use Rattle.tftp_promises.specs.Explained.{DatagramWasLost, EachIsExplained, IsExplained, Goes_on, Failed, Refused, Of_request}
+use Rattle.tftp_promises.specs.Explained.{Of_transfer, ProgramsAreExplained, SeveralAreExplained}
+use Rattle.tftp_promises.specs.Failed.{HasFailed}
+use Rattle.tftp_promises.specs.GivesUp.{GaveUpUnheard, IsSeenUnanswered}
+use Rattle.tftp_promises.specs.Joined.{AreJoined}
+use Rattle.tftp_promises.specs.Order.{Noted, Programs, ClientOf}
+use Rattle.tftp_promises.specs.Programs.{client_at}
+use Rattle.tftp_promises.specs.Several.{number_of}
+use Rattle.tftp_promises.proofs.EachAlone.{each_joined}
+use Rattle.tftp_promises.proofs.Failing.{client_complete, client_failed, client_is, either_other, transfer_failed}
+use Rattle.tftp_promises.proofs.Fated.{requests_settled}
+use Rattle.tftp_promises.proofs.GivingUp.{clients_seen, gave_up_unheard}
+
+module _ {S F D G K : Type 0} (stores : StoreMeaning S D) (sources : SourceMeaning F) (inputs : SourceMeaning G)
+    (outputs : SinkMeaning K) where
+  module _ (programs : Programs stores sources inputs outputs) (order : List Noted) (joined : AreJoined programs order)
+      (k : ℕ) (client : ClientOf programs) (found : slice_get programs.clients k ≡ Some client)
+      (incomplete : is_complete client.last.end.position.phase ≡ false) where
+    -- ---- with a peer
+    module _ (p : Endpoint) (peer : peer_of (client_end programs client) ≡ Some p) where
+      -- the transfer is over: it has failed, or it received all
+      over : (seen : IsSeenUnanswered programs client p) (c sends : Bool) →
+          is_complete seen.gave_up.serves.transfer.end.position.phase ≡ c →
+          is_sender client.last.end.role.side ≡ sends → IsOver seen.gave_up.serves.transfer.end →
+          HasFailed seen.gave_up.serves.transfer.end
+          ⊎ ((is_sender client.last.end.role.side ≡ true)
+          × (is_complete seen.gave_up.serves.transfer.end.position.phase ≡ true))
+      over seen false sends is side over_is =
+          inl
+          (transfer_failed stores sources inputs outputs programs order joined k client found p seen.gave_up.serves over_is
+          is)
+      over seen true true is side over_is = inr (side, is)
+      over seen true false is side over_is =
+          absurd
+          (true≢false
+          (sym
+          (client_complete stores sources inputs outputs programs order joined k client found p seen.gave_up.serves
+          (seen.gave_up.serves.other ∙ ap not side) is) ∙ incomplete))
+
+      with_peer : IsExplained programs client
+      with_peer = elim (client_is stores sources inputs outputs programs order joined k client found) [
+        | inl over_is ↦
+            Failed
+            (client_failed stores sources inputs outputs programs order joined k client found p peer over_is incomplete)
+        | inr other ↦ elim other [
+          | inl on ↦ Goes_on on.0
+          | inr gave ↦
+              let seen = clients_seen stores sources inputs outputs programs order joined k client p found peer gave.0
+              gave.1 in
+              Of_transfer p peer (record {
+                seen = seen;
+                over =
+                    over seen (is_complete seen.gave_up.serves.transfer.end.position.phase)
+                    (is_sender client.last.end.role.side) refl refl;
+              })
+        ]
+      ]
+
+    -- ---- without one
+    without : peer_of (client_end programs client) ≡ None → IsExplained programs client
+    without none = elim (client_is stores sources inputs outputs programs order joined k client found) [
+      | inl over_is ↦ elim over_is [
+        | inl complete ↦ absurd (true≢false (sym complete ∙ incomplete))
+        | inr closed ↦ elim (either_other closed.0 closed.2) [
+          | inl failure ↦ Failed (incomplete, closed.0, closed.1, failure)
+          | inr refusal ↦ Refused none (incomplete, closed.0, closed.1, refusal)
+        ]
+      ]
+      | inr other ↦ elim other [
+        | inl on ↦ Goes_on on.0
+        | inr gave ↦
+            Of_request none (record {
+              unheard = gave_up_unheard stores sources inputs outputs programs client none gave.0 gave.1;
+              settled =
+                  requests_settled stores sources _ programs.server (client_at client) client.last.end.position.last_sent;
+            })
+      ]
+    ]
+
+    by_peer : (o : Option Endpoint) → peer_of (client_end programs client) ≡ o → IsExplained programs client
+    by_peer None none = without none
+    by_peer (Some p) peer = with_peer p peer
+
+  pub programs_explained : ProgramsAreExplained stores sources inputs outputs
+  programs_explained programs order joined k client found incomplete =
+      by_peer programs order joined k client found incomplete (peer_of (client_end programs client)) refl
+
+  pub several_explained : SeveralAreExplained stores sources inputs outputs
+  several_explained several order i server k client at_i found served =
+      programs_explained (alone several i server client) (heard_with i (number_of several k) order)
+      (each_joined stores sources inputs outputs several order i server k client at_i found served)

@@ -1,0 +1,105 @@
+-- Each datagram at the request port is settled. For the law each_request_is_settled.
+use Rattle.std.proofs.Common.{◌≡◌, ℕ, List, Option, Some, None, refl, sym, ap, ◌∙◌, subst, inl, inr, true}
+use Rattle.std.specs.Prelude.{◌⊎◌}
+use Rattle.std.proofs.lemmas.Option.{same_Some}
+use Rattle.tftp_negotiate.specs.Ranges.{IsBlockSize}
+use Rattle.tftp_file.specs.Source.{SourceMeaning}
+use Rattle.tftp_wire.specs.Reading.{has_error_opcode}
+use Rattle.tftp_ends.specs.declared.endpoint.Endpoint.{Endpoint}
+use Rattle.tftp_store.specs.Store.{StoreMeaning}
+use Rattle.tftp_server.specs.declared.config.Config.{Config}
+use Rattle.tftp_loop.specs.Run.{Run}
+use Rattle.tftp_loop.specs.Run.Run.{Start, Then}
+use Rattle.tftp_loop.specs.Steps.{AnswersRequest, LoopState, LoopStep}
+use Rattle.tftp_loop.specs.Steps.LoopStep.{Waited, At_port, Request_received, No_request_found}
+use Rattle.tftp_loop.specs.Steps.LoopStep.{Request_not_received, Request_noted, Request_answered, Request_lost}
+use Rattle.tftp_loop.specs.Steps.LoopStep.{Clock_read, Store_set, Transfer_closed, Drain_begun}
+use Rattle.tftp_promises.specs.Fates.{IsAnswered, Is_known, Is_refused, Opens, RequestsAreSettled, WasReceived, WasSettled}
+use Rattle.tftp_promises.proofs.PortAnswers.{Begins_to_send, Begins_to_store, PortAnswers, Says_error, Silent, port_answers}
+use Rattle.tftp_promises.proofs.TransferLives.{run_config}
+
+module _ {S F D : Type 0} (stores : StoreMeaning S D) (sources : SourceMeaning F) where
+  -- how the port answers
+  answered_by : {old new : LoopState S F D} (d : AnswersRequest stores sources old new) →
+      PortAnswers stores sources old.server d.from d.bytes d.steps.decoded d.steps.repeated d.steps.came → IsAnswered d
+  answered_by d (Silent none why) = Is_known none why
+  answered_by d (Says_error refused) = Is_refused refused.reply refused.store refused.is
+  answered_by d (Begins_to_send path mode options asked o) = Opens _ _ o.is
+  answered_by d (Begins_to_store path mode options asked o) = Opens _ _ o.is
+
+  -- the pending datagram is the one that a step handles
+  same_pending : (a b : Endpoint) (x y : List ℕ) (o : Option (Endpoint × List ℕ)) → o ≡ Some (a, x) → o ≡ Some (b, y) →
+      (a ≡ b) × (x ≡ y)
+  same_pending a b x y o e f =
+      let g : Some (a, x) ≡ Some (b, y) = sym e ∙ f in
+      let h : ◌≡◌ {A = Endpoint × List ℕ} (a, x) (b, y) = cc in
+      (ap (λ (z : Endpoint × List ℕ). z.0) h, ap (λ (z : Endpoint × List ℕ). z.1) h)
+
+  nothing_pending : {P : Type 0} (from : Endpoint) (bytes : List ℕ) (o : Option (Endpoint × List ℕ)) → o ≡ None →
+      o ≡ Some (from, bytes) → P
+  nothing_pending from bytes o none some = absurd (let f : None ≡ Some (from, bytes) = sym none ∙ some in cc)
+
+  abbrev pending_of : LoopState S F D → Option (Endpoint × List ℕ)
+  pending_of s = s.pending
+
+  module _ {start : LoopState S F D} (max : IsBlockSize start.server.config.limits.max_block) (from : Endpoint)
+      (bytes : List ℕ) where
+    abbrev Known : {now : LoopState S F D} → Run (LoopStep stores sources) start now → Type 0
+    Known {now} run = (now.pending ≡ Some (from, bytes)) ⊎ WasSettled from bytes run
+
+    -- a step that leaves the pending datagram
+    stays_known : {old new : LoopState S F D} (run : Run (LoopStep stores sources) start old)
+        (does : LoopStep stores sources old new) → new.pending ≡ old.pending → Known run → Known (Then run does)
+    stays_known run does same (inl pending) = inl (same ∙ pending)
+    stays_known run does same (inr settled) = inr (inr settled)
+
+    known : {now : LoopState S F D} (run : Run (LoopStep stores sources) start now) → WasReceived from bytes run → Known run
+    known Start received = absurd received
+    known (Then run (Request_received d)) (inl is) =
+        inl (ap pending_of d.is ∙ (ap (λ (a : Endpoint). Some (a, d.bytes)) is.0 ∙ ap (λ (b : List ℕ). Some (from, b)) is.1))
+    known (Then {middle} run (Request_received d)) (inr before) = elim (known run before) [
+      | inl pending ↦ nothing_pending from bytes middle.pending d.none pending
+      | inr settled ↦ inr (inr settled)
+    ]
+    known (Then {middle} run (Request_answered d)) (inr before) = elim (known run before) [
+      | inl pending ↦
+          let same = same_pending d.from from d.bytes bytes middle.pending d.pending pending in
+          let here = subst (λ (c : Config). IsBlockSize c.limits.max_block) (sym (run_config stores sources run)) max in
+          inr (inl (
+            same.0,
+            same.1,
+            answered_by d (port_answers stores sources middle.server d.from d.bytes here d.tid d.left d.steps),
+          ))
+      | inr settled ↦ inr (inr settled)
+    ]
+    known (Then run (Request_answered d)) (inl is) = absurd is
+    known (Then {middle} run (Request_lost d)) (inr before) = elim (known run before) [
+      | inl pending ↦ inr (inl (same_pending d.from from d.bytes bytes middle.pending d.pending pending))
+      | inr settled ↦ inr (inr settled)
+    ]
+    known (Then run (Request_lost d)) (inl is) = absurd is
+    known (Then run (Waited d)) (inr before) = stays_known run (Waited d) (ap pending_of d.is) (known run before)
+    known (Then run (Waited d)) (inl is) = absurd is
+    known (Then run (At_port d)) (inr before) = stays_known run (At_port d) (ap pending_of d.is) (known run before)
+    known (Then run (At_port d)) (inl is) = absurd is
+    known (Then run (No_request_found d)) (inr before) =
+        stays_known run (No_request_found d) (ap pending_of d.is) (known run before)
+    known (Then run (No_request_found d)) (inl is) = absurd is
+    known (Then run (Request_not_received d)) (inr before) =
+        stays_known run (Request_not_received d) (ap pending_of d.is) (known run before)
+    known (Then run (Request_not_received d)) (inl is) = absurd is
+    known (Then run (Request_noted d)) (inr before) =
+        stays_known run (Request_noted d) (ap pending_of d.is) (known run before)
+    known (Then run (Request_noted d)) (inl is) = absurd is
+    known (Then run (Clock_read d)) (inr before) = stays_known run (Clock_read d) (ap pending_of d.is) (known run before)
+    known (Then run (Clock_read d)) (inl is) = absurd is
+    known (Then run (Store_set d)) (inr before) = stays_known run (Store_set d) (ap pending_of d.is) (known run before)
+    known (Then run (Store_set d)) (inl is) = absurd is
+    known (Then run (Transfer_closed d)) (inr before) =
+        stays_known run (Transfer_closed d) (ap pending_of d.is) (known run before)
+    known (Then run (Transfer_closed d)) (inl is) = absurd is
+    known (Then run (Drain_begun d)) (inr before) = stays_known run (Drain_begun d) (ap pending_of d.is) (known run before)
+    known (Then run (Drain_begun d)) (inl is) = absurd is
+
+  pub requests_settled : RequestsAreSettled stores sources
+  requests_settled to server from bytes received = known server.max_block from bytes server.run received

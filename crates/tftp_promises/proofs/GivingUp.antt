@@ -1,0 +1,247 @@
+-- A client that timed out was not answered by the transfer that serves it. For the law a_client_gives_up_unanswered.
+use Rattle.std.proofs.Common.{append_assoc, ◌≡◌, ℕ, Bool, true, false, not, Option, Some, None, refl, sym, ap, ◌∙◌, ◌++◌, [], ◌∷◌, ◌+◌, subst, arith, inl, inr, List}
+use Rattle.std.specs.Prelude.{◌⊎◌, slice_get, option_map}
+use Rattle.tftp_file.specs.Sink.{SinkMeaning}
+use Rattle.tftp_file.specs.Source.{SourceMeaning}
+use Rattle.tftp_ends.specs.declared.outcome.Outcome.TheVariants as outcomes
+use Rattle.tftp_ends.specs.declared.phase.Terms.{Terms}
+use Rattle.tftp_ends.specs.declared.role.Role.{Role}
+use Rattle.tftp_ends.specs.End.{EndState, is_complete, is_sender, outcome_of, record_of}
+use Rattle.tftp_store.specs.Store.{StoreMeaning}
+use Rattle.tftp_rules.specs.Machine.{Endpoint}
+use Rattle.tftp_server.specs.State.{TransferState, at}
+use Rattle.tftp_server.specs.Draft.{drafting_sink}
+use Rattle.tftp_wire.specs.Spelling.{canonical}
+use Rattle.tftp_lives.specs.Lives.{Act, Said, Has, HasCopies}
+use Rattle.tftp_lives.specs.Unanswered.{AreOpposite}
+use Rattle.tftp_lives.proofs.OpenEnds.{flipped}
+use Rattle.tftp_lives.proofs.Unanswered.{give_up_unanswered, give_up_unheard}
+use Rattle.std.proofs.lemmas.List.{append_cancel_right}
+use Rattle.tftp_sockets.specs.Trace.{SocketEvent}
+use Rattle.tftp_sockets.specs.Trace.SocketEvent.{Received, Sent}
+use Rattle.tftp_loop.specs.Run.{Run}
+use Rattle.tftp_loop.specs.Run.Run.{Start, Then}
+use Rattle.tftp_loop.specs.Steps.{LoopState, LoopStep}
+use Rattle.tftp_loop.specs.Steps.LoopStep.{Waited, At_port, Request_received, No_request_found}
+use Rattle.tftp_loop.specs.Steps.LoopStep.{Request_not_received, Request_noted, Request_answered, Request_lost}
+use Rattle.tftp_loop.specs.Steps.LoopStep.{Clock_read, Store_set, Transfer_closed, Drain_begun}
+use Rattle.tftp_promises.specs.AnyFiles.{ServesClient, client_end, peer_of}
+use Rattle.tftp_promises.specs.GivesUp.{ClientsGiveUpUnanswered, ClientsTimeOutSo, GaveUpUnanswered, GaveUpUnheard}
+use Rattle.tftp_promises.specs.GivesUp.{IsSeenUnanswered}
+use Rattle.tftp_promises.specs.GivesUp.{TransfersGiveUpUnanswered, WasHeld}
+use Rattle.tftp_promises.specs.Joined.{AreJoined}
+use Rattle.tftp_promises.specs.Lived.{acts_in}
+use Rattle.tftp_promises.specs.Network.{HasOpened}
+use Rattle.tftp_promises.specs.Openings.{HasClosed}
+use Rattle.tftp_promises.specs.Order.{Noted, Programs, ClientOf}
+use Rattle.tftp_promises.specs.Ports.{Removes}
+use Rattle.tftp_promises.specs.Programs.{client_at}
+use Rattle.tftp_promises.proofs.ClientLives.{client_lives, client_opening}
+use Rattle.tftp_promises.proofs.ClientsServed.{served_by}
+use Rattle.tftp_promises.proofs.JointRuns.{traces_joint}
+use Rattle.tftp_promises.proofs.KeptRuns.{kept_at_last}
+use Rattle.tftp_promises.proofs.KeptSteps.{server_steps_keep}
+use Rattle.tftp_promises.proofs.SeenLives.{SeenSince, client_only, tells_copies, tells_sent, tells_since}
+use Rattle.tftp_promises.proofs.TraceLives.{client_noted, step_adds, transfers_noted}
+use Rattle.tftp_promises.proofs.TransferLives.{transfers_live}
+
+module _ {S F D G K : Type 0} {stores : StoreMeaning S D} {sources : SourceMeaning F} {inputs : SourceMeaning G}
+    {outputs : SinkMeaning K} (programs : Programs stores sources inputs outputs) where
+  -- a transfer that a step removes was held before it
+  removed_at : {old new : LoopState S F D} (does : LoopStep stores sources old new) (port : ℕ)
+      (transfer : TransferState F D) → Removes does port transfer → at port old.server.held ≡ Some transfer
+  removed_at (Transfer_closed d) port transfer h = h.1
+  removed_at (Waited d) port transfer h = absurd h
+  removed_at (At_port d) port transfer h = absurd h
+  removed_at (Request_received d) port transfer h = absurd h
+  removed_at (No_request_found d) port transfer h = absurd h
+  removed_at (Request_not_received d) port transfer h = absurd h
+  removed_at (Request_noted d) port transfer h = absurd h
+  removed_at (Request_answered d) port transfer h = absurd h
+  removed_at (Request_lost d) port transfer h = absurd h
+  removed_at (Clock_read d) port transfer h = absurd h
+  removed_at (Store_set d) port transfer h = absurd h
+  removed_at (Drain_begun d) port transfer h = absurd h
+
+  was_closed : {state : LoopState S F D} (run : Run (LoopStep stores sources) programs.server.start state)
+      (since : List SocketEvent) → programs.server.last.events ≡ since ++ state.events → (port : ℕ)
+      (transfer : TransferState F D) (a : Endpoint) → HasClosed programs run port transfer a →
+      WasHeld programs port transfer
+  was_closed Start since is port transfer a h = absurd h
+  was_closed (Then {middle} run does) since is port transfer a h =
+      let adds = step_adds stores sources does in
+      let all : programs.server.last.events ≡ (since ++ adds.0) ++ middle.events =
+      is
+      ∙ (ap (λ (es : List SocketEvent). since ++ es) adds.1 ∙ sym (append_assoc since adds.0 middle.events)) in
+      elim h [
+        | inl removed ↦
+            record {
+              state = middle;
+              run = run;
+              held = removed_at does port transfer removed.0;
+              since = since ++ adds.0;
+              is_since = all;
+            }
+        | inr before ↦ was_closed run (since ++ adds.0) all port transfer a before
+      ]
+
+  -- each transfer was held at some time
+  pub was_held : (port : ℕ) (transfer : TransferState F D) (a : Endpoint) → HasOpened programs port transfer a →
+      WasHeld programs port transfer
+  was_held port transfer a (inl h) =
+      record { state = programs.server.last; run = programs.server.run; held = h.0; since = []; is_since = refl }
+  was_held port transfer a (inr h) = was_closed programs.server.run [] refl port transfer a h
+
+  module _ (client : ClientOf programs) (p : Endpoint) (peer : peer_of (client_end programs client) ≡ Some p)
+      (out : outcome_of client.last.end.position.phase ≡ Some outcomes.TimedOut)
+      (incomplete : is_complete client.last.end.position.phase ≡ false) (serves : ServesClient programs p client) where
+    gave_up : GaveUpUnanswered programs client p
+    gave_up =
+        let was = was_held serves.port serves.transfer p serves.opened in
+        let living = transfers_live stores sources was.run programs.server.empty programs.server.max_block
+        serves.port serves.transfer was.held in
+        let opposite : AreOpposite (client_at client) p client.last.end serves.transfer.end = record {
+          x_peer = peer;
+          y_peer = serves.peer;
+          sides = serves.other;
+        } in
+        record {
+          serves = serves;
+          was = was;
+          living = living;
+          unanswered =
+              give_up_unanswered inputs outputs sources (drafting_sink stores) (client_at client) p client.first
+              client.last.end _ living.first serves.transfer.end _ (client_opening client.opens)
+              (client_lives client.runs) living.begins living.life opposite out incomplete;
+          client_noted = client_noted client.before client.runs;
+          server_noted = transfers_noted stores sources programs.server.start was.run serves.port;
+        }
+
+  -- ---- what of it the traces show
+  module _ (client : ClientOf programs) (p : Endpoint) (g : GaveUpUnanswered programs client p) where
+    -- what was noted is the trace of the client
+    same_noted : (noted : List SocketEvent) → client.last.events ≡ noted ++ client.before → noted ≡ client.noted
+    same_noted noted is = append_cancel_right noted client.noted client.before (sym is ∙ client.is_noted)
+
+    abbrev newest_bytes : List ℕ
+    newest_bytes = client.last.end.position.last_sent
+
+    own_noted : g.client_noted.noted ≡ client.noted
+    own_noted = same_noted g.client_noted.noted g.client_noted.is
+
+    to_peer : Said client.last.end.position.last_sent_to newest_bytes ≡ Said p newest_bytes
+    to_peer = ap (λ (a : Endpoint). Said a newest_bytes) g.unanswered.to_peer
+
+    seen_since : SeenSince client.port client.noted p newest_bytes (client.last.end.role.retries + 1)
+    seen_since =
+        let tried = g.unanswered.tried in
+        let since =
+        tells_since client.port g.client_noted.tells tried.later p newest_bytes tried.earlier
+        (tried.is ∙ ap (λ (a : Act). tried.later ++ a ∷ tried.earlier) to_peer) in
+        let many = tried.timeouts in
+        let some = since.timeouts in
+        record {
+          later = since.later;
+          earlier = since.earlier;
+          is = sym own_noted ∙ since.is;
+          timeouts = omega (arith, many, some);
+        }
+
+    seen : IsSeenUnanswered programs client p
+    seen = record {
+      gave_up = g;
+      copies =
+          subst
+          (λ (es : List SocketEvent). HasCopies (client.last.end.role.retries + 1) (Sent client.port p newest_bytes) es)
+          own_noted
+          (tells_copies client.port g.client_noted.tells (client.last.end.role.retries + 1) p newest_bytes
+          (subst (λ (a : Act). HasCopies (client.last.end.role.retries + 1) a (acts_in client.runs)) to_peer
+          g.unanswered.tried.copies));
+      later = seen_since.later;
+      earlier = seen_since.earlier;
+      is = seen_since.is;
+      timeouts = seen_since.timeouts;
+      unreceived = λ packet bytes awaits spelled there.
+          let only = client_only client.before client.runs in
+          elim
+          (only.handled p bytes
+          (subst (λ (es : List SocketEvent). Has (Received client.port p bytes) es)
+          (sym (same_noted only.noted only.is)) there)) [
+            | inl took ↦ absurd (g.unanswered.unheard packet bytes awaits spelled took)
+            | inr lost ↦ lost
+          ];
+      answered = λ packet bytes said spelled h. elim (g.unanswered.answered packet bytes said spelled h) [
+        | inl over ↦ inl over
+        | inr a ↦
+            inr (
+              a.answer,
+              a.awaited,
+              a.readable,
+              tells_sent g.serves.port g.server_noted.noted _ g.server_noted.tells (client_at client)
+                  (canonical a.answer) a.there,
+            )
+      ];
+    }
+
+clients_give_up : {S F D G K : Type 0} (stores : StoreMeaning S D) (sources : SourceMeaning F)
+    (inputs : SourceMeaning G) (outputs : SinkMeaning K) (programs : Programs stores sources inputs outputs)
+    (order : List Noted) → AreJoined programs order → (k : ℕ) (client : ClientOf programs) (p : Endpoint) →
+    slice_get programs.clients k ≡ Some client → peer_of (client_end programs client) ≡ Some p →
+    outcome_of client.last.end.position.phase ≡ Some outcomes.TimedOut →
+    is_complete client.last.end.position.phase ≡ false → GaveUpUnanswered programs client p
+clients_give_up stores sources inputs outputs programs order joined k client p found peer out incomplete =
+    gave_up programs client p peer out incomplete
+    (served_by programs
+    (kept_at_last stores sources inputs outputs (traces_joint stores sources inputs outputs)
+    (λ p pad. server_steps_keep p pad) programs order joined 0) k client p found peer)
+
+pub clients_seen : {S F D G K : Type 0} (stores : StoreMeaning S D) (sources : SourceMeaning F)
+    (inputs : SourceMeaning G) (outputs : SinkMeaning K) → ClientsGiveUpUnanswered stores sources inputs outputs
+clients_seen stores sources inputs outputs programs order joined k client p found peer out incomplete =
+    seen programs client p
+    (clients_give_up stores sources inputs outputs programs order joined k client p found peer out incomplete)
+
+module _ {S F D G K : Type 0} (stores : StoreMeaning S D) (sources : SourceMeaning F) (inputs : SourceMeaning G)
+    (outputs : SinkMeaning K) where
+  -- a client without a peer
+  pub gave_up_unheard : (programs : Programs stores sources inputs outputs) (client : ClientOf programs) →
+      peer_of (client_end programs client) ≡ None →
+      outcome_of client.last.end.position.phase ≡ Some outcomes.TimedOut →
+      is_complete client.last.end.position.phase ≡ false → GaveUpUnheard programs client
+  gave_up_unheard programs client none out incomplete = record {
+    unheard =
+        give_up_unheard inputs outputs client.first client.last.end _ (client_opening client.opens)
+        (client_lives client.runs) none out incomplete;
+    client_noted = client_noted client.before client.runs;
+  }
+
+  -- by the peer of the client
+  times_out_by : (programs : Programs stores sources inputs outputs) (order : List Noted) → AreJoined programs order →
+      (k : ℕ) (client : ClientOf programs) → slice_get programs.clients k ≡ Some client →
+      outcome_of client.last.end.position.phase ≡ Some outcomes.TimedOut →
+      is_complete client.last.end.position.phase ≡ false →
+      (o : Option Endpoint) → peer_of (client_end programs client) ≡ o →
+      GaveUpUnheard programs client ⊎ ((p : Endpoint) × GaveUpUnanswered programs client p)
+  times_out_by programs order joined k client found out incomplete None none =
+      inl (gave_up_unheard programs client none out incomplete)
+  times_out_by programs order joined k client found out incomplete (Some p) peer =
+      inr (
+        p,
+        clients_give_up stores sources inputs outputs programs order joined k client p found peer out incomplete,
+      )
+
+  pub clients_time_out_so : ClientsTimeOutSo stores sources inputs outputs
+  clients_time_out_so programs order joined k client found out incomplete =
+      times_out_by programs order joined k client found out incomplete (peer_of (client_end programs client)) refl
+
+  pub transfers_give_up_unanswered : TransfersGiveUpUnanswered stores sources inputs outputs
+  transfers_give_up_unanswered programs client p serves was living peer out incomplete =
+      let opposite : AreOpposite p (client_at client) serves.transfer.end client.last.end = record {
+        x_peer = serves.peer;
+        y_peer = peer;
+        sides = flipped (is_sender serves.transfer.end.role.side) (is_sender client.last.end.role.side)
+            serves.other;
+      } in
+      give_up_unanswered sources (drafting_sink stores) inputs outputs p (client_at client) living.first serves.transfer.end _
+      client.first client.last.end _ living.begins living.life (client_opening client.opens)
+      (client_lives client.runs) opposite out incomplete

@@ -1,0 +1,78 @@
+-- Why a client is not complete: its file or its store failed, an ERROR came, or all copies of one
+-- datagram, or all answers to them, were lost (RFC 1350, sections 2 and 7).
+use Rattle.std.specs.Prelude.{ℕ, ◌≡◌, ◌⊎◌, true, false, List, slice_get, Some, None}
+use Rattle.tftp_file.specs.Sink.{SinkMeaning}
+use Rattle.tftp_file.specs.Source.{SourceMeaning}
+use Rattle.tftp_ends.specs.End.{is_complete, is_sender}
+use Rattle.tftp_ends.specs.Run.{IsOpen}
+use Rattle.tftp_store.specs.Store.{StoreMeaning}
+use Rattle.tftp_rules.specs.Machine.{Endpoint}
+use Rattle.tftp_lives.specs.Unanswered.{IsOver}
+use Rattle.tftp_promises.specs.Alone.{IsServed, alone}
+use Rattle.tftp_promises.specs.AnyFiles.{client_end, peer_of}
+use Rattle.tftp_promises.specs.Failed.{HasFailed, HasRefused}
+use Rattle.tftp_promises.specs.Fates.{WasReceived, WasSettled}
+use Rattle.tftp_promises.specs.GivesUp.{GaveUpUnheard, IsSeenUnanswered}
+use Rattle.tftp_promises.specs.Joined.{AreJoined}
+use Rattle.tftp_promises.specs.Order.{Noted, Programs, ClientOf}
+use Rattle.tftp_promises.specs.Programs.{client_at}
+use Rattle.tftp_promises.specs.Several.{OneClient, OneServer, Several}
+
+module _ {S F D G K : Type 0} {stores : StoreMeaning S D} {sources : SourceMeaning F}
+    {inputs : SourceMeaning G} {outputs : SinkMeaning K}
+    (programs : Programs stores sources inputs outputs) where
+  -- a client without a peer: of its request all copies were lost, or all answers. It sent that once
+  -- and for each retry, and handled nothing from the address that it asked; if the server received
+  -- a copy, then it has answered or lost that, or is yet to
+  pub record RequestWasLost (client : ClientOf programs) : Type 0 where
+    pub unheard : GaveUpUnheard programs client
+    pub settled : WasReceived (client_at client) client.last.end.position.last_sent programs.server.run →
+        (programs.server.last.pending ≡ Some (client_at client, client.last.end.position.last_sent))
+        ⊎ WasSettled (client_at client) client.last.end.position.last_sent programs.server.run
+
+  -- a client and the transfer that serves it: of the newest datagram of the client all copies were
+  -- lost, or all answers. It sent that once and for each retry, and handled no answer; if the
+  -- transfer handled a copy, then it has answered, or failed; or it is complete, if the client
+  -- sends
+  pub record DatagramWasLost (client : ClientOf programs) (p : Endpoint) : Type 0 where
+    pub seen : IsSeenUnanswered programs client p
+    pub over : IsOver seen.gave_up.serves.transfer.end → HasFailed seen.gave_up.serves.transfer.end
+        ⊎ ((is_sender client.last.end.role.side ≡ true)
+        × (is_complete seen.gave_up.serves.transfer.end.position.phase ≡ true))
+
+  -- why a client is not complete
+  pub data IsExplained (client : ClientOf programs) : Type 0 where
+    -- its end is open: it goes on, or its program ended, as by its waits
+    Goes_on : IsOpen client.last.end → IsExplained client
+    -- its file or its store failed, an ERROR came, or the file of its peer is no netascii
+    Failed : HasFailed client.last.end → IsExplained client
+    -- it has no peer, and refused the first answer
+    Refused : peer_of (client_end programs client) ≡ None → HasRefused client.last.end
+        → IsExplained client
+    -- or a datagram was lost
+    Of_request : peer_of (client_end programs client) ≡ None → RequestWasLost client
+        → IsExplained client
+    Of_transfer : (p : Endpoint) → peer_of (client_end programs client) ≡ Some p
+        → DatagramWasLost client p → IsExplained client
+
+  -- so it is of each client that is not complete
+  abbrev pub EachIsExplained : Type 0
+  EachIsExplained =
+      (k : ℕ) (client : ClientOf programs) → slice_get programs.clients k ≡ Some client
+      → is_complete client.last.end.position.phase ≡ false → IsExplained client
+
+module _ {S F D G K : Type 0} (stores : StoreMeaning S D) (sources : SourceMeaning F)
+    (inputs : SourceMeaning G) (outputs : SinkMeaning K) where
+  -- of a server and its clients
+  abbrev pub ProgramsAreExplained : Type 0
+  ProgramsAreExplained =
+      (programs : Programs stores sources inputs outputs) (order : List Noted)
+      → AreJoined programs order → EachIsExplained programs
+
+  -- of each of several servers and a client that takes its answer
+  abbrev pub SeveralAreExplained : Type 0
+  SeveralAreExplained =
+      (several : Several stores sources inputs outputs) (order : List Noted)
+      (i : ℕ) (server : OneServer several) (k : ℕ) (client : OneClient several)
+      → slice_get several.servers i ≡ Some server → slice_get several.clients k ≡ Some client
+      → IsServed several order i server k client → EachIsExplained (alone several i server client)

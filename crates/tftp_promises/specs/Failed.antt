@@ -1,0 +1,42 @@
+-- How an end closes that did not give up, and that no program is to blame for.
+use Rattle.std.specs.Prelude.{◌≡◌, false, Some}
+use Rattle.tftp_ends.specs.declared.outcome.Outcome.{Outcome}
+use Rattle.tftp_ends.specs.declared.outcome.Outcome.TheVariants as outcomes
+use Rattle.tftp_ends.specs.End.{EndState, is_complete, outcome_of}
+
+-- an outcome for a file or a store that failed, an ERROR that came, or a file that is no netascii
+abbrev pub IsFailure : Outcome → Type 0
+IsFailure (outcomes.PeerError code) = Unit {0}
+IsFailure outcomes.StoreFault = Unit {0}
+IsFailure outcomes.SourceFault = Unit {0}
+IsFailure outcomes.NotNetascii = Unit {0}
+IsFailure outcomes.Complete = ⊥
+IsFailure outcomes.TimedOut = ⊥
+IsFailure outcomes.Illegal = ⊥
+IsFailure outcomes.TooLarge = ⊥
+IsFailure (outcomes.Refused refusal) = ⊥
+
+-- an outcome for an answer that an end cannot accept
+abbrev pub IsRefusal : Outcome → Type 0
+IsRefusal outcomes.Illegal = Unit {0}
+IsRefusal outcomes.TooLarge = Unit {0}
+IsRefusal (outcomes.Refused refusal) = Unit {0}
+IsRefusal (outcomes.PeerError code) = ⊥
+IsRefusal outcomes.StoreFault = ⊥
+IsRefusal outcomes.SourceFault = ⊥
+IsRefusal outcomes.NotNetascii = ⊥
+IsRefusal outcomes.Complete = ⊥
+IsRefusal outcomes.TimedOut = ⊥
+
+-- the end closed, incomplete, with such an outcome
+abbrev pub ClosedWith : (Outcome → Type 0) → EndState → Type 0
+ClosedWith Is e =
+    (is_complete e.position.phase ≡ false)
+    × (outcome : Outcome) × (outcome_of e.position.phase ≡ Some outcome) × Is outcome
+
+-- an end has failed, or refused what came
+abbrev pub HasFailed : EndState → Type 0
+HasFailed e = ClosedWith IsFailure e
+
+abbrev pub HasRefused : EndState → Type 0
+HasRefused e = ClosedWith IsRefusal e

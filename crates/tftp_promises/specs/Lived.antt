@@ -1,0 +1,116 @@
+-- What the end of a client has received and sent, by its run, and that of a transfer, by the run of
+-- its server.
+use Rattle.std.specs.Prelude.{ℕ, ◌≡◌, ◌⊎◌, ◌==◌, true, if◌then◌else◌, List, [], ◌∷◌, ◌++◌, Option}
+use Rattle.std.specs.Prelude.{Some, None, is_some}
+use Rattle.tftp_file.specs.Sink.{SinkMeaning}
+use Rattle.tftp_file.specs.Source.{SourceMeaning}
+use Rattle.tftp_file.specs.declared.files.Files.{Files}
+use Rattle.tftp_ends.specs.declared.endpoint.Endpoint.{Endpoint}
+use Rattle.tftp_ends.specs.End.{EndState, is_complete, outcome_of, terms_of}
+use Rattle.tftp_ends.specs.Step.{timeout_turn}
+use Rattle.tftp_store.specs.Store.{StoreMeaning}
+use Rattle.tftp_server.specs.State.{TransferState, at, is_open}
+use Rattle.tftp_server.specs.Draft.{drafting_sink}
+use Rattle.tftp_lives.specs.Lives.{Act, Took, Lost, Said, Timed, Life, newest, with_reply}
+use Rattle.tftp_lives.specs.Unanswered.{Begins}
+use Rattle.tftp_sockets.specs.Trace.{SocketEvent}
+use Rattle.tftp_sockets.specs.Trace.SocketEvent.{Received, Sent, Elapsed}
+use Rattle.tftp_loop.specs.Run.{Run}
+use Rattle.tftp_loop.specs.Run.Run.{Start, Then}
+use Rattle.tftp_loop.specs.Steps.{PortState, LoopState, PortStep, LoopStep}
+use Rattle.tftp_loop.specs.Steps.PortStep.{A_datagram, A_lost_datagram, A_late_datagram, A_timeout}
+use Rattle.tftp_loop.specs.Steps.LoopStep.{At_port, Request_answered}
+use Rattle.tftp_client.specs.Converses.{State, HandlesReceived, MayElapse}
+use Rattle.tftp_client.specs.Converses.HandlesReceived.{Answers, Loses}
+use Rattle.tftp_client.specs.Converses.MayElapse.{Stays, Elapses}
+use Rattle.tftp_promises.specs.ClientRuns.{ClientDoes, Receives_one, Times_out, ClientRun, Starts, Goes_on}
+use Rattle.tftp_promises.specs.Moved.{came_if}
+
+-- ---- a client
+-- what it has done after a timeout, if one was due
+abbrev pub elapsing_acts : {port : ℕ} {s next : State} → MayElapse port s next → List Act → List Act
+elapsing_acts (Stays why) acts = acts
+elapsing_acts {s = s} (Elapses due still) acts = with_reply (timeout_turn s.end).reply (Timed ∷ acts)
+
+module _ {G K : Type 0} {inputs : SourceMeaning G} {outputs : SinkMeaning K} {port : ℕ} where
+  -- and after a datagram, which it loses if there is no memory to handle it
+  abbrev pub handling_acts : {from : Endpoint} {bytes : List ℕ} {s next : State}
+      {files files' : Files G K} → HandlesReceived inputs outputs port from bytes s files next files'
+      → List Act → List Act
+  handling_acts {from = from} {bytes = bytes} (Answers {turn} still step) acts =
+      with_reply turn.reply (Took from bytes ∷ acts)
+  handling_acts {from = from} {bytes = bytes} (Loses lost keeps) acts = Lost from bytes ∷ acts
+
+  -- and after a step
+  abbrev pub client_acts : {s s' : State} {files files' : Files G K}
+      → ClientDoes inputs outputs port s files s' files' → List Act → List Act
+  client_acts (Receives_one may later handles) acts = handling_acts handles acts
+  client_acts (Times_out elapses) acts = elapsing_acts elapses acts
+  client_acts does acts = acts
+
+  -- in its run, its request first
+  abbrev pub acts_in : {first : State} {file : Files G K} {s : State} {files : Files G K}
+      → ClientRun inputs outputs port first file s files → List Act
+  acts_in {first} Starts = newest first.end ∷ []
+  acts_in (Goes_on run does) = client_acts does (acts_in run)
+
+-- ---- a transfer
+module _ {F D : Type 0} where
+  -- what one that opens has done, or what was done before
+  abbrev pub first_act : Option (TransferState F D) → List Act → List Act
+  first_act None before = before
+  first_act (Some held) before = newest held.end ∷ []
+
+module _ {S F D : Type 0} {stores : StoreMeaning S D} {sources : SourceMeaning F} where
+  -- what it has done after a step at its port; while it is open it loses a datagram if there is no
+  -- memory to handle it, and once it is over age
+  abbrev pub port_acts : {now : ℕ} {old new : PortState S F D} → PortStep stores sources now old new
+      → List Act → List Act
+  port_acts (A_datagram d) acts =
+      with_reply d.handles.takes.takes.turn.reply (Took d.from d.bytes ∷ acts)
+  port_acts (A_timeout d) acts =
+      with_reply (timeout_turn d.times_out.times_out.transfer.end).reply (Timed ∷ acts)
+  port_acts {old = old} (A_lost_datagram d) acts =
+      if is_open (at old.timer.port old.server.held) then Lost d.from d.bytes ∷ acts else acts
+  port_acts {old = old} (A_late_datagram d) acts =
+      if is_open (at old.timer.port old.server.held) then Lost d.from d.bytes ∷ acts else acts
+  port_acts does acts = acts
+
+  -- what the transfer at a port has done since it opened
+  abbrev pub acts_at : ℕ → {first last : LoopState S F D} → Run (LoopStep stores sources) first last
+      → List Act
+  acts_at port Start = []
+  acts_at port (Then run (At_port serves)) =
+      if serves.timer.port == port then port_acts serves.does (acts_at port run)
+      else acts_at port run
+  acts_at port (Then run (Request_answered answers)) =
+      first_act (came_if (answers.tid == port) answers.steps.came) (acts_at port run)
+  acts_at port (Then run does) = acts_at port run
+
+-- ---- what the traces have of it
+-- the events of this port tell of each act, in its order
+pub data Tells (port : ℕ) : List SocketEvent → List Act → Type 0 where
+  Begins_so : Tells port [] []
+  Passes : {events : List SocketEvent} {acts : List Act} (event : SocketEvent)
+      → Tells port events acts → Tells port (event ∷ events) acts
+  Receives : {events : List SocketEvent} {acts : List Act} (from : Endpoint) (bytes : List ℕ)
+      → Tells port events acts → Tells port (Received port from bytes ∷ events) (Took from bytes ∷ acts)
+  Misses : {events : List SocketEvent} {acts : List Act} (from : Endpoint) (bytes : List ℕ)
+      → Tells port events acts → Tells port (Received port from bytes ∷ events) (Lost from bytes ∷ acts)
+  Sends : {events : List SocketEvent} {acts : List Act} (to : Endpoint) (bytes : List ℕ)
+      → Tells port events acts → Tells port (Sent port to bytes ∷ events) (Said to bytes ∷ acts)
+  Elapses_then : {events : List SocketEvent} {acts : List Act} (time : ℕ)
+      → Tells port events acts → Tells port (Elapsed port time ∷ events) (Timed ∷ acts)
+
+-- so do those that were noted since the trace was so
+pub record AreNoted (port : ℕ) (before events : List SocketEvent) (acts : List Act) : Type 0 where
+  pub noted : List SocketEvent
+  pub is : events ≡ noted ++ before
+  pub tells : Tells port noted acts
+
+module _ {S F D : Type 0} (stores : StoreMeaning S D) (sources : SourceMeaning F) where
+  -- the end of the transfer has done this since it opened
+  pub record IsLiving (acts : List Act) (transfer : TransferState F D) : Type 0 where
+    pub first : EndState
+    pub begins : Begins first
+    pub life : Life sources (drafting_sink stores) first acts transfer.end

@@ -1,0 +1,116 @@
+#!/usr/bin/env python3
+"""Checks that all files which are trusted by reading are named: trusted.py, or trusted.py --list
+
+A proof ends where a function of std, of `mio` or in C is called that has no model: sockets, polls, the clock, files,
+processes, standard streams. The files with such calls are those that section "What is trusted" of docs/PROVED.md names, and
+those of `WITHOUT_CLAIM`, on whose calls no claim rests. Fails where there is another, or where one of them has no such call.
+
+--list prints each file with its calls.
+"""
+import re
+import sys
+from pathlib import Path
+
+from lib import rows
+from lib.programs import TOP
+
+# What reaches the system, by kinds; each is one call
+CALLS = {
+    "sockets": r"\b(?:UdpSocket|ReadySocket|TcpStream)::(?:bind|from|from_std)\(|\.(?:recv_from|send_to|peek_from|local_addr"
+               r"|set_read_timeout|set_nonblocking|try_clone_to_owned|as_fd)\(",
+    "polls": r"\bPoll::new\(|\.registry\(\)|\bSourceFd\(|\bpoll\.poll\(|\.is_write_closed\(",
+    "the clock": r"\.(?:monotonic|since_1970)\(",
+    "random bytes": r"\bmake_rng\(",
+    "standard streams": r"(?<!e)println!\(|\.println\(|\.std(?:in|out|err)\(\)|\bPrint::\w+\(",
+    "files": r"\bfs::(?:open|create|read|write|rename|remove|hard_link|canonicalize|metadata|symlink_metadata|copy)\w*\("
+             r"|\bOpenOptions::new\(",
+    "what the system says of a file": r"\.(?:dev|ino|ctime|ctime_nsec|mtime|mtime_nsec)\(\)",
+    "processes": r"\.spawn\(&|\bStdio::|\.kill\(\)|\.try_wait\(|\bcurrent_exe\(",
+    "the environment": r"\benv::(?:args|args_os|var|var_os|current_dir)\(",
+    "C": r'\bextern "C"|\blibc::\w+\(',
+}
+# A call on an open file, in a file of Rattle that holds it as std gives it
+OPEN_FILE = r"\bself\.file\.(?:metadata|sync_data|sync_all|set_permissions|set_len|read|write|seek|lock|try_lock)\("
+HOLDS_NO_FILE = r"\bfile: (?:&mut )?(?:DiskFile|DiskFolder)<"
+# Crates of tests and examples, and the library for C: its callers are trusted with what they pass
+LEFT_OUT = ("tests_", "fetch_memory", "serve_memory", "tftp_c/")
+# Files on whose calls no claim rests, and why none does
+WITHOUT_CLAIM = {
+    "tftp_arguments/src/arguments.rt": "the claims are of the arguments that a command found",
+    "tftp_arguments/src/standard_streams.rt": "null devices for streams that are closed",
+    "tftp_daemon/src/error_output.rt": "whether standard error is the journal: the form of its lines",
+    "tftp_daemon/src/processors.rt": "how many processors there are: the number of servers",
+    "tftp_play/src/arguments.rt": "scripts, and what tftp-play writes",
+    "tftp_service/src/system/reports.rt": "when a server's pipe is read: a mistake delays lines",
+    "tftp_show/src/arguments.rt": "captures, and what tftp-show writes",
+}
+# The main of a program passes its streams on
+MAIN = r"/src/main\.rt$"
+SECTION = re.compile(r"(?ms)^## What is trusted\n(.*?)(?=^## |\Z)")
+
+
+def code_of(path: Path) -> list[str]:
+    """The lines of a file, without comments and imports."""
+    lines = [re.sub(r"//.*|/\*.*?\*/", "", line) for line in path.read_text().splitlines()]
+    return ["" if line.lstrip().startswith(("use ", "ghost use ")) else line for line in lines]
+
+
+def found_in(path: Path) -> list[str]:
+    """The calls of a file, each with its line and its kind."""
+    lines = code_of(path)
+    patterns = dict(CALLS)
+    if path.suffix == ".rt" and not re.search(HOLDS_NO_FILE, "\n".join(lines)):
+        patterns["open files"] = OPEN_FILE
+    if path.suffix == ".c":
+        patterns = {"C": r"\b\w+\("}
+    return [f"{number}: {kind}: {line.strip()}" for number, line in enumerate(lines, 1)
+            for kind, pattern in patterns.items() if re.search(pattern, line)]
+
+
+def reaching() -> dict[str, list[str]]:
+    """The files with calls that reach the system, and these calls."""
+    crates = TOP / "crates"
+    paths = sorted(path for part in ("*/src/**/*.rt", "*/c/*.c") for path in crates.glob(part))
+    names = {str(path.relative_to(crates)): path for path in paths}
+    found = {name: found_in(path) for name, path in names.items()
+             if not name.startswith(LEFT_OUT) and not re.search(MAIN, name)}
+    return {name: calls for name, calls in found.items() if calls}
+
+
+def named() -> set[str]:
+    """The files that docs/PROVED.md names as trusted."""
+    section = SECTION.search((TOP / "docs/PROVED.md").read_text())
+    if not section:
+        sys.exit('trusted.py: docs/PROVED.md has no section "What is trusted"')
+    return set(re.findall(r"`(\w+/(?:src|c)/[\w/]+\.(?:rt|c))`", section[1]))
+
+
+def faults(found: set[str], trusted: set[str], without_claim: set[str]) -> list[str]:
+    """What the lists and the files do not agree in."""
+    return [
+        *(f"{name} reaches the system, and docs/PROVED.md does not name it" for name in sorted(found - trusted - without_claim)),
+        *(f"{name} is named as trusted, and calls nothing that reaches the system" for name in sorted(trusted - found)),
+        *(f"{name} is in WITHOUT_CLAIM, and calls nothing that reaches the system" for name in sorted(without_claim - found)),
+        *(f"{name} is named as trusted, and is in WITHOUT_CLAIM" for name in sorted(trusted & without_claim)),
+    ]
+
+
+def main() -> int:
+    found, trusted = reaching(), named()
+    rows.listed(sorted({*trusted, *WITHOUT_CLAIM}))
+    if "--list" in sys.argv[1:]:
+        for name, calls in found.items():
+            print(name + ("" if name in trusted else " (no claim)" if name in WITHOUT_CLAIM else " (not named)"))
+            for call in calls:
+                print(f"    {call}")
+        return 0
+    wrong = faults(set(found), trusted, set(WITHOUT_CLAIM))
+    for fault in wrong:
+        print(f"trusted.py: {fault}")
+    print(f"trusted: {len(found)} files reach the system, {len(trusted)} of them are trusted, {len(wrong)} faults")
+    rows.ended(len({*trusted, *WITHOUT_CLAIM}))
+    return 1 if wrong else 0
+
+
+if __name__ == "__main__":
+    sys.exit(main())
