@@ -4,7 +4,7 @@
 # make libtftp: proves and builds the library for C alone: bin/libtftp.a, and with a C compiler bin/libtftp.so.1
 # make test: the gate, every proof from nothing, and then what is tried of the programs that it built; with REQUIRE_ALL=1
 #   nothing may be skipped. The last line is `N passed, N failed`
-# make quick CRATE=NAME: what a change of one crate is tried by in minutes
+# make quick CRATE=NAME: what a change of one crate is tried by in minutes; make quick: one of tools and documents
 # make manifest: writes tools/manifest.txt, what the gate consists of by name: crates, checks and their rows, wrong bodies, and
 #   each public clause and definition with its hash. The gate fails where it is not as committed
 # make docs: writes docs/STATEMENT.md and the pictures of docs/ from the sources, and out/DEFINITIONS.md. (docs/dashboard.svg

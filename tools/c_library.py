@@ -296,8 +296,8 @@ def started(scene, peer, *more) -> At:
     os.chmod(scene.folder, 0o777)
     at = At(scene.address, 69) if words is dnsmasq else serving_port(scene)
     program = str(shutil.which(peer, path=PATH))
-    scene.start(program, [*words(scene.folder, at), *more], stdout=subprocess.DEVNULL, stderr=subprocess.DEVNULL)
-    is_bound(at.word)
+    process = scene.start(program, [*words(scene.folder, at), *more], stdout=subprocess.DEVNULL, stderr=subprocess.DEVNULL)
+    is_bound(at.word, process)
     return at
 
 

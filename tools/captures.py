@@ -537,7 +537,9 @@ def try_tcpdump(check) -> None:
             dump.wait(PATIENCE)
             check.skips("try_tcpdump", f"tcpdump may not capture at {where[1]}")
             return
-        ports = say(host, path)
+        has_recorded(host, path, b"from here on")
+        ports = say(host)
+        has_recorded(host, path, b"up to here")
         dump.terminate()
         dump.wait(PATIENCE)
         status, output, errors = check.run(["--port", str(ports[1]), str(path)])
@@ -547,8 +549,8 @@ def try_tcpdump(check) -> None:
             check.fails(f"tcpdump {where[1]}: {status}, {output!r}, {errors!r}")
 
 
-def say(host, path) -> tuple[int, int]:
-    """Sends the datagrams of the exchange, and waits until they are recorded. Returns the two ports."""
+def say(host) -> tuple[int, int]:
+    """Sends the datagrams of the exchange. Returns the two ports."""
     client, server = (socket.socket(socket.AF_INET, socket.SOCK_DGRAM) for _ in range(2))
     client.bind((host, 0))
     server.bind((host, 0))
@@ -557,19 +559,23 @@ def say(host, path) -> tuple[int, int]:
         sender.sendto(payload, to.getsockname())
         to.recv(1000)
         time.sleep(0.01)
-    settle(path)
     ports = client.getsockname()[1], server.getsockname()[1]
     client.close()
     server.close()
     return ports
 
 
-def settle(path: Path) -> None:
-    """Waits until a capture grows no more. It has a header of 24 bytes."""
-    end, before = time.monotonic() + 10, 24
-    while time.monotonic() < end and (path.stat().st_size == 24 or path.stat().st_size != before):
-        before = path.stat().st_size
-        time.sleep(0.5)
+def has_recorded(host: str, path: Path, mark: bytes) -> None:
+    """Sends a mark to the port of `discard` until a capture has it: tcpdump begins to record behind its first line, and later
+    on a busy host, and what was sent before a mark is there with it."""
+    end = time.monotonic() + PATIENCE
+    with socket.socket(socket.AF_INET, socket.SOCK_DGRAM) as port:
+        port.bind((host, 0))
+        while not path.exists() or mark not in path.read_bytes():
+            if time.monotonic() > end:
+                raise TimeoutError(f"tcpdump has not recorded a mark within {PATIENCE} s")
+            port.sendto(mark, (host, 9))
+            time.sleep(0.1)
 
 
 def peers(host: str, name: str, got: str) -> Iterator[tuple[str, list[str]]]:
@@ -605,10 +611,11 @@ def try_transfers(check) -> None:
         dump.wait()
         check.skips("try_transfers", "tcpdump may not capture: transfers")
         return
+    has_recorded(host, path, b"from here on")
     daemon = begun([server, served, "--listen", f"{host}:69", "--forever"], here)
     daemon.stdout.readline()
     done = [name for name, words in peers(host, "boot", "got") if is_run(check, name, words, here)]
-    settle(path)
+    has_recorded(host, path, b"up to here")
     for process in (daemon, dump):
         process.terminate()
         process.wait()

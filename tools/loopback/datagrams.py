@@ -98,12 +98,13 @@ def free_ports(count) -> int:
     raise AssertionError(f"no {count} free ports in a row")
 
 
-def is_bound(word) -> None:
-    """Waits until a program has bound this UDP port."""
+def is_bound(word, process=None) -> None:
+    """Waits until a program has bound this UDP port, as long as its process runs."""
     host, port = word.split(":")
     entry = f" {int.from_bytes(socket.inet_aton(host), sys.byteorder):08X}:{int(port):04X} "
     end = time.monotonic() + PATIENCE
     while entry not in Path("/proc/net/udp").read_text():
+        expect(process is None or process.poll() is None, True, f"whether a program that is to bind {word} runs on")
         expect(time.monotonic() < end, True, f"whether {word} is bound within {PATIENCE} seconds")
         time.sleep(0.02)
 

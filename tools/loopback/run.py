@@ -1,5 +1,5 @@
 #!/usr/bin/env python3
-"""Tests of tftp and tftpd as processes over the loopback address: run.py [TFTP TFTPD [TEST..]]
+"""Tests of tftp and tftpd as processes over the loopback address: run.py [TFTP TFTPD [TEST | FILE..]]
 
 Without words it takes the programs of bin/, or else those that `rt ci` built, and runs every test, some at the same time.
 Tests of one server run over two at one port as well, by `--servers 2`: `TEST.2`. Each wait has a limit, and so have each test and the whole; a test that hangs is named, with where it waits. It uses
@@ -156,7 +156,11 @@ def run(folder, tftp, tftpd, *names) -> int:
     """Runs the named tests, or all, in this folder. Returns the status."""
     began, tests = time.monotonic(), known_tests()
     if names:
-        tests = {name: tests[name] for name in names}
+        of_files = {it.__name__: {*tests_of([it])} for it in MODULES}
+        chosen = set().union(*(of_files.get(name, {name}) for name in names))
+        if not chosen <= {*tests}:
+            sys.exit(f"loopback: no test {', '.join(sorted(chosen - {*tests}))}")
+        tests = {name: test for name, test in tests.items() if name in chosen}
     it = Run({"tftp": tftp, "tftpd": tftpd}, folder, tests)
     it.run_all()
     print(f"loopback: {it.ran} tests in {time.monotonic() - began:.0f} s, {len(it.faults)} failed")

@@ -19,9 +19,10 @@ BUSY = "raw clients, few transfers"
 
 
 class Again(unittest.TestCase):
-    """The one trial that sees a busy server fails once, and passes when it is run again."""
+    """The one trial that sees a busy server fails once, and passes when it is run again: which it is where the host stalled."""
 
-    def test_what_a_trial_saw_that_is_run_again_counts(self) -> None:
+    def ends(self, status: int) -> tuple[bool, str, int]:
+        """What the soak comes to, where that trial ends once with this status; what it prints; and how often it was run."""
         tries: list[str] = []
 
         class Stand:
@@ -31,16 +32,25 @@ class Again(unittest.TestCase):
             def ended(self) -> tuple[int, str]:
                 tries.append(self.name)
                 if self.name == BUSY and tries.count(BUSY) == 1:
-                    return 1, f"{self.name}: a get at the end\n"
+                    return status, f"{self.name}: a get at the end\n"
                 seen = sorted(raw.ERRORS - ({"server busy"} if self.name != BUSY else set()))
                 return 0, f"{self.name}: {run.MANY} transfers, " + ", ".join(f"1 {text}" for text in seen) + "\n"
 
         said = io.StringIO()
         with mock.patch.object(run, "Trial", Stand), mock.patch.object(sys, "argv", ["run.py", "1", "1", *["/bin/sh"] * 2]):
             with contextlib.redirect_stdout(said):
-                self.assertIs(run.main(), False)
-        self.assertIn(f"0 failed; once more: {BUSY}", said.getvalue())
-        self.assertEqual(tries.count(BUSY), 3)
+                is_failed = bool(run.main())
+        return is_failed, said.getvalue(), tries.count(BUSY)
+
+    def test_what_a_trial_saw_that_is_run_again_counts(self) -> None:
+        is_failed, said, count = self.ends(3)
+        self.assertEqual((is_failed, count), (False, 2), said)
+        self.assertIn(f"0 failed; once more: {BUSY}", said)
+
+    def test_no_trial_is_run_again_on_a_host_without_stalls(self) -> None:
+        is_failed, said, count = self.ends(1)
+        self.assertEqual((is_failed, count), (True, 1), said)
+        self.assertIn(f"1 failed: {BUSY}", said)
 
 
 class AtTheEnd(unittest.TestCase):
