@@ -7,8 +7,7 @@
 # make quick CRATE=NAME: what a change of one crate is tried by in minutes; make quick: one of tools and documents
 # make manifest: writes tools/manifest.txt, what the gate consists of by name: crates, checks and their rows, wrong bodies, and
 #   each public clause and definition with its hash. The gate fails where it is not as committed
-# make docs: writes docs/STATEMENT.md and the pictures of docs/ from the sources, and out/DEFINITIONS.md. (docs/dashboard.svg
-#   shows a trial: tools/dashboard.py --write, with a Prometheus)
+# make docs: writes docs/STATEMENT.md and the pictures of docs/ from the sources, and out/DEFINITIONS.md
 # make slips CRATES="NAME ..": tries the wrong bodies in crates/NAME/slips/, of all crates without words; with STALE=1 only
 #   such as changed since they were last refused, or whose crate did; with FEW=5 five of all, by the seed of the commit, as
 #   the gate does
@@ -23,7 +22,7 @@
 # make walk: the calls from a received ACK to the block that answers it; with FROM=Flow::add_seen those from any function
 # make weights: what each crate weighs in the gate; make plants CRATE=NAME: which wrong bodies of `rt plant` a crate's
 #   contracts let through
-# make mutants SECONDS=3600 SEED=2: mutated lines, captures, scripts and command lines for the programs of bin/
+# make mutated-inputs SECONDS=3600 SEED=2: mutated lines, captures, scripts and command lines for the programs of bin/
 # make bench: the benchmarks of bench/, which are no tests
 # make bench-udp: tftpd and tftp beside the other servers and clients that are installed
 
@@ -47,12 +46,12 @@ CHECKS := tools/same_options.py tools/check_install.py tools/check_documents.py 
 	tools/figures.py tools/disk_trace.py tools/power_cuts.py tools/same_pictures.sh \
 	tools/lint.py tools/processors.py tools/walk.py \
 	'$(MAKE) --no-print-directory sampled' tools/statuses.py tools/captures.py tools/memory_in_turn.py \
-	tools/lost_requests.py tools/out_of_memory.py tools/tests/run.py tools/mutants.py tools/c_library.py \
+	tools/lost_requests.py tools/out_of_memory.py tools/tests/run.py tools/mutated_inputs.py tools/c_library.py \
 	tools/library_abi.py tools/library_chroot.py tools/dashboard.py tools/loopback/run.py tools/behaviours.py \
 	'tools/network.py bin/tftp bin/tftpd' tools/soak/run.py 'tools/slips.py --few'
 
 .PHONY: build programs libtftp run sample sampled manifest tftp-show tftp-play tftp tftpd test quick docs slips install uninstall dist deb soak \
-	behaviours coverage walk weights plants mutants bench bench-udp clean
+	behaviours coverage walk weights plants mutated-inputs bench bench-udp clean
 # one after another: each crate is proved by as many processors as there are
 .NOTPARALLEL:
 
@@ -95,8 +94,8 @@ sample:
 	bin/tftp-play examples/lossy.script
 	examples/loopback.sh bin/tftpd bin/tftp
 
-mutants: $(PROGRAMS)
-	tools/mutants.py $(SECONDS) $(SEED)
+mutated-inputs: $(PROGRAMS)
+	tools/mutated_inputs.py $(SECONDS) $(SEED)
 
 test:
 	$(NEEDS_RT)

@@ -50,7 +50,7 @@ WITHIN = {
     r"rt (?:check|test|run|lib|must-fail|ci|fmt|tidy)\b": "`rt ci` does it of every crate",
     r"rt (?:doc|lemma|new|plant|try)\b": "for who changes the code; no page shows what they print",
     r"make (?:test|run|libtftp|tftp(?:-show)?|docs|install|manifest)\b": "the gate, or a check of it",
-    r"make (?:bench|bench-udp|behaviours|coverage|mutants|plants|quick|slips|soak|walk|weights)\b": "by hand, since they take long; the gate tries a part",
+    r"make (?:bench|bench-udp|behaviours|coverage|mutated-inputs|plants|quick|slips|soak|walk|weights)\b": "by hand, since they take long; the gate tries a part",
     r"python3 -m unittest$": "the gate",
     r"tools/(?:library_abi|plants)\.py ": "by hand: they write, and search",
     r"\./install\.sh install$": "tools/check_install.py",

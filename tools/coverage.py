@@ -21,7 +21,7 @@ from lib.programs import NAMES, TOP, programs
 SOURCE = TOP / "tools/coverage.c"
 LIMIT = 3_000
 UNITS = ["tools.tests.test_rows", "tools.tests.test_requests", "tools.tests.test_programs", "tools.tests.test_stand_ins"]
-OTHERS = ["tools/statuses.py", "tools/captures.py", "tools/mutants.py", "tools/out_of_memory.py", "tools/lost_requests.py"]
+OTHERS = ["tools/statuses.py", "tools/captures.py", "tools/mutated_inputs.py", "tools/out_of_memory.py", "tools/lost_requests.py"]
 # what is written in a crate of this repository
 GIVEN = r"tftp(?!.*(::Destruct\+\+|\+Destruct::drop|\+Fn(Once|Mut)?::call))"
 # those that are given the two programs

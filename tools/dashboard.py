@@ -1,5 +1,5 @@
 #!/usr/bin/env python3
-"""Tries examples/monitoring with a Prometheus: dashboard.py [--write] [TFTPD]
+"""Tries examples/monitoring with a Prometheus: dashboard.py [TFTPD]
 
 TFTPD is the built tftpd; without it, that of bin/, or else the one that `rt ci` built. It serves at two hosts, at one by two
 servers, and writes --status for a node exporter each, which a Prometheus reads, with the rules. Clients read, write, are
@@ -7,37 +7,29 @@ refused, find the server busy, get no answer and vanish; and one tftpd is starte
 what they did. It accepts each query of the dashboard and of the rules, and answers each with a series, by the numbers of the
 clients where these follow. The dashboard is as Grafana asks, by lib/grafana.py.
 
-With --write it draws docs/dashboard.svg instead, from what the queries had in two minutes and a half of a busier trial.
 Where Prometheus or its node exporter is not installed, a line says that this was skipped.
 """
 import json
-import random
 import re
 import sys
 import tempfile
-import threading
 import time
 from collections import Counter
-from contextlib import ExitStack, suppress
+from contextlib import ExitStack
 from pathlib import Path
-from typing import Callable, Mapping, NamedTuple
+from typing import Mapping
 
-import figures
-from lib import board_picture, grafana, rows
-from lib.clients import BLOCK, Client
+from lib import grafana, rows
+from lib.clients import BLOCK
 from lib.monitored import FILE, MONITORING, SLOTS, Site, Trial, wait_until
 from lib.process import Failure
-from lib.programs import TOP, programs
+from lib.programs import programs
 from lib.prometheus import missing
 
 # How many requests find the server busy, and how many an address sends that may have 4 transfers of each of two servers
 BUSY, CROWD = 12, 24
 # `increase` and `rate` go a part of a scrape beyond the newest sample, and have nothing too little but by rounding
 MUCH, LITTLE = 1.25, 0.98
-# What is said of the picture, in its heading and its title
-ABOUT = "two and a half minutes of a trial, drawn by tools/dashboard.py from what Prometheus answered, and not by Grafana"
-TITLE = "The dashboard of examples/monitoring, as tools/dashboard.py draws it"
-PICTURE = TOP / "docs/dashboard.svg"
 FILES = {"one.img": 3 * BLOCK, "two.img": 20 * BLOCK + 1}
 
 
@@ -137,77 +129,6 @@ def queries(trial: Trial) -> list[str]:
     return found
 
 
-# ---- the picture
-
-class Act(NamedTuple):
-    """What so many clients of a host do again and again, from one second of the picture to another, and their pauses."""
-    host: str
-    begin: float
-    end: float
-    clients: int
-    does: Callable[[Client], object]
-    pause: float
-
-
-def reads(client: Client) -> None:
-    client.read(FILE, 2, pause=0.04)
-
-
-def writes(client: Client) -> None:
-    client.write(f"put{client.socket.getsockname()[1]}-{time.monotonic_ns()}", 30 * BLOCK)
-
-
-def asks_for_the_length(client: Client) -> None:
-    client.open(FILE)
-    client.abort()
-
-
-# A few machines that start; many at once, who find the server busy; and some behind a firewall, who vanish
-ACTS = [
-    Act("boot1.lan", 0, 150, 2, reads, 1),
-    Act("boot1.lan", 5, 150, 1, lambda it: it.is_refused("grub.cfg-01-52-54", 1), 1.5),
-    Act("boot1.lan", 20, 150, 1, lambda it: it.read(FILE, 1, is_lossy=True), 4),
-    Act("boot1.lan", 40, 84, 20, reads, 1),
-    Act("boot1.lan", 88, 120, 4, lambda it: it.open(FILE, 1), 4),
-    Act("boot2.lan", 4, 150, 1, asks_for_the_length, 8),
-    Act("boot2.lan", 8, 150, 3, reads, 1.5),
-    Act("boot2.lan", 30, 150, 1, writes, 3),
-    Act("boot2.lan", 66, 104, 12, reads, 1),
-]
-SECONDS, START_ANEW, POINTS = 150, 128, 2
-
-
-def play(act: Act, trial: Trial, seed: int) -> None:
-    """One of the clients of an act. What goes wrong there is for the picture."""
-    rng, site = random.Random(seed), trial.sites[act.host]
-    time.sleep(act.begin + rng.random() * act.pause)
-    while time.time() < trial.began + act.end:
-        with suppress(Failure, OSError), Client(site.server.address, 3) as client:
-            act.does(client)
-        time.sleep(act.pause * (0.5 + rng.random()))
-
-
-def drawn(tftpd: str, room: Path) -> int:
-    """Draws the picture."""
-    with ExitStack() as ending:
-        trial = Trial(tftpd, room, ending)
-        trial.began = time.time()
-        threads = [threading.Thread(target=play, args=(act, trial, at * 100 + number)) for at, act in enumerate(ACTS)
-                   for number in range(act.clients)]
-        for thread in threads:
-            thread.start()
-        time.sleep(START_ANEW)
-        trial.sites["boot1.lan"].restart()
-        for thread in threads:
-            thread.join()
-        page = board_picture.Page(trial.began, trial.began + SECONDS, POINTS)
-        answers = [(panel, trial.answer(panel, page)) for panel in grafana.panels(trial.board)]
-    width, height, lines = board_picture.picture(trial.board["title"], ABOUT, answers, page)
-    PICTURE.write_text(figures.svg(width, height, TITLE, lines))
-    print(f"dashboard: {PICTURE.relative_to(TOP)}: {PICTURE.stat().st_size:,} bytes")
-    return 0
-
-
 def tried(tftpd: str, room: Path) -> int:
     """The checks. Returns the status."""
     began = time.monotonic()
@@ -234,7 +155,7 @@ def all_rows() -> list[str]:
 
 def main() -> int:
     rows.listed(all_rows())
-    words = [word for word in sys.argv[1:] if word != "--write"]
+    words = sys.argv[1:]
     if any(word.startswith("-") for word in words) or len(words) > 1:
         sys.exit(__doc__)
     faults = grafana.faults(json.loads((MONITORING / "dashboard.json").read_text()))
@@ -247,7 +168,7 @@ def main() -> int:
     tftpd = programs(["tftpd"], words)["tftpd"]
     with tempfile.TemporaryDirectory(prefix="dashboard-") as room:
         try:
-            return (drawn if "--write" in sys.argv else tried)(tftpd, Path(room)) or bool(faults)
+            return tried(tftpd, Path(room)) or bool(faults)
         except Failure as fault:
             print(f"dashboard: {fault}")
             return 1

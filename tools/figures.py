@@ -1,7 +1,7 @@
 #!/usr/bin/env python3
 """Draws docs/crates.svg, which crate uses which, and docs/datagram.svg, the way of one datagram through `tftpd`; and counts
 the lines of the trusted files, for the table of docs/PROVED.md and where other documents have their sums, and for
-docs/TESTING.md the lines of code, proofs and tests, and the mutants. Lines of code there are about: 5% off is no difference.
+docs/TESTING.md the lines of code, proofs and tests, and the wrong bodies. Lines of code there are about: 5% off is no difference.
 
 figures.py --write writes them; without a word they are compared, and the status is 1 where one differs. The crates are
 those of crates.txt, and an arrow that follows from two others is left out. Each function on the way of the datagram is
@@ -234,7 +234,7 @@ def counted() -> dict[str, str]:
         "README.md": [(r"(\*\*True traces\.\*\* )\w+( \[source files\]\()", NUMBERS[len(files)].capitalize()),
                       (r"(\[source files\]\([^)]*\) \()[\d,]+( lines\))", total)],
         "docs/TESTING.md": [(r"(\| trusted files [^|]* \| )[\d,]+( \|)", total),
-                            (r"(\*\*Mutants\.\*\* )\d+( wrong bodies)", str(len([*TOP.glob("crates/*/must-fail/*.edit")]))),
+                            (r"(\*\*(?:Mutants|Wrong bodies)\.\*\* )\d+( wrong bodies)", str(len([*TOP.glob("crates/*/must-fail/*.edit")]))),
                             (r"( Of )\d+( more \(`slips/`\))", str(len(recorded))),
                             (r"(tools/slips\.txt has, for )\d+( of)", str(sum(map(bool, recorded))))],
     }

@@ -29,7 +29,7 @@ LIMITS: dict[str, int] = {
     "README.md": 1_000, "docs/OPERATING.md": 3_000, "docs/PROVED.md": 1_300, "docs/ARCHITECTURE.md": 1_300,
     "docs/STATEMENT.md": 6_000, "docs/*.md -docs/STATEMENT.md SECURITY.md CONTRIBUTING.md": 12_000,
     "crates/*/README.md": 15_000, "CHANGELOG.md": 1_200, "bench/**/*.md": 4_500, "examples/**/*.md": 2_200,
-    "packaging/*.md tools/**/*.md": 500,
+    "packaging/*.md tools/**/*.md": 1_200,
 }
 # Words that the glossary of docs/PROVED.md has others for, where no code is shown; the made STATEMENT explains its own
 OLD_WORDS = re.compile(r"(?<![/\w])(?:headlines?|strangers?|slips?|drafts?|wire text|handed over)\b", re.I)
@@ -42,7 +42,7 @@ VERSIONS = {"mypy": "mypy 1.0.1", "shellcheck": "version: 0.9.0", "pyflakes3": "
 # types of what a file imports from others are not looked at
 MYPY = ["mypy", "--explicit-package-bases", "--ignore-missing-imports", "--follow-imports=silent", "--no-error-summary"]
 # the files whose functions say the types of their parameters too
-TYPED = ["lib/*.py", "gate.py", "manifest.py", "slips.py", "processors.py", "lint.py", "mutants.py", "out_of_memory.py", "dashboard.py"]
+TYPED = ["lib/*.py", "gate.py", "manifest.py", "slips.py", "processors.py", "lint.py", "mutated_inputs.py", "out_of_memory.py", "dashboard.py"]
 # the folders of the others, from each of which its files import, and what needs the types of parameters to be known
 FOLDERS = ["tools", "tools/soak", "tools/loopback", "tools/rows", "tools/tests", "bench/*", "examples/python"]
 UNKNOWN = ["arg-type", "assignment", "attr-defined", "call-overload", "dict-item", "func-returns-value", "has-type", "index",

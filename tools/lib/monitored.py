@@ -5,9 +5,9 @@ import time
 from collections import Counter
 from contextlib import ExitStack
 from pathlib import Path
-from typing import Any, Callable, Mapping, Optional
+from typing import Any, Callable, Mapping
 
-from lib import board_picture, grafana
+from lib import grafana
 from lib.addresses import own_network
 from lib.clients import BLOCK, PATIENT, Client
 from lib.process import PATIENCE, Failure, Server
@@ -161,25 +161,25 @@ class Trial:
         return {grafana.legend_of(target, it.labels): it.points[-1][1] for target in panel.targets
                 for it in self.prometheus.values(grafana.filled(target.expr, values)) if it.points}
 
-    def answer(self, panel: grafana.Panel, page: Optional[board_picture.Page] = None) -> list[tuple[str, Series]]:
-        """The series of a panel by their names, which Grafana would show in a page of the trial until now, or in this one.
-        (Where a scrape has failed, there is no series for a moment.)"""
+    def answer(self, panel: grafana.Panel) -> list[tuple[str, Series]]:
+        """The series of a panel by their names, which Grafana would show in a page of the trial until now. (Where a scrape has
+        failed, there is no series for a moment.)"""
         found, late = [], time.monotonic() + SOON
         for target in panel.targets:
-            series = self.asked(target, page)
+            series = self.asked(target)
             while not any(it.points for it in series) and time.monotonic() < late:
                 time.sleep(0.2)
-                series = self.asked(target, page)
+                series = self.asked(target)
             if not any(it.points for it in series):
                 raise Failure(f"{panel.title}: no series of {target.expr}")
             found += [(grafana.legend_of(target, it.labels), it) for it in series]
         return found
 
-    def asked(self, target: grafana.Target, page: Optional[board_picture.Page]) -> list[Series]:
-        """The answer to a query for such a page."""
-        begin, end, step = page or board_picture.Page(self.began, time.time(), 1)
+    def asked(self, target: grafana.Target) -> list[Series]:
+        """The answer to a query for such a page, with a point a second."""
+        begin, end = self.began, time.time()
         expr = grafana.filled(target.expr, self.values_of_variables(end - begin))
-        return self.prometheus.values(expr) if target.is_instant else self.prometheus.curves(expr, begin, end, step)
+        return self.prometheus.values(expr) if target.is_instant else self.prometheus.curves(expr, begin, end, 1)
 
     def panel(self, title: str) -> grafana.Panel:
         found = [it for it in grafana.panels(self.board) if it.title == title]

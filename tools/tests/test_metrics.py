@@ -11,9 +11,9 @@ from typing import Any, Callable
 TOP = Path(__file__).resolve().parents[2]
 sys.path[:0] = [str(TOP / "tools")]
 
-from lib import board_picture, grafana
+from lib import grafana
 from lib.metrics import MetricsFault, metrics, value
-from lib.prometheus import Series, path_of
+from lib.prometheus import path_of
 
 MONITORING = TOP / "examples" / "monitoring"
 TEXT = """\
@@ -103,19 +103,6 @@ class Dashboard(unittest.TestCase):
         self.assertEqual(grafana.filled('rate(x{y=~"$instance"}[${__range}])', values), r'rate(x{y=~"(a|b\\+)"}[9s])')
         target = grafana.Target("x", "{{instance}} {{ server }}", False)
         self.assertEqual([grafana.legend_of(target, {"instance": "a", "server": it}) for it in ["", "2"]], ["a", "a 2"])
-
-    def test_a_curve(self) -> None:
-        """It is broken where a value is missing, and has the ends of a level line alone."""
-        plot, page = board_picture.Area(0, 0, 100, 10), board_picture.Page(0, 10, 1)
-        points = [(0.0, 0.0), (1.0, 5.0), (2.0, 5.0), (3.0, 5.0), (5.0, 10.0), (8.0, 0.0), (9.0, 0.0)]
-        self.assertEqual(board_picture.path_of(Series({}, points), plot, page, 10), "M0 10L10 5L30 5M49 0h2M80 10L90 10")
-
-    def test_an_axis(self) -> None:
-        for most, unit, ticks in [(0, "short", 2), (8, "short", 5), (0.3, "ops", 4), (0.9, "percentunit", 5), (2e5, "Bps", 5)]:
-            found = board_picture.ticks_of(most, unit)
-            self.assertTrue(found[0] == 0 and found[-1] >= most and len(found) == ticks, (most, found))
-        self.assertEqual([board_picture.said(it, unit) for it, unit in [(250_000, "Bps"), (0.5, "percentunit"), (3, "ops")]],
-                         ["250 kB/s", "50%", "3 ops/s"])
 
 
 if __name__ == "__main__":

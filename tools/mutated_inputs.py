@@ -1,5 +1,5 @@
 #!/usr/bin/env python3
-"""Gives mutated lines, scripts, captures and command lines to the four programs: mutants.py [SECONDS [SEED]]
+"""Gives mutated lines, scripts, captures and command lines to the four programs: mutated_inputs.py [SECONDS [SEED]]
 
 Without words it takes half a minute and the seed of the commit. Each input is made from samples of examples/ and of this
 file by a seeded generator, and each run has a limit of memory (`ulimit -v`), of files and of time. A program may refuse
@@ -7,7 +7,7 @@ what it is given, in its own words and with the statuses of its manual: it never
 standard error, prints visible ASCII alone, and a line of tftp-show for each line. tftp asks a server of this script at an
 address of 127.0.0.0/8, and tftpd ends after one wait.
 
-On a failure the input is printed, and the seed. The last line is a count. `make mutants SECONDS=3600` takes an hour.
+On a failure the input is printed, and the seed. The last line is a count. `make mutated-inputs SECONDS=3600` takes an hour.
 """
 import random
 import re
@@ -77,7 +77,7 @@ def shuffled(rng: Rng, text: Input) -> Input:
 KINDS = ["lines_of_packets", "captures", "scripts_of_play", "command_lines"]
 
 
-class Mutants:
+class Trials:
     """The samples, and what came of the runs."""
 
     def __init__(self, paths: dict[str, str], folder: Path, rng: Rng, server: str) -> None:
@@ -174,21 +174,21 @@ def main() -> int:
     seconds = float(sys.argv[1]) if sys.argv[1:] else 30
     seed = int(sys.argv[2]) if sys.argv[2:] else commit_seed()
     fault: Optional[Failure] = None
-    with tempfile.TemporaryDirectory(prefix="mutants-") as room:
+    with tempfile.TemporaryDirectory(prefix="mutated-") as room:
         # (a client that is answered by an ERROR ends soon)
         server = Answerer(HOST, lambda _: error(1, "no"))
-        mutants = Mutants(programs(NAMES), Path(room), random.Random(seed), server.word)
+        trials = Trials(programs(NAMES), Path(room), random.Random(seed), server.word)
         try:
-            mutants.run(seconds)
+            trials.run(seconds)
         except Failure as failure:
             fault = failure
-            print(f"mutants: seed {seed}: {failure}")
+            print(f"mutated inputs: seed {seed}: {failure}")
             for given in failure.datagrams:
                 print(f"  {given[:4_000]!r}")
-    if not mutants.limit:
-        print("mutants: skipped: a limit of memory (programs with checks)")
-    counts = ", ".join(f"{count} {name}" for name, count in sorted(mutants.counts.items()))
-    print(f"mutants: seed {seed}: {counts}; {int(bool(fault))} failed")
+    if not trials.limit:
+        print("mutated inputs: skipped: a limit of memory (programs with checks)")
+    counts = ", ".join(f"{count} {name}" for name, count in sorted(trials.counts.items()))
+    print(f"mutated inputs: seed {seed}: {counts}; {int(bool(fault))} failed")
     rows.ended(len(KINDS))
     return 1 if fault else 0
 
