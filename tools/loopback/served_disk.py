@@ -96,20 +96,36 @@ def test_a_text_is_measured_once(scene) -> None:
 
 
 def test_two_servers_share_a_folder(scene) -> None:
-    """Two servers whose transfers have one port at two addresses: the later draft is in the place of the earlier, whose
-    put fails, and neither stores the other's bytes."""
+    """Two servers whose transfers have one port at two addresses: each writes a draft of its own, and both puts are
+    stored. What a server that was killed left is replaced."""
     port = free_ports(1)
     words = ["--ports", f"{port}:{port}", "--log"]
-    scene.make_folder("served")
+    scene.make(f"served/.tftp-{port}", b"left")
     one = scene.serve(*words, root="served")
     other = scene.serve(*words, root="served", listen="127.0.0.1")
     first, second = writing(scene, one, "n"), writing(scene, other, "m")
-    first.is_answered(LAST, DISK_FULL)
-    log = one.has_closed("StoreFault")
-    expect(log[-1].endswith("StoreFault, draft replaced"), True, f"the log {log}")
+    expect(drafts(scene), [f"served/.tftp-{port}", f"served/.tftp-{port}-1"], "the drafts")
     second.is_answered(data(1, b"other"), ack(1))
-    other.kill()
-    scene.has_files({"served/m": b"other"})
+    first.is_answered(data(1, b"one"), ack(1))
+    scene.has_files({"served/n": b"one", "served/m": b"other"})
+
+
+def test_requests_elsewhere_leave_a_put(scene) -> None:
+    """A put stays whole while a client at another address of the same port asks for many, and gives each up."""
+    port = free_ports(1)
+    words = ["--ports", f"{port}:{port}", "--transfers", "1000", "--log"]
+    scene.make_folder("served")
+    one = scene.serve(*words, root="served")
+    other = scene.serve(*words, root="served", listen="127.0.0.1")
+    first = writing(scene, one, "n")
+    for number in range(50):
+        second = writing(scene, other, f"m{number}")
+        second.send(error(0, "no more"))
+        # (the port is free again behind the second line)
+        log = [other.log_line(), other.log_line()]
+        expect(log[1].startswith("closed"), True, f"the log {log}")
+    first.is_answered(data(1, b"one"), ack(1))
+    expect((scene.folder / "served/n").read_bytes(), b"one", "the file")
 
 
 def test_a_long_put_is_synced_on_its_way(scene) -> None:
@@ -145,8 +161,8 @@ def test_a_name_is_synced(scene) -> None:
 
 
 def test_each_kind_of_sync_that_fails(scene) -> None:
-    """A sync on the way, that of a whole draft, or that of the folder behind the name, each alone: the put fails, and no
-    file has its name."""
+    """A sync on the way, that of a whole draft, or that of the folder behind the name, each alone: the put fails, no
+    file has its name, and what was acknowledged is in the draft."""
     asked, block = {"blksize": 65_464, **PATIENT}, bytes(65_464)
     server, disk = serve(scene, "--max-block", "65464", "--log", "--transfers", "100")
     for only, after, calls in [("s", 0, "wS"), ("s", 1, "wsolS")]:
@@ -157,6 +173,7 @@ def test_each_kind_of_sync_that_fails(scene) -> None:
         expect(disk.calls(), calls, "the calls of a commit whose sync fails")
         disk.orders()
         scene.lacks("n")
+        expect([path.read_bytes() for path in scene.folder.glob(".tftp-*")][-1:], [b"new"], "what is left of the put")
     end = opened(scene, server, wrq("n", **asked), oack(**asked))
     disk.orders(error=5, only="d")
     disk.forget()

@@ -234,9 +234,9 @@ TRIALS = [stop_and_go_on, kill_and_restart, few_files, small_files, served_file_
 
 
 def run(programs, folder, rng, seconds) -> dict[str, int]:
-    """Runs each trial once, and then any until the time is over. Returns how many, and what was skipped."""
-    end, counts, at = time.monotonic() + seconds, {"faults": 0}, 0
-    while at < len(TRIALS) or time.monotonic() < end:
+    """Runs each trial once, and then any for each ten seconds. Returns how many, and what was skipped."""
+    counts = {"faults": 0}
+    for at in range(max(len(TRIALS), int(seconds / 10))):
         trial = TRIALS[at] if at < len(TRIALS) else rng.choice(TRIALS)
         place = folder / f"{at}"
         place.mkdir()
@@ -250,5 +250,4 @@ def run(programs, folder, rng, seconds) -> dict[str, int]:
             counts[skipped] = 1
         counts["faults"] += not skipped
         shutil.rmtree(place)
-        at += 1
     return counts

@@ -3,6 +3,7 @@
 A server answers from several ports and from another address, rightly most of the time. What the client prints, its
 status and its file are the model's, too.
 """
+import random
 import time
 from collections import Counter
 from typing import Any, Iterator, Optional
@@ -262,10 +263,10 @@ class Trial:
 
 
 def run(programs, folder, rng, seconds) -> dict[str, int]:
-    """Runs trials for so long, one after another. Returns their counts together."""
-    counts, end, at = Counter(), time.monotonic() + seconds, 0
-    while time.monotonic() < end:
-        trial, at = Trial(programs, folder, rng, f"local{at}"), at + 1
+    """Runs a trial for each second, one after another, each with numbers of its own. Returns their counts together."""
+    counts, seed = Counter(), rng.random()
+    for at in range(max(int(seconds), 1)):
+        trial = Trial(programs, folder, random.Random(f"{seed} {at}"), f"local{at}")
         try:
             counts += trial.run()
         except Stalled:

@@ -14,8 +14,8 @@ from ports import ELSEWHERE, LAST, PATIENCE, Failure, Port, Program, Server, wai
 RATES = {"lost": 10, "repeated": 10, "late": 10, "stray": 5}
 # Where many blocks are to arrive, of ten thousand
 FEW = {"lost": 1, "repeated": 3, "late": 3, "stray": 1}
-# So many clients run side by side
-AT_ONCE = 6
+# So many clients run side by side, and so many for each second of a trial
+AT_ONCE, CLIENTS_A_SECOND = 6, 1.5
 # The longest life of a client, in seconds
 LIFE = 900
 EDGES = [0, 1, 511, 512, 513, 1_023, 1_024, 1_427, 1_428, 1_429, 14_280, 65_464, 70_000]
@@ -32,7 +32,9 @@ class Network:
     """Between one client and a server. For each transfer that the client's requests open it has a port."""
 
     def __init__(self, server, rng, rates, out_of) -> None:
-        self.server, self.rng, self.rates, self.out_of = server, rng, rates, out_of
+        self.server, self.rates, self.out_of = server, rates, out_of
+        # (each way has numbers of its own, so that what one loses does not follow when the other sends)
+        self.rngs = {way: random.Random(rng.random()) for way in ("to the client", "to the server")}
         self.requests, self.outside = Port(), Port()
         # strays are from another address: a client takes its first answer from any port of the server's
         self.elsewhere = Port(ELSEWHERE)
@@ -70,7 +72,8 @@ class Network:
     def carry(self, datagram, port, to) -> None:
         """Sends what comes of a datagram: nothing, itself, twice, or later, and what was late."""
         self.counts["datagrams"] += 1
-        number, was_late = self.rng.randrange(self.out_of), self.late.pop((port, to), [])
+        rng = self.rngs["to the client" if to == self.client else "to the server"]
+        number, was_late = rng.randrange(self.out_of), self.late.pop((port, to), [])
         lost, repeated = self.rates["lost"], self.rates["lost"] + self.rates["repeated"]
         if number < lost:
             self.counts["lost"] += 1
@@ -81,7 +84,7 @@ class Network:
         else:
             was_late = [datagram, *was_late]
         if number >= self.out_of - self.rates["stray"]:
-            self.elsewhere.send(datagram[:self.rng.randrange(8)] + b"\0\4\0\1", to)
+            self.elsewhere.send(datagram[:rng.randrange(8)] + b"\0\4\0\1", to)
         for each in was_late:
             port.send(each, to)
 
@@ -223,14 +226,14 @@ class Trials:
 
 
 def run(programs, folder, rng, seconds, is_long=False) -> dict[str, int]:
-    """Runs clients side by side for so long, or one of 65,535 blocks. Returns the counts."""
-    end = time.monotonic() + seconds
+    """Runs some clients a second, some of them side by side, or one of 65,535 blocks. Returns the counts."""
+    most = max(int(seconds * CLIENTS_A_SECOND), AT_ONCE)
     # on a busy host so many blocks take some minutes
     trials = Trials(programs, folder, rng, max(LIFE, seconds) if is_long else LIFE, is_long)
     try:
         trials.begin()
         while trials.running or trials.settling:
-            while not is_long and time.monotonic() < end and len(trials.running) < AT_ONCE:
+            while not is_long and trials.counts["transfers"] < most and len(trials.running) < AT_ONCE:
                 trials.begin()
             trials.step()
         if not trials.have_least():

@@ -6,6 +6,7 @@ a datagram has to be due, too, after all its retransmissions. At the end the fol
 other, and some reads and writes have to be complete.
 """
 import os
+import random
 import time
 from collections import Counter
 
@@ -26,6 +27,8 @@ MOST_ASKED = 6
 LEAST, SHORTEST = 1, 5
 # The texts of a server's ERRORs
 ERRORS = {*model.TEXTS}
+# How many steps a trial makes for each second that it is given, on a host that has time
+STEPS_A_SECOND = 10
 # The most steps of a burst
 MOST_STEPS = 3
 # The most resident memory of a server at the end
@@ -394,9 +397,12 @@ class Trial:
     # ---- the whole
 
     def run(self, seconds) -> None:
-        end = time.monotonic() + seconds
+        """So many steps as the seconds have, each with numbers of its own: what one draws does not depend on how many the one
+        before has drawn, which follows what came by then."""
+        seed = self.rng.random()
         self.is_quiet()
-        while time.monotonic() < end:
+        for step in range(max(int(seconds * STEPS_A_SECOND), 1)):
+            self.rng = random.Random(f"{seed} {step}")
             dice = self.rng.random()
             if dice < 0.05:
                 self.cut_file()
@@ -422,17 +428,19 @@ class Trial:
 
 
 def run(programs, folder, rng, seconds, **limits) -> dict[str, int]:
-    """Runs a trial, and others where this host stalled, or was too slow for the least of transfers. Returns their counts
-    together."""
-    counts, end, at = Counter(stalls=0), time.monotonic() + seconds, 0
+    """Runs a trial, another where this host stalled, and shorter ones where the least of transfers was not reached. Returns
+    their counts together."""
+    counts, end, at, is_over, seed = Counter(stalls=0), time.monotonic() + seconds + PATIENCE, 0, False, rng.random()
     ways = ["reads complete"] + ["writes complete"] * (not limits.get("is_read_only"))
-    while at == 0 or time.monotonic() < end or (lacking(counts, ways) and time.monotonic() < end + PATIENCE):
-        place, at = folder / f"{at}", at + 1
+    while at == 0 or (not is_over or lacking(counts, ways)) and time.monotonic() < end:
+        place, own = folder / f"{at}", random.Random(f"{seed} {at}")
         place.mkdir()
         try:
-            counts += run_once(programs, place, rng, max(end - time.monotonic(), SHORTEST if at > 1 else 1), **limits)
+            counts += run_once(programs, place, own, SHORTEST if is_over else seconds, **limits)
+            is_over = True
         except Stalled:
             counts["stalls"] += 1
+        at += 1
     if lacking(counts, ways):
         raise Failure(f"too few {lacking(counts, ways)[0]}: {dict(counts)}")
     return counts

@@ -2,8 +2,8 @@
 """Tries tftp and tftpd for some time against a model, a bad network and a bad host.
 
 run.py [SECONDS SEED [TFTP TFTPD [TRIAL..]]]: without words it takes half a minute, the seed of the commit (its first
-digits), the programs of bin/ or else those that `rt ci` left, and all trials. Each trial is a process of its own, with
-numbers of its own from the seed: raw clients at five servers, hostile servers, both programs over a lossy network, the
+digits), the programs of bin/ or else those that `rt ci` left, and all trials. SECONDS and SEED say how many steps there are,
+and what each draws, however long they take. Each trial is a process of its own, with numbers of its own from the seed: raw clients at five servers, hostile servers, both programs over a lossy network, the
 longest file, and faults of the host. It uses 127.0.0.0/8 alone and one temporary folder; each process has a limit, and
 is ended by its number. Prints what was tried; on a failure the seed, and the last datagrams as lines for tftp-show.
 

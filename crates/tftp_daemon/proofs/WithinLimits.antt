@@ -7,7 +7,7 @@ use Rattle.std.proofs.lemmas.List.Elements.{All-cons, All-nil}
 use Rattle.std.proofs.lemmas.List.{append_assoc}
 use Rattle.tftp_file.specs.Source.{SourceMeaning}
 use Rattle.tftp_disk.specs.DiskTrace.{DiskEvent}
-use Rattle.tftp_disk.specs.DiskTrace.DiskEvent.{Looked, Followed, Resolved, Opened, Tried, Created, Made, Linked}
+use Rattle.tftp_disk.specs.DiskTrace.DiskEvent.{Looked, Followed, Resolved, Opened, Tried, Created, Made, Locked, Linked}
 use Rattle.tftp_disk.specs.DiskTrace.DiskEvent.{Renamed, Removed, Folder_opened, Folder_synced, Examined, Given, Not_given}
 use Rattle.tftp_disk.specs.DiskTrace.DiskEvent.{Sought, Written, Not_written, Synced, Mode_set}
 use Rattle.tftp_store.specs.Store.{StoreMeaning}
@@ -29,7 +29,8 @@ use Rattle.tftp_daemon.proofs.Keeping.{run_keeps}
 
 -- a draft there
 draft_below : (folder path : List ℕ) → IsDraftIn folder path → IsBelow folder path
-draft_below folder path (port, is) = (_, is)
+draft_below folder path (port, inl is) = (_, is)
+draft_below folder path (port, inr (turn, is)) = (_, is)
 
 -- a place of the root that is below the folder
 target_below : (limits : Limits) (folder target : List ℕ) → limits.uploads ≡ Some folder → IsTarget limits target
@@ -59,10 +60,10 @@ module _ (limits : Limits) (folder : List ℕ) (uploads : limits.uploads ≡ Som
   made_in path (inl is) = draft_below limits.drafts path is
   made_in path (inr is) = lock_in path is
 
-  either_in : (path : List ℕ) {WasGiven WasMade : Type 0}
-      → (IsDraftIn limits.drafts path) ⊎ (IsTarget limits path × WasGiven) ⊎ (IsLock limits path × WasMade)
+  either_in : (path : List ℕ) {MayBe WasGiven WasMade : Type 0}
+      → (IsDraftIn limits.drafts path × MayBe) ⊎ (IsTarget limits path × WasGiven) ⊎ (IsLock limits path × WasMade)
       → IsBelow limits.drafts path
-  either_in path (inl is) = draft_below limits.drafts path is
+  either_in path (inl is) = draft_below limits.drafts path is.0
   either_in path (inr (inl is)) = target_in path is.0
   either_in path (inr (inr is)) = lock_in path is.0
 
@@ -80,6 +81,7 @@ module _ (limits : Limits) (folder : List ℕ) (uploads : limits.uploads ≡ Som
   change_below (Resolved path answer) before is = tt
   change_below (Opened path answer) before is = tt
   change_below (Tried path answer) before is = tt
+  change_below (Locked path answer) before is = tt
   change_below (Folder_opened path answer) before is = tt
   change_below (Folder_synced path answer) before is = tt
   change_below (Examined answer) before is = tt

@@ -10,7 +10,7 @@ use Rattle.std.proofs.lemmas.Str.{IsUtf8-append, IsUtf8-from_ascii}
 use Rattle.std.specs.declared.alloc.Global.{Global}
 use Rattle.std.specs.declared.string.String.{String}
 use Rattle.tftp_wire.specs.declared.mode.Mode.TheVariants.{Octet, Netascii}
-use Rattle.tftp_disk.specs.DiskTrace.{made_at, state_of, sync_failed}
+use Rattle.tftp_disk.specs.DiskTrace.{made_at, modes_asked, state_of, sync_failed}
 use Rattle.tftp_disk.specs.DiskWriter.{calls_of}
 use Rattle.tftp_disk.specs.DiskTrace.DiskEvent.{Looked, Opened, Examined, Given, Followed, Resolved, Created, Written}
 use Rattle.tftp_disk.specs.DiskTrace.DiskEvent.{Synced, Made, Removed, Linked, Folder_opened, Folder_synced}
@@ -20,9 +20,11 @@ use Rattle.tftp_disk.specs.declared.disk_file.DiskFolder.{DiskFolder}
 use Rattle.tftp_disk.specs.Folder.{HasNoSlash, IsFolderOf}
 use Rattle.tftp_disk.specs.Folder.IsFolderOf.{Before}
 use Rattle.tftp_folder.specs.Begin.{draft_name}
+use Rattle.tftp_folder.specs.Begin.TriesDraft.{Nothing}
 use Rattle.tftp_folder.specs.Commit.{lock_of}
 use Rattle.tftp_folder.specs.Effects.{HasAppended, HasBegun, HasCommitted}
 use Rattle.tftp_folder.specs.Opened.AreFolders.{Above}
+use Rattle.tftp_folder.specs.Modes.{are_permissions}
 use Rattle.tftp_folder.specs.Placed.{LeavesOthers}
 use Rattle.tftp_folder.specs.Opened.{IsRootOf}
 use Rattle.tftp_folder.specs.Inside.{StaysInside}
@@ -139,6 +141,7 @@ source_after calls size = record {
   };
   found = Looked path (Ok file) ∷ Opened path (Ok tt) ∷ Looked path (Ok file) ∷ [];
   stated = record { marker = record {}; value = record { bytes = 1; counted = None } };
+  left = None;
   reason = record { reason = record { ptr = null_ptr; value = record { value = tt } } };
 }
 
@@ -207,8 +210,8 @@ abbrev pub target_text : String Global
 target_text = text target (omega arith) valid_target
 
 abbrev pub draft_of : (calls : Calls) (buffered : List ℕ) → length buffered < 1000 → made_at calls ≡ Some draft_path →
-    sync_failed calls ≡ false → Draft
-draft_of calls buffered short place sound = record {
+    sync_failed calls ≡ false → modes_asked calls ≡ [] → Draft
+draft_of calls buffered short place sound modes = record {
   writer = record {
     file = record { file = tt; trace = record { events = calls } };
     buffer = record {
@@ -229,42 +232,44 @@ draft_of calls buffered short place sound = record {
   failure = None;
   placed = place;
   sound = λ none. sound;
+  modes = ap are_permissions modes;
 }
 
 abbrev pub made : Calls
-made = Made draft_path (Ok tt) ∷ Removed draft_path (Ok tt) ∷ []
+made = Made draft_path (Ok tt) ∷ []
 
 abbrev pub begun : Store
 begun = store_after made
 
 abbrev pub draft : Draft
-draft = draft_of (Created draft_path 3 ∷ []) [] (omega arith) refl refl
+draft = draft_of (Created draft_path 2 ∷ []) [] (omega arith) refl refl refl
 
 abbrev pub filled : Draft
-filled = draft_of (Created draft_path 3 ∷ []) (66 ∷ []) (omega arith) refl refl
+filled = draft_of (Created draft_path 2 ∷ []) (66 ∷ []) (omega arith) refl refl refl
 
 abbrev pub whole : Draft
-whole = draft_of (Synced (Ok tt) ∷ Written (66 ∷ []) ∷ Created draft_path 3 ∷ []) [] (omega arith) refl refl
+whole = draft_of (Synced (Ok tt) ∷ Written (66 ∷ []) ∷ Created draft_path 2 ∷ []) [] (omega arith) refl refl refl
 
 abbrev pub its_folder : DiskFolder (Unit {0})
 its_folder = record { file = tt; trace = record { events = Folder_opened root (Ok tt) ∷ [] } }
 
 abbrev pub named : Calls
-named =
-    Removed draft_path (Ok tt) ∷ Linked (state_of (calls_of whole.writer)) draft_path target (Ok tt) ∷ Folder_opened root (Ok tt)
-    ∷ made
+named = Linked (state_of (calls_of whole.writer)) draft_path target (Ok tt) ∷ Folder_opened root (Ok tt) ∷ made
+
+abbrev pub synced : Calls
+synced = Folder_synced (Some root) (Ok tt) ∷ named
 
 abbrev pub ended : Store
-ended = store_after (Folder_synced (Some root) (Ok tt) ∷ named)
+ended = store_after (Removed draft_path (Ok tt) ∷ synced)
 
 -- what was still at another path is there
-pub others : LeavesOthers draft_path store.disk begun.disk
-others own when apart still = record {
+pub others : LeavesOthers root 1024 store.disk begun.disk
+others own when none still = record {
   since = made ++ still.since;
   before = still.before;
   made = ap (λ (log : Calls). made ++ log) still.made;
   when = still.when;
-  left = (apart, (apart, still.left));
+  left = (λ same. none (inl same), still.left);
 }
 
 pub apart : draft_path ≢ lock_of target
@@ -281,15 +286,19 @@ begins = record {
   untouched = λ e. absurd (let f : false ≡ true = e in cc);
   is_path = record { segments = write_name ∷ []; joined = refl; allowed = allowed; some = omega arith; few = omega arith; short = omega arith };
   uploads = tt;
-  made = record { place = refl; aim = refl; empty = refl; made = (Ok tt, refl) };
+  made = record {
+    aim = refl;
+    empty = refl;
+    made = record { own = inl refl; cleared = []; tries = Nothing; made = refl };
+  };
   not_made = tt;
   there = record {
     apart = apart;
-    still = record { since = []; before = Removed draft_path (Ok tt) ∷ store.disk; made = refl; when = refl; left = tt };
+    still = record { since = []; before = store.disk; made = refl; when = refl; left = tt };
   };
   others = others;
   follows = refl;
-  inside = λ own h. (inr (codes ".tftp-" ++ decimal 1024, refl), (inr (codes ".tftp-" ++ decimal 1024, refl), h));
+  inside = λ own h. (inr (codes ".tftp-" ++ decimal 1024, refl), h);
 }
 
 pub appends : HasAppended its_calls begun draft (66 ∷ []) begun filled None
@@ -312,14 +321,14 @@ commits = record {
     Some its_folder,
     Folder_opened root (Ok tt) ∷ made,
     (root, folder_of_target, refl, refl),
-    (named, inl (Ok tt, refl), (Ok tt, tt, refl)),
+    (named, synced, inl refl, (Ok tt, tt, refl), (Ok tt, refl)),
   );
   not_named = tt;
   over = inl refl;
   there = λ there names. (
     record {
       since = Folder_opened root (Ok tt) ∷ [];
-      before = Removed draft_path (Ok tt) ∷ store.disk;
+      before = store.disk;
       made = refl;
       when = refl;
       left = (tt, tt);
@@ -328,7 +337,7 @@ commits = record {
   );
   follows = refl;
   inside = λ below h. (
-    inl refl,
-    (inr below.path, ((inr below.path, inr below.target), (inl refl, h))),
+    inr below.path,
+    (inl refl, ((inr below.path, inr below.target), (inl refl, h))),
   );
 }

@@ -6,7 +6,7 @@ use Rattle.tftp_store.specs.Store.{StoreMeaning}
 use Rattle.tftp_server.specs.State.{TransferState, at, draft_of}
 use Rattle.tftp_loop.specs.Run.{Run}
 use Rattle.tftp_loop.specs.Steps.{LoopStep, LoopState}
-use Rattle.tftp_folder.specs.Begin.{draft_name}
+use Rattle.tftp_folder.specs.Begin.{IsDraftOf}
 use Rattle.tftp_folder.specs.declared.folder_draft.FolderDraft.{FolderDraft}
 use Rattle.tftp_folder.specs.declared.folder_store.FolderStore.{FolderStore}
 
@@ -25,7 +25,7 @@ module _ {D G H W F E : Type 0} (meaning : StoreMeaning (FolderStore D G H W) (F
       (start now : LoopState (FolderStore D G H W) F (FolderDraft E)) (port : ℕ)
       (transfer : TransferState F (FolderDraft E)) → HoldsAt start now port transfer
       → IfSome (draft_of transfer.files) (λ draft.
-      string_bytes draft.draft ≡ draft_name (string_bytes start.server.store.folder.drafts) port)
+      IsDraftOf (string_bytes start.server.store.folder.drafts) port (string_bytes draft.draft))
 
   -- no two of them store in one file: ports are numbers of 16 bits
   abbrev pub NoTwoShareADraft : Type 0

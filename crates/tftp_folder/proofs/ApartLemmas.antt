@@ -1,10 +1,10 @@
 -- The path of a lock is not that of a draft, which ends in a digit, nor that of its target.
 use Rattle.std.proofs.Common.{◌≡◌, ◌≢◌, ◌∙◌, ◌/◌, ◌%◌, ◌==◌, ◌+◌, ℕ, zero, suc, Bool, true, false, cond, List, [], ◌∷◌, ◌++◌}
-use Rattle.std.proofs.Common.{ap, arith, decimal, length, refl, sym}
+use Rattle.std.proofs.Common.{ap, append_assoc, arith, decimal, inl, inr, length, refl, sym}
 use Rattle.std.proofs.lemmas.List.{length-append}
 use Rattle.std.specs.Prelude.{codes}
 use Rattle.std.specs.Fmt.{digits, digits_onto, digit_glyph}
-use Rattle.tftp_folder.specs.Begin.{draft_name}
+use Rattle.tftp_folder.specs.Begin.{draft_name, IsDraftOf}
 use Rattle.tftp_folder.specs.Commit.{lock_of}
 
 abbrev last_of : List ℕ → ℕ → ℕ
@@ -40,12 +40,24 @@ ends_in_digit n byte =
 low_digit : (n : ℕ) → digit_glyph false (n % 10) ≢ 112
 low_digit n is = grind arith
 
-pub draft_apart : (folder target : List ℕ) (port : ℕ) → draft_name folder port ≢ lock_of target
-draft_apart folder target port same =
-    let left : last_of (draft_name folder port) 0 ≡ last_of (decimal port) 45 =
-    last_append folder 47 (codes ".tftp-" ++ decimal port) 0 in
+-- what ends in digits is no lock
+ends_apart : (front target : List ℕ) (byte n : ℕ) → front ++ (byte ∷ decimal n) ≢ lock_of target
+ends_apart front target byte n same =
+    let left : last_of (front ++ (byte ∷ decimal n)) 0 ≡ last_of (decimal n) byte =
+    last_append front byte (decimal n) 0 in
     let right : last_of (lock_of target) 0 ≡ 112 = last_append target 126 (codes "tftp") 0 in
-    low_digit port (sym (ends_in_digit port 45) ∙ sym left ∙ ap (λ (l : List ℕ). last_of l 0) same ∙ right)
+    low_digit n (sym (ends_in_digit n byte) ∙ sym left ∙ ap (λ (l : List ℕ). last_of l 0) same ∙ right)
+
+pub draft_apart : (folder target : List ℕ) (port : ℕ) (path : List ℕ) → IsDraftOf folder port path
+    → path ≢ lock_of target
+draft_apart folder target port path (inl is) same =
+    ends_apart (folder ++ codes "/.tftp") target 45 port
+    (append_assoc folder (codes "/.tftp") (45 ∷ decimal port) ∙ sym is ∙ same)
+draft_apart folder target port path (inr (turn, is)) same =
+    ends_apart (folder ++ (codes "/.tftp-" ++ decimal port)) target 45 turn
+    (append_assoc folder (codes "/.tftp-" ++ decimal port) (45 ∷ decimal turn)
+    ∙ ap (λ (d : List ℕ). folder ++ d) (append_assoc (codes "/.tftp-") (decimal port) (45 ∷ decimal turn))
+    ∙ sym is ∙ same)
 
 pub lock_apart : (target : List ℕ) → lock_of target ≢ target
 lock_apart target same =

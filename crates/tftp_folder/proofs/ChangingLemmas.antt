@@ -4,20 +4,22 @@ use Rattle.std.specs.Prelude.{⊤}
 use Rattle.std.specs.String.{string_bytes}
 use Rattle.std.specs.declared.io.Error.{Error}
 use Rattle.tftp_disk.specs.Changes.{changes}
-use Rattle.tftp_disk.specs.DiskTrace.{DiskEvent, Done, FileState, state_of}
-use Rattle.tftp_disk.specs.DiskTrace.DiskEvent.{Looked, Followed, Resolved, Opened, Tried, Created, Made, Linked, Renamed, Removed}
+use Rattle.tftp_disk.specs.DiskTrace.{DiskEvent, Done, FileState, folder_at, state_of}
+use Rattle.tftp_disk.specs.DiskTrace.DiskEvent.{Looked, Followed, Resolved, Opened, Tried, Created, Made, Locked, Linked, Renamed, Removed}
 use Rattle.tftp_disk.specs.DiskTrace.DiskEvent.{Folder_opened, Folder_synced, Examined, Given, Not_given, Sought}
 use Rattle.tftp_disk.specs.DiskTrace.DiskEvent.{Written, Not_written, Synced, Mode_set}
 use Rattle.tftp_disk.specs.DiskWriter.{calls_of}
 use Rattle.tftp_disk.specs.NamedFolder.{OpensFolder, SyncsFolder, SyncsNoFolder}
 use Rattle.tftp_disk.specs.Still.{LeavesPath}
 use Rattle.tftp_disk.specs.declared.disk_file.DiskFolder.{DiskFolder}
-use Rattle.tftp_folder.specs.Begin.{draft_name, BeginsNone}
+use Rattle.tftp_folder.specs.Begin.{MakesDraft, TriesDraft}
+use Rattle.tftp_folder.specs.Begin.TriesDraft.{Nothing, Locks, Removes, Makes}
 use Rattle.tftp_folder.specs.Changing.{limits_of, Admits, AreChanges, BeginStaysWithin, BeginsOwn, CommitStaysWithin, HoldsLock, IsGiven}
-use Rattle.tftp_folder.specs.Changing.{IsOwn, IsWithin, KeepsRoot, KeepsWithin, Limits, ReadOnlyChangesNothing}
-use Rattle.tftp_folder.specs.Commit.{lock_of, MayRemoveNew, Names, RefusesLocked, RefusesName}
+use Rattle.tftp_folder.specs.Changing.{IsOwn, IsWithin, KeepsRoot, KeepsWithin, Limits, MayGo, ReadOnlyChangesNothing}
+use Rattle.tftp_folder.specs.Changing.MayGo.{Is_linked, Is_locked, Is_synced}
+use Rattle.tftp_folder.specs.Commit.{is_linked, lock_of, ClearsDraft, MayRemoveNew, Names, RefusesLocked, RefusesName}
 use Rattle.tftp_folder.specs.Draft.{IsDraftBelow, LosesName, NamesNothingIn, SameNames}
-use Rattle.tftp_folder.specs.Effects.{changes_of, folder_meaning, HasBegun, HasCommitted}
+use Rattle.tftp_folder.specs.Effects.{changes_of, drafts_of, folder_meaning, HasBegun, HasCommitted}
 use Rattle.tftp_folder.specs.Inside.{AreInside, IsInside, StaysInside}
 use Rattle.tftp_folder.specs.Opened.{follows, IsRootOf}
 use Rattle.tftp_folder.specs.Settings.{AsksNothing, SameSettings}
@@ -26,26 +28,41 @@ use Rattle.tftp_folder.specs.declared.folder_store.FolderStore.{FolderStore}
 use Rattle.tftp_file.specs.declared.fault.StoreFault.{StoreFault}
 use Rattle.tftp_folder.proofs.ApartLemmas.{draft_apart, lock_apart}
 use Rattle.tftp_folder.proofs.InsideLemmas.{in_folder}
+use Rattle.tftp_folder.proofs.MakingLemmas.{draft_in_folder}
 
 along : (limits : Limits) (before after : List DiskEvent) → after ≡ before → AreChanges limits before
     → AreChanges limits after
 along limits before after same changes = subst (AreChanges limits) (sym same) changes
 
+tries_within : (limits : Limits) (port : ℕ) (before after : List DiskEvent) → limits.read_only ≡ false
+    → TriesDraft limits.drafts port before after → AreChanges limits before → AreChanges limits after
+tries_within limits port before _ admitted Nothing changes = changes
+tries_within limits port before _ admitted (Locks answer is tries) changes =
+    (record { admitted = admitted; change = (port, is) }, tries_within limits port before _ admitted tries changes)
+tries_within limits port before _ admitted (Removes removal is tries) changes = (
+  record { admitted = admitted; change = inl ((port, is), Is_locked) },
+  (record { admitted = admitted; change = (port, is) }, tries_within limits port before _ admitted tries changes),
+)
+tries_within limits port before _ admitted (Makes answer is tries) changes =
+    (record { admitted = admitted; change = inl (port, is) }, tries_within limits port before _ admitted tries changes)
+
 begins_by : (limits : Limits) (port : ℕ) (before after : List DiskEvent) (read_only : Bool)
     → limits.read_only ≡ read_only → (limits.read_only ≡ true → after ≡ before)
-    → BeginsNone (draft_name limits.drafts port) before after → AreChanges limits before → AreChanges limits after
-begins_by limits port before after read_only is untouched (inl same) changes = along limits before after same changes
-begins_by limits port before after true is untouched (inr made) changes =
+    → TriesDraft limits.drafts port before after → AreChanges limits before → AreChanges limits after
+begins_by limits port before after true is untouched tries changes =
     along limits before after (untouched is) changes
-begins_by limits port before after false is untouched (inr (answer, (removal, made))) changes =
-    along limits _ after made (
-      record { admitted = is; change = inl (port, refl) },
-      (record { admitted = is; change = inl (port, refl) }, changes),
-    )
+begins_by limits port before after false is untouched tries changes =
+    tries_within limits port before after is tries changes
 
 pub begin_stays_within : BeginStaysWithin
-begin_stays_within limits port before after untouched begun changes =
-    begins_by limits port before after limits.read_only refl untouched begun changes
+begin_stays_within limits port before after untouched tries changes =
+    begins_by limits port before after limits.read_only refl untouched tries changes
+
+-- a draft that was made, was made by such calls
+makes_by : (folder : List ℕ) (port : ℕ) (path : List ℕ) (before after : List DiskEvent)
+    → MakesDraft folder port path before after → TriesDraft folder port before after
+makes_by folder port path before after made =
+    subst (TriesDraft folder port before) (sym made.made) (Makes (Ok tt) made.own made.tries)
 
 -- a draft is linked or renamed to its name
 links_within : (limits : Limits) (file : FileState) (draft target : List ℕ) (answer : Done) (before : List DiskEvent)
@@ -73,7 +90,7 @@ holds_new path before = record { since = []; before = before; made = refl; left 
 leaves_lock : (limits : Limits) (file : FileState) (draft target : List ℕ) (answer : Done)
     → IsOwn limits draft target → LeavesPath (lock_of target) (Renamed file draft target answer)
 leaves_lock limits file draft target (Ok done) own = (
-  λ same. draft_apart limits.drafts target own.is_draft.0 (sym (same ∙ own.is_draft.1)),
+  λ same. draft_apart limits.drafts target own.is_draft.0 draft own.is_draft.1 (sym same),
   lock_apart target,
 )
 leaves_lock limits file draft target (Err error) own = tt
@@ -105,12 +122,10 @@ names_within limits file draft target before true after own names changes = (
   along limits _ after names
       (record { admitted = own.admitted; change = (own.is_draft, own.is_target) }, changes),
 )
-names_within limits file draft target before false after own (inl (removal, names)) changes = (
+names_within limits file draft target before false after own (inl names) changes = (
   subst (IsGiven target) (sym names) (inl refl),
-  along limits _ after names (
-    record { admitted = own.admitted; change = inl own.is_draft },
-    (record { admitted = own.admitted; change = (own.is_draft, own.is_target) }, changes),
-  ),
+  along limits _ after names
+      (record { admitted = own.admitted; change = (own.is_draft, own.is_target) }, changes),
 )
 names_within limits file draft target before false after own (inr (refusal, (removal, names))) changes =
     let linked = Linked file draft target (Err refusal) ∷ before in
@@ -172,7 +187,7 @@ module _ {F : Type 0} where
   pub begins_own : (draft : FolderDraft F) → BeginsOwn draft
   begins_own draft limits port path before after is_path admitted below begun = record {
     admitted = admitted;
-    is_draft = (port, begun.place);
+    is_draft = (port, begun.made.own);
     is_target = record { path = path; is_path = is_path; place = begun.aim; uploads = below };
   }
 
@@ -229,13 +244,45 @@ module _ {F : Type 0} where
       before replaces named own names changes in
       loses_within limits draft folder named replaces after own loses both.0 both.1
 
+  may_go : (draft : List ℕ) (file : FileState) (target : List ℕ) (folder : Option (DiskFolder F))
+      (before named synced : List DiskEvent) → named ≡ Linked file draft target (Ok tt) ∷ before
+      → SyncsFolder folder named synced → MayGo draft synced
+  may_go draft file target (Some folder) before named synced names (answer, done, syncs) =
+      subst (MayGo draft) (sym (syncs ∙ ap (λ (n : List DiskEvent). Folder_synced (folder_at folder.trace.events) answer ∷ n) names))
+      Is_synced
+  may_go draft file target None before named synced names syncs =
+      subst (MayGo draft) (sym (syncs ∙ names)) Is_linked
+
+  -- the draft loses its own path, if it was linked just before, or before the folder was synced
+  goes_within : (limits : Limits) (file : FileState) (draft target : List ℕ) (folder : Option (DiskFolder F))
+      (before named synced after : List DiskEvent) (replaces : Bool) → IsOwn limits draft target
+      → Names file draft target before replaces named → SyncsFolder folder named synced
+      → ClearsDraft (is_linked named) draft synced after → AreChanges limits synced → AreChanges limits after
+  goes_within limits file draft target folder before named synced after true own names syncs clears changes =
+      along limits synced after
+      (subst (λ (n : List DiskEvent). ClearsDraft (is_linked n) draft synced after) names clears) changes
+  goes_within limits file draft target folder before named synced after false own (inr (refusal, (removal, names))) syncs clears changes =
+      along limits synced after
+      (subst (λ (n : List DiskEvent). ClearsDraft (is_linked n) draft synced after) names clears) changes
+  goes_within limits file draft target folder before named synced after false own (inl names) syncs clears changes =
+      let gone = subst (λ (n : List DiskEvent). ClearsDraft (is_linked n) draft synced after) names clears in
+      along limits _ after gone.1 (
+        record {
+          admitted = own.admitted;
+          change = inl (own.is_draft, may_go draft file target folder before named synced names syncs);
+        },
+        changes,
+      )
+
   pub commit_stays_within : (draft : FolderDraft F) → CommitStaysWithin draft
-  commit_stays_within draft limits replaces before after own (inl (folder, opened, opens, (named, names, syncs))) changes =
+  commit_stays_within draft limits replaces before after own (inl (folder, opened, opens, (named, synced, names, syncs, clears))) changes =
       let ready = opens_within limits (string_bytes draft.target) folder before opened own.admitted opens changes in
       let both =
       names_within limits (state_of (calls_of draft.writer)) (string_bytes draft.draft) (string_bytes draft.target)
       opened replaces named own names ready in
-      syncs_within limits folder named after own.admitted syncs both.1
+      goes_within limits (state_of (calls_of draft.writer)) (string_bytes draft.draft) (string_bytes draft.target) folder
+      opened named synced after replaces own names syncs clears
+      (syncs_within limits folder named synced own.admitted syncs both.1)
   commit_stays_within draft limits replaces before after own (inr (inl same)) changes =
       along limits before after same changes
   commit_stays_within draft limits replaces before after own (inr (inr (inl opens))) changes =
@@ -307,7 +354,8 @@ module _ {F : Type 0} where
   own_below : (limits : Limits) (draft : FolderDraft F) → IsInside limits.root limits.drafts
       → IsOwn limits (string_bytes draft.draft) (string_bytes draft.target) → IsDraftBelow limits.root draft
   own_below limits draft inside own = record {
-    path = in_folder limits.root limits.drafts _ inside (_, own.is_draft.1);
+    path = in_folder limits.root limits.drafts _ inside
+        (draft_in_folder limits.drafts own.is_draft.0 (string_bytes draft.draft) own.is_draft.1);
     target = (own.is_target.path, own.is_target.place);
   }
 
@@ -329,7 +377,8 @@ module _ {D G H K F : Type 0} (log : D → List DiskEvent) where
       has = same_limits before after begun.settings;
       changed =
           begin_stays_within (limits_of before) before.port (changes_of log before) (changes_of log after) begun.untouched
-          (inr (Ok tt, begun.made.made)) within.changed;
+          (makes_by (drafts_of before) before.port (string_bytes draft.draft) (changes_of log before)
+          (changes_of log after) begun.made.made) within.changed;
       drafts = within.drafts;
       inside = begun.inside within.drafts within.inside;
     },
@@ -395,6 +444,7 @@ refuses limits Change kept only admits = absurd (let differ : true ≡ false = s
 pub read_only_changes_nothing : ReadOnlyChangesNothing
 read_only_changes_nothing limits [] only changed = refl
 read_only_changes_nothing limits (Made path answer ∷ calls) only changed = refuses limits _ _ only changed.0
+read_only_changes_nothing limits (Locked path answer ∷ calls) only changed = refuses limits _ _ only changed.0
 read_only_changes_nothing limits (Linked file from to answer ∷ calls) only changed = refuses limits _ _ only changed.0
 read_only_changes_nothing limits (Renamed file from to answer ∷ calls) only changed = refuses limits _ _ only changed.0
 read_only_changes_nothing limits (Removed path answer ∷ calls) only changed = refuses limits _ _ only changed.0

@@ -2,6 +2,7 @@ pub mod ChangingLemmas
 mod ApartLemmas
 mod InsideLemmas
 mod LockLemmas
+mod MakingLemmas
 mod NamingLemmas
 mod PlacedLemmas
 pub mod SourceLemmas

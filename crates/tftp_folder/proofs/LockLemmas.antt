@@ -8,7 +8,7 @@ use Rattle.std.specs.List.{list_all, join_with_byte}
 use Rattle.std.specs.Prelude.{◌⊎◌, ◌==◌, ◌&&◌, ⊤, codes, length, nat_le, not, IsTrue}
 use Rattle.tftp_disk.specs.Changes.{changes}
 use Rattle.tftp_disk.specs.DiskTrace.{DiskEvent}
-use Rattle.tftp_disk.specs.DiskTrace.DiskEvent.{Looked, Followed, Resolved, Opened, Tried, Created, Made, Linked, Renamed, Removed}
+use Rattle.tftp_disk.specs.DiskTrace.DiskEvent.{Looked, Followed, Resolved, Opened, Tried, Created, Made, Locked, Linked, Renamed, Removed}
 use Rattle.tftp_disk.specs.DiskTrace.DiskEvent.{Folder_opened, Folder_synced, Examined, Given, Not_given, Sought}
 use Rattle.tftp_disk.specs.DiskTrace.DiskEvent.{Written, Not_written, Synced, Mode_set}
 use Rattle.tftp_disk.specs.Still.{AllLeave, LeavesPath}
@@ -97,6 +97,7 @@ module _ (lock : List ℕ) where
   sees : (event : DiskEvent) → Sees event
   sees (Renamed file from to answer) = A_change (λ events. refl)
   sees (Made path answer) = A_change (λ events. refl)
+  sees (Locked path answer) = A_change (λ events. refl)
   sees (Linked file from to answer) = A_change (λ events. refl)
   sees (Removed path answer) = A_change (λ events. refl)
   sees (Folder_opened path answer) = A_change (λ events. refl)
@@ -157,13 +158,13 @@ module _ (lock : List ℕ) where
 -- ---- each call of a store
 module _ (limits : Limits) (target : List ℕ) (is : IsTarget limits target) where
   draft_else : (path : List ℕ) → IsDraftIn limits.drafts path → lock_of target ≢ path
-  draft_else path drafted same = draft_apart limits.drafts target drafted.0 (sym (same ∙ drafted.1))
+  draft_else path drafted same = draft_apart limits.drafts target drafted.0 path drafted.1 (sym same)
 
-  removes : (path : List ℕ) (calls : List DiskEvent) {WasGiven : Type 0}
-      → IsDraftIn limits.drafts path ⊎ (IsTarget limits path × WasGiven)
+  removes : (path : List ℕ) (calls : List DiskEvent) {MayBe WasGiven : Type 0}
+      → (IsDraftIn limits.drafts path × MayBe) ⊎ (IsTarget limits path × WasGiven)
       ⊎ (IsLock limits path × HoldsLock path (changes calls))
       → lock_of target ≡ path → HoldsLock (lock_of target) calls
-  removes path calls (inl drafted) same = absurd (draft_else path drafted same)
+  removes path calls (inl drafted) same = absurd (draft_else path drafted.0 same)
   removes path calls (inr (inl named)) same = absurd (target_apart limits target path is named.0 same)
   removes path calls (inr (inr locked)) same =
       let holds : HoldsLock (lock_of target) (changes calls) =
@@ -183,6 +184,7 @@ module _ (limits : Limits) (target : List ℕ) (is : IsTarget limits target) whe
       (renames from to calls are.0.change.0 are.0.change.1, keeps calls are.1)
   keeps (Renamed file from to (Err error) ∷ calls) are = (tt, keeps calls are.1)
   keeps (Made path answer ∷ calls) are = (tt, keeps calls are.1)
+  keeps (Locked path answer ∷ calls) are = (tt, keeps calls are.1)
   keeps (Linked file from to answer ∷ calls) are = (tt, keeps calls are.1)
   keeps (Folder_opened path answer ∷ calls) are = (tt, keeps calls are.1)
   keeps (Folder_synced path answer ∷ calls) are = (tt, keeps calls are.1)

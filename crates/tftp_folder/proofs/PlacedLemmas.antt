@@ -3,7 +3,7 @@ use Rattle.std.proofs.Common.{◌≡◌, ◌≢◌, ◌∙◌, ℕ, List, [], �
 use Rattle.std.specs.Prelude.{◌⊎◌}
 use Rattle.std.specs.String.{string_bytes}
 use Rattle.tftp_disk.specs.DiskTrace.{DiskEvent, Done, FileState, made_when}
-use Rattle.tftp_disk.specs.DiskTrace.DiskEvent.{Looked, Followed, Resolved, Opened, Tried, Created, Made, Linked, Renamed, Removed}
+use Rattle.tftp_disk.specs.DiskTrace.DiskEvent.{Looked, Followed, Resolved, Opened, Tried, Created, Made, Locked, Linked, Renamed, Removed}
 use Rattle.tftp_disk.specs.DiskTrace.DiskEvent.{Folder_opened, Folder_synced, Examined, Given, Not_given, Sought}
 use Rattle.tftp_disk.specs.DiskTrace.DiskEvent.{Written, Not_written, Synced, Mode_set}
 use Rattle.tftp_disk.specs.Still.{AllLeave, IsStillAt, LeavesPath}
@@ -11,19 +11,17 @@ use Rattle.tftp_disk.specs.DiskWriter.{calls_of}
 use Rattle.tftp_disk.specs.NamedFolder.{OpensAlone, SyncsAlone}
 use Rattle.tftp_disk.specs.declared.disk_file.DiskFile.{DiskFile}
 use Rattle.tftp_disk.specs.declared.disk_file.DiskFolder.{DiskFolder}
-use Rattle.tftp_disk.specs.declared.disk_writer.DiskWriter.{DiskWriter}
-use Rattle.tftp_folder.specs.Begin.{IsNew}
 use Rattle.tftp_folder.specs.Commit.{lock_of}
 use Rattle.tftp_folder.specs.Draft.{IsThere, SameNames}
 use Rattle.tftp_folder.specs.Placed.{placed, AreNamedThere, LeavesOthers, NamesThere, StaysThere}
 use Rattle.tftp_folder.specs.declared.folder_draft.FolderDraft.{FolderDraft}
 
 -- a file is made, or removed, at another path
-leaves_made : (path own : List ℕ) (answer : Done) → path ≢ own → LeavesPath path (Made own answer)
+pub leaves_made : (path own : List ℕ) (answer : Done) → path ≢ own → LeavesPath path (Made own answer)
 leaves_made path own (Ok done) differs = differs
 leaves_made path own (Err error) differs = tt
 
-leaves_removed : (path own : List ℕ) (answer : Done) → path ≢ own → LeavesPath path (Removed own answer)
+pub leaves_removed : (path own : List ℕ) (answer : Done) → path ≢ own → LeavesPath path (Removed own answer)
 leaves_removed path own (Ok done) differs = differs
 leaves_removed path own (Err error) differs = tt
 
@@ -52,6 +50,7 @@ module _ (path : List ℕ) (when : Option ℕ) where
   to_in [] before left is = inl (refl, is)
   to_in (Made at (Ok done) ∷ since) before left is = inr (left.0, to_in since before left.1 is)
   to_in (Made at (Err error) ∷ since) before left is = (left.0, to_in since before left.1 is)
+  to_in (Locked at answer ∷ since) before left is = to_in since before left.1 is
   to_in (Linked file from to answer ∷ since) before left is = (left.0, to_in since before left.1 is)
   to_in (Renamed file from to answer ∷ since) before left is = (left.0, to_in since before left.1 is)
   to_in (Removed at answer ∷ since) before left is = (left.0, to_in since before left.1 is)
@@ -84,6 +83,7 @@ module _ (path : List ℕ) (when : Option ℕ) where
   from_in (Made at (Ok done) ∷ events) (inr (differs, still)) =
       still_past (Made at (Ok done)) events differs (from_in events still)
   from_in (Made at (Err error) ∷ events) still = still_past (Made at (Err error)) events still.0 (from_in events still.1)
+  from_in (Locked at answer ∷ events) still = still_past (Locked at answer) events tt (from_in events still)
   from_in (Linked file from to answer ∷ events) still =
       still_past (Linked file from to answer) events still.0 (from_in events still.1)
   from_in (Renamed file from to answer ∷ events) still =
@@ -119,47 +119,13 @@ module _ (path : List ℕ) (when : Option ℕ) where
 pub looks_there : (before after : List DiskEvent) → placed after ≡ placed before → StaysThere before after
 looks_there before after same names = subst AreNamedThere (sym same) names
 
--- a file was just made at its path
-pub new_there : (path : List ℕ) (file log : List DiskEvent) → IsNew path file log → IsStillAt path (made_when file) log
-new_there path file log new = record {
-  since = [];
-  before = new.before;
-  made = new.made;
-  when = ap made_when new.opened;
-  left = tt;
-}
-
--- one of another path was
-pub makes_other : (own : List ℕ) (removal answer : Done) (before looked after : List DiskEvent)
-    → placed looked ≡ placed before → after ≡ Made own answer ∷ Removed own removal ∷ looked
-    → LeavesOthers own before after
-makes_other own removal answer before looked after same is path when differs still =
-    subst (IsStillAt path when) (sym is)
-    (still_past path when (Made own answer) (Removed own removal ∷ looked) (leaves_made path own answer differs)
-    (still_past path when (Removed own removal) looked (leaves_removed path own removal differs)
-    (still_by path when before looked same still)))
-
--- one of another path was, after such calls
-pub then_others : (at own : List ℕ) (before looked after : List DiskEvent) → at ≡ own → placed looked ≡ placed before
-    → LeavesOthers at looked after → LeavesOthers own before after
-then_others at own before looked after is same leaves path when differs still =
-    leaves path when (λ equal. differs (equal ∙ is)) (still_by path when before looked same still)
+-- the same after calls that make, name and remove nothing
+pub then_others : (folder : List ℕ) (port : ℕ) (before looked after : List DiskEvent) → placed looked ≡ placed before
+    → LeavesOthers folder port looked after → LeavesOthers folder port before after
+then_others folder port before looked after same leaves path when none still =
+    leaves path when none (still_by path when before looked same still)
 
 module _ {F : Type 0} where
-  -- a draft whose file was just made
-  pub new_draft_there : (draft : FolderDraft F) (name target at : List ℕ) (writer : DiskWriter F) (file : DiskFile F)
-      (log : List DiskEvent) → string_bytes draft.draft ≡ name → string_bytes draft.target ≡ target
-      → name ≢ lock_of target → at ≡ name → draft.writer ≡ writer → writer.file ≡ file
-      → IsNew at file.trace.events log → IsThere draft log
-  new_draft_there draft name target at writer file log is_name is_target apart place wrote opened new = record {
-    apart = λ same. apart (sym is_name ∙ same ∙ ap (λ (t : List ℕ). lock_of t) is_target);
-    still = subst (λ (p : List ℕ). IsStillAt p (made_when (calls_of draft.writer)) log) (place ∙ sym is_name)
-        (subst (λ (w : Option ℕ). IsStillAt at w log)
-        (sym (ap (λ (w : DiskWriter F). made_when (calls_of w)) wrote
-        ∙ ap (λ (f : DiskFile F). made_when f.trace.events) opened))
-        (new_there at file.trace.events log new));
-  }
-
   still_as : (draft : FolderDraft F) (file : FileState) (from : List ℕ) (before looked : List DiskEvent)
       → placed looked ≡ placed before → file.made_when ≡ made_when (calls_of draft.writer)
       → from ≡ string_bytes draft.draft → IsThere draft before → IsStillAt from file.made_when looked

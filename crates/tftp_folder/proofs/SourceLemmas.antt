@@ -2,7 +2,7 @@
 use Rattle.std.proofs.Common.{◌≡◌, ◌∙◌, ℕ, Bool, true, false, if◌then◌else◌, List, [], ◌∷◌, Ok, Err, append-nil, refl, subst, sym}
 use Rattle.std.specs.declared.io.SeekFrom.TheVariants.{Start, End, Current}
 use Rattle.tftp_disk.specs.DiskTrace.{DiskEvent}
-use Rattle.tftp_disk.specs.DiskTrace.DiskEvent.{Looked, Followed, Resolved, Opened, Tried, Created, Made, Linked, Renamed, Removed}
+use Rattle.tftp_disk.specs.DiskTrace.DiskEvent.{Looked, Followed, Resolved, Opened, Tried, Created, Made, Locked, Linked, Renamed, Removed}
 use Rattle.tftp_disk.specs.DiskTrace.DiskEvent.{Folder_opened, Folder_synced, Examined, Given, Not_given, Sought}
 use Rattle.tftp_disk.specs.DiskTrace.DiskEvent.{Written, Not_written, Synced, Mode_set}
 use Rattle.tftp_disk.specs.Given.{given, is_at_start}
@@ -27,6 +27,7 @@ nothing_given (Opened path (Err error) ∷ events) is = nothing_given events is
 nothing_given (Tried path answer ∷ events) is = nothing_given events is
 nothing_given (Created path calls ∷ events) is = nothing_given events is
 nothing_given (Made path answer ∷ events) is = nothing_given events is
+nothing_given (Locked path answer ∷ events) is = nothing_given events is
 nothing_given (Linked file from to answer ∷ events) is = nothing_given events is
 nothing_given (Renamed file from to answer ∷ events) is = nothing_given events is
 nothing_given (Removed path answer ∷ events) is = nothing_given events is

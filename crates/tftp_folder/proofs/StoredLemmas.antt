@@ -11,7 +11,7 @@ use Rattle.tftp_store.specs.Drafts.{TakesInTurn}
 use Rattle.tftp_store.specs.Drafts.TakesInTurn.{Took_more, Took_nothing, Written_back}
 use Rattle.tftp_folder.specs.Commit.{lock_of, LooksThenRenames, Names}
 use Rattle.tftp_folder.specs.Draft.{bytes_of, GivesName, SameNames}
-use Rattle.tftp_folder.specs.Effects.{changes_of, draft_of, folder_meaning}
+use Rattle.tftp_folder.specs.Effects.{changes_of, folder_meaning}
 use Rattle.tftp_folder.specs.Stored.{IsNamedBy, StoresWhatItTook}
 use Rattle.tftp_folder.specs.Uploads.{path_below}
 use Rattle.tftp_folder.specs.declared.folder_draft.FolderDraft.{FolderDraft}
@@ -24,10 +24,8 @@ named_contains : (event : DiskEvent) (file : FileState) (draft target : List ℕ
     → Contains after event
 named_contains event file draft target before true after has names =
     subst (λ (l : List DiskEvent). Contains l event) (sym names) (Contains-tail _ before event has)
-named_contains event file draft target before false after has (inl (removal, names)) =
-    let linked = Linked file draft target (Ok tt) in
-    subst (λ (l : List DiskEvent). Contains l event) (sym names)
-    (Contains-tail _ (linked ∷ before) event (Contains-tail linked before event has))
+named_contains event file draft target before false after has (inl names) =
+    subst (λ (l : List DiskEvent). Contains l event) (sym names) (Contains-tail _ before event has)
 named_contains event file draft target before false after has (inr (refusal, (removal, names))) =
     let linked = Linked file draft target (Err refusal) in
     let locked = Made (lock_of target) (Ok tt) in
@@ -52,7 +50,7 @@ module _ {F : Type 0} where
       → GivesName draft before replaces after
       → IsNamedBy (state_of (calls_of draft.writer)) (string_bytes draft.draft) (string_bytes draft.target) before
       replaces after
-  named_by draft before replaces after (Some folder, opened, (at, is_folder, told, opens), (named, names, (answer, done, syncs))) =
+  named_by draft before replaces after (Some folder, opened, (at, is_folder, told, opens), (named, last, names, (answer, done, syncs), clears)) =
       record {
         folder = at;
         is_folder = is_folder;
@@ -61,6 +59,8 @@ module _ {F : Type 0} where
         gives =
             subst (λ (o : List DiskEvent). Names (state_of (calls_of draft.writer)) (string_bytes draft.draft)
             (string_bytes draft.target) o replaces named) opens names;
+        last = last;
+        cleared = clears;
         synced =
             inl (
               at,
@@ -70,7 +70,7 @@ module _ {F : Type 0} where
               syncs ∙ ap (λ (path : Option (List ℕ)). Folder_synced path answer ∷ named) told,
             );
       }
-  named_by draft before replaces after (None, opened, (at, refusal, is_folder, denied, opens), (named, names, syncs)) =
+  named_by draft before replaces after (None, opened, (at, refusal, is_folder, denied, opens), (named, last, names, syncs, clears)) =
       record {
         folder = at;
         is_folder = is_folder;
@@ -79,6 +79,8 @@ module _ {F : Type 0} where
         gives =
             subst (λ (o : List DiskEvent). Names (state_of (calls_of draft.writer)) (string_bytes draft.draft)
             (string_bytes draft.target) o replaces named) opens names;
+        last = last;
+        cleared = clears;
         synced =
             inr (
               (
@@ -118,17 +120,17 @@ module _ {D G H K F : Type 0} (log : D → List DiskEvent) where
       let made = begins.made in
       let had = took first draft bytes takes in
       let target = path_below (string_bytes before.folder.root) path in
-      let place : string_bytes left.draft ≡ draft_of before =
-      ap string_bytes (commits.names.draft ∙ had.0.draft) ∙ made.place in
+      let place : string_bytes left.draft ≡ string_bytes first.draft =
+      ap string_bytes (commits.names.draft ∙ had.0.draft) in
       let aim : string_bytes left.target ≡ target =
       ap string_bytes (commits.names.target ∙ had.0.target) ∙ made.aim in
       let aimed : string_bytes draft.target ≡ target = ap string_bytes had.0.target ∙ made.aim in
       let file = state_of (calls_of left.writer) in
       record {
-        draft = draft_of before;
+        draft = string_bytes first.draft;
         own = record {
           admitted = writes_admitted log path before begun first begins;
-          is_draft = (before.port, refl);
+          is_draft = (before.port, made.made.own);
           is_target = record { path = path; is_path = begins.is_path; place = refl; uploads = begins.uploads };
         };
         file = file;
@@ -136,8 +138,9 @@ module _ {D G H K F : Type 0} (log : D → List DiskEvent) where
         content = commits.whole.whole ∙ had.1 ∙ ap (λ l. l ++ bytes) made.empty;
         synced = commits.whole.done.synced;
         sound = commits.whole.done.sound;
+        modes = left.modes;
         named =
-            subst (λ (t : List ℕ). IsNamedBy file (draft_of before) t (changes_of log committing) replaces (changes_of log after))
+            subst (λ (t : List ℕ). IsNamedBy file (string_bytes first.draft) t (changes_of log committing) replaces (changes_of log after))
             aim
             (subst (λ (d : List ℕ). IsNamedBy file d (string_bytes left.target) (changes_of log committing) replaces
             (changes_of log after)) place
@@ -150,6 +153,6 @@ module _ {D G H K F : Type 0} (log : D → List DiskEvent) where
           still =
               subst (λ (w : Option ℕ). IsStillAt (string_bytes draft.draft) w (log committing.disk)) commits.names.making
               (subst (λ (p : List ℕ). IsStillAt p (made_when (calls_of left.writer)) (log committing.disk))
-              (sym (ap string_bytes had.0.draft ∙ made.place)) still);
+              (sym (ap string_bytes had.0.draft)) still);
         });
       }

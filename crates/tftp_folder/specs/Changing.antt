@@ -3,13 +3,13 @@ use Rattle.std.specs.Prelude.{ℕ, ◌≡◌, ◌⊎◌, ⊤, Bool, true, false,
 use Rattle.std.specs.String.{string_bytes}
 use Rattle.tftp_file.specs.Path.{IsPath}
 use Rattle.tftp_disk.specs.Changes.{changes}
-use Rattle.tftp_disk.specs.DiskTrace.{DiskEvent}
-use Rattle.tftp_disk.specs.DiskTrace.DiskEvent.{Made, Linked, Renamed, Removed}
+use Rattle.tftp_disk.specs.DiskTrace.{DiskEvent, Done, FileState}
+use Rattle.tftp_disk.specs.DiskTrace.DiskEvent.{Made, Locked, Linked, Renamed, Removed}
 use Rattle.tftp_disk.specs.DiskTrace.DiskEvent.{Folder_opened, Folder_synced}
 use Rattle.tftp_disk.specs.Still.{AllLeave}
 use Rattle.tftp_store.specs.Drafts.{CallsKeep}
 use Rattle.tftp_store.specs.Store.{StoreMeaning}
-use Rattle.tftp_folder.specs.Begin.{draft_name, BeginsNone}
+use Rattle.tftp_folder.specs.Begin.{IsDraftOf, TriesDraft}
 use Rattle.tftp_folder.specs.Commit.{lock_of}
 use Rattle.tftp_folder.specs.Draft.{BeginsAt, GivesName, NamesNothing}
 use Rattle.tftp_folder.specs.Effects.{changes_of}
@@ -40,7 +40,7 @@ module _ {D G H K : Type 0} where
 
 -- the path of a draft in this folder
 abbrev pub IsDraftIn : List ℕ → List ℕ → Type 0
-IsDraftIn folder path = (port : ℕ) × (path ≡ draft_name folder port)
+IsDraftIn folder path = (port : ℕ) × IsDraftOf folder port path
 
 -- the place of a path that a client can name, below the folder of uploads if there is one
 pub record IsTarget (limits : Limits) (target : List ℕ) : Type 0 where
@@ -68,20 +68,32 @@ pub record HoldsLock (path : List ℕ) (calls : List DiskEvent) : Type 0 where
   pub made : calls ≡ since ++ Made path (Ok tt) ∷ before
   pub left : AllLeave path since
 
+-- who asked these calls may remove the draft at this path: the newest locked the file there, which no
+-- other program has locked since; or gave it its name, by a link, and synced the folder, or not
+pub data MayGo (path : List ℕ) : List DiskEvent → Type 0 where
+  Is_locked : {calls : List DiskEvent} → MayGo path (Locked path (Ok tt) ∷ calls)
+  Is_linked : {file : FileState} {to : List ℕ} {calls : List DiskEvent}
+      → MayGo path (Linked file path to (Ok tt) ∷ calls)
+  Is_synced : {file : FileState} {to : List ℕ} {at : Option (List ℕ)} {answer : Done}
+      {calls : List DiskEvent}
+      → MayGo path (Folder_synced at answer ∷ Linked file path to (Ok tt) ∷ calls)
+
 -- a change by a store that does not refuse writes
 pub record Admits (limits : Limits) (Change : Type 0) : Type 0 where
   pub admitted : limits.read_only ≡ false
   pub change : Change
 
--- a call after these others, the newest first, that changes something: a draft is made or removed,
--- or is given a name that a client can spell, a name that was asked for is removed, and the lock of
--- one is made, and removed by the store that made it; no other file is made, removed or renamed.
--- Folders are opened and synced for such a name alone
+-- a call after these others, the newest first, that changes something: a draft is made, or is given a
+-- name that a client can spell; it is removed once it has that, or was locked; a name that was asked
+-- for is removed, and the lock of one is made, and removed by the store that made it; no other file is
+-- made, locked, removed or renamed. Folders are opened and synced for such a name alone
 abbrev pub IsChange : Limits → DiskEvent → List DiskEvent → Type 0
 IsChange limits (Made path answer) before =
     Admits limits (IsDraftIn limits.drafts path ⊎ IsLock limits path)
+IsChange limits (Locked path answer) before = Admits limits (IsDraftIn limits.drafts path)
 IsChange limits (Removed path answer) before =
-    Admits limits (IsDraftIn limits.drafts path ⊎ (IsTarget limits path × IsGiven path before)
+    Admits limits ((IsDraftIn limits.drafts path × MayGo path before)
+    ⊎ (IsTarget limits path × IsGiven path before)
     ⊎ (IsLock limits path × HoldsLock path before))
 IsChange limits (Linked file from to answer) before =
     Admits limits (IsDraftIn limits.drafts from × IsTarget limits to)
@@ -102,13 +114,13 @@ pub record IsOwn (limits : Limits) (draft target : List ℕ) : Type 0 where
   pub is_draft : IsDraftIn limits.drafts draft
   pub is_target : IsTarget limits target
 
--- a call that begins no draft, or one at its path, changes nothing else, and in a store that
--- refuses writes nothing
+-- calls that try to begin a draft at its paths change nothing else, and in a store that refuses
+-- writes nothing
 abbrev pub BeginStaysWithin : Type 0
 BeginStaysWithin =
     (limits : Limits) (port : ℕ) (before after : List DiskEvent)
     → (limits.read_only ≡ true → after ≡ before)
-    → BeginsNone (draft_name limits.drafts port) before after → AreChanges limits before
+    → TriesDraft limits.drafts port before after → AreChanges limits before
     → AreChanges limits after
 
 module _ {F : Type 0} where
@@ -117,7 +129,7 @@ module _ {F : Type 0} where
   BeginsOwn draft =
       (limits : Limits) (port : ℕ) (path : List ℕ) (before after : List DiskEvent)
       → IsPath path → limits.read_only ≡ false → IfSome limits.uploads (λ folder. IsBelow folder path)
-      → BeginsAt (draft_name limits.drafts port) (path_below limits.root path) draft before after
+      → BeginsAt limits.drafts port (path_below limits.root path) draft before after
       → IsOwn limits (string_bytes draft.draft) (string_bytes draft.target)
 
   -- calls that give a draft its name, if it is the store's

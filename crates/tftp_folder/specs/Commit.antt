@@ -43,8 +43,7 @@ abbrev pub Names : FileState → (draft target : List ℕ) → List DiskEvent �
     → Type 0
 Names file draft target before true after = after ≡ Renamed file draft target (Ok tt) ∷ before
 Names file draft target before false after =
-    ((removal : Done)
-    × (after ≡ Removed draft removal ∷ Linked file draft target (Ok tt) ∷ before))
+    (after ≡ Linked file draft target (Ok tt) ∷ before)
     ⊎ ((refusal : Error)
     × RenamesLocked file draft target (Linked file draft target (Err refusal) ∷ before) after)
 
@@ -58,6 +57,16 @@ RefusesName file draft target before true after =
 RefusesName file draft target before false after =
     (refusal : Error)
     × RefusesLocked file draft target (Linked file draft target (Err refusal) ∷ before) after
+
+-- the newest of these changes is a link that was made
+abbrev pub is_linked : List DiskEvent → Bool
+is_linked (Linked file from to (Ok done) ∷ before) = true
+is_linked changes = false
+
+-- a draft that got its name by a link lost its own path at the end; any other has none left
+abbrev pub ClearsDraft : Bool → List ℕ → List DiskEvent → List DiskEvent → Type 0
+ClearsDraft true draft before after = (removal : Done) × (after ≡ Removed draft removal ∷ before)
+ClearsDraft false draft before after = after ≡ before
 
 -- the name is left, or was removed
 abbrev pub MayRemove : List ℕ → List DiskEvent → List DiskEvent → Type 0

@@ -1,5 +1,5 @@
 -- How long the text of a file is, as one pass over it counted (ours).
-use Rattle.std.specs.Prelude.{ℕ, ◌≡◌, ◌+◌, ◌≤◌, min, true, List, length, Some}
+use Rattle.std.specs.Prelude.{ℕ, ℤ, pos, ◌<ℤ◌, ◌-ℤ◌, ◌≡◌, ◌+◌, ◌≤◌, min, true, List, length, Some}
 use Rattle.tftp_wire.specs.declared.mode.Mode.TheVariants.{Netascii}
 use Rattle.tftp_file.specs.Netascii.{wire_text}
 use Rattle.tftp_file.specs.declared.length.TheConstants.{MAX_WIRE}
@@ -14,6 +14,10 @@ pub record IsUnchanged (first last : Found) : Type 0 where
   pub bytes : first.bytes ≡ last.bytes
   pub changed : first.changed ≡ last.changed
   pub nanos : first.changed_nanos ≡ last.changed_nanos
+
+-- a change, by its seconds, was more than two seconds before these
+abbrev pub IsSettled : ℤ → ℤ → Type 0
+IsSettled changed seconds = changed <ℤ (seconds -ℤ pos 2)
 
 -- the length of the text of these bytes in netascii, or one more than the longest that can be sent
 -- if it is longer

@@ -13,7 +13,7 @@ use Rattle.tftp_disk.specs.Still.{IsStillAt}
 use Rattle.tftp_disk.specs.DiskTrace.DiskEvent.{Renamed}
 use Rattle.tftp_folder.specs.Begin.{MakesDraft}
 use Rattle.tftp_folder.specs.Commit.{Names, RefusesName, RenamesLocked, RefusesLocked}
-use Rattle.tftp_folder.specs.Commit.{lock_of, MayRemove, MayRemoveNew}
+use Rattle.tftp_folder.specs.Commit.{lock_of, is_linked, ClearsDraft, MayRemove, MayRemoveNew}
 use Rattle.tftp_folder.specs.Looked.{LooksFor, RemovesIf}
 use Rattle.tftp_folder.specs.Uploads.{IsBelow}
 use Rattle.tftp_folder.specs.declared.folder_draft.FolderDraft.{FolderDraft}
@@ -54,6 +54,14 @@ module _ {F : Type 0} where
   pub record StaysDone (before after : FolderDraft F) : Type 0 where
     pub names : SameNames before after
     pub state : state_of (calls_of after.writer) ≡ state_of (calls_of before.writer)
+
+  -- a draft has its names, and its file is as it was, but for its mode
+  pub record KeepsFile (before after : FolderDraft F) : Type 0 where
+    pub names : SameNames before after
+    pub place : made_at (calls_of after.writer) ≡ made_at (calls_of before.writer)
+    pub bytes : file_bytes after ≡ file_bytes before
+    pub synced : is_synced (calls_of after.writer) ≡ is_synced (calls_of before.writer)
+    pub sound : sync_failed (calls_of after.writer) ≡ sync_failed (calls_of before.writer)
 
   -- a draft that was done is, with the same names, and the same bytes in its file
   pub record KeepsDone (before after : FolderDraft F) : Type 0 where
@@ -96,14 +104,16 @@ module _ {F : Type 0} where
       RefusesName (state_of (calls_of draft.writer)) (string_bytes draft.draft)
       (string_bytes draft.target) before replaces after
 
-  -- the draft got its name, and then the folder was synced
+  -- the draft got its name, then the folder was synced, and then the draft lost its own path
   abbrev pub NamesIn : FolderDraft F → Option (DiskFolder F) → List DiskEvent → Bool
       → List DiskEvent → Type 0
   NamesIn draft folder before replaces after =
-      (named : List DiskEvent) × NamesDraft draft before replaces named
-      × SyncsFolder folder named after
+      (named : List DiskEvent) × (synced : List DiskEvent) × NamesDraft draft before replaces named
+      × SyncsFolder folder named synced
+      × ClearsDraft (is_linked named) (string_bytes draft.draft) synced after
 
-  -- the folder of its name was opened, the draft got the name, and then the folder was synced
+  -- the folder of its name was opened, the draft got the name, then the folder was synced, and then
+  -- the draft lost its own path
   abbrev pub GivesName : FolderDraft F → List DiskEvent → Bool → List DiskEvent → Type 0
   GivesName draft before replaces after =
       (folder : Option (DiskFolder F)) × (opened : List DiskEvent)
@@ -129,7 +139,7 @@ module _ {F : Type 0} where
     pub removes : RemovesIf finds (string_bytes draft'.target) looked after
 
   -- the draft lost the name that it got: by then that was another file's, or in another folder, or
-  -- the folder could not be synced
+  -- the folder could not be synced. Its own path is left
   abbrev pub LosesName : FolderDraft F → Option (DiskFolder F) → (named : List DiskEvent) → Bool
       → List DiskEvent → Type 0
   LosesName draft folder named replaces after =
@@ -165,10 +175,10 @@ module _ {F : Type 0} where
     pub whole : file_bytes draft ≡ bytes
     pub done : IsDone draft
 
-  -- a draft at this path was made for a file at that one, with nothing in it
-  pub record BeginsAt (path target : List ℕ) (draft : FolderDraft F)
+  -- a draft of the transfer at this port was made in this folder, for a file at that path, with
+  -- nothing in it
+  pub record BeginsAt (folder : List ℕ) (port : ℕ) (target : List ℕ) (draft : FolderDraft F)
       (before after : List DiskEvent) : Type 0 where
-    pub place : string_bytes draft.draft ≡ path
     pub aim : string_bytes draft.target ≡ target
     pub empty : bytes_of draft ≡ []
-    pub made : MakesDraft path before (Ok tt) after
+    pub made : MakesDraft folder port (string_bytes draft.draft) before after

@@ -9,7 +9,7 @@ use Rattle.tftp_disk.specs.Changes.{changes}
 use Rattle.tftp_disk.specs.DiskFault.{MayNotBegin, MayNotName, MayNotOpen, MayNotStore}
 use Rattle.tftp_disk.specs.DiskTrace.{DiskEvent}
 use Rattle.tftp_store.specs.Store.{StoreMeaning}
-use Rattle.tftp_folder.specs.Begin.{draft_name, BeginsNone}
+use Rattle.tftp_folder.specs.Begin.{TriesDraft}
 use Rattle.tftp_folder.specs.Commit.{LooksThenRenames}
 use Rattle.tftp_folder.specs.Draft.{bytes_of, BeginsAt, GivesName, IsDraftBelow, IsThere, IsWhole}
 use Rattle.tftp_folder.specs.Draft.{NamesNothing, SameNames}
@@ -22,9 +22,9 @@ use Rattle.tftp_folder.specs.declared.folder_draft.FolderDraft.{FolderDraft}
 use Rattle.tftp_folder.specs.declared.folder_store.FolderStore.{FolderStore}
 
 module _ {D G H K : Type 0} where
-  -- where the next draft of a store is made
-  abbrev pub draft_of : FolderStore D G H K → List ℕ
-  draft_of store = draft_name (string_bytes store.folder.drafts) store.port
+  -- the folder of the drafts of a store
+  abbrev pub drafts_of : FolderStore D G H K → List ℕ
+  drafts_of store = string_bytes store.folder.drafts
 
 module _ {D G H K : Type 0} (log : D → List DiskEvent) where
   -- the calls of a store that change something
@@ -40,9 +40,9 @@ module _ {F : Type 0} where
 module _ {D G H K F : Type 0} (log : D → List DiskEvent) where
   -- a draft of the path was begun, or refused: the settings stay, a store that refuses all writes
   -- has refused it, and changed nothing; it was begun only for a path that a client can name, below
-  -- the folder of uploads, if there is one. It was made for that place of the root, and is empty;
-  -- if it was refused, nothing else changed. Its file is at its path, and what was still at another
-  -- path is there. No path outside the root was passed to the system, if the folder of the drafts
+  -- the folder of uploads, if there is one. It was made at a path of the port that was set last, for
+  -- that place of the root, and is empty; if it was refused, nothing else changed. Its file is at its
+  -- path, and what was still at the path of no draft of that port is there. No path outside the root was passed to the system, if the folder of the drafts
   -- is inside it
   pub record HasBegun (path : List ℕ) (before after : FolderStore D G H K)
       (result : Result (FolderDraft F) StoreFault) : Type 0 where
@@ -51,13 +51,13 @@ module _ {D G H K F : Type 0} (log : D → List DiskEvent) where
     pub untouched : before.is_read_only ≡ true → changes_of log after ≡ changes_of log before
     pub is_path : IfOk result (λ draft. IsPath path)
     pub uploads : IfOk result (λ draft. IfSome before.uploads (λ folder. IsBelow folder path))
-    pub made : IfOk result (λ draft. BeginsAt (draft_of before)
+    pub made : IfOk result (λ draft. BeginsAt (drafts_of before) before.port
         (path_below (string_bytes before.folder.root) path) draft (changes_of log before)
         (changes_of log after))
-    pub not_made : OnErr result
-        (BeginsNone (draft_of before) (changes_of log before) (changes_of log after))
+    pub not_made : OnErr result (TriesDraft (drafts_of before) before.port (changes_of log before)
+        (changes_of log after))
     pub there : IfOk result (λ draft. IsThere draft (log after.disk))
-    pub others : LeavesOthers (draft_of before) (log before.disk) (log after.disk)
+    pub others : LeavesOthers (drafts_of before) before.port (log before.disk) (log after.disk)
     pub follows : follows (log after.disk) ≡ follows (log before.disk)
     pub inside : IsInside (string_bytes before.folder.root) (string_bytes before.folder.drafts)
         → StaysInside (string_bytes before.folder.root) (log before.disk)

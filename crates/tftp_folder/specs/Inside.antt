@@ -2,7 +2,7 @@
 use Rattle.std.specs.Prelude.{ℕ, ◌≡◌, ◌⊎◌, ⊤, List, [], ◌∷◌, ◌++◌, IfSome, Ok, codes}
 use Rattle.tftp_disk.specs.DiskTrace.{DiskEvent}
 use Rattle.tftp_disk.specs.DiskTrace.DiskEvent.{Looked, Followed, Resolved, Opened, Tried}
-use Rattle.tftp_disk.specs.DiskTrace.DiskEvent.{Made, Linked, Renamed, Removed}
+use Rattle.tftp_disk.specs.DiskTrace.DiskEvent.{Made, Locked, Linked, Renamed, Removed}
 use Rattle.tftp_disk.specs.DiskTrace.DiskEvent.{Folder_opened, Folder_synced}
 use Rattle.tftp_folder.specs.Uploads.{IsBelow}
 
@@ -24,6 +24,7 @@ IsCallInside root (Resolved path answer) =
 IsCallInside root (Opened path answer) = IsInside root path
 IsCallInside root (Tried path answer) = IsInside root path
 IsCallInside root (Made path answer) = IsInside root path
+IsCallInside root (Locked path answer) = IsInside root path
 IsCallInside root (Linked file from to answer) = IsInside root from × IsInside root to
 IsCallInside root (Renamed file from to answer) = IsInside root from × IsInside root to
 IsCallInside root (Removed path answer) = IsInside root path

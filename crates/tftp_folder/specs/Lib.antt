@@ -7,9 +7,11 @@ pub mod Effects
 pub mod Inside
 pub mod Locks
 pub mod Looked
+pub mod Modes
 pub mod Opened
 pub mod Placed
 pub mod Settings
 pub mod Source
 pub mod Stored
 pub mod Uploads
+pub mod Way

@@ -26,3 +26,11 @@ pub record LooksFor (path : List ℕ) (calls calls' before after : List DiskEven
 abbrev pub RemovesIf : Bool → List ℕ → List DiskEvent → List DiskEvent → Type 0
 RemovesIf true path before after = (removal : Done) × (after ≡ Removed path removal ∷ before)
 RemovesIf false path before after = after ≡ before
+
+-- it was looked whether a path is that of an open file, and the next call removed it if it is; else it
+-- is left
+pub record RemovesOwn (path : List ℕ) (calls calls' before after : List DiskEvent) : Type 0 where
+  pub looked : List DiskEvent
+  pub finds : Bool
+  pub looks : LooksFor path calls calls' before looked finds
+  pub removes : RemovesIf finds path looked after

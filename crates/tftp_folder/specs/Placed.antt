@@ -1,8 +1,9 @@
 -- Which file has the path of a draft when it gets its name, by the calls of a store (ours).
-use Rattle.std.specs.Prelude.{ℕ, ◌≢◌, ⊤, List, [], ◌∷◌, Option}
+use Rattle.std.specs.Prelude.{ℕ, ⊤, List, [], ◌∷◌, Option}
 use Rattle.tftp_disk.specs.DiskTrace.{DiskEvent}
 use Rattle.tftp_disk.specs.DiskTrace.DiskEvent.{Made, Linked, Renamed, Removed}
 use Rattle.tftp_disk.specs.Still.{IsStillAt}
+use Rattle.tftp_folder.specs.Begin.{IsDraftOf}
 
 -- the calls up to each that makes, names or removes a file, whatever its answer: the newest first
 abbrev pub placed : List DiskEvent → List (List DiskEvent)
@@ -34,8 +35,8 @@ NamesThere events = AreNamedThere (placed events)
 abbrev pub StaysThere : List DiskEvent → List DiskEvent → Type 0
 StaysThere before after = NamesThere before → NamesThere after
 
--- calls after which a file that was still at another path than this is so
-abbrev pub LeavesOthers : List ℕ → List DiskEvent → List DiskEvent → Type 0
-LeavesOthers own before after =
-    (path : List ℕ) (when : Option ℕ) → path ≢ own → IsStillAt path when before
+-- calls after which a file that was still at another path than those of the draft of this port is so
+abbrev pub LeavesOthers : List ℕ → ℕ → List DiskEvent → List DiskEvent → Type 0
+LeavesOthers folder port before after =
+    (path : List ℕ) (when : Option ℕ) → ¬ IsDraftOf folder port path → IsStillAt path when before
     → IsStillAt path when after

@@ -9,14 +9,16 @@ use Rattle.tftp_disk.specs.Still.{IsStillAt}
 use Rattle.tftp_store.specs.Drafts.{TakesInTurn}
 use Rattle.tftp_store.specs.Store.{StoreMeaning}
 use Rattle.tftp_folder.specs.Changing.{limits_of, IsOwn, Limits}
-use Rattle.tftp_folder.specs.Commit.{LooksThenRenames, Names}
+use Rattle.tftp_folder.specs.Commit.{ClearsDraft, LooksThenRenames, Names, is_linked}
+use Rattle.tftp_folder.specs.Modes.{are_permissions}
 use Rattle.tftp_folder.specs.Placed.{StaysThere}
 use Rattle.tftp_folder.specs.Uploads.{path_below}
 use Rattle.tftp_folder.specs.declared.folder_draft.FolderDraft.{FolderDraft}
 use Rattle.tftp_folder.specs.declared.folder_store.FolderStore.{FolderStore}
 
 -- these changes gave the file of a draft its name: its folder was opened before, and synced after
--- that, unless its file system syncs none or the user may not read it
+-- that, unless its file system syncs none or the user may not read it. A draft that got its name by a
+-- link lost its own path only then
 pub record IsNamedBy (file : FileState) (draft target : List ℕ) (before : List DiskEvent)
     (replaces : Bool) (after : List DiskEvent) : Type 0 where
   pub folder : List ℕ
@@ -24,10 +26,13 @@ pub record IsNamedBy (file : FileState) (draft target : List ℕ) (before : List
   pub answer : Done
   pub named : List DiskEvent
   pub gives : Names file draft target (Folder_opened folder answer ∷ before) replaces named
-  pub synced : SyncsAfter target named after
+  pub last : List DiskEvent
+  pub synced : SyncsAfter target named last
+  pub cleared : ClearsDraft (is_linked named) draft last after
 
 -- a file was made at a path of the drafts, and just these bytes were written to it, in order and
--- each once; a sync succeeded after the last write, and none failed; then it got the name of this
+-- each once; a sync succeeded after the last write, and none failed; it was given no other mode than
+-- the permissions of a file; then it got the name of this
 -- path in the root, by a call that replaces no file, unless it may, and then just after a look at
 -- that file. If it was still at the path of the draft before, it was when it got the name. `before`
 -- and `after` are the store's calls
@@ -40,6 +45,7 @@ pub record IsStoredAt (limits : Limits) (path bytes : List ℕ) (replaces : Bool
   pub content : file.written ≡ bytes
   pub synced : file.is_synced ≡ true
   pub sound : file.sync_failed ≡ false
+  pub modes : are_permissions file.modes ≡ true
   pub named : IsNamedBy file draft (path_below limits.root path) (changes before) replaces
       (changes after)
   pub over : LooksThenRenames replaces (path_below limits.root path) before after

@@ -1,19 +1,19 @@
 //! Begins the draft of a new file.
 
-ghost use Rattle.std.specs.Prelude.{◌≡◌, ◌≢◌, ◌⊎◌, [], Ok, IfOk, IfErr, OnErr};
+ghost use Rattle.std.specs.Prelude.{◌≡◌, ◌⊎◌, IfOk, IfErr, OnErr};
 ghost use Rattle.std.specs.String.{string_bytes};
 ghost use Rattle.tftp_file.specs.Path.{IsPath};
 ghost use Rattle.tftp_disk.specs.Changes.{changes};
 ghost use Rattle.tftp_disk.specs.DiskFault.{MayNotName, is_replaced};
-ghost use Rattle.tftp_folder.specs.Begin.{draft_name, MakesDraft, BeginsNone};
-ghost use Rattle.tftp_folder.specs.Commit.{lock_of};
-ghost use Rattle.tftp_folder.specs.Draft.{bytes_of, IsThere};
+ghost use Rattle.tftp_folder.specs.Begin.{draft_name, TriesDraft};
+ghost use Rattle.tftp_folder.specs.Draft.{BeginsAt, IsThere};
 ghost use Rattle.tftp_folder.specs.Inside.{IsInside, StaysInside};
 ghost use Rattle.tftp_folder.specs.Opened.{follows};
 ghost use Rattle.tftp_folder.specs.Placed.{LeavesOthers};
 ghost use Rattle.tftp_folder.specs.Uploads.{path_below};
 
 use crate::folder_draft::FolderDraft;
+use crate::making::MadeDraft;
 use crate::served_folder::ServedFolder;
 use std::alloc::Global;
 use tftp_disk::{Disk, DiskWriter, Existing, write_buffer};
@@ -25,10 +25,9 @@ use tftp_lines::Reason;
 pub(crate) struct DraftMemory {
     /// The path of the file after the commit.
     target: String,
-    /// The path of the draft.
+    /// The first path of the draft.
     draft: String,
     buffer: Vec<u8>,
-    ghost apart: { string_bytes draft ≢ lock_of (string_bytes target) },
 }
 
 impl DraftMemory {
@@ -65,23 +64,23 @@ impl DraftMemory {
 pub(crate) fn begin_draft<D: Disk>(
     served: &ServedFolder,
     disk: &mut D,
+    alloc: Global,
     path: &Path,
     port: u16,
     memory: DraftMemory,
     existing: Existing,
 ) -> Result<FolderDraft<D::File>, StoreFault>
+    requires { string_bytes memory.draft ≡ draft_name (string_bytes served.now.drafts) port }
     ensures fault { IfErr result (MayNotName (is_replaced existing)) }
-    ensures ok { IfOk result (λ draft. (draft.draft ≡ memory.draft)
-        × (draft.target ≡ memory.target) × (bytes_of draft ≡ [])
-        × MakesDraft (string_bytes memory.draft) (changes (D.log disk.old)) (Ok tt)
-        (changes (D.log disk.new))) }
-    ensures err { OnErr result (BeginsNone (string_bytes memory.draft)
+    ensures ok { IfOk result (λ draft. BeginsAt (string_bytes served.now.drafts) port
+        (string_bytes memory.target) draft (changes (D.log disk.old)) (changes (D.log disk.new))) }
+    ensures err { OnErr result (TriesDraft (string_bytes served.now.drafts) port
         (changes (D.log disk.old)) (changes (D.log disk.new))) }
     ensures there { IfOk result (λ draft. IsThere draft (D.log disk.new)) }
-    ensures others { LeavesOthers (string_bytes memory.draft) (D.log disk.old) (D.log disk.new) }
+    ensures others { LeavesOthers (string_bytes served.now.drafts) port (D.log disk.old)
+        (D.log disk.new) }
     ensures follows { follows (D.log disk.new) ≡ follows (D.log disk.old) }
     ensures inside { IsInside (string_bytes served.now.root) (string_bytes served.now.drafts)
-        → IsInside (string_bytes served.now.root) (string_bytes memory.draft)
         → IsInside (string_bytes served.now.root) (string_bytes memory.target)
         → StaysInside (string_bytes served.now.root) (D.log disk.old) (D.log disk.new) }
 {
@@ -91,9 +90,10 @@ pub(crate) fn begin_draft<D: Disk>(
         buffer,
     } = memory;
     let place = served.place_to_write(disk, path, target, existing)?;
-    let file = served.make_draft(disk, draft.as_str())?;
+    let made = served.make_draft(disk, alloc, port, draft)?;
+    let MadeDraft { path, file } = made;
     let replaced = place.replaced;
-    let mut draft = FolderDraft::new(DiskWriter::new(file, buffer), port, draft, place);
+    let mut draft = FolderDraft::new(DiskWriter::new(file, buffer), port, path, place);
     match replaced {
         Some(found) => match draft.take_permissions(&found) {
             Ok(_) => Ok(draft),

@@ -5,15 +5,13 @@ ghost use Rattle.std.specs.Prelude.{◌≡◌, ◌⊎◌, ◌∷◌, [], true, O
 ghost use Rattle.std.specs.String.{string_bytes};
 ghost use Rattle.tftp_file.specs.Path.{IsPath};
 ghost use Rattle.tftp_disk.specs.Changes.{changes};
-ghost use Rattle.tftp_disk.specs.DiskTrace.{Done};
 ghost use Rattle.tftp_disk.specs.DiskTrace.DiskEvent.{Looked, Opened, Examined};
 ghost use Rattle.tftp_disk.specs.Found.{is_same_file};
 ghost use Rattle.tftp_disk.specs.declared.found.Found.{Found};
 ghost use Rattle.tftp_folder.specs.Opened.{FindsAt, FollowsTo, LooksLast, IsStill, OpensAt, follows};
-ghost use Rattle.tftp_folder.specs.Placed.{LeavesOthers, placed};
+ghost use Rattle.tftp_folder.specs.Placed.{placed};
 ghost use Rattle.tftp_disk.specs.Given.{is_at_start};
 ghost use Rattle.tftp_folder.specs.Opened.{OpensSeen};
-ghost use Rattle.tftp_folder.specs.Begin.{draft_name, IsNew, MakesDraft};
 ghost use Rattle.tftp_folder.specs.Inside.{IsInside, StaysInside};
 ghost use Rattle.tftp_folder.specs.Uploads.{IsBelow, path_below};
 ghost use Rattle.tftp_disk.specs.DiskFault.{MayNotOpen, MayNotStore, MayNotName, is_replaced};
@@ -22,8 +20,8 @@ use crate::below::is_below;
 use crate::naming::{NameFault, has_no_link};
 use crate::replacing::check_replaced;
 use crate::served_folder::ServedFolder;
-use std::alloc::{AllocError, Global};
-use std::io::{self, ErrorKind};
+use std::alloc::Global;
+use std::io::ErrorKind;
 use tftp_disk::{
     Disk, DiskFile, Existing, FileId, Found, Kind, Looks, View, folder_of, folder_or_root,
 };
@@ -471,56 +469,5 @@ impl ServedFolder {
             Ok(found) => Ok(found.id),
             Err(error) => Err(self.write_refused(&error)),
         }
-    }
-
-    /// The path of the draft of the transfer at the port.
-    pub(crate) fn draft_path(&self, alloc: Global, port: u16) -> Result<String, AllocError>
-        ensures { IfOk result (λ path. string_bytes path
-            ≡ draft_name (string_bytes self.now.drafts) port) }
-    {
-        let folder = self.drafts.as_str();
-        format!(in alloc; "{folder}/.tftp-{port}")
-    }
-
-    /// Creates the draft file, after removing an old one of that name.
-    pub(crate) fn make_draft<D: Disk>(
-        &self,
-        disk: &mut D,
-        draft: &str,
-    ) -> Result<DiskFile<D::File>, StoreFault>
-        ensures fault { IfErr result MayNotStore }
-        ensures ok { IfOk result (λ file. IsNew draft.now file.trace.events (D.log disk.new)
-            × MakesDraft draft.now (changes (D.log disk.old)) (Ok tt)
-            (changes (D.log disk.new))) }
-        ensures err { OnErr result ((answer : Done) × MakesDraft draft.now
-            (changes (D.log disk.old)) answer (changes (D.log disk.new))) }
-        ensures others { LeavesOthers draft.now (D.log disk.old) (D.log disk.new) }
-        ensures follows { follows (D.log disk.new) ≡ follows (D.log disk.old) }
-        ensures inside { IsInside (string_bytes self.now.root) draft.now
-            → StaysInside (string_bytes self.now.root) (D.log disk.old) (D.log disk.new) }
-    {
-        match make_again(disk, draft) {
-            Ok(file) => Ok(file),
-            Err(error) => Err(self.draft_refused(&error)),
-        }
-    }
-}
-
-/// Creates a draft file, after removing an old one of that name.
-fn make_again<D: Disk>(disk: &mut D, draft: &str) -> io::Result<DiskFile<D::File>>
-    ensures ok { IfOk result (λ file. IsNew draft.now file.trace.events (D.log disk.new)
-        × MakesDraft draft.now (changes (D.log disk.old)) (Ok tt)
-        (changes (D.log disk.new))) }
-    ensures err { IfErr result (λ error. MakesDraft draft.now (changes (D.log disk.old))
-        (Err error) (changes (D.log disk.new))) }
-    ensures others { LeavesOthers draft.now (D.log disk.old) (D.log disk.new) }
-    ensures follows { follows (D.log disk.new) ≡ follows (D.log disk.old) }
-    ensures inside { (root : List ℕ) → IsInside root draft.now
-        → StaysInside root (D.log disk.old) (D.log disk.new) }
-{
-    let _ = disk.remove(draft);
-    match disk.make(draft) {
-        Ok(file) => Ok(file),
-        Err(error) => Err(error),
     }
 }

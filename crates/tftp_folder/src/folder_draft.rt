@@ -4,11 +4,12 @@ ghost use Rattle.std.specs.Prelude.{ℕ, ◌≡◌, ◌≢◌, List, ◌++◌, [
 ghost use Rattle.std.specs.Prelude.{IfOk, OnErr};
 ghost use Rattle.std.specs.String.{string_bytes};
 ghost use Rattle.tftp_disk.specs.Changes.{changes, renames};
-ghost use Rattle.tftp_disk.specs.DiskTrace.{made_at, is_synced, sync_failed, state_of};
+ghost use Rattle.tftp_disk.specs.DiskTrace.{made_at, modes_asked, is_synced, sync_failed, state_of};
 ghost use Rattle.tftp_disk.specs.DiskWriter.{calls_of, handed};
 ghost use Rattle.tftp_folder.specs.Commit.{lock_of};
 ghost use Rattle.tftp_folder.specs.Looked.{LooksFor, is_found};
 ghost use Rattle.tftp_folder.specs.Inside.{IsInside, StaysInside};
+ghost use Rattle.tftp_folder.specs.Modes.{are_permissions};
 ghost use Rattle.tftp_folder.specs.Opened.{follows};
 ghost use Rattle.tftp_folder.specs.Placed.{placed};
 
@@ -49,6 +50,7 @@ pub struct FolderDraft<F> {
     failure: Option<io::Error>,
     ghost placed: { made_at writer.file.trace.events ≡ Some (string_bytes draft) },
     ghost sound: { failure ≡ None → sync_failed writer.file.trace.events ≡ false },
+    ghost modes: { are_permissions (modes_asked writer.file.trace.events) ≡ true },
 }
 
 impl<F: Write> FolderDraft<F> {
@@ -63,6 +65,7 @@ impl<F: Write> FolderDraft<F> {
     ) -> FolderDraft<F>
         requires placed { made_at (calls_of writer) ≡ Some (string_bytes draft) }
         requires sound { sync_failed (calls_of writer) ≡ false }
+        requires modes { modes_asked (calls_of writer) ≡ [] }
         ensures writer { result.writer ≡ writer }
         ensures draft { result.draft ≡ draft }
         ensures target { result.target ≡ place.path }
@@ -149,7 +152,8 @@ impl<F: Write> FolderDraft<F> {
 }
 
 impl<F: Write + OpenFile> FolderDraft<F> {
-    ghost use Rattle.tftp_folder.specs.Draft.{SameNames, IsDone, StaysDone, LooksForOwn, file_bytes};
+    ghost use Rattle.tftp_folder.specs.Draft.{SameNames, IsDone, KeepsFile, StaysDone, LooksForOwn, file_bytes};
+    ghost use Rattle.tftp_folder.specs.Modes.{TakesMode};
 
     /// Writes the buffered bytes once they are due. It syncs them only if too many are unsynced.
     pub(crate) fn write_behind(&mut self)
@@ -213,8 +217,10 @@ impl<F: Write + OpenFile> FolderDraft<F> {
 
     /// Gives the file the permissions of another. Returns whether it had others.
     pub(crate) fn take_permissions(&mut self, replaced: &Found) -> io::Result<bool>
-        ensures stays { StaysDone self.old self.new }
+        ensures stays { KeepsFile self.old self.new }
         ensures buffer { self.new.writer.buffer ≡ self.old.writer.buffer }
+        ensures takes { TakesMode replaced.now (calls_of self.old.writer) result
+            (calls_of self.new.writer) }
     {
         let wanted = permissions_of(replaced);
         match self.writer.examine() {
@@ -278,7 +284,7 @@ fn is_at<L: Looks, F: OpenFile>(writer: &mut DiskWriter<F>, looks: &mut L, path:
 }
 
 /// Whether an open file and a path were looked at, and are one file.
-fn is_found(opened: io::Result<Found>, found: io::Result<Found>) -> bool
+pub(crate) fn is_found(opened: io::Result<Found>, found: io::Result<Found>) -> bool
     ensures { result ≡ is_found opened found }
 {
     match opened {

@@ -1,12 +1,14 @@
 //! A file of a folder that is being read.
 
-ghost use Rattle.std.specs.Prelude.{◌≡◌, [], IfOk};
-ghost use Rattle.tftp_disk.specs.DiskSource.{IsUnread};
+ghost use Rattle.std.specs.Prelude.{◌≡◌, ◌≤◌, [], Err, None, IfOk, IsSome, vec_capacity};
+ghost use Rattle.tftp_disk.specs.DiskSource.{GivesPiece, IsUnread, source_error};
+ghost use Rattle.tftp_file.specs.Source.{Fills, added_to};
 ghost use Rattle.tftp_folder.specs.Source.{calls_of, text_of};
 
 use crate::measured::StatedLength;
 use std::alloc::{AllocError, Global};
 use std::cell::Cell;
+use std::io::Read;
 use std::rc::Rc;
 use std::snapshot::Snapshot;
 use tftp_disk::{DiskFile, DiskSource, View};
@@ -61,6 +63,8 @@ pub struct FolderSource<V: View> {
     found: V,
     /// How long its text is said to be. Only clauses read it: it uses no memory.
     stated: Snapshot<StatedLength>,
+    /// The number of bytes of a text in netascii that are not given yet.
+    left: Option<u64>,
     /// The reason of the store.
     reason: SharedReason,
 }
@@ -86,9 +90,36 @@ impl<V: View> FolderSource<V> {
                 text,
                 found,
                 stated: Snapshot::of(length),
+                left: match mode {
+                    Mode::Netascii => Some(length.bytes),
+                    Mode::Octet => None,
+                },
                 reason,
             }),
             Err(error) => Err(error),
+        }
+    }
+
+    /// Whether a fill requests all that is left of a text in netascii: more is there only if the file was
+    /// changed since its text was measured, and the client would get a part of that.
+    fn is_last(&self, want: usize) -> bool {
+        match self.left {
+            Some(left) => left <= want as u64,
+            None => false,
+        }
+    }
+
+    /// Counts what a fill gave of a text in netascii.
+    fn count(&mut self, filled: Result<usize, FileFault>)
+        ensures { self.new ≡ record self.old { left = self.new.left } }
+    {
+        match self.left {
+            Some(left) => {
+                if let Ok(count) = filled {
+                    self.left = Some(left.saturating_sub(count as u64));
+                }
+            }
+            None => {}
         }
     }
 
@@ -127,12 +158,32 @@ impl<V: View> Source for FolderSource<V> {
     ghost unmoved = { λ a. gives_nothing (text_of a) };
 
     fn fill(&mut self, want: usize, out: &mut Vec<u8>) -> Result<usize, FileFault> {
-        let filled = self.text.fill(want, out);
+        let is_last = self.is_last(want);
+        let filled = fill_text(&mut self.text, is_last, want, out);
         self.note(filled, want);
+        self.count(filled);
         filled
     }
 
     fn read_ahead(&mut self) {
         self.text.read_ahead();
     }
+}
+
+/// A fill of a text, which is to end with it if it is the last.
+fn fill_text<F: Read>(
+    text: &mut DiskSource<F>,
+    is_last: bool,
+    want: usize,
+    out: &mut Vec<u8>,
+) -> Result<usize, FileFault>
+    ensures fills { Fills None None want out.old.items out.new.items result }
+    ensures fails { IsSome (source_error text.old) → result ≡ Err FileFault.Read }
+    ensures gives { GivesPiece text.old (added_to out.old.items out.new.items) text.new }
+    ensures capacity { vec_capacity out.old ≤ vec_capacity out.new }
+{
+    if is_last {
+        return text.fill_last(want, out);
+    }
+    text.fill(want, out)
 }

@@ -165,7 +165,10 @@ impl<D: Disk> FolderStore<D> {
         if let Err(error) = check_empty(file, found) {
             return Err(self.not_empty(&error));
         }
-        match self.lengths.length_of(file, found, mode) {
+        match self
+            .lengths
+            .length_of(file, found, mode, self.disk.seconds())
+        {
             Ok(stated) => Ok(stated),
             Err(error) => Err(self.folder.refused(reason_of(&error))),
         }
@@ -418,6 +421,7 @@ impl<D: Disk> Store for FolderStore<D> {
         begin_draft(
             &self.folder,
             &mut self.disk,
+            alloc,
             path,
             self.port,
             memory,

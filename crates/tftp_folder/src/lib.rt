@@ -14,6 +14,7 @@ mod folder_source;
 mod folder_store;
 pub mod laws;
 mod locked;
+mod making;
 mod measured;
 mod naming;
 mod replacing;

@@ -6,7 +6,7 @@ ghost use Rattle.std.specs.Option.{option_map_or};
 ghost use Rattle.tftp_file.specs.declared.length.TheConstants.{MAX_WIRE};
 ghost use Rattle.tftp_disk.specs.Given.{examined, given, is_at_end};
 ghost use Rattle.tftp_disk.specs.Measuring.{calls_on, StaysOpen};
-ghost use Rattle.tftp_folder.specs.Counted.{IsUnchanged, length_counted};
+ghost use Rattle.tftp_folder.specs.Counted.{IsSettled, IsUnchanged, length_counted};
 
 use std::io::{self, Read};
 use std::snapshot::Snapshot;
@@ -69,11 +69,6 @@ impl Measured {
         }
     }
 
-    /// Which file it is.
-    pub(crate) fn id(&self) -> FileId {
-        self.found.id
-    }
-
     /// The length.
     pub(crate) fn stated(&self) -> StatedLength
         ensures { IsCounted self.now.found (counted_by result) result.bytes }
@@ -85,7 +80,7 @@ impl Measured {
     }
 
     /// The length, if this is what was measured of the file, and that was not changed since.
-    pub(crate) fn stated_of(&self, found: &Found) -> Option<StatedLength>
+    fn stated_of(&self, found: &Found) -> Option<StatedLength>
         ensures { IfSome result (λ stated. IsCounted found.now (counted_by stated) stated.bytes) }
     {
         if is_unchanged(&self.found, found) {
@@ -94,6 +89,51 @@ impl Measured {
             None
         }
     }
+}
+
+/// A length that is remembered. The file had not been changed for more than two seconds before the
+/// pass: so long is the tick of the coarsest clock of a file system. A later change has another time.
+#[derive(Drop)]
+pub(crate) struct Kept {
+    measured: Measured,
+    /// The seconds since 1970 before the pass.
+    seconds: i64,
+    ghost settled: { IsSettled measured.found.changed seconds },
+}
+
+impl Kept {
+    ghost use Rattle.tftp_folder.specs.Counted.{IsCounted};
+    ghost use Rattle.tftp_folder.specs.Source.{counted_by};
+
+    /// A length to be remembered; none if the file was changed shortly before these seconds, or if they
+    /// are not known.
+    pub(crate) fn of(measured: Measured, seconds: Option<i64>) -> Option<Kept> {
+        let seconds = seconds?;
+        if is_settled(measured.found.changed, seconds) {
+            Some(Kept { measured, seconds })
+        } else {
+            None
+        }
+    }
+
+    /// Which file it is.
+    pub(crate) fn id(&self) -> FileId {
+        self.measured.found.id
+    }
+
+    /// The length, if this is what was measured of the file, and that was not changed since.
+    pub(crate) fn stated_of(&self, found: &Found) -> Option<StatedLength>
+        ensures { IfSome result (λ stated. IsCounted found.now (counted_by stated) stated.bytes) }
+    {
+        self.measured.stated_of(found)
+    }
+}
+
+/// Whether a change was more than two seconds before.
+fn is_settled(changed: i64, seconds: i64) -> bool
+    ensures { result ≡ true → IsSettled changed seconds }
+{
+    seconds >= 2 && changed < seconds - 2
 }
 
 /// The length of a text that was counted, or `MAX_WIRE + 1` if it is longer.

@@ -1,6 +1,6 @@
 //! Gives a draft its name on the disk, in the folder that its request named.
 
-ghost use Rattle.std.specs.Prelude.{ℕ, ◌≡◌, List, ◌∷◌, true, false, Ok, OnOk, OnErr, IfSome};
+ghost use Rattle.std.specs.Prelude.{ℕ, ◌≡◌, List, ◌∷◌, true, false, Ok, IfOk, OnOk, OnErr, IfSome};
 ghost use Rattle.tftp_disk.specs.Changes.{changes, renames};
 ghost use Rattle.tftp_disk.specs.DiskTrace.DiskEvent.{Looked};
 ghost use Rattle.tftp_disk.specs.declared.found.Found.{Found};
@@ -10,7 +10,9 @@ ghost use Rattle.tftp_disk.specs.DiskFault.{is_replaced};
 ghost use Rattle.tftp_disk.specs.NamedFolder.{path_in};
 ghost use Rattle.tftp_folder.specs.Draft.{IsDone, StaysDone, KeepsDone, NamesDraft, TakesBack};
 ghost use Rattle.std.specs.String.{string_bytes};
-ghost use Rattle.tftp_folder.specs.Commit.{MayRemove, MayRemoveNew, LooksThenRenames};
+ghost use Rattle.tftp_folder.specs.Commit.{ClearsDraft, MayRemove, MayRemoveNew, LooksThenRenames};
+ghost use Rattle.tftp_folder.specs.Commit.{is_linked};
+ghost use Rattle.tftp_folder.specs.Way.{is_link};
 ghost use Rattle.tftp_folder.specs.Draft.{NamesIn, GivesName, NamesNothing, NamesNothingIn, SameNames};
 ghost use Rattle.tftp_folder.specs.Draft.{IsDraftBelow, IsThere, RefusesDraft};
 ghost use Rattle.tftp_folder.specs.Inside.{IsInside, StaysInside};
@@ -44,12 +46,22 @@ impl From<io::Error> for NameFault {
     }
 }
 
-/// Gives a draft its name, looks at the name again, and syncs the folder.
+/// How a draft got its name.
+#[derive(Clone, Copy)]
+enum Way {
+    /// By a hard link: its own path is still there.
+    Linked,
+    /// By a rename.
+    Renamed,
+}
+
+/// Gives a draft its name, looks at the name again, and syncs the folder. The draft's own path goes
+/// last: until the name is synced the file has both.
 ///
 /// `Rule` if another file has the path of the draft, or another folder that of its folder, or if the
 /// file that has the name by now may not be replaced. A name that was given is removed again if it
-/// leads out of the root, or if the sync fails and it is new; and only if it is still that of the
-/// draft's file, since it may be another server's by then.
+/// leads out of the root, or if the sync fails and the draft still has its own path; and only if it is
+/// still that of the draft's file, since it may be another server's by then.
 pub(crate) fn give_name<D: Disk>(
     disk: &mut D,
     root: &str,
@@ -89,7 +101,8 @@ pub(crate) fn give_name<D: Disk>(
     }
 }
 
-/// Gives a draft its name, looks at the name again, and syncs the open folder.
+/// Gives a draft its name, looks at the name again, syncs the open folder, and removes the draft's own
+/// path, if it has that still.
 fn name_in<D: Disk>(
     disk: &mut D,
     folder: &NamedFolder<D::File>,
@@ -113,29 +126,56 @@ fn name_in<D: Disk>(
         → IsDraftBelow root.now draft.old
         → StaysInside root.now (D.log disk.old) (D.log disk.new) }
 {
-    match put_name(disk, draft, existing) {
-        Ok(()) => {}
+    let way = match put_name(disk, draft, existing) {
+        Ok(way) => way,
         Err(fault) => return Err(fault),
-    }
+    };
     match look_again(disk, root, draft) {
         Ok(()) => {}
         Err(reason) => return Err(NameFault::Rule(reason)),
     }
     match folder.sync(disk) {
-        Ok(()) => Ok(()),
+        Ok(()) => {
+            remove_draft(disk, draft, way);
+            Ok(())
+        }
         Err(error) => {
-            take_back_new(disk, draft, existing);
+            take_back_new(disk, draft, existing, way);
             Err(NameFault::System(error))
         }
     }
 }
 
-/// Removes the name of a draft again, unless it replaced a file or is another file's by now.
-fn take_back_new<D: Disk>(disk: &mut D, draft: &mut FolderDraft<D::File>, existing: Existing)
+/// Removes the own path of a draft that got its name by a link.
+fn remove_draft<D: Disk>(disk: &mut D, draft: &FolderDraft<D::File>, way: Way)
+    ensures goes { ClearsDraft (is_link way) (string_bytes draft.now.draft)
+        (changes (D.log disk.old)) (changes (D.log disk.new)) }
+    ensures renames { renames (D.log disk.new) ≡ renames (D.log disk.old) }
+    ensures there { StaysThere (D.log disk.old) (D.log disk.new) }
+    ensures follows { follows (D.log disk.new) ≡ follows (D.log disk.old) }
+    ensures inside { (root : List ℕ) → IsDraftBelow root draft.now
+        → StaysInside root (D.log disk.old) (D.log disk.new) }
+{
+    match way {
+        Way::Linked => {
+            let _ = disk.remove(draft.draft.as_str());
+        }
+        Way::Renamed => {}
+    }
+}
+
+/// Removes the name of a draft again, if it has its own path still, and unless it replaced a file or is
+/// another file's by now.
+fn take_back_new<D: Disk>(
+    disk: &mut D,
+    draft: &mut FolderDraft<D::File>,
+    existing: Existing,
+    way: Way,
+)
     ensures stays { StaysDone draft.old draft.new }
     ensures removed { MayRemoveNew (string_bytes draft.new.target) (changes (D.log disk.old))
         (is_replaced existing) (changes (D.log disk.new)) }
-    ensures own { is_replaced existing ≡ false
+    ensures own { is_replaced existing ≡ false → is_link way ≡ true
         → TakesBack draft.old draft.new (D.log disk.old) (D.log disk.new) }
     ensures renames { renames (D.log disk.new) ≡ renames (D.log disk.old) }
     ensures there { StaysThere (D.log disk.old) (D.log disk.new) }
@@ -144,8 +184,28 @@ fn take_back_new<D: Disk>(disk: &mut D, draft: &mut FolderDraft<D::File>, existi
         → StaysInside root (D.log disk.old) (D.log disk.new) }
 {
     match existing {
-        Existing::Refused => take_back(disk, draft),
+        Existing::Refused => take_back_linked(disk, draft, way),
         Existing::Replaced => {}
+    }
+}
+
+/// Removes the name of a draft again, if it has its own path still, and unless it is another file's by
+/// now.
+fn take_back_linked<D: Disk>(disk: &mut D, draft: &mut FolderDraft<D::File>, way: Way)
+    ensures stays { StaysDone draft.old draft.new }
+    ensures removed { MayRemove (string_bytes draft.new.target) (changes (D.log disk.old))
+        (changes (D.log disk.new)) }
+    ensures own { is_link way ≡ true
+        → TakesBack draft.old draft.new (D.log disk.old) (D.log disk.new) }
+    ensures renames { renames (D.log disk.new) ≡ renames (D.log disk.old) }
+    ensures there { StaysThere (D.log disk.old) (D.log disk.new) }
+    ensures follows { follows (D.log disk.new) ≡ follows (D.log disk.old) }
+    ensures inside { (root : List ℕ) → IsDraftBelow root draft.old
+        → StaysInside root (D.log disk.old) (D.log disk.new) }
+{
+    match way {
+        Way::Linked => take_back(disk, draft),
+        Way::Renamed => {}
     }
 }
 
@@ -172,12 +232,13 @@ fn put_name<D: Disk>(
     disk: &mut D,
     draft: &mut FolderDraft<D::File>,
     existing: Existing,
-) -> Result<(), NameFault>
+) -> Result<Way, NameFault>
     requires { IsDone draft.old }
     ensures stays { OnOk result (KeepsDone draft.old draft.new) }
     ensures names { SameNames draft.old draft.new }
     ensures ok { OnOk result (NamesDraft draft.new (changes (D.log disk.old))
         (is_replaced existing) (changes (D.log disk.new))) }
+    ensures way { IfOk result (λ way. is_link way ≡ is_linked (changes (D.log disk.new))) }
     ensures err { OnErr result (RefusesDraft draft.new (changes (D.log disk.old))
         (is_replaced existing) (changes (D.log disk.new))) }
     ensures over { LooksThenRenames (is_replaced existing) (string_bytes draft.old.target)
@@ -190,10 +251,13 @@ fn put_name<D: Disk>(
 {
     match existing {
         Existing::Refused => match name_new(disk, draft) {
-            Ok(()) => Ok(()),
+            Ok(way) => Ok(way),
             Err(fault) => Err(fault),
         },
-        Existing::Replaced => rename_over(disk, draft),
+        Existing::Replaced => match rename_over(disk, draft) {
+            Ok(()) => Ok(Way::Renamed),
+            Err(fault) => Err(fault),
+        },
     }
 }
 
@@ -289,9 +353,10 @@ fn is_folder<L: Looks>(looks: &mut L, path: &str) -> bool
 
 /// Gives a draft a new name. A hard link never replaces a file. If the system refuses the link, the
 /// draft is renamed under a lock of the name.
-fn name_new<D: Disk>(disk: &mut D, draft: &FolderDraft<D::File>) -> Result<(), NameFault>
+fn name_new<D: Disk>(disk: &mut D, draft: &FolderDraft<D::File>) -> Result<Way, NameFault>
     ensures ok { OnOk result (NamesDraft draft.now (changes (D.log disk.old)) false
         (changes (D.log disk.new))) }
+    ensures way { IfOk result (λ way. is_link way ≡ is_linked (changes (D.log disk.new))) }
     ensures err { OnErr result (RefusesDraft draft.now (changes (D.log disk.old)) false
         (changes (D.log disk.new))) }
     ensures over { LooksThenRenames false (string_bytes draft.now.target) (D.log disk.old)
@@ -304,16 +369,13 @@ fn name_new<D: Disk>(disk: &mut D, draft: &FolderDraft<D::File>) -> Result<(), N
 {
     let (path, target) = (draft.draft.as_str(), draft.target.as_str());
     match disk.link(draft.file(), path, target) {
-        Ok(()) => {
-            let _ = disk.remove(path);
-            Ok(())
-        }
+        Ok(()) => Ok(Way::Linked),
         Err(error) => {
             if error.kind() == ErrorKind::AlreadyExists {
                 return Err(NameFault::System(error));
             }
             match rename_locked(disk, draft) {
-                Ok(()) => Ok(()),
+                Ok(()) => Ok(Way::Renamed),
                 Err(fault) => Err(fault),
             }
         }

@@ -1,6 +1,6 @@
 //! Which files a draft may replace, and what it has of them.
 
-ghost use Rattle.std.specs.Prelude.{ℕ, ◌≡◌, List, ◌∷◌, true, Ok, OnOk, OnErr};
+ghost use Rattle.std.specs.Prelude.{ℕ, ◌≡◌, ◌≤◌, List, ◌∷◌, true, Ok, OnOk, OnErr};
 ghost use Rattle.std.specs.String.{string_bytes};
 ghost use Rattle.tftp_disk.specs.Changes.{changes, renames};
 ghost use Rattle.tftp_disk.specs.DiskTrace.DiskEvent.{Tried};
@@ -8,6 +8,7 @@ ghost use Rattle.tftp_folder.specs.Commit.{MayBeReplaced, LooksThenRenames};
 ghost use Rattle.tftp_folder.specs.Draft.{IsDone, IsDraftBelow, KeepsDone, NamesDraft, RefusesDraft};
 ghost use Rattle.tftp_folder.specs.Draft.{IsThere, SameNames};
 ghost use Rattle.tftp_folder.specs.Inside.{IsInside, StaysInside};
+ghost use Rattle.tftp_folder.specs.Modes.{permissions};
 ghost use Rattle.tftp_folder.specs.Opened.{follows};
 ghost use Rattle.tftp_folder.specs.Placed.{StaysThere, placed};
 ghost use Rattle.tftp_folder.specs.Uploads.{IsBelow};
@@ -22,7 +23,10 @@ use tftp_lines::Reason;
 const PERMISSIONS: u32 = 0o777;
 
 /// The bits of the permissions in a file's mode.
-pub(crate) fn permissions_of(found: &Found) -> u32 {
+pub(crate) fn permissions_of(found: &Found) -> u32
+    ensures bits { result ≡ permissions found.now.mode }
+    ensures most { result ≤ 511 }
+{
     found.mode & PERMISSIONS
 }
 

@@ -7,7 +7,7 @@ ghost use Rattle.tftp_disk.specs.Measuring.{calls_on, StaysOpen};
 ghost use Rattle.tftp_folder.specs.Counted.{IsCounted};
 ghost use Rattle.tftp_folder.specs.Source.{StatesLength, counted_by};
 
-use crate::measured::{Measured, StatedLength};
+use crate::measured::{Kept, Measured, StatedLength};
 use lru::LruCache;
 use std::alloc::{AllocError, Global};
 use std::cell::RefCell;
@@ -17,14 +17,14 @@ use tftp_disk::{DiskFile, FileId, Found};
 use tftp_file::MAX_WIRE;
 use tftp_wire::Mode;
 
-/// How many lengths are remembered.
-const MOST_LENGTHS: usize = 1_024;
+/// How many lengths are remembered: some 10 MB at most, taken as they come.
+const MOST_LENGTHS: usize = 65_536;
 
 /// The measured lengths, and the longest length that can be sent.
 #[derive(Drop)]
 pub(crate) struct WireLengths {
     /// What was measured of each file last. It is its length as long as the file is not changed.
-    measured: RefCell<LruCache<FileId, Measured>>,
+    measured: RefCell<LruCache<FileId, Kept>>,
     /// The longest length on the wire that can be sent, in bytes.
     longest: u64,
 }
@@ -48,13 +48,15 @@ impl WireLengths {
 
     /// The length of an open file on the wire, or `MAX_WIRE + 1` if it is too long to be sent. In
     /// octet it is what the system states. In netascii a file is read to its end once, whatever the
-    /// block size, and again after a change. The length on the wire is at least that of the file,
-    /// so a file that is too long by its own length is not read.
+    /// block size, and again after a change, or if it was changed too shortly before. The length on the
+    /// wire is at least that of the file, so a file that is too long by its own length is not read.
+    /// `seconds` are those since 1970, before the file was read.
     pub(crate) fn length_of<F: Read + Seek + Drop>(
         &self,
         file: &mut DiskFile<F>,
         found: &Found,
         mode: Mode,
+        seconds: Option<i64>,
     ) -> io::Result<StatedLength>
         requires start { is_at_start (calls_on file.old) ≡ true }
         requires told { examined (calls_on file.old) ≡ Some found.now }
@@ -70,7 +72,7 @@ impl WireLengths {
         }
         match mode {
             Mode::Octet => Ok(StatedLength::uncounted(found.bytes)),
-            Mode::Netascii => self.netascii_length(file, found),
+            Mode::Netascii => self.netascii_length(file, found, seconds),
         }
     }
 
@@ -79,6 +81,7 @@ impl WireLengths {
         &self,
         file: &mut DiskFile<F>,
         found: &Found,
+        seconds: Option<i64>,
     ) -> io::Result<StatedLength>
         requires start { is_at_start (calls_on file.old) ≡ true }
         requires told { examined (calls_on file.old) ≡ Some found.now }
@@ -94,7 +97,7 @@ impl WireLengths {
         match file.seek(SeekFrom::Start(0)) {
             Ok(_) => {
                 let stated = measured.stated();
-                self.remember(measured);
+                self.remember(measured, seconds);
                 Ok(stated)
             }
             Err(error) => Err(error),
@@ -107,17 +110,21 @@ impl WireLengths {
     {
         match self.measured.try_borrow_mut() {
             Ok(mut lengths) => match lengths.get(&found.id) {
-                Some(measured) => measured.stated_of(found),
+                Some(kept) => kept.stated_of(found),
                 None => None,
             },
             Err(_) => None,
         }
     }
 
-    /// Remembers a length. When out of memory, it is measured again later.
-    fn remember(&self, measured: Measured) {
+    /// Remembers a length, if the file was not changed shortly before. When out of memory, it is
+    /// measured again later.
+    fn remember(&self, measured: Measured, seconds: Option<i64>) {
+        let Some(kept) = Kept::of(measured, seconds) else {
+            return;
+        };
         if let Ok(mut lengths) = self.measured.try_borrow_mut() {
-            let _ = lengths.put(measured.id(), measured);
+            let _ = lengths.put(kept.id(), kept);
         }
     }
 }

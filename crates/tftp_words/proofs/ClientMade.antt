@@ -1,7 +1,9 @@
 -- What a `tftp` did for its words is what some programs did: none, one, or two where its options were refused.
-use Rattle.std.proofs.Common.{◌≡◌, ℕ, true, List, [], ◌∷◌, ◌++◌, length, append_assoc, Option, Some, None, refl, sym}
+use Rattle.std.proofs.Common.{◌≡◌, ℕ, true, false, List, [], ◌∷◌, ◌++◌, length, append_assoc, Option, Some, None, refl, sym}
 use Rattle.std.proofs.Common.{ap, ◌∙◌, subst, inl, inr}
 use Rattle.std.specs.List.{AllByRecursion}
+use Rattle.std.specs.Prelude.{is_some}
+use Rattle.std.proofs.lemmas.Bool.{true≢false}
 use Rattle.tftp_negotiate.specs.declared.known.Kind.{Kind}
 use Rattle.tftp_negotiate.specs.declared.known.Kind.TheVariants.{Read, Write}
 use Rattle.tftp_file.specs.Sink.{SinkMeaning}
@@ -9,14 +11,16 @@ use Rattle.tftp_file.specs.Source.{SourceMeaning}
 use Rattle.tftp_file.specs.declared.files.Files.{Files}
 use Rattle.tftp_file.specs.declared.files.Files.TheVariants.{Source, Sink}
 use Rattle.tftp_file.specs.declared.length.TheConstants.{MAX_WIRE}
-use Rattle.tftp_ends.specs.End.{EndState, is_complete}
+use Rattle.tftp_ends.specs.End.{EndState, is_complete, outcome_of}
+use Rattle.tftp_ends.specs.declared.outcome.Outcome.{Outcome}
 use Rattle.tftp_ends.specs.Opening.{getting, putting}
 use Rattle.tftp_ends.specs.declared.endpoint.Endpoint.{Endpoint}
 use Rattle.tftp_ends.specs.declared.side.Side.TheVariants.{ClientRead, ClientWrite}
 use Rattle.tftp_lines.specs.declared.client_outcome.ClientOutcome.{ClientOutcome}
 use Rattle.tftp_lines.specs.declared.client_outcome.ClientOutcome.TheVariants as ends
+use Rattle.tftp_sockets.specs.Quiet.{waits}
 use Rattle.tftp_sockets.specs.Trace.{SocketEvent}
-use Rattle.tftp_client.specs.Converses.{State, most_waits}
+use Rattle.tftp_client.specs.Converses.{EndsBy, State, most_waits}
 use Rattle.tftp_client.specs.Moved.{Moved, nothing_moved, run_moves}
 use Rattle.tftp_client.specs.Ordered.{RunsOrder, RunsWords}
 use Rattle.tftp_client.specs.Runs.{Completes, FailsBy, FailsTransfer, IsCountOf, IsFileOf, IsWhole, MayOpen, RunsAs}
@@ -24,7 +28,7 @@ use Rattle.tftp_client.specs.Runs.{Dallies, Transfers, measured, moved_by, opens
 use Rattle.tftp_client.specs.Words.{WordsName}
 use Rattle.tftp_promises.specs.ClientPrograms.{ClientsArePrograms, IsClientRun, IsCounted, Mode, Netascii, Octet}
 use Rattle.tftp_promises.specs.Programs.{ClientOpens, ClientProgram, To_read, To_write, name_of}
-use Rattle.tftp_words.specs.Ran.{AreRunsOf, ClientRan, Finished, IsRunFor, IsRunOf, Job, LastDid, NotedBy}
+use Rattle.tftp_words.specs.Ran.{AreRunsOf, ClientRan, Finished, HasStopped, HaveStopped, IsRunFor, IsRunOf, Job, LastDid, NotedBy}
 use Rattle.tftp_words.specs.Ran.{finished_by, finished_in, side_of}
 
 module _ {G K : Type 0} (inputs : SourceMeaning G) (outputs : SinkMeaning K) {to : Endpoint} where
@@ -94,6 +98,13 @@ last_of {inputs = inputs} {outputs = outputs} {to = to} (Some done) clients more
   h.5,
 )
 
+-- both have stopped
+stopped_both : {G K : Type 0} {inputs : SourceMeaning G} {outputs : SinkMeaning K} {to : Endpoint} (most : ℕ)
+    (done : Option Finished) (clients more : List (ClientProgram inputs outputs to)) → HaveStopped most None clients →
+    HaveStopped most done more → HaveStopped most done (clients ++ more)
+stopped_both most (Some done) clients more h k = tt
+stopped_both most None clients more h k = both (HasStopped most) clients more h k
+
 job_mode : (kind : Kind) (job : Job) (length : ℕ) → (opens kind job length).role.mode ≡ job.mode
 job_mode Read job length = refl
 job_mode Write job length = refl
@@ -110,22 +121,24 @@ job_length Write job length is = refl
 module _ {G K : Type 0} {inputs : SourceMeaning G} {outputs : SinkMeaning K}
     (are_programs : ClientsArePrograms inputs outputs) (ran : ClientRan inputs outputs) (to : Endpoint) where
   -- programs that noted what leads from the one trace to the other
-  record Made (done : Option Finished) (before after : List SocketEvent) : Type 0 where
+  record Made (most : ℕ) (done : Option Finished) (before after : List SocketEvent) : Type 0 where
     clients : List (ClientProgram inputs outputs to)
     noted : NotedBy before clients after
     each : AllByRecursion (IsRunOf ran) clients
     last : LastDid done clients
+    stopped : HaveStopped most done clients
 
-  made_none : {before after : List SocketEvent} → after ≡ before → Made None before after
-  made_none same = record { clients = []; noted = same; each = tt; last = tt }
+  made_none : {most : ℕ} {before after : List SocketEvent} → after ≡ before → Made most None before after
+  made_none same = record { clients = []; noted = same; each = tt; last = tt; stopped = tt }
 
-  made_both : {done : Option Finished} {before middle after : List SocketEvent} → Made None before middle →
-      Made done middle after → Made done before after
-  made_both {done} {before} {middle} {after} first then = record {
+  made_both : {most : ℕ} {done : Option Finished} {before middle after : List SocketEvent} →
+      Made most None before middle → Made most done middle after → Made most done before after
+  made_both {most} {done} {before} {middle} {after} first then = record {
     clients = first.clients ++ then.clients;
     noted = noted_then before middle after first.clients then.clients first.noted then.noted;
     each = both (IsRunOf ran) first.clients then.clients first.each then.each;
     last = last_of done first.clients then.clients then.last;
+    stopped = stopped_both most done first.clients then.clients first.stopped then.stopped;
   }
 
   module _ (job : Job) (named : WordsName ran.words job) (there : job.server ≡ to) where
@@ -145,25 +158,48 @@ module _ {G K : Type 0} {inputs : SourceMeaning G} {outputs : SinkMeaning K}
               ∙ (job_side tried.kind tried length ∙ ap side_of kind);
         }
 
-        made_one : (its : Option Finished) → LastDid its (run.client ∷ []) → Made its before s.events
-        made_one its last = record {
+        made_one : (most : ℕ) (its : Option Finished) → LastDid its (run.client ∷ []) →
+            HaveStopped most its (run.client ∷ []) → Made most its before s.events
+        made_one most its last stopped = record {
           last = last;
+          stopped = stopped;
           clients = run.client ∷ [];
           noted = (run.begins, run.notes);
           each = (record { address = run.address; job = job; named = named; runs = runs_for }, tt);
         }
 
+        -- it is not complete, and has closed, or made its waits
+        has_stopped : (most : ℕ) (outcome : Outcome) → is_complete s.end.position.phase ≡ false → EndsBy most s outcome →
+            HasStopped most run.client
+        has_stopped most outcome incomplete (inl closed) = record {
+          incomplete = ap (λ (e : EndState). is_complete e.position.phase) run.ends ∙ incomplete;
+          closed = λ opened.
+              absurd
+              (true≢false
+              (sym (ap is_some (ap (λ (e : EndState). outcome_of e.position.phase) run.ends ∙ closed)) ∙ opened));
+        }
+        has_stopped most outcome incomplete (inr waited) = record {
+          incomplete = ap (λ (e : EndState). is_complete e.position.phase) run.ends ∙ incomplete;
+          closed = λ opened.
+              ap waits
+              (ap (λ (es : List SocketEvent). run.client.noted ++ es) run.begins ∙ sym run.notes) ∙ waited.1;
+        }
+
       -- it failed, if it opened
       made_stopped : (most : ℕ) (before after : List SocketEvent) (end : ClientOutcome) →
-          FailsBy inputs outputs most tried before after end → Made None before after
+          FailsBy inputs outputs most tried before after end → Made most None before after
       made_stopped most before after (ends.Failed outcome) failed =
           let f = failed.1 in
           let opened = job_opens inputs outputs tried.kind tried failed.0 f.fails.file server f.may f.side in
           let run =
           are_programs to ran.ip (opens tried.kind tried failed.0) f.fails.file opened before f.fails.port f.fails.reading
           f.fails.stops.last f.fails.stops.files f.fails.stops.converses in
-          subst (λ (events : List SocketEvent). Made None before events) f.fails.stops.events
-          (made_one failed.0 f.fails.file f.may f.side run.runs_so None tt)
+          subst (λ (events : List SocketEvent). Made most None before events) f.fails.stops.events
+          (made_one failed.0 f.fails.file f.may f.side run.runs_so most None tt (
+            has_stopped failed.0 f.fails.file f.may f.side run.runs_so most outcome f.fails.stops.incomplete
+                f.fails.stops.ends,
+            tt,
+          ))
       made_stopped most before after (ends.Complete count) failed = made_none failed.1
       made_stopped most before after ends.FileFault failed = made_none failed.1
       made_stopped most before after ends.SocketFault failed = made_none failed.1
@@ -197,8 +233,8 @@ module _ {G K : Type 0} {inputs : SourceMeaning G} {outputs : SinkMeaning K}
         abbrev finished : Finished
         finished = record { job = job; count = count; moved = moved }
 
-        made_complete : IsWhole inputs outputs files count moved.bytes → Made (Some finished) before after
-        made_complete whole =
+        made_complete : (most : ℕ) → IsWhole inputs outputs files count moved.bytes → Made most (Some finished) before after
+        made_complete most whole =
             let opened = job_opens inputs outputs tried.kind tried runs.length runs.runs.file server runs.may runs.side in
             let run =
             (are_programs to ran.ip (opens tried.kind tried runs.length) runs.runs.file opened before port runs.runs.reading last files
@@ -217,37 +253,37 @@ module _ {G K : Type 0} {inputs : SourceMeaning G} {outputs : SinkMeaning K}
                   ∙ (sym (job_length tried.kind tried runs.length (sym side_is ∙ is))
                   ∙ ap (λ (e : EndState). e.role.length) (sym run.end));
             } in
-            subst (λ (events : List SocketEvent). Made (Some finished) before events) stays.events
-            (made_one runs.length runs.runs.file runs.may runs.side run (Some finished) (
+            subst (λ (events : List SocketEvent). Made most (Some finished) before events) stays.events
+            (made_one runs.length runs.runs.file runs.may runs.side run most (Some finished) (
               [],
               run.client,
               refl,
               runs_for runs.length runs.runs.file runs.may runs.side run,
               counted,
               run.moves ∙ still moved,
-            ))
+            ) tt)
 
     itself_stopped : (most : ℕ) (before after : List SocketEvent) (end : ClientOutcome) →
-        FailsBy inputs outputs most job before after end → Made None before after
+        FailsBy inputs outputs most job before after end → Made most None before after
     itself_stopped most before after end failed = made_stopped job refl refl refl there most before after end failed
 
     abbrev done_by : ℕ → Moved → Option Finished
     done_by count moved = Some (record { job = job; count = count; moved = moved })
 
     made_completes : (status : ℕ) (before after : List SocketEvent) (h : Completes inputs outputs status job before after) →
-        Made (done_by h.count (moved_by inputs outputs h.transfers)) before after
+        Made (most_waits before) (done_by h.count (moved_by inputs outputs h.transfers)) before after
     made_completes status before after h = by_transfers h.transfers h.whole where
       by_transfers : (transfers : Transfers inputs outputs (most_waits before) h.port job before h.last h.files h.count) →
           IsWhole inputs outputs h.files h.count (moved_by inputs outputs transfers).bytes →
-          Made (done_by h.count (moved_by inputs outputs transfers)) before after
+          Made (most_waits before) (done_by h.count (moved_by inputs outputs transfers)) before after
       by_transfers (inl runs) whole =
-          made_complete job refl refl refl there runs h.stays h.stayed h.still h.side whole
+          made_complete job refl refl refl there runs h.stays h.stayed h.still h.side (most_waits before) whole
       by_transfers (inr again) whole =
           made_both (itself_stopped (most_waits before) before again.0 again.1.end again.1.fails)
-          (made_complete (plain job) refl refl refl there again.2 h.stays h.stayed h.still h.side whole)
+          (made_complete (plain job) refl refl refl there again.2 h.stays h.stayed h.still h.side (most_waits before) whole)
 
     made_failed : (most : ℕ) (before after : List SocketEvent) (end : ClientOutcome) →
-        FailsTransfer inputs outputs most job before after end → Made None before after
+        FailsTransfer inputs outputs most job before after end → Made most None before after
     made_failed most before after end h = elim h [
       | inl failed ↦ itself_stopped most before after end failed
       | inr again ↦
@@ -256,14 +292,15 @@ module _ {G K : Type 0} {inputs : SourceMeaning G} {outputs : SinkMeaning K}
     ]
 
     made_order : (status : ℕ) (before after : List SocketEvent) (h : RunsOrder inputs outputs job status before after) →
-        Made (finished_by inputs outputs job status before after h) before after
+        Made (most_waits before) (finished_by inputs outputs job status before after h) before after
     made_order status before after (inl done) = made_completes status before after done.1
     made_order status before after (inr failed) = made_failed (most_waits before) before after failed.1 failed.3
 
   -- what the command did
   made_words : ((job : Job) → WordsName ran.words job → job.server ≡ to) →
       (h : RunsWords inputs outputs ran.words ran.status ran.before ran.after) →
-      Made (finished_in inputs outputs ran.words ran.status ran.before ran.after h) ran.before ran.after
+      Made (most_waits ran.before) (finished_in inputs outputs ran.words ran.status ran.before ran.after h) ran.before
+      ran.after
   made_words asks (inl nothing) = made_none nothing.0
   made_words asks (inr did) =
       made_order did.0 did.1 (asks did.0 did.1) ran.status ran.before ran.after did.2
@@ -272,4 +309,4 @@ module _ {G K : Type 0} {inputs : SourceMeaning G} {outputs : SinkMeaning K}
       (clients : List (ClientProgram inputs outputs to)) × AreRunsOf ran clients
   client_made asks =
       let made = made_words asks ran.ran in
-      (made.clients, record { noted = made.noted; each = made.each; last = made.last })
+      (made.clients, record { noted = made.noted; each = made.each; last = made.last; stopped = made.stopped })

@@ -12,3 +12,4 @@ pub mod SharedFolderLemmas
 mod NamedServer
 mod WitnessRuns
 mod WitnessSeveral
+pub mod ExplainedMade

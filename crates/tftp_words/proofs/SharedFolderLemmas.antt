@@ -7,13 +7,13 @@ use Rattle.std.proofs.lemmas.Bool.{cond-true, cond-false, eq-eqb, eqb-true, eqb-
 use Rattle.std.specs.declared.io.Error.{Error}
 use Rattle.tftp_disk.specs.Changes.{changes, renames}
 use Rattle.tftp_disk.specs.DiskTrace.{DiskEvent, Done, FileState}
-use Rattle.tftp_disk.specs.DiskTrace.DiskEvent.{Looked, Followed, Resolved, Opened, Tried, Created, Made, Linked, Renamed, Removed}
+use Rattle.tftp_disk.specs.DiskTrace.DiskEvent.{Looked, Followed, Resolved, Opened, Tried, Created, Made, Locked, Linked, Renamed, Removed}
 use Rattle.tftp_disk.specs.DiskTrace.DiskEvent.{Folder_opened, Folder_synced, Examined, Given, Not_given, Sought}
 use Rattle.tftp_disk.specs.DiskTrace.DiskEvent.{Written, Not_written, Synced, Mode_set}
 use Rattle.tftp_disk.specs.declared.found.Found.{Found}
 use Rattle.tftp_disk.specs.Still.{AllLeave, LeavesPath}
 use Rattle.tftp_folder.specs.Changing.{HoldsLock, Limits}
-use Rattle.tftp_folder.specs.Commit.{IsFreeLocked, LooksThenRenames, Names, lock_of}
+use Rattle.tftp_folder.specs.Commit.{ClearsDraft, IsFreeLocked, LooksThenRenames, Names, is_linked, lock_of}
 use Rattle.tftp_folder.specs.Locks.{KeepLock, KeepsLock}
 use Rattle.tftp_folder.specs.Stored.{IsStoredAt}
 use Rattle.tftp_folder.specs.Uploads.{path_below}
@@ -222,6 +222,7 @@ leaves_by lock (Followed path answer) own before keeps none agrees has = tt
 leaves_by lock (Resolved path answer) own before keeps none agrees has = tt
 leaves_by lock (Opened path answer) own before keeps none agrees has = tt
 leaves_by lock (Tried path answer) own before keeps none agrees has = tt
+leaves_by lock (Locked path answer) own before keeps none agrees has = tt
 leaves_by lock (Created path calls) own before keeps none agrees has = tt
 leaves_by lock (Folder_opened path answer) own before keeps none agrees has = tt
 leaves_by lock (Folder_synced path answer) own before keeps none agrees has = tt
@@ -486,6 +487,7 @@ data Seen (event : DiskEvent) : Type 0 where
 seen : (event : DiskEvent) → Seen event
 seen (Renamed file from to answer) = A_rename (λ events. refl) (λ events. refl)
 seen (Made path answer) = A_change (λ events. refl) (λ events. refl)
+seen (Locked path answer) = A_change (λ events. refl) (λ events. refl)
 seen (Linked file from to answer) = A_change (λ events. refl) (λ events. refl)
 seen (Removed path answer) = A_change (λ events. refl) (λ events. refl)
 seen (Folder_opened path answer) = A_change (λ events. refl) (λ events. refl)
@@ -651,10 +653,9 @@ module _ (target : List ℕ) (before after : List DiskEvent) where
           },
           refl,
         )
-    from_names false named syncs is none (inl (removal, names)) over =
-        let removed = Removed draft removal in
-        let s = split after (syncs ++ removed ∷ []) (Linked file draft target (Ok tt)) opening
-        (is ∙ (ap (λ (l : List DiskEvent). syncs ++ l) names ∙ sym (append_assoc syncs (removed ∷ []) _))) in (
+    from_names false named syncs is none (inl names) over =
+        let s = split after syncs (Linked file draft target (Ok tt)) opening
+        (is ∙ ap (λ (l : List DiskEvent). syncs ++ l) names) in (
           record {
             front = s.front;
             call = Linked file draft target (Ok tt);
@@ -689,18 +690,34 @@ module _ (target : List ℕ) (before after : List DiskEvent) where
           refl,
         )
 
+-- what is left of a draft that has its name is removed, or nothing is
+record Clears (last after : List DiskEvent) : Type 0 where
+  front : List DiskEvent
+  is : after ≡ front ++ last
+  none : (rest : List DiskEvent) → renames (front ++ rest) ≡ renames rest
+
+clears : (linked : Bool) (draft : List ℕ) (last after : List DiskEvent) → ClearsDraft linked draft last after
+    → Clears last after
+clears true draft last after (removal, is) = record { front = Removed draft removal ∷ []; is = is; none = λ rest. refl }
+clears false draft last after is = record { front = []; is = is; none = λ rest. refl }
+
 names_it : (limits : Limits) (path bytes : List ℕ) (replaces : Bool) (before after : List DiskEvent)
     → (stored : IsStoredAt limits path bytes replaces before after)
     → (n : Names_it (path_below limits.root path) before after replaces) × (n.file ≡ stored.file)
 names_it limits path bytes replaces before after stored =
     let n = stored.named in
+    let c = clears (is_linked n.named) stored.draft n.last (changes after) n.cleared in
     elim (n.synced) [
       | inl (at, answer, folder, synced, is) ↦
+          let sync = Folder_synced (Some at) answer ∷ [] in
           from_names (path_below limits.root path) before after stored.file stored.draft n.folder n.answer replaces
-          n.named (Folder_synced (Some at) answer ∷ []) is (λ rest. refl) n.gives stored.over
+          n.named (c.front ++ sync)
+          (c.is ∙ (ap (λ (l : List DiskEvent). c.front ++ l) is ∙ sym (append_assoc c.front sync n.named)))
+          (λ rest. ap (λ (l : List DiskEvent). renames l) (append_assoc c.front sync rest) ∙ c.none (sync ++ rest))
+          n.gives stored.over
       | inr (barred, is) ↦
           from_names (path_below limits.root path) before after stored.file stored.draft n.folder n.answer replaces
-          n.named [] is (λ rest. refl) n.gives stored.over
+          n.named c.front (c.is ∙ ap (λ (l : List DiskEvent). c.front ++ l) is) c.none n.gives stored.over
     ]
 
 pub puts_name_their_files : PutsNameTheirFiles

@@ -259,6 +259,7 @@ gets_of = record {
     },
     refl,
   );
+  stopped = tt;
 }
 
 pub getting_ran : AreAllRuns (get_ran ∷ []) (getting ∷ [])
@@ -293,6 +294,7 @@ putting_ran = (
       },
       refl,
     );
+    stopped = tt;
   },
   refl,
 )

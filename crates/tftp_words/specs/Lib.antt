@@ -8,3 +8,4 @@ pub mod PutFromDisk
 pub mod OverSeveral
 pub mod SeveralFromDisk
 pub mod SharedFolder
+pub mod Explained

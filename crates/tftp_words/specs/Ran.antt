@@ -1,5 +1,5 @@
 -- What `tftpd` and `tftp` ran for the words of their command lines, and which programs these are.
-use Rattle.std.specs.Prelude.{ℕ, ◌≡◌, List, [], ◌∷◌, ◌++◌, Option, Some, None, Result}
+use Rattle.std.specs.Prelude.{ℕ, ◌≡◌, false, List, [], ◌∷◌, ◌++◌, Option, Some, None, Result}
 use Rattle.std.specs.List.{AllByRecursion}
 use Rattle.std.proofs.Common.{inl, inr}
 use Rattle.std.specs.String.{string_bytes}
@@ -8,16 +8,20 @@ use Rattle.tftp_negotiate.specs.declared.known.Kind.TheVariants.{Read, Write}
 use Rattle.tftp_file.specs.Sink.{SinkMeaning}
 use Rattle.tftp_file.specs.Source.{SourceMeaning}
 use Rattle.tftp_ends.specs.declared.endpoint.Endpoint.{Endpoint}
+use Rattle.tftp_ends.specs.End.{is_complete}
+use Rattle.tftp_ends.specs.Run.{IsOpen}
 use Rattle.tftp_ends.specs.declared.side.Side.{Side}
 use Rattle.tftp_ends.specs.declared.side.Side.TheVariants.{ClientRead, ClientWrite}
 use Rattle.tftp_store.specs.Store.{StoreMeaning}
 use Rattle.tftp_server.specs.State.{ServerState}
 use Rattle.tftp_sockets.specs.Bound.{IsBoundTo}
+use Rattle.tftp_sockets.specs.Quiet.{waits}
 use Rattle.tftp_sockets.specs.Trace.{SocketEvent}
 use Rattle.tftp_loop.specs.LoopStates.{noted_at_end}
 use Rattle.tftp_loop.specs.WholeRun.{RunsServer, Unbound, Bound, listening}
 use Rattle.tftp_loop.specs.declared.serving.LoopConfig.{LoopConfig}
 use Rattle.tftp_loop.specs.declared.serving.LoopFault.{LoopFault}
+use Rattle.tftp_client.specs.Converses.{most_waits}
 use Rattle.tftp_client.specs.Moved.{Moved}
 use Rattle.tftp_client.specs.Ordered.{RunsOrder, RunsWords}
 use Rattle.tftp_client.specs.Runs.{moved_by}
@@ -154,13 +158,28 @@ module _ {G K : Type 0} {inputs : SourceMeaning G} {outputs : SinkMeaning K} whe
       × (clients ≡ earlier ++ client ∷ []) × IsRunFor done.job client
       × IsCounted done.count client × (moved_in client.runs ≡ done.moved)
 
+  -- a program of a command that did not complete: its end is not complete, and it has closed, unless
+  -- the command has made all its waits
+  pub record HasStopped (most : ℕ) {to : Endpoint} (client : ClientProgram inputs outputs to)
+      : Type 0 where
+    pub incomplete : is_complete client.last.end.position.phase ≡ false
+    pub closed : IsOpen client.last.end → waits (client.noted ++ client.before) ≡ most
+
+  abbrev pub HaveStopped : {to : Endpoint} → ℕ → Option Finished
+      → List (ClientProgram inputs outputs to) → Type 0
+  HaveStopped most (Some done) clients = Unit {0}
+  HaveStopped {to} most None clients =
+      AllByRecursion (λ (client : ClientProgram inputs outputs to). HasStopped most client) clients
+
   -- these programs are what a `tftp` ran: none, one, or two where its options were refused; the
-  -- last is complete if its line was printed
+  -- last is complete if its line was printed, and else all have stopped
   pub record AreRunsOf (ran : ClientRan inputs outputs) {to : Endpoint}
       (clients : List (ClientProgram inputs outputs to)) : Type 0 where
     pub noted : NotedBy ran.before clients ran.after
     pub each : AllByRecursion (IsRunOf ran) clients
     pub last : LastDid
+        (finished_in inputs outputs ran.words ran.status ran.before ran.after ran.ran) clients
+    pub stopped : HaveStopped (most_waits ran.before)
         (finished_in inputs outputs ran.words ran.status ran.before ran.after ran.ran) clients
 
   -- and these what all of them ran

@@ -1,6 +1,7 @@
 //! The law from command lines to the promises, over the definitions alone.
 
 ghost use Rattle.tftp_words.specs.EndToEnd.{WordsMoveFiles};
+ghost use Rattle.tftp_words.specs.Explained.{EachCommandIsExplained, EachOfSeveralIsExplained};
 ghost use Rattle.tftp_words.specs.FromDisk.{FromDiskToDisk};
 ghost use Rattle.tftp_words.specs.OverSeveral.{SeveralMoveFiles};
 ghost use Rattle.tftp_words.specs.PutFromDisk.{PutsFromDiskToDisk};
@@ -19,8 +20,8 @@ use tftp_file::{Sink, Source};
 use tftp_folder::laws::{gives_its_file, stores_what_it_took};
 use tftp_folder::{FolderSource, FolderStore};
 use tftp_promises::laws::{
-    a_client_is_one_run, a_server_is_one_run, each_client_keeps_promises, no_program_is_blamed,
-    programs_keep_promises,
+    a_client_ends_for_a_reason, a_client_is_one_run, a_server_is_one_run,
+    each_client_keeps_promises, no_program_is_blamed, programs_keep_promises,
 };
 use tftp_server::Store;
 
@@ -66,6 +67,26 @@ pub fn no_command_is_blamed<D: Disk, G: Source, K: Sink>()
     a_server_is_one_run::<FolderStore<D>>();
     programs_keep_promises::<FolderStore<D>, G, K>();
     no_program_is_blamed::<FolderStore<D>, G, K>();
+}
+
+/// Of a run of `tftpd`, and runs of `tftp` whose arguments name that server, over an honest network
+/// with fresh ports, each `tftp` that sent its request and ended otherwise than by `complete N` did so
+/// because its file or its store failed, an ERROR came, or the other file was no netascii; because it
+/// refused the first answer; because it had made all its waits; or because of one datagram, its
+/// request or a later one, all copies were not received, or all answers to them: it sent that once
+/// and for each retry, and the server, if it handled a copy, answered, or its transfer failed (RFC
+/// 1350, sections 2 and 7). Of several `tftpd` at one address and request port the same holds of
+/// each, and each client that it serves.
+pub fn a_command_ends_for_a_reason<D: Disk, G: Source, K: Sink>()
+    ensures one { EachCommandIsExplained D.log ⟦<FolderStore<D> as Store>⟧.meaning
+        ⟦<FolderSource<D::View> as Source>⟧.meaning G.meaning K.meaning }
+    ensures several { EachOfSeveralIsExplained D.log ⟦<FolderStore<D> as Store>⟧.meaning
+        ⟦<FolderSource<D::View> as Source>⟧.meaning G.meaning K.meaning }
+{
+    a_client_is_one_run::<G, K>();
+    a_server_is_one_run::<FolderStore<D>>();
+    programs_keep_promises::<FolderStore<D>, G, K>();
+    a_client_ends_for_a_reason::<FolderStore<D>, G, K>();
 }
 
 /// From disk to disk: if an honest network joined a run of `tftpd` and runs of `tftp` whose

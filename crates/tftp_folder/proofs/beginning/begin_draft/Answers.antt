@@ -1,52 +1,136 @@
--- The file of the draft was just made, and no other path was changed.
-use Rattle.std.proofs.Common.{◌∙◌, ap}
+-- The place is looked for, and then the file of the draft is made: no other path is changed.
+use Rattle.std.proofs.Common.{◌∙◌, List, ap, refl, rules, subst, sym}
 use Rattle.std.specs.String.{string_bytes}
-use Rattle.tftp_folder.proofs.PlacedLemmas.{new_draft_there, same_there, still_by, then_others}
+use Rattle.tftp_disk.specs.Changes.{changes}
+use Rattle.tftp_disk.specs.DiskTrace.{DiskEvent}
+use Rattle.tftp_folder.specs.Begin.{TriesDraft}
+use Rattle.tftp_folder.specs.Begin.TriesDraft.{Nothing}
+use Rattle.tftp_folder.proofs.MakingLemmas.{calls_inside, follows_by, made_calls, makes_draft, new_draft_there, on_err, others_by, tries_by}
+use Rattle.tftp_folder.proofs.PlacedLemmas.{same_there, still_by, then_others}
 use Rattle.tftp_folder.proofs.beginning.begin_draft.Goals as goal
 
-pub returns-in_err-place-clause-others : goal.returns-in_err-place-clause-others
-returns-in_err-place-clause-others g c = λ path when differs.
-    still_by path when (g.D.Looks.log c.args.disk.now) (g.D.Looks.log c.place_to_write.new.disk)
-    c.place_to_write.ensures.placed
+pub returns-in_err-place-clause-err : goal.returns-in_err-place-clause-err
+returns-in_err-place-clause-err g c =
+    on_err c.from_residual.result (subst (TriesDraft (string_bytes c.args.served.now.drafts) c.args.port (changes (g.D.Looks.log c.args.disk.now)))
+    (sym c.place_to_write.ensures.looks) Nothing)
 
-pub returns-in_err-file-clause-others : goal.returns-in_err-file-clause-others
-returns-in_err-file-clause-others g c =
-    then_others c.as_str.result.now (string_bytes c.args.memory.draft) (g.D.Looks.log c.args.disk.now)
-    (g.D.Looks.log c.place_to_write.new.disk) (g.D.Looks.log c.make_draft.new.disk) c.as_str.ensures.value
-    c.place_to_write.ensures.placed c.make_draft.ensures.others
+pub returns-in_err-place-clause-others : goal.returns-in_err-place-clause-others
+returns-in_err-place-clause-others g c = λ path when none.
+    still_by path when (g.D.Looks.log c.args.disk.now) (g.D.Looks.log c.place_to_write.new.disk) c.place_to_write.ensures.placed
+
+pub returns-in_err-made-clause-err : goal.returns-in_err-made-clause-err
+returns-in_err-made-clause-err g c =
+    on_err c.from_residual-in_err-made.result (subst (λ (before : List DiskEvent). TriesDraft (string_bytes c.args.served.now.drafts) c.args.port before (changes (g.D.Looks.log c.make_draft.new.disk)))
+    c.place_to_write.ensures.looks
+    (tries_by (string_bytes c.args.served.now.drafts) c.args.port (g.D.Looks.log c.place_to_write.new.disk) (g.D.Looks.log c.make_draft.new.disk) c.in_err-made.ensures.err))
+
+pub returns-in_err-made-clause-others : goal.returns-in_err-made-clause-others
+returns-in_err-made-clause-others g c =
+    then_others (string_bytes c.args.served.now.drafts) c.args.port (g.D.Looks.log c.args.disk.now) (g.D.Looks.log c.place_to_write.new.disk) (g.D.Looks.log c.make_draft.new.disk) c.place_to_write.ensures.placed
+    (others_by (string_bytes c.args.served.now.drafts) c.args.port (g.D.Looks.log c.place_to_write.new.disk) (g.D.Looks.log c.make_draft.new.disk) c.in_err-made.ensures.err)
+
+pub returns-in_err-made-clause-follows : goal.returns-in_err-made-clause-follows
+returns-in_err-made-clause-follows g c =
+    follows_by (string_bytes c.args.served.now.drafts) c.args.port (g.D.Looks.log c.place_to_write.new.disk) (g.D.Looks.log c.make_draft.new.disk) c.in_err-made.ensures.err ∙ c.place_to_write.ensures.follows
+
+pub returns-in_err-made-clause-inside : goal.returns-in_err-made-clause-inside
+returns-in_err-made-clause-inside g c = λ drafts target all.
+    calls_inside (string_bytes c.args.served.now.drafts) c.args.port (string_bytes c.args.served.now.root) (g.D.Looks.log c.place_to_write.new.disk) (g.D.Looks.log c.make_draft.new.disk) drafts c.in_err-made.ensures.err
+    (c.place_to_write.ensures.inside drafts target all)
 
 pub returns-in-Ok-clause-others : goal.returns-in-Ok-clause-others
 returns-in-Ok-clause-others g c =
-    then_others c.as_str.result.now (string_bytes c.args.memory.draft) (g.D.Looks.log c.args.disk.now)
-    (g.D.Looks.log c.place_to_write.new.disk) (g.D.Looks.log c.make_draft.new.disk) c.as_str.ensures.value
-    c.place_to_write.ensures.placed c.make_draft.ensures.others
+    then_others (string_bytes c.args.served.now.drafts) c.args.port (g.D.Looks.log c.args.disk.now) (g.D.Looks.log c.place_to_write.new.disk) (g.D.Looks.log c.make_draft.new.disk) c.place_to_write.ensures.placed
+    (others_by (string_bytes c.args.served.now.drafts) c.args.port (g.D.Looks.log c.place_to_write.new.disk) (g.D.Looks.log c.make_draft.new.disk)
+    (made_calls (string_bytes c.args.served.now.drafts) c.args.port (string_bytes c.in_ok-made.made.path) c.in_ok-made.made.file.trace.events (g.D.Looks.log c.place_to_write.new.disk) (g.D.Looks.log c.make_draft.new.disk) c.in_ok-made.ensures.ok))
+
+pub returns-in-Ok-clause-follows : goal.returns-in-Ok-clause-follows
+returns-in-Ok-clause-follows g c =
+    follows_by (string_bytes c.args.served.now.drafts) c.args.port (g.D.Looks.log c.place_to_write.new.disk) (g.D.Looks.log c.make_draft.new.disk)
+    (made_calls (string_bytes c.args.served.now.drafts) c.args.port (string_bytes c.in_ok-made.made.path) c.in_ok-made.made.file.trace.events (g.D.Looks.log c.place_to_write.new.disk) (g.D.Looks.log c.make_draft.new.disk) c.in_ok-made.ensures.ok)
+    ∙ c.place_to_write.ensures.follows
+
+pub returns-in-Ok-clause-inside : goal.returns-in-Ok-clause-inside
+returns-in-Ok-clause-inside g c = λ drafts target all.
+    calls_inside (string_bytes c.args.served.now.drafts) c.args.port (string_bytes c.args.served.now.root) (g.D.Looks.log c.place_to_write.new.disk) (g.D.Looks.log c.make_draft.new.disk) drafts
+    (made_calls (string_bytes c.args.served.now.drafts) c.args.port (string_bytes c.in_ok-made.made.path) c.in_ok-made.made.file.trace.events (g.D.Looks.log c.place_to_write.new.disk) (g.D.Looks.log c.make_draft.new.disk) c.in_ok-made.ensures.ok)
+    (c.place_to_write.ensures.inside drafts target all)
 
 pub returns-in-Err-clause-others : goal.returns-in-Err-clause-others
 returns-in-Err-clause-others g c =
-    then_others c.as_str.result.now (string_bytes c.args.memory.draft) (g.D.Looks.log c.args.disk.now)
-    (g.D.Looks.log c.place_to_write.new.disk) (g.D.Looks.log c.make_draft.new.disk) c.as_str.ensures.value
-    c.place_to_write.ensures.placed c.make_draft.ensures.others
+    then_others (string_bytes c.args.served.now.drafts) c.args.port (g.D.Looks.log c.args.disk.now) (g.D.Looks.log c.place_to_write.new.disk) (g.D.Looks.log c.make_draft.new.disk) c.place_to_write.ensures.placed
+    (others_by (string_bytes c.args.served.now.drafts) c.args.port (g.D.Looks.log c.place_to_write.new.disk) (g.D.Looks.log c.make_draft.new.disk)
+    (made_calls (string_bytes c.args.served.now.drafts) c.args.port (string_bytes c.in_ok-made.made.path) c.in_ok-made.made.file.trace.events (g.D.Looks.log c.place_to_write.new.disk) (g.D.Looks.log c.make_draft.new.disk) c.in_ok-made.ensures.ok))
+
+pub returns-in-Err-clause-follows : goal.returns-in-Err-clause-follows
+returns-in-Err-clause-follows g c =
+    follows_by (string_bytes c.args.served.now.drafts) c.args.port (g.D.Looks.log c.place_to_write.new.disk) (g.D.Looks.log c.make_draft.new.disk)
+    (made_calls (string_bytes c.args.served.now.drafts) c.args.port (string_bytes c.in_ok-made.made.path) c.in_ok-made.made.file.trace.events (g.D.Looks.log c.place_to_write.new.disk) (g.D.Looks.log c.make_draft.new.disk) c.in_ok-made.ensures.ok)
+    ∙ c.place_to_write.ensures.follows
+
+pub returns-in-Err-clause-inside : goal.returns-in-Err-clause-inside
+returns-in-Err-clause-inside g c = λ drafts target all.
+    calls_inside (string_bytes c.args.served.now.drafts) c.args.port (string_bytes c.args.served.now.root) (g.D.Looks.log c.place_to_write.new.disk) (g.D.Looks.log c.make_draft.new.disk) drafts
+    (made_calls (string_bytes c.args.served.now.drafts) c.args.port (string_bytes c.in_ok-made.made.path) c.in_ok-made.made.file.trace.events (g.D.Looks.log c.place_to_write.new.disk) (g.D.Looks.log c.make_draft.new.disk) c.in_ok-made.ensures.ok)
+    (c.place_to_write.ensures.inside drafts target all)
 
 pub returns-in-None-clause-others : goal.returns-in-None-clause-others
 returns-in-None-clause-others g c =
-    then_others c.as_str.result.now (string_bytes c.args.memory.draft) (g.D.Looks.log c.args.disk.now)
-    (g.D.Looks.log c.place_to_write.new.disk) (g.D.Looks.log c.make_draft.new.disk) c.as_str.ensures.value
-    c.place_to_write.ensures.placed c.make_draft.ensures.others
+    then_others (string_bytes c.args.served.now.drafts) c.args.port (g.D.Looks.log c.args.disk.now) (g.D.Looks.log c.place_to_write.new.disk) (g.D.Looks.log c.make_draft.new.disk) c.place_to_write.ensures.placed
+    (others_by (string_bytes c.args.served.now.drafts) c.args.port (g.D.Looks.log c.place_to_write.new.disk) (g.D.Looks.log c.make_draft.new.disk)
+    (made_calls (string_bytes c.args.served.now.drafts) c.args.port (string_bytes c.in_ok-made.made.path) c.in_ok-made.made.file.trace.events (g.D.Looks.log c.place_to_write.new.disk) (g.D.Looks.log c.make_draft.new.disk) c.in_ok-made.ensures.ok))
+
+pub returns-in-None-clause-follows : goal.returns-in-None-clause-follows
+returns-in-None-clause-follows g c =
+    follows_by (string_bytes c.args.served.now.drafts) c.args.port (g.D.Looks.log c.place_to_write.new.disk) (g.D.Looks.log c.make_draft.new.disk)
+    (made_calls (string_bytes c.args.served.now.drafts) c.args.port (string_bytes c.in_ok-made.made.path) c.in_ok-made.made.file.trace.events (g.D.Looks.log c.place_to_write.new.disk) (g.D.Looks.log c.make_draft.new.disk) c.in_ok-made.ensures.ok)
+    ∙ c.place_to_write.ensures.follows
+
+pub returns-in-None-clause-inside : goal.returns-in-None-clause-inside
+returns-in-None-clause-inside g c = λ drafts target all.
+    calls_inside (string_bytes c.args.served.now.drafts) c.args.port (string_bytes c.args.served.now.root) (g.D.Looks.log c.place_to_write.new.disk) (g.D.Looks.log c.make_draft.new.disk) drafts
+    (made_calls (string_bytes c.args.served.now.drafts) c.args.port (string_bytes c.in_ok-made.made.path) c.in_ok-made.made.file.trace.events (g.D.Looks.log c.place_to_write.new.disk) (g.D.Looks.log c.make_draft.new.disk) c.in_ok-made.ensures.ok)
+    (c.place_to_write.ensures.inside drafts target all)
+
+pub returns-in-Err-clause-err : goal.returns-in-Err-clause-err
+returns-in-Err-clause-err g c =
+    subst (λ (before : List DiskEvent). TriesDraft (string_bytes c.args.served.now.drafts) c.args.port before (changes (g.D.Looks.log c.make_draft.new.disk)))
+    c.place_to_write.ensures.looks
+    (tries_by (string_bytes c.args.served.now.drafts) c.args.port (g.D.Looks.log c.place_to_write.new.disk) (g.D.Looks.log c.make_draft.new.disk)
+    (made_calls (string_bytes c.args.served.now.drafts) c.args.port (string_bytes c.in_ok-made.made.path) c.in_ok-made.made.file.trace.events (g.D.Looks.log c.place_to_write.new.disk) (g.D.Looks.log c.make_draft.new.disk) c.in_ok-made.ensures.ok))
+
+pub returns-in-Ok-clause-ok : goal.returns-in-Ok-clause-ok
+returns-in-Ok-clause-ok g c = record {
+  aim =
+      ap string_bytes (c.take_permissions.ensures.stays.names.target ∙ c.new-draft.ensures.target ∙ c.in_ok-place.ensures.place);
+  empty = search rules;
+  made =
+      makes_draft (string_bytes c.args.served.now.drafts) c.args.port (string_bytes c.in_ok-made.made.path)
+      (string_bytes c.take_permissions.new.self.draft) c.in_ok-made.made.file.trace.events (g.D.Looks.log c.args.disk.now) (g.D.Looks.log c.place_to_write.new.disk) (g.D.Looks.log c.make_draft.new.disk)
+      c.place_to_write.ensures.looks
+      (ap string_bytes (c.take_permissions.ensures.stays.names.draft ∙ c.new-draft.ensures.draft)) c.in_ok-made.ensures.ok;
+}
+
+pub returns-in-None-clause-ok : goal.returns-in-None-clause-ok
+returns-in-None-clause-ok g c = record {
+  aim = ap string_bytes (c.new-draft.ensures.target ∙ c.in_ok-place.ensures.place);
+  empty = search rules;
+  made =
+      makes_draft (string_bytes c.args.served.now.drafts) c.args.port (string_bytes c.in_ok-made.made.path)
+      (string_bytes c.new-draft.result.draft) c.in_ok-made.made.file.trace.events (g.D.Looks.log c.args.disk.now) (g.D.Looks.log c.place_to_write.new.disk) (g.D.Looks.log c.make_draft.new.disk)
+      c.place_to_write.ensures.looks (ap string_bytes c.new-draft.ensures.draft) c.in_ok-made.ensures.ok;
+}
 
 pub returns-in-Ok-clause-there : goal.returns-in-Ok-clause-there
 returns-in-Ok-clause-there g c =
     same_there c.new-draft.result c.take_permissions.new.self (g.D.Looks.log c.make_draft.new.disk)
     c.take_permissions.ensures.stays.names
-    (new_draft_there c.new-draft.result (string_bytes c.args.memory.draft) (string_bytes c.args.memory.target)
-    c.as_str.result.now c.new.result c.in_ok-file.file (g.D.Looks.log c.make_draft.new.disk)
-    (ap string_bytes c.new-draft.ensures.draft)
-    (ap string_bytes (c.new-draft.ensures.target ∙ c.in_ok-place.ensures.place)) c.args.memory.apart
-    c.as_str.ensures.value c.new-draft.ensures.writer c.new.ensures.file c.in_ok-file.ensures.ok.0)
+    (new_draft_there c.new-draft.result (string_bytes c.args.served.now.drafts) (string_bytes c.new-draft.result.target)
+    (string_bytes c.in_ok-made.made.path) c.args.port c.new.result c.in_ok-made.made.file (g.D.Looks.log c.place_to_write.new.disk) (g.D.Looks.log c.make_draft.new.disk)
+    (ap string_bytes c.new-draft.ensures.draft) refl c.new-draft.ensures.writer c.new.ensures.file c.in_ok-made.ensures.ok)
 
 pub returns-in-None-clause-there : goal.returns-in-None-clause-there
 returns-in-None-clause-there g c =
-    new_draft_there c.new-draft.result (string_bytes c.args.memory.draft) (string_bytes c.args.memory.target)
-    c.as_str.result.now c.new.result c.in_ok-file.file (g.D.Looks.log c.make_draft.new.disk)
-    (ap string_bytes c.new-draft.ensures.draft)
-    (ap string_bytes (c.new-draft.ensures.target ∙ c.in_ok-place.ensures.place)) c.args.memory.apart
-    c.as_str.ensures.value c.new-draft.ensures.writer c.new.ensures.file c.in_ok-file.ensures.ok.0
+    new_draft_there c.new-draft.result (string_bytes c.args.served.now.drafts) (string_bytes c.new-draft.result.target)
+    (string_bytes c.in_ok-made.made.path) c.args.port c.new.result c.in_ok-made.made.file (g.D.Looks.log c.place_to_write.new.disk) (g.D.Looks.log c.make_draft.new.disk)
+    (ap string_bytes c.new-draft.ensures.draft) refl c.new-draft.ensures.writer c.new.ensures.file c.in_ok-made.ensures.ok

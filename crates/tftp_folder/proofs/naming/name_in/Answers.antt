@@ -47,9 +47,9 @@ returns-in-Err-look_again-clause-over g c =
 
 pub returns-in-Ok-sync-clause-over : goal.returns-in-Ok-sync-clause-over
 returns-in-Ok-sync-clause-over g c =
-    renames_then _ _ (g.D.Looks.log c.args.disk.now) (g.D.Looks.log c.put_name.new.disk) (g.D.Looks.log c.sync.new.disk)
+    renames_then _ _ (g.D.Looks.log c.args.disk.now) (g.D.Looks.log c.put_name.new.disk) (g.D.Looks.log c.remove_draft.new.disk)
     c.in-Ok.ensures.over
-    (c.sync.ensures.renames ∙ c.look_again.ensures.renames)
+    (c.remove_draft.ensures.renames ∙ c.sync.ensures.renames ∙ c.look_again.ensures.renames)
 
 pub returns-in-Err-sync-clause-over : goal.returns-in-Err-sync-clause-over
 returns-in-Err-sync-clause-over g c =
@@ -68,11 +68,14 @@ returns-in-Err-look_again-clause-inside g c = λ fits below all.
 
 pub returns-in-Ok-sync-clause-inside : goal.returns-in-Ok-sync-clause-inside
 returns-in-Ok-sync-clause-inside g c = λ fits below all.
-    syncs_inside c.args.root.now c.args.folder.now.folder (g.D.Looks.log c.look_again.new.disk) (g.D.Looks.log c.sync.new.disk) fits
+    let named = stays_below c.args.root.now c.args.draft.now c.put_name.new.draft c.put_name.ensures.names below in
+    c.remove_draft.ensures.inside c.args.root.now
+    (stays_below c.args.root.now c.put_name.new.draft c.look_again.new.draft c.look_again.ensures.stays.names named)
+    (syncs_inside c.args.root.now c.args.folder.now.folder (g.D.Looks.log c.look_again.new.disk) (g.D.Looks.log c.sync.new.disk) fits
     c.sync.ensures.calls
     (c.look_again.ensures.inside
     (stays_below c.args.root.now c.args.draft.now c.put_name.new.draft c.put_name.ensures.names below)
-    (c.put_name.ensures.inside c.args.root.now below all))
+    (c.put_name.ensures.inside c.args.root.now below all)))
 
 pub returns-in-Err-sync-clause-inside : goal.returns-in-Err-sync-clause-inside
 returns-in-Err-sync-clause-inside g c = λ fits below all.
@@ -94,8 +97,9 @@ pub returns-in-Ok-sync-clause-there : goal.returns-in-Ok-sync-clause-there
 returns-in-Ok-sync-clause-there g c = λ there names.
     let looked = g.D.Looks.log c.look_again.new.disk in
     let synced = g.D.Looks.log c.sync.new.disk in
-    looks_there looked synced (syncs_placed c.args.folder.now.folder looked synced c.sync.ensures.calls)
-    (c.look_again.ensures.there (c.put_name.ensures.there there names))
+    c.remove_draft.ensures.there
+    (looks_there looked synced (syncs_placed c.args.folder.now.folder looked synced c.sync.ensures.calls)
+    (c.look_again.ensures.there (c.put_name.ensures.there there names)))
 
 pub returns-in-Err-sync-clause-there : goal.returns-in-Err-sync-clause-there
 returns-in-Err-sync-clause-there g c = λ there names.
@@ -107,7 +111,7 @@ returns-in-Err-sync-clause-there g c = λ there names.
 
 pub returns-in-Ok-sync-clause-follows : goal.returns-in-Ok-sync-clause-follows
 returns-in-Ok-sync-clause-follows g c =
-    syncs_follows c.args.folder.now.folder (g.D.Looks.log c.look_again.new.disk) (g.D.Looks.log c.sync.new.disk)
+    c.remove_draft.ensures.follows ∙ syncs_follows c.args.folder.now.folder (g.D.Looks.log c.look_again.new.disk) (g.D.Looks.log c.sync.new.disk)
     c.sync.ensures.calls ∙ c.look_again.ensures.follows ∙ c.put_name.ensures.follows
 
 pub returns-in-Err-sync-clause-follows : goal.returns-in-Err-sync-clause-follows

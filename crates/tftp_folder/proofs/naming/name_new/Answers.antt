@@ -3,7 +3,6 @@ use Rattle.std.proofs.Common.{Err, inr, subst, sym}
 use Rattle.tftp_folder.specs.Inside.{AreInside}
 use Rattle.tftp_folder.specs.Uploads.{IsBelow}
 use Rattle.tftp_folder.proofs.PlacedLemmas.{link_there, past_there, same_making}
-use Rattle.tftp_folder.specs.Placed.{NamesThere}
 use Rattle.tftp_disk.specs.DiskTrace.{state_of}
 use Rattle.tftp_disk.specs.DiskTrace.DiskEvent.{Linked}
 use Rattle.tftp_folder.proofs.naming.name_new.Goals as goal
@@ -54,7 +53,6 @@ returns-in-Err-rename_locked-clause-there g c = λ there names.
 
 pub returns-in-Ok-clause-there : goal.returns-in-Ok-clause-there
 returns-in-Ok-clause-there g c = λ there names.
-    subst NamesThere (sym c.remove.ensures)
     (link_there c.args.draft.now (state_of c.file.result.now.trace.events) c.as_str-path.result.now
     c.as_str-target.result.now _ (g.D.Looks.log c.args.disk.now) (g.D.Looks.log c.link.new.self)
     (same_making c.args.draft.now c.file.result.now c.file.ensures) c.as_str-path.ensures.value

@@ -1,9 +1,21 @@
--- The path of the draft is inside the root.
+-- The first path is another server's.
+use Rattle.std.proofs.Common.{◌∙◌, inl}
 use Rattle.std.specs.String.{string_bytes}
+use Rattle.tftp_folder.proofs.MakingLemmas.{if_err, if_ok, made_more, then_calls}
 use Rattle.tftp_folder.proofs.served_folder.ServedFolder.make_draft.Goals as goal
 
-pub returns-in-Ok-clause-inside : goal.returns-in-Ok-clause-inside
-returns-in-Ok-clause-inside g c = c.make_again.ensures.inside (string_bytes c.args.self.now.root)
+pub returns-in-Ok-None-clause-ok : goal.returns-in-Ok-None-clause-ok
+returns-in-Ok-None-clause-ok g c =
+    if_ok c.make_later.result
+    (λ made is. made_more (string_bytes c.args.self.now.drafts) c.args.port (string_bytes made.path) made.file.trace.events
+    (g.D.Looks.log c.args.disk.now) (g.D.Looks.log c.make_own.new.disk) (g.D.Looks.log c.make_later.new.disk)
+    (c.make_own.ensures.tries (string_bytes c.args.self.now.drafts) c.args.port (inl (c.as_str.ensures.value ∙ c.requires))) is)
+    c.make_later.ensures.ok
 
-pub returns-in-Err-clause-inside : goal.returns-in-Err-clause-inside
-returns-in-Err-clause-inside g c = c.make_again.ensures.inside (string_bytes c.args.self.now.root)
+pub returns-in-Ok-None-clause-err : goal.returns-in-Ok-None-clause-err
+returns-in-Ok-None-clause-err g c =
+    if_err c.make_later.result
+    (λ calls. then_calls (string_bytes c.args.self.now.drafts) c.args.port (g.D.Looks.log c.args.disk.now) (g.D.Looks.log c.make_own.new.disk)
+    (g.D.Looks.log c.make_later.new.disk)
+    (c.make_own.ensures.tries (string_bytes c.args.self.now.drafts) c.args.port (inl (c.as_str.ensures.value ∙ c.requires))) calls)
+    c.make_later.ensures.err
