@@ -466,6 +466,24 @@ def test_a_full_server_leaves_requests_to_others(scene) -> None:
     expect(LEFT <= lasted < LEFT_AT_MOST, True, f"whether it comes soon, after {lasted:.4f} s of the servers' clock")
 
 
+def test_junk_is_not_left_to_others(scene) -> None:
+    """Full servers leave requests to one another, and no datagram that is none: behind 64 of these a request waits no longer than
+    alone."""
+    scene.make("a", b"ABC")
+    server = serve_slowly(scene, 3, "--cap", "1")
+    clients = [scene.port() for _ in range(3)]
+    for port in clients:
+        port.send(rrq("a", **PATIENT), server.address)
+    expect([port.receive()[0] for port in clients], [oack(**PATIENT)] * 3, "the answers while a server has room")
+    junk, port, begun = scene.port(), scene.port(), time.monotonic()
+    for _ in range(64):
+        junk.send(b"x", server.address)
+    port.send(rrq("a", **PATIENT), server.address)
+    expect(port.receive()[0], error(0, "server busy"), "the answer to one more")
+    lasted = (time.monotonic() - begun) / SLOWER
+    expect(lasted < LEFT_AT_MOST, True, f"whether it comes soon, after {lasted:.4f} s of the servers' clock")
+
+
 def test_a_server_without_ports_leaves_requests_to_others(scene) -> None:
     """Each client is served at its first request as long as a server has a port, though the cap of each is higher."""
     scene.make("a", b"ABC")
