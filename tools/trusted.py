@@ -68,10 +68,9 @@ def found_in(path: Path) -> list[str]:
 
 
 def reaching() -> dict[str, list[str]]:
-    """The files with calls that reach the system, and these calls."""
-    crates = TOP / "crates"
-    paths = sorted(path for part in ("*/src/**/*.rt", "*/c/*.c") for path in crates.glob(part))
-    names = {str(path.relative_to(crates)): path for path in paths}
+    """The files with calls that reach the system, and these calls; those of a crate without the folder of crates."""
+    paths = sorted(path for part in ("crates/*/src/**/*.rt", "crates/*/c/*.c", "ports/**/*.c") for path in TOP.glob(part))
+    names = {str(path.relative_to(TOP)).removeprefix("crates/"): path for path in paths}
     found = {name: found_in(path) for name, path in names.items()
              if not name.startswith(LEFT_OUT) and not re.search(MAIN, name)}
     return {name: calls for name, calls in found.items() if calls}
@@ -82,7 +81,7 @@ def named() -> set[str]:
     section = SECTION.search((TOP / "docs/PROVED.md").read_text())
     if not section:
         sys.exit('trusted.py: docs/PROVED.md has no section "What is trusted"')
-    return set(re.findall(r"`(\w+/(?:src|c)/[\w/]+\.(?:rt|c))`", section[1]))
+    return set(re.findall(r"`((?:\w+/(?:src|c)|ports)/[\w/]+\.(?:rt|c))`", section[1]))
 
 
 def faults(found: set[str], trusted: set[str], without_claim: set[str]) -> list[str]:
