@@ -1,6 +1,6 @@
-/* TFTP for C: the ends of a transfer and the packets (RFC 1350; RFC 2347 to 2349), without IO. For x86-64
- * Linux: its objects need the ABI of C there, and call malloc, realloc, free, memcpy, memmove, memset and
- * memcmp alone: those of glibc, of musl, or of a program that is linked with -nostdlib, as
+/* TFTP for C99 and later: the ends of a transfer and the packets (RFC 1350; RFC 2347 to 2349), without IO. The
+ * objects need the ABI of C on Linux, and call malloc, realloc, free, memcpy, memmove, memset and memcmp
+ * alone: those of glibc, of musl, or of a program that is linked with -nostdlib, as
  * examples/c/alone_machine.c.
  *
  * The caller owns the socket, the clock and the file. It passes each datagram and each timeout in,
@@ -25,7 +25,7 @@
  * - tftp_close ends each use: without it the memory of the end is lost. Closing twice is allowed.
  * - malloc, realloc and free are of one allocator, for all threads that use an end: one frees what another
  *   gave, and the library uses no other. They align to 16: the fields of an end would be at addresses that
- *   no such field has. A null from malloc or realloc is reported as TFTP_MEMORY, and nothing has changed,
+ *   no such field has. A null from malloc or realloc is reported as TFTP_FAULT_MEMORY, and nothing has changed,
  *   in no struct and no buffer, except that an opening closes what its end held before; a call that
  *   returns a length returns 0. An end has a block of 144 bytes, one for the datagram that it sent
  *   last, which a timeout sends again, and, if it sends a file or receives netascii, one for the block
@@ -39,18 +39,34 @@
  *
  * What the caller decides:
  *
- * - How long it waits. event.interval is the agreed timeout, or 1 second; the clock is the caller's, and an
- *   early or late timeout breaks nothing. Before the first answer the caller may well wait longer.
+ * - How long it waits. event.interval is the agreed timeout, or 1 second, and grows after timeouts if the
+ *   options say so (`backoff`); the clock is the caller's, and an early or late timeout breaks nothing. Before
+ *   the first answer the caller may well wait longer. A server that will not wait as long as a client asked
+ *   for may call tftp_timeout early, or agree to no such timeout at all (`max_timeout`): 64 requests with
+ *   `timeout=255` and 5 retries else fill a table for 1,530 seconds.
+ * - How long a receiver stays after its last block. It is `complete` then, and goes on for two more timeouts,
+ *   two seconds if nothing else was agreed, in which it acknowledges that block again if its peer has not
+ *   had the ACK (RFC 1350, section 6). A caller that need not do so, as one whose server does not mind,
+ *   sends the ACK and closes the end at once.
  * - Which datagrams it passes. One from port 0 can be given no answer: a server ignores it, and the caller
  *   of an end should not pass it on.
  * - What is longer than its buffer. A datagram that was cut is taken for a shorter one: have room for one
  *   byte more than the longest that may come, which is TFTP_HEADER and a block.
  *
- * The structs are final, except struct tftp_options and struct tftp_info, which state their sizes: a later
- * version may add fields at their ends, and still takes the sizes of earlier ones.
+ * struct tftp_options states its size, and may grow at its end in a later version, which takes the sizes of
+ * earlier ones: a field that a caller does not have counts as 0. A size that is larger than the library's is
+ * refused (TFTP_FAULT_LATER_STRUCT), and so is that of a struct tftp_info. All other structs keep their
+ * sizes; what a later version has to say may come to stand in `reserved`, which no call reads today.
  */
 #ifndef TFTP_H
 #define TFTP_H
+/* What the library is built for: C99 or later, or C++, and processors of 64 bits that are little-endian. */
+#if !defined(__cplusplus) && (!defined(__STDC_VERSION__) || __STDC_VERSION__ < 199901L)
+#error "tftp.h needs C99 or later: compile with -std=c99, -std=gnu99 or a later standard"
+#elif !(defined(__x86_64__) && !defined(__ILP32__)) && !(defined(__AARCH64EL__) && !defined(__ILP32__)) \
+    && !(defined(__riscv) && __riscv_xlen == 64)
+#error "libtftp is built for x86-64, ARM64 and RISC-V of 64 bits, little-endian, and for no other processor"
+#else
 #include <stdbool.h>
 #include <stddef.h>
 #include <stdint.h>
@@ -80,11 +96,11 @@ enum {
     TFTP_MAX_BLOCK = 65464,
     TFTP_HEADER = 4,           /* of a DATA: a datagram has at most this and a block */
     TFTP_MIN_REPLY = 516,      /* the room for what an end sends, where no block is longer than 512 bytes */
-    TFTP_MAX_PATH = 255        /* the longest path that a server asks for */
+    TFTP_MAX_PATH = 255        /* the longest path that a server asks for, without a zero byte behind it */
 };
 
 /* The opcodes, the modes and the codes of an ERROR (RFC 1350, section 5 and appendix; RFC 2347). */
-enum {
+enum tftp_opcode {
     TFTP_OPCODE_READ = 1,
     TFTP_OPCODE_WRITE = 2,
     TFTP_OPCODE_DATA = 3,
@@ -92,11 +108,11 @@ enum {
     TFTP_OPCODE_ERROR = 5,
     TFTP_OPCODE_OACK = 6
 };
-enum {
+enum tftp_mode {
     TFTP_MODE_OCTET = 1,
     TFTP_MODE_NETASCII = 2
 };
-enum {
+enum tftp_error_code {
     TFTP_ERROR_UNDEFINED = 0,
     TFTP_ERROR_NOT_FOUND = 1,
     TFTP_ERROR_ACCESS = 2,
@@ -109,38 +125,44 @@ enum {
 };
 
 /* What a call returns. tftp_decode returns a fault of the packet instead. */
-enum {
+enum tftp_fault {
     TFTP_OK = 0,
-    TFTP_NOT_OPEN = 1,         /* the handle is closed */
-    TFTP_BAD_REQUEST = 2,      /* the name is empty, has a zero byte or is too long, or an option or a number
-                                  is out of range; or the request to serve is none; or an ERROR's text has
-                                  a zero byte or more than 507 bytes */
-    TFTP_MEMORY = 3,           /* out of memory */
-    TFTP_CLOSED = 4,           /* the transfer is over: event.outcome of an earlier call says how */
-    TFTP_WRONG_SIDE = 5,       /* tftp_receive at an end that sends, or the other way round */
-    TFTP_TOO_LARGE_FILE = 6,   /* the file has more than 65,535 blocks */
-    TFTP_REFUSED_OPTIONS = 7,  /* the options of the request are refused: answer TFTP_ERROR_OPTIONS */
-    TFTP_NO_SOURCE = 8,        /* `next` had fewer bytes than the first block */
-    TFTP_NO_TRANSFER = 9,      /* the server has no open transfer of this number that receives, or that
-                                  sends; or the request opens none */
-    TFTP_IN_USE = 10,          /* the server has a transfer of this number */
-    TFTP_BAD_OPTIONS = 11      /* the options or the info have no size: they did not begin as
-                                  TFTP_OPTIONS_INIT or TFTP_INFO_INIT */
+    TFTP_FAULT_NOT_OPEN = 1,        /* the handle is closed */
+    TFTP_FAULT_BAD_REQUEST = 2,     /* the name is empty, has a zero byte or is too long, or an option or a
+                                       number is out of range; or the request to serve is none; or an ERROR's
+                                       text has a zero byte or more than 507 bytes */
+    TFTP_FAULT_MEMORY = 3,          /* out of memory */
+    TFTP_FAULT_CLOSED = 4,          /* the transfer is over: event.outcome of an earlier call says how */
+    TFTP_FAULT_WRONG_SIDE = 5,      /* tftp_receive at an end that sends, or the other way round */
+    TFTP_FAULT_TOO_LARGE_FILE = 6,  /* the file has more than 65,535 blocks */
+    TFTP_FAULT_REFUSED_OPTIONS = 7, /* the options of the request are refused: answer TFTP_ERROR_OPTIONS */
+    TFTP_FAULT_NO_SOURCE = 8,       /* `next` had fewer bytes than the first block */
+    TFTP_FAULT_NO_TRANSFER = 9,     /* the server has no open transfer of this number that receives, or that
+                                       sends; or the request opens none */
+    TFTP_FAULT_IN_USE = 10,         /* the server has a transfer of this number */
+    TFTP_FAULT_BAD_OPTIONS = 11,    /* the options or the info have no size: they did not begin as
+                                       TFTP_OPTIONS_INIT or TFTP_INFO_INIT */
+    TFTP_FAULT_NO_ROOM = 12,        /* the buffer of an opening is too short for its datagram, or for a DATA of
+                                       the block size that would be agreed */
+    TFTP_FAULT_OVER_LIMIT = 13,     /* a write states a length above max_file: answer TFTP_ERROR_DISK_FULL */
+    TFTP_FAULT_LATER_STRUCT = 14    /* the options or the info are those of a later version: the library is
+                                       older than the header that the caller was compiled with */
 };
 
-/* tftp_event.outcome: 0 while the transfer goes on. */
-enum {
-    TFTP_COMPLETE = 1,         /* the whole file was stored, or acknowledged */
-    TFTP_TIMED_OUT = 2,        /* the peer did not answer; never success */
-    TFTP_PEER_ERROR = 3,       /* the peer sent an ERROR: event.peer_code; tftp_decode has its text */
-    TFTP_ILLEGAL = 4,          /* the peer sent what the protocol does not allow */
-    TFTP_REFUSED = 5,          /* the options that the server answered were not asked */
-    TFTP_TOO_LARGE = 6,        /* the stated length is more than max_file, or the file has more than 65,535
-                                  blocks */
-    TFTP_STORE_FAULT = 7,      /* the block did not fit the buffer `file` */
-    TFTP_SOURCE_FAULT = 8,     /* `next` had fewer bytes than the block needs */
-    TFTP_NOT_NETASCII = 9,     /* the peer's text is not netascii */
-    TFTP_ABORTED = 10          /* tftp_abort ended it */
+/* tftp_event.outcome. */
+enum tftp_outcome {
+    TFTP_OUTCOME_OPEN = 0,          /* the transfer goes on */
+    TFTP_OUTCOME_COMPLETE = 1,      /* the whole file was stored, or acknowledged */
+    TFTP_OUTCOME_TIMED_OUT = 2,     /* the peer did not answer; never success */
+    TFTP_OUTCOME_PEER_ERROR = 3,    /* the peer sent an ERROR: event.peer_code; tftp_decode has its text */
+    TFTP_OUTCOME_ILLEGAL = 4,       /* the peer sent what the protocol does not allow */
+    TFTP_OUTCOME_REFUSED = 5,       /* the options that the server answered were not asked */
+    TFTP_OUTCOME_TOO_LARGE = 6,     /* the stated length is more than max_file, or the file has more than
+                                       65,535 blocks */
+    TFTP_OUTCOME_STORE_FAULT = 7,   /* the block did not fit the buffer `file` */
+    TFTP_OUTCOME_SOURCE_FAULT = 8,  /* `next` had fewer bytes than the block needs */
+    TFTP_OUTCOME_NOT_NETASCII = 9,  /* the peer's text is not netascii */
+    TFTP_OUTCOME_ABORTED = 10       /* tftp_abort ended it */
 };
 
 /* An IPv4 address in network order, and a UDP port in the host's order. */
@@ -150,7 +172,7 @@ struct tftp_endpoint {
 };
 
 /* What a request asks, or how far a server goes. It begins as TFTP_OPTIONS_INIT: all bytes zero are refused
- * as TFTP_BAD_OPTIONS. */
+ * as TFTP_FAULT_BAD_OPTIONS. */
 struct tftp_options {
     size_t size;               /* of this struct */
     uint64_t max_file;         /* the longest length that a peer may state (`tsize`). It bounds no other: a
@@ -161,44 +183,55 @@ struct tftp_options {
     uint8_t retries;           /* how many times in a row a datagram is sent again */
     bool asks_tsize;           /* whether the length of the file is asked, or stated (RFC 2349) */
     bool is_netascii;          /* tftp_put: then the file is wire text, which tftp_to_wire makes */
+    uint8_t reserved[2];       /* no call reads it */
+    bool backoff;              /* whether each timeout without progress doubles event.interval, up to eight
+                                  times (RFC 1123, section 4.2.3.2) */
+    uint8_t max_timeout;       /* at a server: the longest `timeout` that it agrees to, in seconds, or 0: any;
+                                  a request that asks for more gets no answer to that option (RFC 2349) */
+    uint8_t reserved_too[6];
 };
 
 /* No option, no limit, and a datagram is sent five times more. */
-#define TFTP_OPTIONS_INIT {sizeof(struct tftp_options), UINT64_MAX, 0, 0, 5, false, false}
+#define TFTP_OPTIONS_INIT {sizeof(struct tftp_options), UINT64_MAX, 0, 0, 5, false, false, {0, 0}, false, 0, {0, 0, 0, 0, 0, 0}}
 
 /* What a call did, and the state of the end after it. After a fault it is unchanged. */
 struct tftp_event {
-    size_t send_len;           /* the length of the datagram to send to `to`, or 0: none. If it is more
-                                  than the buffer's, nothing was written: the datagram is lost, and a
-                                  timeout sends it again */
+    size_t send_len;           /* the length of the datagram to send to `to`, or 0: none. It is never more
+                                  than the buffer's */
     size_t file_len;           /* the bytes of the file that were stored in `file`, or taken from `next` */
     struct tftp_endpoint to;
-    uint16_t peer_code;        /* of the peer's ERROR, for TFTP_PEER_ERROR */
+    uint16_t peer_code;        /* of the peer's ERROR, for TFTP_OUTCOME_PEER_ERROR */
     uint16_t number;           /* the newest DATA of a sender, or how many blocks a receiver has stored */
     uint16_t block_size;       /* the agreed one; 512 while there is no peer */
-    uint8_t outcome;           /* how the transfer ended, or 0 */
-    uint8_t interval;          /* seconds from the opening, the last progress or the last timeout to the next:
-                                  the agreed timeout, or 1 */
+    uint16_t interval;         /* seconds from the opening, the last progress or the last timeout to the next:
+                                  the agreed timeout, or 1; with `backoff` up to eight times that */
+    uint8_t outcome;           /* how the transfer ended, an enum tftp_outcome, or 0 */
     bool progress;             /* whether the call brought the transfer on: the timeout begins anew */
     bool complete;             /* whether the whole file was stored, or acknowledged. A receiver goes on
                                   until `outcome`, to repeat its last ACK if that was lost */
+    bool no_room;              /* whether `reply` had no room for the datagram, of which nothing was written: it
+                                  is lost, as in a network, and a timeout sends it again */
+    uint8_t reserved[6];
 };
 
 /* What an end and its peer have agreed. It begins as TFTP_INFO_INIT: all bytes zero are refused as
- * TFTP_BAD_OPTIONS. */
+ * TFTP_FAULT_BAD_OPTIONS. */
 struct tftp_info {
     size_t size;               /* of this struct */
     uint64_t length;           /* the length of the file that was answered (`tsize`, RFC 2349), in bytes of wire
                                   text, or 0 */
     uint8_t timeout;           /* the agreed timeout in seconds (RFC 2349), or 0: none */
     bool has_length;           /* whether a length was answered: a file may have 0 bytes */
+    uint16_t block_size;       /* the agreed block size in bytes (RFC 2348); 512 while there is no peer */
+    uint8_t reserved[4];
 };
 
-#define TFTP_INFO_INIT {sizeof(struct tftp_info), 0, 0, false}
+#define TFTP_INFO_INIT {sizeof(struct tftp_info), 0, 0, false, 0, {0, 0, 0, 0}}
 
 /* One end of a transfer. All bytes zero: closed. */
 struct tftp_end {
     bool is_open;
+    uint8_t reserved[7];
     void *opaque;
 };
 
@@ -209,48 +242,90 @@ uint32_t tftp_version(void);
  *
  * - `reply` and `request` of a client that gets, and of a server's end that receives: TFTP_MAX_REQUEST.
  * - `reply` of an end that sends: TFTP_HEADER and the longest block that may be agreed, at least
- *   TFTP_MIN_REPLY, since an answer without an option agrees to 512. Less loses datagrams, as a network may.
+ *   TFTP_MIN_REPLY, since an answer without an option agrees to 512.
  * - `file` of an end that receives: the longest block that may be agreed, at least TFTP_DEFAULT_BLOCK. Less
- *   closes the transfer as TFTP_STORE_FAULT.
+ *   closes the transfer as TFTP_OUTCOME_STORE_FAULT.
  * - `next` of an end that sends: as many bytes as the agreed block, or all that is left. Less closes the
- *   transfer as TFTP_SOURCE_FAULT. */
+ *   transfer as TFTP_OUTCOME_SOURCE_FAULT.
+ *
+ * An opening whose datagram does not fit `request` or `reply` returns TFTP_FAULT_NO_ROOM. A server's end that
+ * sends agrees to no block for which its opening's `reply` has no room behind a header. A later call with less
+ * room than its datagram needs loses that, as a network may: event->no_room. So event->send_len is never more
+ * than the buffer's length. */
 
 /* Opens a client that gets a file, after closing what `end` held. The request is written to
  * `request`. Send it to event->to from a port of its own, and pass
- * all datagrams that arrive there to tftp_receive. After a fault `end` is closed. */
+ * all datagrams that arrive there to tftp_receive. After a fault `end` is closed.
+ *
+ * This call and the four others that take options are inline functions over symbols that take the size of
+ * the options, too, which callers without this header pass: tftp_open_get is that of tftp_get. */
+TFTP_CHECKED TFTP_NONNULL(1, 2, 5, 9)
+uint8_t tftp_open_get(struct tftp_end *end, const struct tftp_endpoint *server, const uint8_t *name,
+                      size_t name_len, const void *options, size_t options_size, uint8_t *request,
+                      size_t request_len, struct tftp_event *event);
 TFTP_CHECKED TFTP_NONNULL(1, 2, 5, 8)
-uint8_t tftp_get(struct tftp_end *end, const struct tftp_endpoint *server, const uint8_t *name,
-                 size_t name_len, const struct tftp_options *options, uint8_t *request,
-                 size_t request_len, struct tftp_event *event);
+static inline uint8_t tftp_get(struct tftp_end *end, const struct tftp_endpoint *server,
+                               const uint8_t *name, size_t name_len,
+                               const struct tftp_options *options, uint8_t *request,
+                               size_t request_len, struct tftp_event *event) {
+    return tftp_open_get(end, server, name, name_len, options, options->size, request, request_len, event);
+}
 
 /* Opens a client that puts a file of `length` bytes, as above. Pass all datagrams to tftp_send. */
+TFTP_CHECKED TFTP_NONNULL(1, 2, 6, 10)
+uint8_t tftp_open_put(struct tftp_end *end, const struct tftp_endpoint *server, const uint8_t *name,
+                      size_t name_len, uint64_t length, const void *options, size_t options_size,
+                      uint8_t *request, size_t request_len, struct tftp_event *event);
 TFTP_CHECKED TFTP_NONNULL(1, 2, 6, 9)
-uint8_t tftp_put(struct tftp_end *end, const struct tftp_endpoint *server, const uint8_t *name,
-                 size_t name_len, uint64_t length, const struct tftp_options *options,
-                 uint8_t *request, size_t request_len, struct tftp_event *event);
+static inline uint8_t tftp_put(struct tftp_end *end, const struct tftp_endpoint *server,
+                               const uint8_t *name, size_t name_len, uint64_t length,
+                               const struct tftp_options *options, uint8_t *request,
+                               size_t request_len, struct tftp_event *event) {
+    return tftp_open_put(end, server, name, name_len, length, options, options->size, request, request_len,
+                         event);
+}
 
 /* Opens a server's end that sends the file of a read request, after closing what `end` held. The caller
  * has read the request by tftp_decode, which says the name, and has found the file: `length` bytes, of
  * which `next` has the first block of the file or more, or all. A name may be anything, `../` too: what a
  * path is, is the caller's rule. An end knows no other: a request that comes again, as one does whose answer
  * was late, opens a second end, unless the caller looks (a struct tftp_server looks at both).
- * The options of the request are answered up to options->blksize (0: any) and options->max_file;
- * options->retries counts, and no other of its fields. The first datagram is written to `reply`: send it to
+ * The options of the request are answered up to options->blksize (0: any), the room of `reply`,
+ * options->max_timeout and options->max_file; options->retries and options->backoff count, and no other of
+ * its fields. The first datagram is written to `reply`: send it to
  * `client` from a port of its own, and pass all datagrams that arrive there to tftp_send. After a fault
  * `end` is closed. */
+TFTP_CHECKED TFTP_NONNULL(1, 2, 8, 12)
+uint8_t tftp_open_serve_get(struct tftp_end *end, const struct tftp_endpoint *client,
+                            const uint8_t *request, size_t request_len, uint64_t length,
+                            const uint8_t *next, size_t next_len, const void *options,
+                            size_t options_size, uint8_t *reply, size_t reply_len,
+                            struct tftp_event *event);
 TFTP_CHECKED TFTP_NONNULL(1, 2, 8, 11)
-uint8_t tftp_serve_get(struct tftp_end *end, const struct tftp_endpoint *client,
-                       const uint8_t *request, size_t request_len, uint64_t length,
-                       const uint8_t *next, size_t next_len, const struct tftp_options *options,
-                       uint8_t *reply, size_t reply_len, struct tftp_event *event);
+static inline uint8_t tftp_serve_get(struct tftp_end *end, const struct tftp_endpoint *client,
+                                     const uint8_t *request, size_t request_len, uint64_t length,
+                                     const uint8_t *next, size_t next_len,
+                                     const struct tftp_options *options, uint8_t *reply,
+                                     size_t reply_len, struct tftp_event *event) {
+    return tftp_open_serve_get(end, client, request, request_len, length, next, next_len, options,
+                               options->size, reply, reply_len, event);
+}
 
 /* Opens a server's end that receives the file of a write request, as above. Pass all datagrams to
  * tftp_receive. */
+TFTP_CHECKED TFTP_NONNULL(1, 2, 5, 9)
+uint8_t tftp_open_serve_put(struct tftp_end *end, const struct tftp_endpoint *client,
+                            const uint8_t *request, size_t request_len, const void *options,
+                            size_t options_size, uint8_t *reply, size_t reply_len,
+                            struct tftp_event *event);
 TFTP_CHECKED TFTP_NONNULL(1, 2, 5, 8)
-uint8_t tftp_serve_put(struct tftp_end *end, const struct tftp_endpoint *client,
-                       const uint8_t *request, size_t request_len,
-                       const struct tftp_options *options, uint8_t *reply, size_t reply_len,
-                       struct tftp_event *event);
+static inline uint8_t tftp_serve_put(struct tftp_end *end, const struct tftp_endpoint *client,
+                                     const uint8_t *request, size_t request_len,
+                                     const struct tftp_options *options, uint8_t *reply,
+                                     size_t reply_len, struct tftp_event *event) {
+    return tftp_open_serve_put(end, client, request, request_len, options, options->size, reply, reply_len,
+                               event);
+}
 
 /* Handles a datagram at an end that receives. The next event.file_len bytes of the file are written to
  * `file`, and the datagram to send to `reply`. Store the bytes of the file before sending it: it
@@ -276,18 +351,18 @@ uint8_t tftp_timeout(struct tftp_end *end, uint8_t *reply, size_t reply_len,
 
 /* Ends a transfer that the caller cannot go on with, as when its disk is full, and closes `end`: an ERROR of
  * this code and text is written to `reply`, of TFTP_MAX_REQUEST bytes or more, for event->to. The event
- * says TFTP_ABORTED, and `complete` is false: the peer of a receiver has no ACK of what was not stored. A
+ * says TFTP_OUTCOME_ABORTED, and `complete` is false: the peer of a receiver has no ACK of what was not stored. A
  * client without an answer has no peer yet, and event->send_len is 0. After a fault nothing has
- * changed: TFTP_CLOSED says that the transfer was over. */
+ * changed: TFTP_FAULT_CLOSED says that the transfer was over. */
 TFTP_CHECKED TFTP_NONNULL(1, 7)
 uint8_t tftp_abort(struct tftp_end *end, uint16_t code, const uint8_t *text, size_t text_len,
                    uint8_t *reply, size_t reply_len, struct tftp_event *event);
 
 /* Reports what the end and its peer have agreed: a client's from the answer that made its peer known, a
- * server's end's from its opening, also once the transfer is over. The agreed block size is
- * event.block_size. After a fault, which is TFTP_BAD_OPTIONS or TFTP_NOT_OPEN, `info` is unchanged. */
+ * server's end's from its opening, also once the transfer is over. After a fault, which is
+ * TFTP_FAULT_BAD_OPTIONS, TFTP_FAULT_LATER_STRUCT or TFTP_FAULT_NOT_OPEN, `info` is unchanged. */
 TFTP_CHECKED TFTP_NONNULL(1, 2)
-uint8_t tftp_end_info(struct tftp_end *end, struct tftp_info *info);
+uint8_t tftp_end_info(const struct tftp_end *end, struct tftp_info *info);
 
 /* tftp_close of an end that is not NULL: the symbol of the library, for callers without this header. */
 TFTP_NONNULL(1)
@@ -304,11 +379,13 @@ static inline void tftp_close(struct tftp_end *end) {
  * same one (examples/c/shards.c). */
 struct tftp_server {
     bool is_open;
+    uint8_t reserved[7];
     void *opaque;
 };
 
 /* tftp_question.wants: what the caller is asked to do with a file. */
-enum {
+enum tftp_wants {
+    TFTP_WANTS_NOTHING = 0,
     TFTP_WANTS_OPEN = 1,       /* find it, to be read: answer by tftp_server_get */
     TFTP_WANTS_BEGIN = 2       /* begin it, to be written: answer by tftp_server_put */
 };
@@ -317,20 +394,30 @@ enum {
 struct tftp_question {
     size_t send_len;           /* the length of the ERROR to send to the datagram's sender, or 0 */
     size_t name_len;           /* the length of the file's path, also if it is more than the buffer's */
-    uint8_t wants;             /* or 0: nothing */
+    uint8_t wants;             /* an enum tftp_wants, or 0: nothing */
+    uint8_t mode;              /* of the request whose file is wanted, an enum tftp_mode, or 0: in netascii the
+                                  caller passes wire text, which tftp_to_wire makes (RFC 1350, section 1) */
+    uint8_t reserved[6];
 };
 
 /* Opens a server, after closing what `server` held. It has at most `transfers` at once, 1 to 64, closed
- * ones among them. The options of its requests are answered up to options->blksize (0: any) and
- * options->max_file; options->retries, at most 10, counts, and no other of its fields. After a fault,
- * which is TFTP_BAD_OPTIONS, TFTP_BAD_REQUEST or TFTP_MEMORY, `server` is closed. */
+ * ones among them. The options of its requests are answered up to options->blksize (0: any),
+ * options->max_timeout and options->max_file; options->retries, at most 10, and options->backoff count, and no
+ * other of its fields. After a fault, which is TFTP_FAULT_BAD_OPTIONS, TFTP_FAULT_LATER_STRUCT,
+ * TFTP_FAULT_BAD_REQUEST or TFTP_FAULT_MEMORY, `server` is closed. */
 TFTP_CHECKED TFTP_NONNULL(1, 2)
-uint8_t tftp_server_open(struct tftp_server *server, const struct tftp_options *options,
+uint8_t tftp_open_server(struct tftp_server *server, const void *options, size_t options_size,
                          uint8_t transfers);
+TFTP_CHECKED TFTP_NONNULL(1, 2)
+static inline uint8_t tftp_server_open(struct tftp_server *server,
+                                       const struct tftp_options *options, uint8_t transfers) {
+    return tftp_open_server(server, options, options->size, transfers);
+}
 
 /* Reads a datagram that came to the request port. It asks for a file, whose path is written to `name`,
- * of TFTP_MAX_PATH bytes or more, without a zero byte at its end: question->name_len says where it ends. Or
- * it writes the ERROR that answers the datagram to `reply`, of TFTP_MAX_REQUEST bytes or
+ * of TFTP_MAX_PATH bytes or more: question->name_len says where it ends, and a zero byte is written behind it
+ * where there is room, as there always is in TFTP_MAX_PATH + 1 bytes; question->mode is the mode of its
+ * transfer. Or it writes the ERROR that answers the datagram to `reply`, of TFTP_MAX_REQUEST bytes or
  * more: for a packet that is no request, a name that is no path, refused options of a write, or as many
  * transfers as there may be; or neither: for an ERROR, a request whose transfer is open, or a sender at
  * port 0. A path has 1
@@ -338,7 +425,7 @@ uint8_t tftp_server_open(struct tftp_server *server, const struct tftp_options *
  * The server is unchanged. The caller answers by one of the next two calls, or by an ERROR that
  * tftp_error writes. After a fault the question is unchanged. */
 TFTP_CHECKED TFTP_NONNULL(1, 2, 9)
-uint8_t tftp_server_request(struct tftp_server *server, const struct tftp_endpoint *from,
+uint8_t tftp_server_request(const struct tftp_server *server, const struct tftp_endpoint *from,
                             const uint8_t *datagram, size_t datagram_len, uint8_t *name,
                             size_t name_len, uint8_t *reply, size_t reply_len,
                             struct tftp_question *question);
@@ -373,12 +460,17 @@ TFTP_CHECKED TFTP_NONNULL(1, 5)
 uint8_t tftp_server_timeout(struct tftp_server *server, uint16_t tid, uint8_t *reply,
                             size_t reply_len, struct tftp_event *event);
 
-/* Ends the transfer of this number by an ERROR, as tftp_abort, and removes it: TFTP_NO_TRANSFER if none is
+/* Ends the transfer of this number by an ERROR, as tftp_abort, and removes it: TFTP_FAULT_NO_TRANSFER if none is
  * open. */
 TFTP_CHECKED TFTP_NONNULL(1, 8)
 uint8_t tftp_server_abort(struct tftp_server *server, uint16_t tid, uint16_t code,
                           const uint8_t *text, size_t text_len, uint8_t *reply, size_t reply_len,
                           struct tftp_event *event);
+
+/* Reports what the transfer of this number and its peer have agreed, open or over, as tftp_end_info:
+ * TFTP_FAULT_NO_TRANSFER if there is none. */
+TFTP_CHECKED TFTP_NONNULL(1, 3)
+uint8_t tftp_server_info(const struct tftp_server *server, uint16_t tid, struct tftp_info *info);
 
 /* Removes the transfer of this number, open or closed, and returns whether there was one. */
 TFTP_NONNULL(1)
@@ -393,7 +485,8 @@ static inline void tftp_server_close(struct tftp_server *server) {
     if (server) tftp_close_server(server);
 }
 
-/* What a datagram spells. Offsets are in the datagram. */
+/* What a datagram spells. Offsets are in the datagram. A field that the packet has not is 0, and all but the
+ * first and the last are 0 after a fault. */
 struct tftp_packet {
     size_t fault_at;           /* of the first fault */
     size_t name_len;           /* of a request's file name, whose offset is 2 */
@@ -403,10 +496,11 @@ struct tftp_packet {
     uint16_t number;           /* the block, or the code of an ERROR */
     uint8_t mode;              /* of a request: TFTP_MODE_OCTET or TFTP_MODE_NETASCII */
     uint8_t fault;             /* TFTP_DECODE_SHORT to TFTP_DECODE_EMPTY_OACK, or 0 */
+    uint8_t reserved[2];
 };
 
 /* The faults of a datagram that is no packet. */
-enum {
+enum tftp_decode_fault {
     TFTP_DECODE_SHORT = 1,         /* it ends before its opcode or its number does */
     TFTP_DECODE_OPCODE = 2,        /* the opcode is not 1 to 6 */
     TFTP_DECODE_UNTERMINATED = 3,  /* a text has no zero byte after it */
@@ -467,21 +561,33 @@ size_t tftp_error(uint16_t code, const uint8_t *text, size_t text_len, uint8_t *
 
 /* ---- texts, for a person: each is a C string that is never freed, in English. */
 
+/* The code of the ERROR that answers a request which an opening has refused by this fault. */
+static inline uint16_t tftp_error_of(uint8_t fault) {
+    switch (fault) {
+    case TFTP_FAULT_REFUSED_OPTIONS: return TFTP_ERROR_OPTIONS;
+    case TFTP_FAULT_OVER_LIMIT: return TFTP_ERROR_DISK_FULL;
+    default: return TFTP_ERROR_UNDEFINED;
+    }
+}
+
 /* Why a call did nothing. */
 static inline const char *tftp_strfault(uint8_t fault) {
     switch (fault) {
     case TFTP_OK: return "success";
-    case TFTP_NOT_OPEN: return "the handle is closed";
-    case TFTP_BAD_REQUEST: return "the request is not allowed";
-    case TFTP_MEMORY: return "out of memory";
-    case TFTP_CLOSED: return "the transfer is over";
-    case TFTP_WRONG_SIDE: return "the end does not go this way";
-    case TFTP_TOO_LARGE_FILE: return "the file has more than 65,535 blocks";
-    case TFTP_REFUSED_OPTIONS: return "the options of the request are refused";
-    case TFTP_NO_SOURCE: return "the first block is not there";
-    case TFTP_NO_TRANSFER: return "no such transfer is open";
-    case TFTP_IN_USE: return "a transfer has this number";
-    case TFTP_BAD_OPTIONS: return "the options or the info have no size";
+    case TFTP_FAULT_NOT_OPEN: return "the handle is closed";
+    case TFTP_FAULT_BAD_REQUEST: return "the request is not allowed";
+    case TFTP_FAULT_MEMORY: return "out of memory";
+    case TFTP_FAULT_CLOSED: return "the transfer is over";
+    case TFTP_FAULT_WRONG_SIDE: return "the end does not go this way";
+    case TFTP_FAULT_TOO_LARGE_FILE: return "the file has more than 65,535 blocks";
+    case TFTP_FAULT_REFUSED_OPTIONS: return "the options of the request are refused";
+    case TFTP_FAULT_NO_SOURCE: return "the first block is not there";
+    case TFTP_FAULT_NO_TRANSFER: return "no such transfer is open";
+    case TFTP_FAULT_IN_USE: return "a transfer has this number";
+    case TFTP_FAULT_BAD_OPTIONS: return "the options or the info have no size";
+    case TFTP_FAULT_NO_ROOM: return "the buffer is too short for the datagram";
+    case TFTP_FAULT_OVER_LIMIT: return "the stated length is above the limit";
+    case TFTP_FAULT_LATER_STRUCT: return "the library is older than the caller's header";
     default: return "unknown fault";
     }
 }
@@ -489,17 +595,17 @@ static inline const char *tftp_strfault(uint8_t fault) {
 /* How a transfer ended. */
 static inline const char *tftp_stroutcome(uint8_t outcome) {
     switch (outcome) {
-    case 0: return "open";
-    case TFTP_COMPLETE: return "complete";
-    case TFTP_TIMED_OUT: return "timed out";
-    case TFTP_PEER_ERROR: return "peer's error";
-    case TFTP_ILLEGAL: return "illegal packet";
-    case TFTP_REFUSED: return "options refused";
-    case TFTP_TOO_LARGE: return "too large";
-    case TFTP_STORE_FAULT: return "store fault";
-    case TFTP_SOURCE_FAULT: return "source fault";
-    case TFTP_NOT_NETASCII: return "not netascii";
-    case TFTP_ABORTED: return "aborted";
+    case TFTP_OUTCOME_OPEN: return "open";
+    case TFTP_OUTCOME_COMPLETE: return "complete";
+    case TFTP_OUTCOME_TIMED_OUT: return "timed out";
+    case TFTP_OUTCOME_PEER_ERROR: return "peer's error";
+    case TFTP_OUTCOME_ILLEGAL: return "illegal packet";
+    case TFTP_OUTCOME_REFUSED: return "options refused";
+    case TFTP_OUTCOME_TOO_LARGE: return "too large";
+    case TFTP_OUTCOME_STORE_FAULT: return "store fault";
+    case TFTP_OUTCOME_SOURCE_FAULT: return "source fault";
+    case TFTP_OUTCOME_NOT_NETASCII: return "not netascii";
+    case TFTP_OUTCOME_ABORTED: return "aborted";
     default: return "unknown outcome";
     }
 }
@@ -552,4 +658,5 @@ void tftp_free(void *block);
 #ifdef __cplusplus
 }
 #endif
+#endif /* what the library is built for */
 #endif

@@ -12,6 +12,7 @@
 #include <cstdint>
 #include <optional>
 #include <string_view>
+#include <type_traits>
 #include <utility>
 
 namespace tftp {
@@ -25,25 +26,50 @@ using Question = tftp_question;
 // Why a call did nothing: the numbers of tftp.h.
 enum class Fault : uint8_t {
     None = TFTP_OK,
-    NotOpen = TFTP_NOT_OPEN,
-    BadRequest = TFTP_BAD_REQUEST,
-    Memory = TFTP_MEMORY,
-    Closed = TFTP_CLOSED,
-    WrongSide = TFTP_WRONG_SIDE,
-    TooLargeFile = TFTP_TOO_LARGE_FILE,
-    RefusedOptions = TFTP_REFUSED_OPTIONS,
-    NoSource = TFTP_NO_SOURCE,
-    NoTransfer = TFTP_NO_TRANSFER,
-    InUse = TFTP_IN_USE,
-    BadOptions = TFTP_BAD_OPTIONS
+    NotOpen = TFTP_FAULT_NOT_OPEN,
+    BadRequest = TFTP_FAULT_BAD_REQUEST,
+    Memory = TFTP_FAULT_MEMORY,
+    Closed = TFTP_FAULT_CLOSED,
+    WrongSide = TFTP_FAULT_WRONG_SIDE,
+    TooLargeFile = TFTP_FAULT_TOO_LARGE_FILE,
+    RefusedOptions = TFTP_FAULT_REFUSED_OPTIONS,
+    NoSource = TFTP_FAULT_NO_SOURCE,
+    NoTransfer = TFTP_FAULT_NO_TRANSFER,
+    InUse = TFTP_FAULT_IN_USE,
+    BadOptions = TFTP_FAULT_BAD_OPTIONS,
+    NoRoom = TFTP_FAULT_NO_ROOM,
+    OverLimit = TFTP_FAULT_OVER_LIMIT,
+    LaterStruct = TFTP_FAULT_LATER_STRUCT
+};
+
+// How a transfer ended.
+enum class Outcome : uint8_t {
+    Open = TFTP_OUTCOME_OPEN,
+    Complete = TFTP_OUTCOME_COMPLETE,
+    TimedOut = TFTP_OUTCOME_TIMED_OUT,
+    PeerError = TFTP_OUTCOME_PEER_ERROR,
+    Illegal = TFTP_OUTCOME_ILLEGAL,
+    Refused = TFTP_OUTCOME_REFUSED,
+    TooLarge = TFTP_OUTCOME_TOO_LARGE,
+    StoreFault = TFTP_OUTCOME_STORE_FAULT,
+    SourceFault = TFTP_OUTCOME_SOURCE_FAULT,
+    NotNetascii = TFTP_OUTCOME_NOT_NETASCII,
+    Aborted = TFTP_OUTCOME_ABORTED
 };
 
 inline const char *text(Fault fault) noexcept { return tftp_strfault(static_cast<uint8_t>(fault)); }
+inline const char *text(Outcome outcome) noexcept { return tftp_stroutcome(static_cast<uint8_t>(outcome)); }
+// The code of the ERROR that answers a request which an opening has refused.
+inline uint16_t error_of(Fault fault) noexcept { return tftp_error_of(static_cast<uint8_t>(fault)); }
 
 // What a request asks, or how far a server goes: no option, no limit, five retries, until its fields say otherwise.
 struct Options : tftp_options {
     Options() noexcept : tftp_options TFTP_OPTIONS_INIT {}
 };
+
+// What containers of single bytes have: a call counts bytes, and a wider element would be several of them.
+template <class Bytes> using Data = decltype(std::declval<Bytes &>().data());
+template <class Bytes> using OnlyBytes = std::enable_if_t<sizeof(*std::declval<Data<Bytes>>()) == 1>;
 
 // Bytes that a call reads.
 struct View {
@@ -53,7 +79,7 @@ struct View {
     View(const uint8_t *bytes, size_t count) noexcept : data(bytes), size(count) {}
     View(std::string_view text) noexcept : data(reinterpret_cast<const uint8_t *>(text.data())), size(text.size()) {}
     View(const char *text) noexcept : View(std::string_view(text)) {}
-    template <class Bytes, class = decltype(std::declval<const Bytes &>().data())>
+    template <class Bytes, class = OnlyBytes<const Bytes>>
     View(const Bytes &bytes) noexcept : data(reinterpret_cast<const uint8_t *>(bytes.data())), size(bytes.size()) {}
 };
 
@@ -64,7 +90,7 @@ struct Room {
     Room() noexcept = default;
     Room(uint8_t *bytes, size_t count) noexcept : data(bytes), size(count) {}
     template <size_t N> Room(uint8_t (&bytes)[N]) noexcept : data(bytes), size(N) {}
-    template <class Bytes, class = decltype(std::declval<Bytes &>().data())>
+    template <class Bytes, class = std::enable_if_t<std::is_convertible_v<Data<Bytes>, uint8_t *>>>
     Room(Bytes &bytes) noexcept : data(bytes.data()), size(bytes.size()) {}
 };
 
@@ -87,9 +113,12 @@ public:
 
     // What the last call without a fault did, and the state after it.
     const Event &event() const noexcept { return event_; }
+    Outcome outcome() const noexcept { return static_cast<Outcome>(event_.outcome); }
     bool is_open() const noexcept { return end_.is_open; }
     // Whether there is more to come: it is open, and has no outcome yet.
-    explicit operator bool() const noexcept { return end_.is_open && event_.outcome == 0; }
+    explicit operator bool() const noexcept { return end_.is_open && outcome() == Outcome::Open; }
+    // Closes it, as a caller does that need not dally after its last block.
+    void close() noexcept { tftp_close(&end_); }
 
     [[nodiscard]] Fault get(const Endpoint &server, View name, const Options &options, Room request) noexcept {
         return fault(tftp_get(&end_, &server, name.data, name.size, &options, request.data, request.size, &event_));
@@ -121,7 +150,7 @@ public:
         return fault(tftp_abort(&end_, code, why.data, why.size, reply.data, reply.size, &event_));
     }
     // What the end and its peer have agreed, if it is open.
-    std::optional<Info> info() noexcept {
+    std::optional<Info> info() const noexcept {
         Info info = TFTP_INFO_INIT;
         if (tftp_end_info(&end_, &info) != TFTP_OK) return std::nullopt;
         return info;
@@ -152,7 +181,8 @@ public:
     [[nodiscard]] Fault open(const Options &options, uint8_t transfers) noexcept {
         return fault(tftp_server_open(&server_, &options, transfers));
     }
-    [[nodiscard]] Fault request(const Endpoint &from, View datagram, Room path, Room reply, Question &question) noexcept {
+    [[nodiscard]] Fault request(const Endpoint &from, View datagram, Room path, Room reply,
+                                Question &question) const noexcept {
         return fault(tftp_server_request(&server_, &from, datagram.data, datagram.size, path.data, path.size, reply.data,
                                          reply.size, &question));
     }
@@ -179,6 +209,12 @@ public:
     }
     [[nodiscard]] Fault abort(uint16_t tid, uint16_t code, View why, Room reply, Event &event) noexcept {
         return fault(tftp_server_abort(&server_, tid, code, why.data, why.size, reply.data, reply.size, &event));
+    }
+    // What the transfer of this number and its peer have agreed, if there is one.
+    std::optional<Info> info(uint16_t tid) const noexcept {
+        Info info = TFTP_INFO_INIT;
+        if (tftp_server_info(&server_, tid, &info) != TFTP_OK) return std::nullopt;
+        return info;
     }
     bool give_up(uint16_t tid) noexcept { return tftp_server_give_up(&server_, tid); }
 

@@ -1,9 +1,11 @@
 /* Holds tftp.h to the types of the library: each field of each struct has the value that the library gives the field of
- * that name, each struct its size, and each number its value, which a call returns. Builds packets and reads options.
- * Tries the request port of a server and its table, transfers that are aborted, and NULL. Counts the requests for memory
+ * that name, or the offset that it reads it from, each struct its size, and each number its value, which a call returns.
+ * Builds packets and reads options. Tries the request port of a server and its table, transfers that are aborted, buffers
+ * that are too short, waits that grow, and NULL. Counts the requests for memory
  * of transfers. Then refuses each of an opening, of a get, and of a served write, in turn: the call reports it, changes
  * nothing, and does its work when it is made again. It is linked with --wrap for malloc and realloc. */
 #include "tftp.h"
+#include <stddef.h>
 #include <stdio.h>
 #include <stdlib.h>
 #include <string.h>
@@ -27,9 +29,8 @@ void *__wrap_realloc(void *bytes, size_t len) {
 struct tftp_sizes {
     uint8_t endpoint, options, event, packet, end, question, server, info;
 };
-void tftp_samples(struct tftp_endpoint *endpoint, struct tftp_options *options, struct tftp_event *event,
-                  struct tftp_packet *packet, struct tftp_question *question, struct tftp_info *info,
-                  struct tftp_sizes *sizes);
+void tftp_samples(struct tftp_endpoint *endpoint, struct tftp_event *event, struct tftp_packet *packet,
+                  struct tftp_question *question, struct tftp_info *info, struct tftp_sizes *sizes);
 
 /* Options with these fields, and zeros. */
 #define OPTIONS(...) {.size = sizeof(struct tftp_options), __VA_ARGS__}
@@ -53,8 +54,8 @@ static void take(struct tftp_end *end, const char *data, size_t len, char *file,
     event.number = 77;
     before = event;
     uint8_t fault = tftp_receive(end, &peer, datagram, len + 2, block, sizeof block, reply, sizeof reply, &event);
-    if (fault == TFTP_MEMORY) {
-        expect("the event after TFTP_MEMORY", memcmp(&event, &before, sizeof event), 0);
+    if (fault == TFTP_FAULT_MEMORY) {
+        expect("the event after TFTP_FAULT_MEMORY", memcmp(&event, &before, sizeof event), 0);
         fault = tftp_receive(end, &peer, datagram, len + 2, block, sizeof block, reply, sizeof reply, &event);
     }
     expect("a DATA", fault, TFTP_OK);
@@ -75,7 +76,7 @@ static int lacking(int number) {
     asked = 0;
     refused = number;
     uint8_t fault = tftp_get(&end, &server, (const uint8_t *)"a", 1, &options, request, sizeof request, &event);
-    if (fault == TFTP_MEMORY) {
+    if (fault == TFTP_FAULT_MEMORY) {
         expect("a handle without memory", end.is_open, 0);
         fault = tftp_get(&end, &server, (const uint8_t *)"a", 1, &options, request, sizeof request, &event);
     }
@@ -185,22 +186,22 @@ static void numbers(void) {
     struct tftp_event event = {0};
     struct tftp_end end = {0};
     size_t most = sizeof out;
-    expect("TFTP_COMPLETE", outcome(true, none, TEXT("\0\4\0\0"), 3, &event), TFTP_COMPLETE);
-    expect("TFTP_PEER_ERROR", outcome(false, none, TEXT("\0\5\0\7no\0"), 512, &event), TFTP_PEER_ERROR);
+    expect("TFTP_OUTCOME_COMPLETE", outcome(true, none, TEXT("\0\4\0\0"), 3, &event), TFTP_OUTCOME_COMPLETE);
+    expect("TFTP_OUTCOME_PEER_ERROR", outcome(false, none, TEXT("\0\5\0\7no\0"), 512, &event), TFTP_OUTCOME_PEER_ERROR);
     expect("its code", event.peer_code, 7);
-    expect("TFTP_ILLEGAL", outcome(false, none, TEXT("\0\4\0\1"), 512, &event), TFTP_ILLEGAL);
-    expect("TFTP_REFUSED", outcome(false, none, TEXT("\0\6blksize\0008\0"), 512, &event), TFTP_REFUSED);
-    expect("TFTP_TOO_LARGE", outcome(false, sized, TEXT("\0\6tsize\0001001\0"), 512, &event), TFTP_TOO_LARGE);
-    expect("TFTP_STORE_FAULT", outcome(false, none, TEXT("\0\3\0\1abc"), 2, &event), TFTP_STORE_FAULT);
-    expect("TFTP_SOURCE_FAULT", outcome(true, none, TEXT("\0\4\0\0"), 2, &event), TFTP_SOURCE_FAULT);
-    expect("TFTP_NOT_NETASCII", outcome(false, text, TEXT("\0\3\0\1a\rb"), 512, &event), TFTP_NOT_NETASCII);
+    expect("TFTP_OUTCOME_ILLEGAL", outcome(false, none, TEXT("\0\4\0\1"), 512, &event), TFTP_OUTCOME_ILLEGAL);
+    expect("TFTP_OUTCOME_REFUSED", outcome(false, none, TEXT("\0\6blksize\0008\0"), 512, &event), TFTP_OUTCOME_REFUSED);
+    expect("TFTP_OUTCOME_TOO_LARGE", outcome(false, sized, TEXT("\0\6tsize\0001001\0"), 512, &event), TFTP_OUTCOME_TOO_LARGE);
+    expect("TFTP_OUTCOME_STORE_FAULT", outcome(false, none, TEXT("\0\3\0\1abc"), 2, &event), TFTP_OUTCOME_STORE_FAULT);
+    expect("TFTP_OUTCOME_SOURCE_FAULT", outcome(true, none, TEXT("\0\4\0\0"), 2, &event), TFTP_OUTCOME_SOURCE_FAULT);
+    expect("TFTP_OUTCOME_NOT_NETASCII", outcome(false, text, TEXT("\0\3\0\1a\rb"), 512, &event), TFTP_OUTCOME_NOT_NETASCII);
 
     static const char twice[] = "\0\1a\0octet\0blksize\0008\0blksize\0009";
     const uint8_t *request = (const uint8_t *)twice;
     uint8_t fault = tftp_serve_get(&end, &at, request, 10, 3, TEXT("ab"), &large, out, most, &event);
-    expect("TFTP_NO_SOURCE", fault, TFTP_NO_SOURCE);
+    expect("TFTP_FAULT_NO_SOURCE", fault, TFTP_FAULT_NO_SOURCE);
     fault = tftp_serve_get(&end, &at, request, sizeof twice, 3, TEXT("abc"), &large, out, most, &event);
-    expect("TFTP_REFUSED_OPTIONS", fault, TFTP_REFUSED_OPTIONS);
+    expect("TFTP_FAULT_REFUSED_OPTIONS", fault, TFTP_FAULT_REFUSED_OPTIONS);
     fault = tftp_serve_get(&end, &at, request, 10, sizeof file, file, sizeof file, &large, out, most, &event);
     expect("a block of the default length", fault, TFTP_OK);
     expect("TFTP_HEADER", event.send_len, TFTP_HEADER + TFTP_DEFAULT_BLOCK);
@@ -209,7 +210,7 @@ static void numbers(void) {
     for (int i = 0; i < 4; i++) {
         large.blksize = sizes[i];
         fault = tftp_get(&end, &at, TEXT("a"), &large, out, most, &event);
-        expect("a block size", fault, i % 3 ? TFTP_OK : TFTP_BAD_REQUEST);
+        expect("a block size", fault, i % 3 ? TFTP_OK : TFTP_FAULT_BAD_REQUEST);
     }
     tftp_close(&end);
 }
@@ -220,13 +221,13 @@ static void limits(void) {
         {600, "600"}, {TFTP_MAX_BLOCK, "600"}, {TFTP_MAX_BLOCK + 1, NULL}};
     static const struct tftp_endpoint at = {{10, 0, 0, 1}, 69};
     static const char read[] = "\0\1a\0octet\0blksize\000600", write[] = "\0\2a\0octet\0blksize\000600";
-    uint8_t out[TFTP_MIN_REPLY], text[TFTP_MAX_REQUEST];
+    uint8_t out[TFTP_HEADER + 600], text[TFTP_MAX_REQUEST];
     struct tftp_event event = {0};
     struct tftp_end end = {0};
     struct tftp_server server = {0};
     for (size_t i = 0; i < sizeof tried / sizeof *tried; i++) {
         struct tftp_options options = OPTIONS(.max_file = 1000, .retries = 5, .blksize = tried[i].limit);
-        uint8_t wanted = tried[i].oack ? TFTP_OK : TFTP_BAD_REQUEST;
+        uint8_t wanted = tried[i].oack ? TFTP_OK : TFTP_FAULT_BAD_REQUEST;
         uint8_t fault = tftp_serve_get(&end, &at, (const uint8_t *)read, sizeof read, 3, TEXT("abc"), &options, out,
                                        sizeof out, &event);
         expect("a limit of a read", fault, wanted);
@@ -245,7 +246,12 @@ static void limits(void) {
     tftp_server_close(&server);
 }
 
-/* Options that did not begin as TFTP_OPTIONS_INIT are refused, also those of all bytes zero. */
+/* The options of the first version of struct tftp_options had 24 bytes, and no field behind is_netascii. */
+enum { FIRST_OPTIONS = 24 };
+
+/* Options of a size between the first version's and today's are taken, and a field that they are too short for counts as
+ * 0; larger ones are refused by a name of their own, and so are those that did not begin as TFTP_OPTIONS_INIT, as all bytes
+ * zero. */
 static void sizes_of_options(void) {
     static const struct tftp_endpoint at = {{10, 0, 0, 1}, 69};
     static const char read[] = "\0\1a\0octet", write[] = "\0\2a\0octet";
@@ -261,9 +267,13 @@ static void sizes_of_options(void) {
     FIELD(options, retries, 5);
     FIELD(options, asks_tsize, 0);
     FIELD(options, is_netascii, 0);
-    for (int i = 0; i < 4; i++) {
-        options.size = i == 0 ? 0 : i == 1 ? sizeof options : i == 2 ? sizeof options - 1 : sizeof options + 1;
-        uint8_t wanted = i == 1 ? TFTP_OK : TFTP_BAD_OPTIONS;
+    FIELD(options, backoff, 0);
+    FIELD(options, max_timeout, 0);
+    expect("the first version", offsetof(struct tftp_options, backoff), FIRST_OPTIONS);
+    for (size_t size = 0; size <= sizeof options + 1; size++) {
+        options.size = size;
+        uint8_t wanted = size > sizeof options ? TFTP_FAULT_LATER_STRUCT
+            : size >= FIRST_OPTIONS ? TFTP_OK : TFTP_FAULT_BAD_OPTIONS;
         expect("a get", tftp_get(&end, &at, TEXT("a"), &options, out, sizeof out, &event), wanted);
         expect("a put", tftp_put(&end, &at, TEXT("a"), 1, &options, out, sizeof out, &event), wanted);
         expect("a served read", tftp_serve_get(&end, &at, (const uint8_t *)read, sizeof read, 1, TEXT("a"), &options, out,
@@ -272,6 +282,21 @@ static void sizes_of_options(void) {
                                                 &event), wanted);
         expect("whether it is open", end.is_open, wanted == TFTP_OK);
         expect("a server", tftp_server_open(&server, &options, 1), wanted);
+    }
+    options.size = SIZE_MAX;
+    expect("a size without a bound", tftp_get(&end, &at, TEXT("a"), &options, out, sizeof out, &event),
+           TFTP_FAULT_LATER_STRUCT);
+    /* a caller without the header passes the size, too, which has to be the struct's */
+    options.size = sizeof options;
+    expect("another size", tftp_open_get(&end, &at, TEXT("a"), &options, FIRST_OPTIONS, out, sizeof out, &event),
+           TFTP_FAULT_BAD_OPTIONS);
+    /* what is behind a struct of the first version is not read */
+    for (int larger = 0; larger < 2; larger++) {
+        options.backoff = true;
+        options.size = larger ? FIRST_OPTIONS + 1 : FIRST_OPTIONS;
+        expect("a get", tftp_get(&end, &at, TEXT("a"), &options, out, sizeof out, &event), TFTP_OK);
+        expect("a timeout", tftp_timeout(&end, out, sizeof out, &event), TFTP_OK);
+        FIELD(event, interval, larger ? 2 : 1);
     }
     tftp_close(&end);
     tftp_server_close(&server);
@@ -317,7 +342,7 @@ static void openings_without_memory(void) {
             fault = opening(kind, &end, &server, out, sizeof out, &event);
             refused = 0;
             if (fault) {
-                expect("an opening without memory", fault, TFTP_MEMORY);
+                expect("an opening without memory", fault, TFTP_FAULT_MEMORY);
                 expect("the event after it", memcmp(&event, &before, sizeof event), 0);
                 expect("the buffer after it", memcmp(out, was, sizeof out), 0);
                 expect("whether it is open", end.is_open, 0);
@@ -348,11 +373,11 @@ static void aborted(int kind, int steps) {
                : tftp_receive(&end, &peer, TEXT("\0\3\0\1abc"), file, sizeof file, out, sizeof out, &event), TFTP_OK);
     before = event;
     memset(out, 0xEE, sizeof out);
-    expect("an ERROR with a zero byte", tftp_abort(&end, 3, TEXT("a\0b"), out, sizeof out, &event), TFTP_BAD_REQUEST);
-    expect("a text that is too long", tftp_abort(&end, 3, file, 508, out, sizeof out, &event), TFTP_BAD_REQUEST);
+    expect("an ERROR with a zero byte", tftp_abort(&end, 3, TEXT("a\0b"), out, sizeof out, &event), TFTP_FAULT_BAD_REQUEST);
+    expect("a text that is too long", tftp_abort(&end, 3, file, 508, out, sizeof out, &event), TFTP_FAULT_BAD_REQUEST);
     asked = 0;
     refused = 1;
-    expect("an abort without memory", tftp_abort(&end, 3, TEXT("full"), out, sizeof out, &event), TFTP_MEMORY);
+    expect("an abort without memory", tftp_abort(&end, 3, TEXT("full"), out, sizeof out, &event), TFTP_FAULT_MEMORY);
     refused = 0;
     expect("the event after these", memcmp(&event, &before, sizeof event), 0);
     expect("the buffer after these", out[0], 0xEE);
@@ -363,12 +388,12 @@ static void aborted(int kind, int steps) {
         expect("whether it is for the peer", event.to.port, 1024);
     } else
         expect("what is sent without a peer", event.send_len, 0);
-    FIELD(event, outcome, TFTP_ABORTED);
+    FIELD(event, outcome, TFTP_OUTCOME_ABORTED);
     FIELD(event, complete, 0);
     FIELD(event, progress, 0);
     FIELD(event, file_len, 0);
     expect("whether the end is open", end.is_open, 0);
-    expect("a second abort", tftp_abort(&end, 3, TEXT("full"), out, sizeof out, &event), TFTP_NOT_OPEN);
+    expect("a second abort", tftp_abort(&end, 3, TEXT("full"), out, sizeof out, &event), TFTP_FAULT_NOT_OPEN);
     tftp_close(&end);
 }
 
@@ -384,28 +409,28 @@ static void aborts(void) {
     /* what is over is not aborted */
     expect("a served read", opening(2, &end, &server, out, sizeof out, &event), TFTP_OK);
     expect("its ACK", tftp_send(&end, &peer, TEXT("\0\4\0\1"), out, 0, out, sizeof out, &event), TFTP_OK);
-    expect("its outcome", event.outcome, TFTP_COMPLETE);
-    expect("an abort of it", tftp_abort(&end, 3, TEXT("full"), out, sizeof out, &event), TFTP_CLOSED);
-    FIELD(event, outcome, TFTP_COMPLETE);
+    expect("its outcome", event.outcome, TFTP_OUTCOME_COMPLETE);
+    expect("an abort of it", tftp_abort(&end, 3, TEXT("full"), out, sizeof out, &event), TFTP_FAULT_CLOSED);
+    FIELD(event, outcome, TFTP_OUTCOME_COMPLETE);
     tftp_close(&end);
     /* the same at a server */
-    expect("a closed server", tftp_server_abort(&server, 7, 3, TEXT("full"), out, sizeof out, &event), TFTP_NOT_OPEN);
+    expect("a closed server", tftp_server_abort(&server, 7, 3, TEXT("full"), out, sizeof out, &event), TFTP_FAULT_NOT_OPEN);
     expect("a server", tftp_server_open(&server, &options, 2), TFTP_OK);
-    expect("no transfer", tftp_server_abort(&server, 7, 3, TEXT("full"), out, sizeof out, &event), TFTP_NO_TRANSFER);
+    expect("no transfer", tftp_server_abort(&server, 7, 3, TEXT("full"), out, sizeof out, &event), TFTP_FAULT_NO_TRANSFER);
     expect("a transfer", opening(5, &end, &server, out, sizeof out, &event), TFTP_OK);
-    expect("a bad text", tftp_server_abort(&server, 7, 3, TEXT("\0"), out, sizeof out, &event), TFTP_BAD_REQUEST);
+    expect("a bad text", tftp_server_abort(&server, 7, 3, TEXT("\0"), out, sizeof out, &event), TFTP_FAULT_BAD_REQUEST);
     asked = 0;
     refused = 1;
-    expect("no memory", tftp_server_abort(&server, 7, 3, TEXT("full"), out, sizeof out, &event), TFTP_MEMORY);
+    expect("no memory", tftp_server_abort(&server, 7, 3, TEXT("full"), out, sizeof out, &event), TFTP_FAULT_MEMORY);
     refused = 0;
     expect("an abort", tftp_server_abort(&server, 7, 3, TEXT("full"), out, sizeof out, &event), TFTP_OK);
     expect_bytes("its ERROR", out, event.send_len, "\0\5\0\3full", 9);
-    FIELD(event, outcome, TFTP_ABORTED);
+    FIELD(event, outcome, TFTP_OUTCOME_ABORTED);
     expect("its port", event.to.port, 1024);
     expect("whether it is held", tftp_server_give_up(&server, 7), 0);
     expect("a transfer", opening(4, &end, &server, out, sizeof out, &event), TFTP_OK);
     expect("its ACK", tftp_server_send(&server, 7, &peer, TEXT("\0\4\0\1"), out, 0, out, sizeof out, &event), TFTP_OK);
-    expect("one that is over", tftp_server_abort(&server, 7, 3, TEXT("x"), out, sizeof out, &event), TFTP_NO_TRANSFER);
+    expect("one that is over", tftp_server_abort(&server, 7, 3, TEXT("x"), out, sizeof out, &event), TFTP_FAULT_NO_TRANSFER);
     expect("whether it is held", tftp_server_give_up(&server, 7), 1);
     tftp_server_close(&server);
 }
@@ -421,31 +446,38 @@ static void nulls(void) {
     struct tftp_packet packet = {0};
     struct tftp_question question = {0};
     uint64_t length = 5;
-    uint8_t out[TFTP_MAX_REQUEST];
+    uint8_t out[TFTP_MAX_REQUEST], reply[TFTP_MIN_REPLY];
     tftp_close(NULL);
     tftp_server_close(NULL);
-    expect("a name of NULL", tftp_get(&end, &at, NULL, 0, &options, NULL, 0, &event), TFTP_BAD_REQUEST);
-    expect("a request of NULL", tftp_get(&end, &at, TEXT("a"), &options, NULL, 0, &event), TFTP_OK);
-    expect("what was to be sent", event.send_len, 10);
+    expect("a name of NULL", tftp_get(&end, &at, NULL, 0, &options, NULL, 0, &event), TFTP_FAULT_BAD_REQUEST);
+    expect("a request of NULL", tftp_get(&end, &at, TEXT("a"), &options, NULL, 0, &event), TFTP_FAULT_NO_ROOM);
+    expect("a get", tftp_get(&end, &at, TEXT("a"), &options, out, 10, &event), TFTP_OK);
+    expect("what is to be sent", event.send_len, 10);
     expect("a datagram of NULL", tftp_receive(&end, &at, NULL, 0, NULL, 0, NULL, 0, &event), TFTP_OK);
-    expect("its answer", event.send_len > 0, 1);
-    expect("a timeout to NULL", tftp_timeout(&end, NULL, 0, &event), TFTP_CLOSED);
-    expect("a put to NULL", tftp_put(&end, &at, TEXT("a"), 0, &options, NULL, 0, &event), TFTP_OK);
-    expect("an empty file of NULL", tftp_send(&end, &at, TEXT("\0\4\0\0"), NULL, 0, NULL, 0, &event), TFTP_OK);
+    expect("its answer", event.send_len, 0);
+    expect("whether it was lost", event.no_room, 1);
+    expect("a timeout to NULL", tftp_timeout(&end, NULL, 0, &event), TFTP_FAULT_CLOSED);
+    expect("a put to NULL", tftp_put(&end, &at, TEXT("a"), 0, &options, NULL, 0, &event), TFTP_FAULT_NO_ROOM);
+    expect("a put", tftp_put(&end, &at, TEXT("a"), 0, &options, out, sizeof out, &event), TFTP_OK);
+    expect("an empty file of NULL", tftp_send(&end, &at, TEXT("\0\4\0\0"), NULL, 0, out, sizeof out, &event), TFTP_OK);
     expect("its DATA", event.send_len, 4);
-    expect("an abort without a text", tftp_abort(&end, 0, NULL, 0, NULL, 0, &event), TFTP_OK);
+    expect("an abort without a text", tftp_abort(&end, 0, NULL, 0, out, sizeof out, &event), TFTP_OK);
     expect("its ERROR", event.send_len, 5);
+    expect("a served empty file to NULL", tftp_serve_get(&end, &at, (const uint8_t *)read, sizeof read, 0, NULL, 0,
+                                                         &options, NULL, 0, &event), TFTP_FAULT_NO_ROOM);
     expect("a served empty file of NULL", tftp_serve_get(&end, &at, (const uint8_t *)read, sizeof read, 0, NULL, 0,
-                                                         &options, NULL, 0, &event), TFTP_OK);
-    expect("a read of NULL", tftp_serve_get(&end, &at, NULL, 0, 0, NULL, 0, &options, NULL, 0, &event), TFTP_BAD_REQUEST);
+                                                         &options, reply, sizeof reply, &event), TFTP_OK);
+    expect("a read of NULL", tftp_serve_get(&end, &at, NULL, 0, 0, NULL, 0, &options, NULL, 0, &event), TFTP_FAULT_BAD_REQUEST);
     expect("a write to NULL", tftp_serve_put(&end, &at, (const uint8_t *)write, sizeof write, &options, NULL, 0, &event),
-           TFTP_OK);
-    expect("a write of NULL", tftp_serve_put(&end, &at, NULL, 0, &options, NULL, 0, &event), TFTP_BAD_REQUEST);
+           TFTP_FAULT_NO_ROOM);
+    expect("a write of NULL", tftp_serve_put(&end, &at, NULL, 0, &options, NULL, 0, &event), TFTP_FAULT_BAD_REQUEST);
     expect("a server", tftp_server_open(&server, &options, 1), TFTP_OK);
     expect("a question of NULL", tftp_server_request(&server, &at, NULL, 0, NULL, 0, NULL, 0, &question), TFTP_OK);
-    expect("its ERROR", question.send_len > 5, 1);
-    expect("a transfer of NULL", tftp_server_get(&server, 1, &at, (const uint8_t *)read, sizeof read, 0, NULL, 0, NULL, 0,
-                                                 &event), TFTP_OK);
+    expect("its ERROR, which does not fit", question.send_len, 0);
+    expect("a transfer to NULL", tftp_server_get(&server, 1, &at, (const uint8_t *)read, sizeof read, 0, NULL, 0, NULL, 0,
+                                                 &event), TFTP_FAULT_NO_ROOM);
+    expect("a transfer of NULL", tftp_server_get(&server, 1, &at, (const uint8_t *)read, sizeof read, 0, NULL, 0, reply,
+                                                 sizeof reply, &event), TFTP_OK);
     expect("its timeout", tftp_server_timeout(&server, 1, NULL, 0, &event), TFTP_OK);
     expect("its abort", tftp_server_abort(&server, 1, 0, NULL, 0, NULL, 0, &event), TFTP_OK);
     tftp_server_close(&server);
@@ -482,9 +514,10 @@ static void stated(void) {
 /* What an end says that it has agreed with its peer; has_length as well, so that 0 bytes are a length. */
 static void agrees(const char *what, struct tftp_end *end, bool has_length, uint64_t length, uint8_t timeout) {
     struct tftp_info info = TFTP_INFO_INIT;
-    info.length = 77, info.timeout = 77;
+    info.length = 77, info.timeout = 77, info.block_size = 77;
     expect(what, tftp_end_info(end, &info), TFTP_OK);
     FIELD(info, size, sizeof info);
+    FIELD(info, block_size, TFTP_DEFAULT_BLOCK);
     FIELD(info, has_length, has_length);
     FIELD(info, length, length);
     FIELD(info, timeout, timeout);
@@ -507,10 +540,15 @@ static void agreements(void) {
     struct tftp_event event = {0};
     struct tftp_end end = {0};
     uint8_t out[TFTP_MIN_REPLY];
-    expect("an info without a size", tftp_end_info(&end, &info), TFTP_BAD_OPTIONS);
+    expect("an info without a size", tftp_end_info(&end, &info), TFTP_FAULT_BAD_OPTIONS);
+    info = (struct tftp_info)TFTP_INFO_INIT;
+    info.size--;
+    expect("an info that is too short", tftp_end_info(&end, &info), TFTP_FAULT_BAD_OPTIONS);
+    info.size += 2;
+    expect("an info of a later version", tftp_end_info(&end, &info), TFTP_FAULT_LATER_STRUCT);
     info = (struct tftp_info)TFTP_INFO_INIT;
     info.length = 77;
-    expect("the info of a closed end", tftp_end_info(&end, &info), TFTP_NOT_OPEN);
+    expect("the info of a closed end", tftp_end_info(&end, &info), TFTP_FAULT_NOT_OPEN);
     FIELD(info, length, 77);
 
     expect("a get", tftp_get(&end, &at, TEXT("a"), &options, out, sizeof out, &event), TFTP_OK);
@@ -549,19 +587,210 @@ static void agreements(void) {
     tftp_close(&end);
 }
 
+/* What a server's transfer says that it has agreed, open or over. */
+static void transfers_agree(void) {
+    static const struct tftp_endpoint at = {{10, 0, 0, 1}, 1024};
+    static const char read[] = "\0\1a\0octet\0tsize\0" "0\0timeout\0" "4\0blksize\0" "8", plain[] = "\0\2b\0octet";
+    static const char write[] = "\0\2c\0octet\0tsize\0" "700";
+    static const struct { const char *request; size_t len; bool writes, has_length; uint64_t length; uint8_t timeout;
+                          uint16_t block_size; } tried[] = {
+        {read, sizeof read, false, true, 3, 4, 8}, {plain, sizeof plain, true, false, 0, 0, 512},
+        {write, sizeof write, true, true, 700, 0, 512}};
+    struct tftp_options options = OPTIONS(.max_file = 1000, .retries = 5);
+    struct tftp_server server = {0};
+    struct tftp_event event = {0};
+    struct tftp_info info = TFTP_INFO_INIT;
+    uint8_t out[TFTP_MIN_REPLY];
+    expect("the info of a closed server", tftp_server_info(&server, 0, &info), TFTP_FAULT_NOT_OPEN);
+    expect("a server", tftp_server_open(&server, &options, 3), TFTP_OK);
+    for (uint16_t i = 0; i < 3; i++) {
+        const uint8_t *request = (const uint8_t *)tried[i].request;
+        expect("the info of no transfer", tftp_server_info(&server, i, &info), TFTP_FAULT_NO_TRANSFER);
+        expect("a transfer", tried[i].writes ? tftp_server_put(&server, i, &at, request, tried[i].len, out, sizeof out, &event)
+            : tftp_server_get(&server, i, &at, request, tried[i].len, 3, TEXT("abc"), out, sizeof out, &event), TFTP_OK);
+    }
+    for (int over = 0; over < 2; over++) {
+        for (uint16_t i = 0; i < 3; i++) {
+            info = (struct tftp_info)TFTP_INFO_INIT;
+            info.length = 77;
+            expect("the info of a transfer", tftp_server_info(&server, i, &info), TFTP_OK);
+            FIELD(info, has_length, tried[i].has_length);
+            FIELD(info, length, tried[i].length);
+            FIELD(info, timeout, tried[i].timeout);
+            FIELD(info, block_size, tried[i].block_size);
+        }
+        /* the peer of the first gives it up */
+        expect("its ERROR", tftp_server_send(&server, 0, &at, TEXT("\0\5\0\0\0"), NULL, 0, out, sizeof out, &event),
+               over ? TFTP_FAULT_NO_TRANSFER : TFTP_OK);
+    }
+    info.size = 8;
+    expect("an info of no size", tftp_server_info(&server, 0, &info), TFTP_FAULT_BAD_OPTIONS);
+    info.size = 80;
+    expect("one that is too large", tftp_server_info(&server, 0, &info), TFTP_FAULT_LATER_STRUCT);
+    tftp_server_close(&server);
+}
+
+/* A read at an end, or at a server, whose buffer has this room. */
+static void room_of(size_t room, bool held, const uint8_t *request, size_t len) {
+    static const struct tftp_endpoint at = {{10, 0, 0, 1}, 1024};
+    static uint8_t file[70000], out[TFTP_HEADER + TFTP_MAX_BLOCK];
+    const uint8_t ack[] = {0, 4, 0, 0};
+    struct tftp_options options = OPTIONS(.max_file = UINT64_MAX, .retries = 5);
+    struct tftp_end end = {0};
+    struct tftp_server server = {0};
+    struct tftp_event event = {.number = 77};
+    bool asks = len > 20;
+    expect("a server", tftp_server_open(&server, &options, 1), TFTP_OK);
+    uint8_t fault = held
+        ? tftp_server_get(&server, 7, &at, request, len, sizeof file, file, sizeof file, out, room, &event)
+        : tftp_serve_get(&end, &at, request, len, sizeof file, file, sizeof file, &options, out, room, &event);
+    expect("an opening", fault, room < TFTP_MIN_REPLY ? TFTP_FAULT_NO_ROOM : TFTP_OK);
+    if (fault) {
+        FIELD(event, number, 77);
+        expect("whether it is open", end.is_open || tftp_server_give_up(&server, 7), 0);
+    } else {
+        FIELD(event, block_size, asks ? room - TFTP_HEADER : TFTP_DEFAULT_BLOCK);
+        FIELD(event, progress, 0);
+        expect("whether its datagram fits", event.send_len > 0 && event.send_len <= room, 1);
+    }
+    if (!fault && asks) {
+        fault = held ? tftp_server_send(&server, 7, &at, ack, sizeof ack, file, sizeof file, out, room - 1, &event)
+            : tftp_send(&end, &at, ack, sizeof ack, file, sizeof file, out, room - 1, &event);
+        expect("an ACK, whose DATA does not fit", fault, TFTP_OK);
+        FIELD(event, send_len, 0);
+        FIELD(event, no_room, 1);
+        fault = held ? tftp_server_timeout(&server, 7, out, room, &event) : tftp_timeout(&end, out, room, &event);
+        expect("a timeout, which has room", fault, TFTP_OK);
+        FIELD(event, send_len, room);
+        FIELD(event, no_room, 0);
+    }
+    tftp_close(&end);
+    tftp_server_close(&server);
+}
+
+/* No call says that more is to be sent than its buffer has, whatever a client asks for: an opening agrees to no block that
+ * its buffer has no room for, or is refused, and what a later call has no room for is lost, and sent again. */
+static void rooms(void) {
+    static const struct tftp_endpoint at = {{10, 0, 0, 1}, 1024};
+    struct tftp_options options = OPTIONS(.max_file = UINT64_MAX, .retries = 5);
+    static const size_t tried[] = {0, 12, 515, TFTP_MIN_REPLY, 517, 1432, TFTP_HEADER + TFTP_MAX_BLOCK};
+    uint8_t out[TFTP_MIN_REPLY];
+    for (size_t i = 0; i < sizeof tried / sizeof *tried; i++) {
+        room_of(tried[i], false, TEXT("\0\1a\0octet\0blksize\00065464\0"));
+        room_of(tried[i], true, TEXT("\0\1a\0octet\0blksize\00065464\0"));
+        room_of(tried[i], false, TEXT("\0\1a\0octet\0"));
+        room_of(tried[i], true, TEXT("\0\1a\0octet\0"));
+    }
+    /* a client's request, and a server's first datagram of a write */
+    struct tftp_end end = {0};
+    struct tftp_event event = {0};
+    expect("a get", tftp_get(&end, &at, TEXT("a"), &options, out, 9, &event), TFTP_FAULT_NO_ROOM);
+    expect("a put", tftp_put(&end, &at, TEXT("a"), 3, &options, out, 9, &event), TFTP_FAULT_NO_ROOM);
+    expect("whether it is open", end.is_open, 0);
+    expect("a put", tftp_put(&end, &at, TEXT("a"), 3, &options, out, 10, &event), TFTP_OK);
+    FIELD(event, progress, 0);
+    expect("a served write", tftp_serve_put(&end, &at, TEXT("\0\2a\0octet\0"), &options, out, 3, &event), TFTP_FAULT_NO_ROOM);
+    expect("a served write", tftp_serve_put(&end, &at, TEXT("\0\2a\0octet\0"), &options, out, 4, &event), TFTP_OK);
+    FIELD(event, progress, 0);
+    tftp_close(&end);
+}
+
+/* The waits of an end, and of a server's transfer, grow after timeouts if the options say so, and begin anew. */
+static void waits(void) {
+    static const struct tftp_endpoint at = {{10, 0, 0, 1}, 1024};
+    static const char read[] = "\0\1a\0octet\0timeout\000255";
+    for (int kind = 0; kind < 4; kind++) {
+        struct tftp_options options = OPTIONS(.max_file = 1000, .retries = 6, .backoff = kind % 2);
+        struct tftp_end end = {0};
+        struct tftp_server server = {0};
+        struct tftp_event event = {0};
+        uint8_t out[TFTP_MIN_REPLY];
+        bool held = kind > 1;
+        unsigned first = held ? 255 : 1;
+        expect("a server", tftp_server_open(&server, &options, 1), TFTP_OK);
+        expect("an opening", held
+            ? tftp_server_get(&server, 7, &at, (const uint8_t *)read, sizeof read, 600, out, 512, out, sizeof out, &event)
+            : tftp_put(&end, &at, TEXT("a"), 600, &options, out, sizeof out, &event), TFTP_OK);
+        FIELD(event, interval, first);
+        for (int round = 0; round < 2; round++) {
+            for (unsigned i = 1; i <= 4; i++) {
+                expect("a timeout", held ? tftp_server_timeout(&server, 7, out, sizeof out, &event)
+                                         : tftp_timeout(&end, out, sizeof out, &event), TFTP_OK);
+                FIELD(event, interval, kind % 2 ? first << (i < 3 ? i : 3) : first);
+            }
+            uint8_t ack[] = {0, 4, 0, (uint8_t)round};
+            expect("an ACK", held ? tftp_server_send(&server, 7, &at, ack, 4, out, 512, out, sizeof out, &event)
+                                  : tftp_send(&end, &at, ack, 4, out, 512, out, sizeof out, &event), TFTP_OK);
+            FIELD(event, interval, first);
+            FIELD(event, progress, 1);
+        }
+        tftp_close(&end);
+        tftp_server_close(&server);
+    }
+}
+
+/* A server's longest timeout bounds what it agrees to: one above it gets no answer, and the other options do. */
+static void longest_timeouts(void) {
+    static const struct tftp_endpoint at = {{10, 0, 0, 1}, 1024};
+    static const char asked[] = "\0\1a\0octet\0TimeOut\0005\0blksize\0008";
+    for (unsigned longest = 0; longest < 8; longest++)
+        for (int writes = 0; writes < 2; writes++) {
+            struct tftp_options options = OPTIONS(.max_file = 1000, .retries = 5, .max_timeout = (uint8_t)longest);
+            struct tftp_end end = {0};
+            struct tftp_server server = {0};
+            struct tftp_event event = {0};
+            uint8_t out[TFTP_MIN_REPLY], request[sizeof asked];
+            memcpy(request, asked, sizeof asked);
+            request[1] = writes ? 2 : 1;
+            const char *oack = longest == 0 || longest >= 5 ? "\0\6timeout\0005\0blksize\0008" : "\0\6blksize\0008";
+            size_t len = longest == 0 || longest >= 5 ? 22 : 12;
+            expect("an end", writes ? tftp_serve_put(&end, &at, request, sizeof asked, &options, out, sizeof out, &event)
+                : tftp_serve_get(&end, &at, request, sizeof asked, 3, TEXT("abc"), &options, out, sizeof out, &event), TFTP_OK);
+            expect_bytes("its OACK", out, event.send_len, oack, len);
+            FIELD(event, interval, len == 22 ? 5 : 1);
+            expect("a server", tftp_server_open(&server, &options, 1), TFTP_OK);
+            expect("a transfer", writes ? tftp_server_put(&server, 7, &at, request, sizeof asked, out, sizeof out, &event)
+                : tftp_server_get(&server, 7, &at, request, sizeof asked, 3, TEXT("abc"), out, sizeof out, &event), TFTP_OK);
+            expect_bytes("its OACK", out, event.send_len, oack, len);
+            FIELD(event, interval, len == 22 ? 5 : 1);
+            tftp_close(&end);
+            tftp_server_close(&server);
+        }
+}
+
+/* Which ERROR answers a request that an opening refuses. */
+static void refusals(void) {
+    static const struct tftp_endpoint at = {{10, 0, 0, 1}, 1024};
+    struct tftp_options options = OPTIONS(.max_file = 1000, .retries = 5);
+    struct tftp_end end = {0};
+    struct tftp_event event = {0};
+    uint8_t out[TFTP_MIN_REPLY];
+    uint8_t fault = tftp_serve_put(&end, &at, TEXT("\0\2a\0octet\0tsize\0001001\0"), &options, out, sizeof out, &event);
+    expect("a write above the limit", fault, TFTP_FAULT_OVER_LIMIT);
+    expect("its ERROR", tftp_error_of(fault), TFTP_ERROR_DISK_FULL);
+    fault = tftp_serve_put(&end, &at, TEXT("\0\2a\0octet\0tsize\0001000\0"), &options, out, sizeof out, &event);
+    expect("a write at the limit", fault, TFTP_OK);
+    fault = tftp_serve_put(&end, &at, TEXT("\0\2a\0octet\0tsize\0001\0tsize\0001\0"), &options, out, sizeof out, &event);
+    expect("an option twice", fault, TFTP_FAULT_REFUSED_OPTIONS);
+    expect("its ERROR", tftp_error_of(fault), TFTP_ERROR_OPTIONS);
+    expect("any other", tftp_error_of(TFTP_FAULT_MEMORY), TFTP_ERROR_UNDEFINED);
+    tftp_close(&end);
+}
+
 static bool differ(const char *volatile one, const char *volatile other) { return strcmp(one, other) != 0; }
 
 /* Each number has a text of its own, and the numbers around them have none. */
 static void texts(void) {
-    expect("a text of no fault", differ(tftp_strfault(TFTP_BAD_OPTIONS + 1), "unknown fault"), 0);
-    expect("a text of no outcome", differ(tftp_stroutcome(TFTP_ABORTED + 1), "unknown outcome"), 0);
+    expect("a text of no fault", differ(tftp_strfault(TFTP_FAULT_LATER_STRUCT + 1), "unknown fault"), 0);
+    expect("a text of no outcome", differ(tftp_stroutcome(TFTP_OUTCOME_ABORTED + 1), "unknown outcome"), 0);
     expect("a text of no code", differ(tftp_strerror(TFTP_ERROR_OPTIONS + 1), "unknown code"), 0);
     expect("a text of no fault", differ(tftp_strdecode(TFTP_DECODE_EMPTY_OACK + 1), "unknown fault"), 0);
-    for (unsigned i = 0; i <= 12; i++)
+    for (unsigned i = 0; i <= TFTP_FAULT_LATER_STRUCT + 1; i++)
         for (unsigned j = 0; j < i; j++) {
             expect("two faults with a text", differ(tftp_strfault((uint8_t)i), tftp_strfault((uint8_t)j)), 1);
-            expect("two faults with a text", differ(tftp_strdecode((uint8_t)i), tftp_strdecode((uint8_t)j)), 1);
-            if (i <= TFTP_ABORTED + 1)
+            if (i <= TFTP_DECODE_EMPTY_OACK + 1)
+                expect("two faults with a text", differ(tftp_strdecode((uint8_t)i), tftp_strdecode((uint8_t)j)), 1);
+            if (i <= TFTP_OUTCOME_ABORTED + 1)
                 expect("two outcomes with a text", differ(tftp_stroutcome((uint8_t)i), tftp_stroutcome((uint8_t)j)), 1);
             if (i <= TFTP_ERROR_OPTIONS + 1)
                 expect("two codes with a text", differ(tftp_strerror((uint16_t)i), tftp_strerror((uint16_t)j)), 1);
@@ -579,12 +808,18 @@ static void faults_of_packets(void) {
     static uint8_t longest[TFTP_HEADER + TFTP_MAX_BLOCK + 1] = {0, 3, 0, 1};
     struct tftp_packet packet;
     for (size_t i = 0; i < sizeof tried / sizeof *tried; i++) {
-        memset(&packet, 0, sizeof packet);
+        struct tftp_packet only = {.fault = tried[i].fault, .fault_at = tried[i].at};
+        memset(&packet, 0xEE, sizeof packet);
         expect("a fault", tftp_decode((const uint8_t *)tried[i].datagram, tried[i].len, &packet), tried[i].fault);
-        FIELD(packet, fault, tried[i].fault);
-        FIELD(packet, opcode, 0);
-        FIELD(packet, fault_at, tried[i].at);
+        expect("all of its fields", memcmp(&packet, &only, sizeof packet), 0);
     }
+    memset(&packet, 0xEE, sizeof packet);
+    expect("a request", tftp_decode(TEXT("\0\2ab\0octet\0"), &packet), 0);
+    struct tftp_packet write = {.opcode = 2, .name_len = 2, .mode = 1, .body_at = 11};
+    expect("all of its fields", memcmp(&packet, &write, sizeof packet), 0);
+    expect("an ACK", tftp_decode(TEXT("\0\4\1\2"), &packet), 0);
+    struct tftp_packet ack = {.opcode = 4, .number = 258, .body_at = 4};
+    expect("all of its fields", memcmp(&packet, &ack, sizeof packet), 0);
     expect("the longest DATA", tftp_decode(longest, sizeof longest - 1, &packet), 0);
     FIELD(packet, opcode, TFTP_OPCODE_DATA);
     expect("a longer one", tftp_decode(longest, sizeof longest, &packet), TFTP_DECODE_TOO_LONG);
@@ -656,18 +891,27 @@ static uint8_t ask(struct tftp_server *server, uint16_t port, const uint8_t *dat
                    uint8_t *reply, struct tftp_question *question) {
     struct tftp_endpoint from = {{10, 0, 0, 1}, port};
     struct tftp_question before;
-    uint8_t path[255];
+    uint8_t path[TFTP_MAX_PATH + 1], exact[TFTP_MAX_PATH + 1];
     memset(&before, 0, sizeof before);
     before.wants = 77;
     memcpy(question, &before, sizeof before);
+    memset(path, 0xEE, sizeof path);
     uint8_t fault = tftp_server_request(server, &from, datagram, len, path, sizeof path, reply, TFTP_MAX_REQUEST,
                                         question);
     if (fault) {
-        expect("the fault of a question", fault, TFTP_MEMORY);
+        expect("the fault of a question", fault, TFTP_FAULT_MEMORY);
         expect("the question after it", memcmp(question, &before, sizeof before), 0);
     } else {
+        /* a zero byte is behind a path where there is room for it */
+        if (question->wants) expect("behind a path", path[question->name_len], 0);
         memcpy(name, path, question->name_len);
         name[question->name_len] = 0;
+        memset(exact, 0xEE, sizeof exact);
+        if (question->wants && tftp_server_request(server, &from, datagram, len, exact, question->name_len, reply,
+                                                   TFTP_MAX_REQUEST, question) == TFTP_OK) {
+            expect("a path that fits alone", memcmp(exact, path, question->name_len), 0);
+            expect("behind its buffer", exact[question->name_len], 0xEE);
+        }
     }
     return fault;
 }
@@ -686,20 +930,27 @@ static void request_port(void) {
     struct tftp_question question;
     struct tftp_endpoint from = {{10, 0, 0, 1}, 1};
     struct tftp_event event = {0};
-    uint8_t reply[TFTP_MAX_REQUEST], out[TFTP_MAX_REQUEST];
+    uint8_t reply[TFTP_MAX_REQUEST], out[TFTP_MIN_REPLY];
     char name[256];
-    expect("a server with no transfers", tftp_server_open(&server, &options, 0), TFTP_BAD_REQUEST);
-    expect("one with too many", tftp_server_open(&server, &options, 65), TFTP_BAD_REQUEST);
-    expect("a closed server", tftp_server_timeout(&server, 1, out, sizeof out, &event), TFTP_NOT_OPEN);
+    expect("a server with no transfers", tftp_server_open(&server, &options, 0), TFTP_FAULT_BAD_REQUEST);
+    expect("one with too many", tftp_server_open(&server, &options, 65), TFTP_FAULT_BAD_REQUEST);
+    expect("a closed server", tftp_server_timeout(&server, 1, out, sizeof out, &event), TFTP_FAULT_NOT_OPEN);
     expect("whether it gives up", tftp_server_give_up(&server, 1), 0);
     expect("a server", tftp_server_open(&server, &options, 2), TFTP_OK);
 
     ask(&server, 1, TEXT("\0\1/a/b\0octet\0"), name, reply, &question);
     EXPECT_ASKED("a read", TFTP_WANTS_OPEN, "a/b", 0);
+    FIELD(question, mode, TFTP_MODE_OCTET);
+    ask(&server, 1, TEXT("\0\1a\0NetASCII\0"), name, reply, &question);
+    EXPECT_ASKED("a read of a text", TFTP_WANTS_OPEN, "a", 0);
+    FIELD(question, mode, TFTP_MODE_NETASCII);
     ask(&server, 1, TEXT("\0\2a\0OCTET\0"), name, reply, &question);
     EXPECT_ASKED("a write", TFTP_WANTS_BEGIN, "a", 0);
     ask(&server, 1, TEXT("\0\2a\0octet\0tsize\0001001\0"), name, reply, &question);
     EXPECT_ASKED("a write that is too long", 0, "", 3 + 1);
+    FIELD(question, mode, 0);
+    uint8_t too_long = tftp_server_put(&server, 7, &from, TEXT("\0\2a\0octet\0tsize\0001001\0"), out, sizeof out, &event);
+    expect("its transfer", too_long, TFTP_FAULT_OVER_LIMIT);
     ask(&server, 1, TEXT("\0\1../a\0octet\0"), name, reply, &question);
     EXPECT_ASKED("a name that is no path", 0, "", 2 + 1);
     ask(&server, 1, TEXT("\0\4\0\1"), name, reply, &question);
@@ -719,12 +970,12 @@ static void request_port(void) {
     ask(&server, 1, bytes, sizeof read, name, reply, &question);
     EXPECT_ASKED("a request that comes again", 0, "", 0);
     fault = tftp_server_get(&server, 8, &from, bytes, sizeof read, 3, TEXT("abc"), out, sizeof out, &event);
-    expect("a transfer of it", fault, TFTP_NO_TRANSFER);
+    expect("a transfer of it", fault, TFTP_FAULT_NO_TRANSFER);
     from.port = 2;
     fault = tftp_server_get(&server, 7, &from, bytes, sizeof read, 3, TEXT("abc"), out, sizeof out, &event);
-    expect("a number in use", fault, TFTP_IN_USE);
+    expect("a number in use", fault, TFTP_FAULT_IN_USE);
     fault = tftp_server_put(&server, 8, &from, bytes, sizeof read, out, sizeof out, &event);
-    expect("a write of a read", fault, TFTP_BAD_REQUEST);
+    expect("a write of a read", fault, TFTP_FAULT_BAD_REQUEST);
     fault = tftp_server_get(&server, 8, &from, bytes, sizeof read, 3, TEXT("abc"), out, sizeof out, &event);
     expect("a second transfer", fault, TFTP_OK);
     ask(&server, 3, bytes, sizeof read, name, reply, &question);
@@ -732,11 +983,11 @@ static void request_port(void) {
 
     uint8_t ack[] = {0, 4, 0, 1}, block[512];
     fault = tftp_server_receive(&server, 8, &from, ack, sizeof ack, block, sizeof block, out, sizeof out, &event);
-    expect("the other side", fault, TFTP_NO_TRANSFER);
+    expect("the other side", fault, TFTP_FAULT_NO_TRANSFER);
     fault = tftp_server_send(&server, 8, &from, ack, sizeof ack, block, 0, out, sizeof out, &event);
     expect("the last ACK", fault, TFTP_OK);
     expect("whether all is acknowledged", event.complete, 1);
-    expect("a timeout after it", tftp_server_timeout(&server, 8, out, sizeof out, &event), TFTP_NO_TRANSFER);
+    expect("a timeout after it", tftp_server_timeout(&server, 8, out, sizeof out, &event), TFTP_FAULT_NO_TRANSFER);
     expect("a timeout of the other", tftp_server_timeout(&server, 7, out, sizeof out, &event), TFTP_OK);
     expect_bytes("what it sends again", out, event.send_len, "\0\3\0\1abc", 7);
     expect("whether it is given up", tftp_server_give_up(&server, 8), 1);
@@ -761,14 +1012,14 @@ static int lacking_server(int number) {
     asked = 0;
     refused = number;
     uint8_t fault = tftp_server_open(&server, &options, 1);
-    if (fault == TFTP_MEMORY) expect("a server without memory", server.is_open, 0);
-    if (fault == TFTP_MEMORY) fault = tftp_server_open(&server, &options, 1);
+    if (fault == TFTP_FAULT_MEMORY) expect("a server without memory", server.is_open, 0);
+    if (fault == TFTP_FAULT_MEMORY) fault = tftp_server_open(&server, &options, 1);
     expect("a server", fault, TFTP_OK);
     if (ask(&server, 1, bytes, sizeof write, name, reply, &question))
         expect("a question", ask(&server, 1, bytes, sizeof write, name, reply, &question), TFTP_OK);
     EXPECT_ASKED("a write", TFTP_WANTS_BEGIN, "a", 0);
     fault = tftp_server_put(&server, 1, &from, bytes, sizeof write, reply, sizeof reply, &event);
-    if (fault == TFTP_MEMORY)
+    if (fault == TFTP_FAULT_MEMORY)
         fault = tftp_server_put(&server, 1, &from, bytes, sizeof write, reply, sizeof reply, &event);
     expect("a transfer", fault, TFTP_OK);
     expect_bytes("its OACK", reply, event.send_len, "\0\6blksize\0008", 12);
@@ -776,7 +1027,7 @@ static int lacking_server(int number) {
         size_t len = i ? 5 : 12;
         data[3] = (uint8_t)(i + 1);
         fault = tftp_server_receive(&server, 1, &from, data, len, block, sizeof block, reply, sizeof reply, &event);
-        if (fault == TFTP_MEMORY)
+        if (fault == TFTP_FAULT_MEMORY)
             fault = tftp_server_receive(&server, 1, &from, data, len, block, sizeof block, reply, sizeof reply, &event);
         expect("a DATA", fault, TFTP_OK);
         memcpy(file + have, block, event.file_len);
@@ -790,11 +1041,9 @@ static int lacking_server(int number) {
 
 int main(void) {
     struct { struct tftp_endpoint it, behind; } endpoint;
-    struct { struct tftp_options it, behind; } options;
     struct { struct tftp_event it, behind; } event;
     struct { struct tftp_packet it, behind; } packet;
     memset(&endpoint, 0, sizeof endpoint);
-    memset(&options, 0, sizeof options);
     memset(&event, 0, sizeof event);
     memset(&packet, 0, sizeof packet);
     struct { struct tftp_question it, behind; } question;
@@ -802,17 +1051,18 @@ int main(void) {
     struct { struct tftp_info it, behind; } info;
     memset(&info, 0, sizeof info);
     struct tftp_sizes sizes = {0};
-    tftp_samples(&endpoint.it, &options.it, &event.it, &packet.it, &question.it, &info.it, &sizes);
+    tftp_samples(&endpoint.it, &event.it, &packet.it, &question.it, &info.it, &sizes);
 
     for (int i = 0; i < 4; i++) expect("ip", endpoint.it.ip[i], (unsigned)i + 1);
     FIELD(endpoint.it, port, 5);
-    FIELD(options.it, size, 28);
-    FIELD(options.it, max_file, 6);
-    FIELD(options.it, blksize, 7);
-    FIELD(options.it, timeout, 8);
-    FIELD(options.it, retries, 9);
-    FIELD(options.it, asks_tsize, 1);
-    FIELD(options.it, is_netascii, 0);
+    expect("max_file", offsetof(struct tftp_options, max_file), 8);
+    expect("blksize", offsetof(struct tftp_options, blksize), 16);
+    expect("timeout", offsetof(struct tftp_options, timeout), 18);
+    expect("retries", offsetof(struct tftp_options, retries), 19);
+    expect("asks_tsize", offsetof(struct tftp_options, asks_tsize), 20);
+    expect("is_netascii", offsetof(struct tftp_options, is_netascii), 21);
+    expect("backoff", offsetof(struct tftp_options, backoff), 24);
+    expect("max_timeout", offsetof(struct tftp_options, max_timeout), 25);
     FIELD(event.it, send_len, 10);
     FIELD(event.it, file_len, 11);
     expect("event.to", memcmp(&event.it.to, &endpoint.it, sizeof endpoint.it), 0);
@@ -823,6 +1073,7 @@ int main(void) {
     FIELD(event.it, interval, 16);
     FIELD(event.it, progress, 0);
     FIELD(event.it, complete, 1);
+    FIELD(event.it, no_room, 0);
     FIELD(packet.it, fault_at, 17);
     FIELD(packet.it, name_len, 18);
     FIELD(packet.it, body_at, 19);
@@ -834,10 +1085,12 @@ int main(void) {
     FIELD(question.it, send_len, 25);
     FIELD(question.it, name_len, 26);
     FIELD(question.it, wants, 27);
+    FIELD(question.it, mode, 31);
     FIELD(info.it, length, 29);
     FIELD(info.it, timeout, 30);
     FIELD(info.it, has_length, 1);
     FIELD(info.it, size, 32);
+    FIELD(info.it, block_size, 33);
 
     expect("sizeof endpoint", sizeof(struct tftp_endpoint), sizes.endpoint);
     expect("sizeof options", sizeof(struct tftp_options), sizes.options);
@@ -851,7 +1104,6 @@ int main(void) {
     /* what is behind each struct is as it was */
     static const unsigned char zeros[64];
     expect("behind endpoint", memcmp(&endpoint.behind, zeros, sizeof endpoint.behind), 0);
-    expect("behind options", memcmp(&options.behind, zeros, sizeof options.behind), 0);
     expect("behind event", memcmp(&event.behind, zeros, sizeof event.behind), 0);
     expect("behind packet", memcmp(&packet.behind, zeros, sizeof packet.behind), 0);
     expect("behind question", memcmp(&question.behind, zeros, sizeof question.behind), 0);
@@ -865,18 +1117,18 @@ int main(void) {
     const struct tftp_endpoint *at = &endpoint.it;
     struct tftp_event *told = &event.it;
     size_t most = sizeof bytes;
-    expect("TFTP_NOT_OPEN", tftp_timeout(&end, bytes, most, told), TFTP_NOT_OPEN);
-    expect("TFTP_BAD_REQUEST", tftp_get(&end, at, name, 0, &plain, bytes, most, told), TFTP_BAD_REQUEST);
+    expect("TFTP_FAULT_NOT_OPEN", tftp_timeout(&end, bytes, most, told), TFTP_FAULT_NOT_OPEN);
+    expect("TFTP_FAULT_BAD_REQUEST", tftp_get(&end, at, name, 0, &plain, bytes, most, told), TFTP_FAULT_BAD_REQUEST);
     expect("TFTP_OK", tftp_get(&end, at, name, TFTP_MAX_REQUEST - 9, &plain, bytes, most, told), TFTP_OK);
     expect("TFTP_MAX_REQUEST", event.it.send_len, TFTP_MAX_REQUEST);
-    expect("TFTP_WRONG_SIDE", tftp_send(&end, at, ack, sizeof ack, name, 1, bytes, most, told), TFTP_WRONG_SIDE);
+    expect("TFTP_FAULT_WRONG_SIDE", tftp_send(&end, at, ack, sizeof ack, name, 1, bytes, most, told), TFTP_FAULT_WRONG_SIDE);
     expect("a timeout", tftp_timeout(&end, bytes, most, told), TFTP_OK);
-    expect("TFTP_TIMED_OUT", event.it.outcome, TFTP_TIMED_OUT);
-    expect("TFTP_CLOSED", tftp_timeout(&end, bytes, most, told), TFTP_CLOSED);
+    expect("TFTP_OUTCOME_TIMED_OUT", event.it.outcome, TFTP_OUTCOME_TIMED_OUT);
+    expect("TFTP_FAULT_CLOSED", tftp_timeout(&end, bytes, most, told), TFTP_FAULT_CLOSED);
     size_t longer = TFTP_MAX_REQUEST - 8;
-    expect("a longer request", tftp_get(&end, at, name, longer, &plain, bytes, most, told), TFTP_BAD_REQUEST);
+    expect("a longer request", tftp_get(&end, at, name, longer, &plain, bytes, most, told), TFTP_FAULT_BAD_REQUEST);
     uint64_t large = 65535ull * TFTP_DEFAULT_BLOCK;
-    expect("TFTP_TOO_LARGE_FILE", tftp_put(&end, at, name, 1, large, &plain, bytes, most, told), TFTP_TOO_LARGE_FILE);
+    expect("TFTP_FAULT_TOO_LARGE_FILE", tftp_put(&end, at, name, 1, large, &plain, bytes, most, told), TFTP_FAULT_TOO_LARGE_FILE);
     expect("a smaller file", tftp_put(&end, at, name, 1, large - 1, &plain, bytes, most, told), TFTP_OK);
     tftp_close(&end);
     tftp_close(&end);
@@ -886,6 +1138,11 @@ int main(void) {
     faults_of_packets();
     stated();
     agreements();
+    transfers_agree();
+    rooms();
+    waits();
+    longest_timeouts();
+    refusals();
     texts();
     without_memory();
     numbers();

@@ -69,12 +69,16 @@ def of_bare(example, built, way, name, local, _) -> Words:
     return built.command(example), {"SERVER": way[0], "PORT": way[1], "NAME": name, "LOCAL": local}
 
 
-def of_rust(example, built, way, name, local, blksize) -> Words:
-    return built.command(example, ":".join(way), *named(example, name, local), blksize), {}
+def of_rust(example, built, way, name, local, blksize, *mode) -> Words:
+    return built.command(example, ":".join(way), *named(example, name, local), blksize, *mode), {}
 
 
-def of_client(example, built, way, name, local, blksize) -> Words:
-    return built.command(example, *way, *named(example, name, local), blksize), {}
+def of_client(example, built, way, name, local, blksize, *mode) -> Words:
+    return built.command(example, *way, *named(example, name, local), blksize, *mode), {}
+
+
+def in_c(example, built, way, name, local, blksize, *mode) -> Words:
+    return built.command(example, *way, name, local, blksize, *mode), {}
 
 
 def named(example, name, local) -> list[str]:
@@ -83,8 +87,8 @@ def named(example, name, local) -> list[str]:
 
 
 WORDS: dict[str, Callable[..., Words]] = {
-    "get": lambda built, way, name, local, blksize: (built.command("get", *way, name, local, blksize), {}),
-    "put": lambda built, way, name, local, blksize: (built.command("put", *way, name, local, blksize), {}),
+    "get": partial(in_c, "get"),
+    "put": partial(in_c, "put"),
     "bare": partial(of_bare, "bare"),
     **{f"{verb} in Rust": partial(of_rust, f"{verb} in Rust") for verb in ["get", "put"]},
     **{f"{verb} in {language}": partial(of_client, f"{verb} in {language}") for verb in ["get", "put"]
@@ -156,27 +160,40 @@ def lengths(built, lossy) -> list[int]:
 def by_tftpd(scene, built, lossy) -> None:
     each = len([it for it in WORDS if built.has(it)])
     # a request that is refused is no transfer
-    count = each * len(lengths(built, lossy)) + 3 * built.has("put")
+    count = each * len(lengths(built, lossy)) + 3 * len(languages(built))
     server = scene.serve(*(["--forever"] if lossy else ["--transfers", str(count)]))
     at_server(Site("tftpd", scene, server, lossy), built)
-    if built.has("put"):
-        in_netascii(scene, built, server)
+    in_netascii(scene, built, server)
     if not lossy:
         expect(server.process.wait(PATIENCE), 0, "the status of tftpd")
 
 
+# The languages whose examples take both modes, as the ends of their names
+LANGUAGES = ["", " in C++", " in Rust", " in Go", " in Python"]
+
+
+def languages(built) -> list[str]:
+    return [it for it in LANGUAGES if built.has(f"get{it}") and built.has(f"put{it}")]
+
+
 def in_netascii(scene, built, server) -> None:
-    """A text with every line end is put in netascii and read again, and is the same."""
+    """A text with every line end is put in netascii and read again, in both modes, and is the same."""
     text = content(2_000) + b"\n\r\r\n" * 300
     scene.make("text", text)
     way = server.word.split(":")
-    run(*built.command("put", *way, "text", "lines", 512, "netascii"), cwd=scene.folder)
 
-    def gets_lines(local, *mode) -> None:
-        run(*built.command("get", *way, "lines", local, 1428, *mode), cwd=scene.folder)
-        expect((scene.folder / local).read_bytes(), text, f"the text that was put, as {local}")
+    def moves(verb, language, name, local, blksize, *mode) -> None:
+        words, more = WORDS[f"{verb}{language}"](built, way, name, local, blksize, *mode)
+        run(*words, cwd=scene.folder, env={**built.env, **more})
 
-    together([partial(gets_lines, "read", "netascii"), partial(gets_lines, "file")])
+    def is_same(language) -> None:
+        lines = f"lines{LANGUAGES.index(language)}"
+        moves("put", language, "text", lines, 512, "netascii")
+        for local, mode in [(f"{lines}.text", ["netascii"]), (f"{lines}.file", [])]:
+            moves("get", language, lines, local, 1428, *mode)
+            expect((scene.folder / local).read_bytes(), text, f"the text that was put{language}, as {local}")
+
+    together([partial(is_same, it) for it in languages(built)])
 
 
 # ---- the example that serves files in memory

@@ -253,7 +253,7 @@ class Trial:
         self.run("python3", "-c", f"import ctypes; assert ctypes.CDLL({os.fspath(libdir / 'libtftp.so')!r}).tftp_version() == 256")
         self.depends(libdir, example)
         if shutil.which("cmake"):
-            self.by_cmake(root, libdir, source)
+            self.by_cmake(libdir, source)
         else:
             self.skipped.append("CMake")
         if not shutil.which("cargo"):
@@ -276,13 +276,10 @@ class Trial:
         found = self.run("dpkg-shlibdeps", "-O", "-e./p", "-Sdebian/libtftp1", folder=room)
         self.expect("libtftp1 (>= 0.1.0)" in found, True, f"whether a program depends on libtftp1: {found}")
 
-    def by_cmake(self, root, libdir, source) -> None:
-        """A project for CMake finds both libraries."""
+    def by_cmake(self, libdir, source) -> None:
+        """A project for CMake finds both libraries, in a package that is below a folder here."""
         room = self.room / "cmake"
         room.mkdir()
-        for name in ["tftp-config.cmake"]:  # the package is below a folder here, and its paths are of the system
-            place = libdir / "cmake/tftp" / name
-            place.write_text(place.read_text().replace('"/usr', f'"{root}/usr'))
         (room / "CMakeLists.txt").write_text(
             "cmake_minimum_required(VERSION 3.16)\nproject(p C)\nfind_package(tftp 0.1 REQUIRED)\n"
             f"add_executable(shared {source})\ntarget_link_libraries(shared tftp::tftp)\n"

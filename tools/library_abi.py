@@ -4,7 +4,7 @@
 The types are those of include/tftp.h: it is compiled with each call as an empty function, with debugging information,
 and abidiff compares that with packaging/libtftp1.abi, which --write makes anew for a release. The names are those of
 packaging/libtftp.map: the header declares each of them and no other, and the library that was built has each of them and
-no other. The manual names each call, constant and field of the header. The header, the files for pkg-config and CMake, and the crate for Rust state one version. Says what was skipped: the comparison of types where abidiff is not installed, the library where it is not built.
+no other. The manual names each call, constant and field of the header. The header, the files for pkg-config and CMake, and the crates for Rust state one version. Says what was skipped: the comparison of types where abidiff is not installed, the library where it is not built.
 """
 import re
 import shutil
@@ -49,7 +49,8 @@ def versions() -> set[str]:
     found = {".".join(re.findall(r"^#define TFTP_VERSION_(?:MAJOR|MINOR|PATCH) (\d+)$", header, re.M))}
     for name, stated in [("Makefile", r"^VERSION := (\S+)$"), ("packaging/tftp.pc", r"^Version: (\S+)$"),
                          ("packaging/tftp-config-version.cmake", r"^set\(PACKAGE_VERSION (\S+)\)$"),
-                         ("examples/rust/Cargo.toml", r'^version = "(\S+)"$')]:
+                         ("examples/rust/Cargo.toml", r'^version = "(\S+)"$'),
+                         ("examples/rust/tftp-sys/Cargo.toml", r'^version = "(\S+)"$')]:
         found |= set(re.findall(stated, (TOP / name).read_text(), re.M)) or {f"none in {name}"}
     return found
 

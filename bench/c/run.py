@@ -4,7 +4,7 @@
 Prints the bytes of the archive and of a client that is linked to it, how much stack and heap a get takes, and the
 instructions of a block of 512 bytes, by callgrind: a get of 4,000 blocks less one of 1,000, divided by 3,000, of the
 whole process (the library, the example and the C library) and of the library's call alone, beside curl's where that is
-installed. Needs a C compiler and valgrind. uboot.py measures U-Boot's client in the same way.
+installed; and of tftp_send and tftp_receive over blocks in memory. Needs a C compiler and valgrind. uboot.py measures U-Boot's client in the same way.
 """
 import re
 import shutil
@@ -67,6 +67,16 @@ def of_a_block(tftpd, room, words, within=None) -> str:
     return f"{(found[1] - found[0]) / (MANY - FEW):,.0f}"
 
 
+def of_a_call(room, call) -> str:
+    """The instructions of this call, and of what it calls, a block in memory."""
+    found = []
+    for blocks in [FEW, MANY]:
+        done = run("valgrind", "--tool=callgrind", "--callgrind-out-file=/dev/null", f"--toggle-collect={call}",
+                   room / "blocks", blocks, folder=room)
+        found.append(int(re.search(r"Collected : (\d+)", done.stderr)[1]))
+    return f"{(found[1] - found[0]) / (MANY - FEW):,.0f}"
+
+
 def beyond_empty(room, client) -> str:
     """How many bytes of code and constants a client has more than a program that does nothing."""
     (room / "none.c").write_text("int main(void) { return 0; }\n")
@@ -103,6 +113,9 @@ def main() -> None:
         most = {call: max(int(depth) for name, depth in depths if name == call) for call, _ in depths}
         print("stack of a call, with the C library's:", ", ".join(f"{call} {depth:,}" for call, depth in most.items()))
         print(f"tftp_receive: {of_a_block(tftpd, room, clients['get'], 'tftp_receive')} instructions a block")
+        run("cc", *SMALL, TOP / "bench/c/blocks.c", room / "libtftp.a", "-o", room / "blocks", folder=room)
+        for call in ["tftp_send", "tftp_receive"]:
+            print(f"{call} in memory: {of_a_call(room, call)} instructions a block")
         if shutil.which("curl"):
             clients["curl"] = lambda host, port, name: ["curl", "-s", "-o", "got", f"tftp://{host}:{port}/{name}"]
         for client, words in clients.items():

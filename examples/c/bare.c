@@ -67,18 +67,20 @@ int main(void) {
     options.max_file = ROOM; /* a longer file is refused at once, if its length is stated */
     options.blksize = BLOCK;
     options.asks_tsize = true;
+    options.backoff = true;
     struct tftp_event event = {0};
     size_t len = 0;
     uint8_t fault = tftp_get(&end, &server, (const uint8_t *)name, strlen(name), &options, reply, sizeof reply, &event);
     if (fault == 0) machine_send(&event.to, reply, event.send_len);
     uint32_t began = machine_clock();
-    /* the dally: the last ACK is given again while the peer may not have it */
-    while (fault == 0 && event.outcome == 0) {
+    /* A loader does not wait for two more seconds once its image is whole: if its last ACK is lost, the server
+     * sends the last block some times more, and nothing answers. */
+    while (fault == 0 && event.outcome == 0 && !event.complete) {
         size_t got = machine_receive(&from, datagram, sizeof datagram);
         if (got != SIZE_MAX) {
             /* the block goes to its place in the image: nothing is copied twice */
             fault = tftp_receive(&end, &from, datagram, got, image + len, ROOM - len, reply, sizeof reply, &event);
-            if (fault == TFTP_MEMORY) { fault = 0; continue; } /* nothing has changed: the peer sends again */
+            if (fault == TFTP_FAULT_MEMORY) { fault = 0; continue; } /* nothing has changed: the peer sends again */
         } else if (machine_clock() - began >= 1000u * event.interval) {
             fault = tftp_timeout(&end, reply, sizeof reply, &event);
             began = machine_clock();

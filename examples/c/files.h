@@ -9,8 +9,8 @@
 
 enum { FILES = 32 };
 
-/* a path has at most 255 bytes */
-struct file { char name[256]; uint8_t *bytes; size_t len, room; };
+/* a path has at most TFTP_MAX_PATH bytes, and a zero byte behind them */
+struct file { char name[TFTP_MAX_PATH + 1]; uint8_t *bytes; size_t len, room; };
 
 static struct file files[FILES];
 

@@ -10,6 +10,7 @@ int main(int argc, char **argv) {
     uint8_t *file = read_file(argv[3], &length);
     struct tftp_options options = TFTP_OPTIONS_INIT;
     options.asks_tsize = true;
+    options.backoff = true; /* the waits grow, as RFC 1123 asks for */
     if (argc > 5) options.blksize = (uint16_t)atoi(argv[5]);
     if (argc > 6) { /* a text is sent with CR LF and CR NUL */
         uint8_t *text = file, *wire = malloc(tftp_wire_length(text, length) + 1);
@@ -39,7 +40,7 @@ int main(int argc, char **argv) {
                               sizeof reply, &event);
         else
             fault = tftp_timeout(&end, reply, sizeof reply, &event);
-        if (fault == TFTP_MEMORY) continue; /* nothing has changed: the timeout comes */
+        if (fault == TFTP_FAULT_MEMORY) continue; /* nothing has changed: the timeout comes */
         if (fault) break;
         taken += event.file_len;
         udp_send(fd, &event.to, reply, event.send_len);

@@ -64,20 +64,18 @@ static void answer(struct transfer *it, const struct tftp_event *event, bool tim
 
 /* Opens the transfer of a request, or says why not: with the code of an ERROR and its text. */
 static const char *open_for(struct transfer *it, const struct tftp_endpoint *from, size_t len,
-                            struct tftp_event *event, uint16_t *code) {
+                            uint8_t mode, struct tftp_event *event, uint16_t *code) {
     struct file *file = find(it->file.name);
-    struct tftp_packet asked = {0};
     *code = it->writes ? TFTP_ERROR_EXISTS : TFTP_ERROR_NOT_FOUND;
     if (it->writes == (file != NULL)) return tftp_strerror(*code);
-    if (file) it->file = *file;
     *code = TFTP_ERROR_UNDEFINED;
-    (void)tftp_decode(datagram, len, &asked);
-    if (file && asked.mode == TFTP_MODE_NETASCII && !(it->owns = wire_copy(file, &it->file))) return "out of memory";
+    if (file) it->file = *file;
+    if (file && mode == TFTP_MODE_NETASCII && !(it->owns = wire_copy(file, &it->file))) return "out of memory";
     uint8_t fault = it->writes
         ? tftp_server_put(&server, number(it), from, datagram, len, reply, sizeof reply, event)
         : tftp_server_get(&server, number(it), from, datagram, len, it->file.len, it->file.bytes, it->file.len, reply,
                           sizeof reply, event);
-    if (fault == TFTP_REFUSED_OPTIONS) *code = TFTP_ERROR_OPTIONS;
+    *code = tftp_error_of(fault);
     return fault == TFTP_OK ? NULL : tftp_strfault(fault);
 }
 
@@ -87,15 +85,15 @@ static void request(size_t len, const struct tftp_endpoint *from) {
     struct tftp_event event = {0};
     struct transfer *it = transfers, new = {0};
     uint16_t code;
-    if (tftp_server_request(&server, from, datagram, len, (uint8_t *)new.file.name, TFTP_MAX_PATH, reply, sizeof reply,
-                            &question)) /* the name's struct is zeros, so that a zero byte ends it */
+    if (tftp_server_request(&server, from, datagram, len, (uint8_t *)new.file.name, sizeof new.file.name, reply,
+                            sizeof reply, &question)) /* a zero byte ends the name: the buffer has room for it */
         return; /* out of memory: the client sends again */
     udp_send(requests, from, reply, question.send_len);
     if (!question.wants) return;
     while (it->is_open) it++; /* one is free: the server asks for no file if it has as many as there may be */
     new.writes = new.owns = question.wants == TFTP_WANTS_BEGIN;
     *it = new;
-    const char *why = open_for(it, from, len, &event, &code);
+    const char *why = open_for(it, from, len, question.mode, &event, &code);
     if (why) {
         if (it->owns) free(it->file.bytes);
         udp_send(requests, from, reply, tftp_error(code, (const uint8_t *)why, strlen(why), reply, sizeof reply));
@@ -133,6 +131,8 @@ static void end(int signal) { (void)signal, ended = 1; }
 int main(int argc, char **argv) {
     struct tftp_options options = TFTP_OPTIONS_INIT;
     options.max_file = LONGEST;
+    options.backoff = true;
+    options.max_timeout = 10; /* else a client that asks for 255 seconds and leaves holds its place for half an hour */
     if (argc < 3 || tftp_server_open(&server, &options, AT_ONCE)) return 2;
     signal(SIGTERM, end);
     own = udp_endpoint(argv[1], argv[2]);

@@ -25,7 +25,8 @@ static struct tftp_endpoint at(uint16_t port) { return (struct tftp_endpoint){{1
 /* The table of a client, always the same one. */
 static int shard_of(uint16_t port) { return port % SHARDS; }
 
-/* The first datagram of a client opens its transfer; returns whether it did. */
+/* The first datagram of a client opens its transfer; returns whether it did. The length of `reply` bounds the block size
+ * that the table agrees to, whatever a client asks for. */
 static bool open_transfer(struct client *it, uint16_t port) {
     struct tftp_server *server = &shards[shard_of(port)];
     struct tftp_endpoint from = at(port);
@@ -67,6 +68,7 @@ int main(void) {
     struct tftp_options options = TFTP_OPTIONS_INIT;
     struct tftp_endpoint server = at(69);
     int complete = 0;
+    options.backoff = true;
     for (size_t i = 0; i < LENGTH; i++) file[i] = (uint8_t)(i * 7);
     for (int i = 0; i < SHARDS; i++)
         if (tftp_server_open(&shards[i], &options, EACH)) return 2;

@@ -92,7 +92,7 @@ static inline struct tftp_endpoint udp_endpoint(const char *ip, const char *port
 /* The text of the peer's ERROR, which is the last datagram that a call handled, and ends with a NUL. */
 static inline void print_outcome(const struct tftp_event *event, const uint8_t *datagram) {
     printf("%s", tftp_stroutcome(event->outcome));
-    if (event->outcome == TFTP_PEER_ERROR) printf(" %d (%s)", event->peer_code, (const char *)datagram + TFTP_HEADER);
+    if (event->outcome == TFTP_OUTCOME_PEER_ERROR) printf(" %d (%s)", event->peer_code, (const char *)datagram + TFTP_HEADER);
     printf(", block %d of %d bytes\n", event->number, event->block_size);
 }
 #endif

@@ -1,4 +1,5 @@
-// Gets or puts a file by TFTP, without an exception: client get|put ADDR PORT NAME LOCAL [BLKSIZE]
+// Gets or puts a file by TFTP, without an exception: client get|put ADDR PORT NAME LOCAL [BLKSIZE [netascii]]
+// In netascii LF is stored for CR LF, and sent as CR LF.
 #include "tftp.hpp"
 #include <arpa/inet.h>
 #include <chrono>
@@ -65,12 +66,19 @@ int main(int argc, char **argv) {
     if (inet_pton(AF_INET, argv[2], server.ip) != 1) return 2;
     tftp::Options options;
     options.asks_tsize = true;
+    options.backoff = true; // the waits grow, as RFC 1123 asks for
     if (argc > 6) options.blksize = static_cast<uint16_t>(std::atoi(argv[6]));
+    options.is_netascii = argc > 7;
     std::vector<uint8_t> file;
     if (puts) {
         std::ifstream local(argv[5], std::ios::binary);
         if (!local) return 2;
         file.assign(std::istreambuf_iterator<char>(local), {});
+        if (options.is_netascii) {
+            std::vector<uint8_t> wire(tftp_wire_length(file.data(), file.size()));
+            if (tftp_to_wire(file.data(), file.size(), wire.data(), wire.size()) != wire.size()) return 2;
+            file = std::move(wire);
+        }
     }
     std::vector<uint8_t> reply(TFTP_HEADER + TFTP_MAX_BLOCK), datagram(reply.size() + 1), block(TFTP_MAX_BLOCK);
     const Port port;
@@ -109,6 +117,6 @@ int main(int argc, char **argv) {
         if (len < 0 || end.event().progress) due = Clock::now() + std::chrono::seconds(end.event().interval);
     }
     const bool good = stored && end.event().complete;
-    std::printf("%s, %s %zu\n", tftp_stroutcome(end.event().outcome), good ? "complete" : "failed", moved);
+    std::printf("%s, %s %zu\n", tftp::text(end.outcome()), good ? "complete" : "failed", moved);
     return good ? 0 : 1;
 }

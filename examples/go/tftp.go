@@ -7,6 +7,7 @@ package tftp
 import "C"
 
 import (
+	"fmt"
 	"net"
 	"runtime"
 	"time"
@@ -15,14 +16,24 @@ import (
 
 // Outcomes of a transfer, as in tftp.h.
 const (
-	Open      = 0
-	Complete  = C.TFTP_COMPLETE
-	TimedOut  = C.TFTP_TIMED_OUT
-	PeerError = C.TFTP_PEER_ERROR
-	Aborted   = C.TFTP_ABORTED
-	MaxBlock  = C.TFTP_MAX_BLOCK
-	Header    = C.TFTP_HEADER
-	DiskFull  = C.TFTP_ERROR_DISK_FULL
+	Open        Outcome = C.TFTP_OUTCOME_OPEN
+	Complete    Outcome = C.TFTP_OUTCOME_COMPLETE
+	TimedOut    Outcome = C.TFTP_OUTCOME_TIMED_OUT
+	PeerError   Outcome = C.TFTP_OUTCOME_PEER_ERROR
+	Illegal     Outcome = C.TFTP_OUTCOME_ILLEGAL
+	Refused     Outcome = C.TFTP_OUTCOME_REFUSED
+	TooLarge    Outcome = C.TFTP_OUTCOME_TOO_LARGE
+	StoreFault  Outcome = C.TFTP_OUTCOME_STORE_FAULT
+	SourceFault Outcome = C.TFTP_OUTCOME_SOURCE_FAULT
+	NotNetascii Outcome = C.TFTP_OUTCOME_NOT_NETASCII
+	Aborted     Outcome = C.TFTP_OUTCOME_ABORTED
+)
+
+// Lengths in bytes, and the code of an ERROR.
+const (
+	MaxBlock = C.TFTP_MAX_BLOCK
+	Header   = C.TFTP_HEADER
+	DiskFull = C.TFTP_ERROR_DISK_FULL
 )
 
 // Fault says why a call did nothing. Nothing has changed then.
@@ -31,18 +42,22 @@ type Fault uint8
 func (fault Fault) Error() string { return C.GoString(C.tftp_strfault(C.uint8_t(fault))) }
 
 // OutOfMemory is the fault after which the peer sends again.
-const OutOfMemory = Fault(C.TFTP_MEMORY)
+const OutOfMemory = Fault(C.TFTP_FAULT_MEMORY)
 
 // Outcome is how a transfer ended.
 type Outcome uint8
 
 func (outcome Outcome) String() string { return C.GoString(C.tftp_stroutcome(C.uint8_t(outcome))) }
 
-// Options of a request; zeros ask for none.
+// Options of a request; its zero value asks for none, has no limit and sends a datagram five times more.
 type Options struct {
 	Blksize   uint16
-	Timeout   uint8
+	Timeout   uint8 // in seconds
 	AsksTsize bool
+	Netascii  bool   // a put then takes what ToWire makes of a text, and a get gives LF for CR LF
+	Retries   uint8  // how often a datagram is sent again, or 0 for five times
+	MaxFile   uint64 // the longest length that a peer may state, or 0 for any
+	Backoff   bool   // each timeout without progress doubles the wait, up to eight times
 }
 
 // Event is what a call did: Send goes to To, and Moved bytes of the file were stored in the buffer, or taken from it.
@@ -75,20 +90,41 @@ func pointer(bytes []byte) *C.uint8_t {
 
 func size(bytes []byte) C.size_t { return C.size_t(len(bytes)) }
 
-func endpoint(at *net.UDPAddr) (to C.struct_tftp_endpoint) {
+// endpoint fails for an address that is none of IPv4, and for a port that has more than 16 bits.
+func endpoint(at *net.UDPAddr) (to C.struct_tftp_endpoint, err error) {
+	if at == nil || at.IP.To4() == nil {
+		return to, fmt.Errorf("tftp: no IPv4 address: %v", at)
+	}
+	if at.Port < 0 || at.Port > 65535 {
+		return to, fmt.Errorf("tftp: no port: %d", at.Port)
+	}
 	for place, part := range at.IP.To4() {
 		to.ip[place] = C.uint8_t(part)
 	}
 	to.port = C.uint16_t(at.Port)
-	return to
+	return to, nil
 }
 
 func (options Options) of() (made C.struct_tftp_options) {
 	made = C.struct_tftp_options{max_file: C.UINT64_MAX, retries: 5}
 	made.size = C.size_t(unsafe.Sizeof(made))
 	made.blksize, made.timeout = C.uint16_t(options.Blksize), C.uint8_t(options.Timeout)
-	made.asks_tsize = C.bool(options.AsksTsize)
+	made.asks_tsize, made.is_netascii = C.bool(options.AsksTsize), C.bool(options.Netascii)
+	made.backoff = C.bool(options.Backoff)
+	if options.Retries > 0 {
+		made.retries = C.uint8_t(options.Retries)
+	}
+	if options.MaxFile > 0 {
+		made.max_file = C.uint64_t(options.MaxFile)
+	}
 	return made
+}
+
+// ToWire is a text of this host as it is sent in netascii, with CR LF for LF and CR NUL for CR.
+func ToWire(text []byte) []byte {
+	wire := make([]byte, C.tftp_wire_length(pointer(text), size(text)))
+	C.tftp_to_wire(pointer(text), size(text), pointer(wire), size(wire))
+	return wire
 }
 
 func newClient(blksize uint16) *Client {
@@ -108,7 +144,7 @@ func (client *Client) did(fault C.uint8_t) (Event, error) {
 	event := Event{Moved: int(it.file_len), PeerCode: uint16(it.peer_code), Number: uint16(it.number),
 		BlockSize: uint16(it.block_size), Outcome: Outcome(it.outcome), Interval: time.Duration(it.interval) * time.Second,
 		Progress: bool(it.progress), Complete: bool(it.complete)}
-	if it.send_len > 0 && int(it.send_len) <= len(client.reply) {
+	if it.send_len > 0 {
 		event.Send = client.reply[:it.send_len]
 		event.To = &net.UDPAddr{IP: net.IPv4(byte(it.to.ip[0]), byte(it.to.ip[1]), byte(it.to.ip[2]), byte(it.to.ip[3])),
 			Port: int(it.to.port)}
@@ -118,7 +154,11 @@ func (client *Client) did(fault C.uint8_t) (Event, error) {
 
 // Get opens a client that gets a file.
 func Get(server *net.UDPAddr, name string, options Options) (*Client, Event, error) {
-	client, to, made, asked := newClient(options.Blksize), endpoint(server), options.of(), []byte(name)
+	to, err := endpoint(server)
+	if err != nil {
+		return nil, Event{}, err
+	}
+	client, made, asked := newClient(options.Blksize), options.of(), []byte(name)
 	event, fault := client.did(C.tftp_get(&client.end, &to, pointer(asked), size(asked), &made, pointer(client.reply),
 		size(client.reply), &client.event))
 	return client, event, fault
@@ -126,7 +166,11 @@ func Get(server *net.UDPAddr, name string, options Options) (*Client, Event, err
 
 // Put opens a client that puts a file of this length.
 func Put(server *net.UDPAddr, name string, length uint64, options Options) (*Client, Event, error) {
-	client, to, made, asked := newClient(options.Blksize), endpoint(server), options.of(), []byte(name)
+	to, err := endpoint(server)
+	if err != nil {
+		return nil, Event{}, err
+	}
+	client, made, asked := newClient(options.Blksize), options.of(), []byte(name)
 	event, fault := client.did(C.tftp_put(&client.end, &to, pointer(asked), size(asked), C.uint64_t(length), &made,
 		pointer(client.reply), size(client.reply), &client.event))
 	return client, event, fault
@@ -135,14 +179,20 @@ func Put(server *net.UDPAddr, name string, length uint64, options Options) (*Cli
 // Receive handles a datagram of a get: the next event.Moved bytes of the file are at the start of block. Store them before
 // event.Send is sent, which acknowledges them.
 func (client *Client) Receive(from *net.UDPAddr, datagram, block []byte) (Event, error) {
-	at := endpoint(from)
+	at, err := endpoint(from)
+	if err != nil {
+		return Event{}, err
+	}
 	return client.did(C.tftp_receive(&client.end, &at, pointer(datagram), size(datagram), pointer(block), size(block),
 		pointer(client.reply), size(client.reply), &client.event))
 }
 
 // Send handles a datagram of a put: event.Moved bytes were taken from the start of next.
 func (client *Client) Send(from *net.UDPAddr, datagram, next []byte) (Event, error) {
-	at := endpoint(from)
+	at, err := endpoint(from)
+	if err != nil {
+		return Event{}, err
+	}
 	return client.did(C.tftp_send(&client.end, &at, pointer(datagram), size(datagram), pointer(next), size(next),
 		pointer(client.reply), size(client.reply), &client.event))
 }

@@ -88,3 +88,47 @@ func TestRefusals(t *testing.T) {
 		t.Fatal("a block size of 7 was asked")
 	}
 }
+
+func TestAddresses(t *testing.T) {
+	none := []*net.UDPAddr{nil, {}, {IP: net.ParseIP("::1"), Port: 69}, {IP: net.IPv4(127, 0, 0, 1), Port: 65536}}
+	for _, at := range none {
+		if _, _, fault := Get(at, "a", Options{}); fault == nil {
+			t.Fatalf("a get from %v", at)
+		}
+		if _, _, fault := Put(at, "a", 1, Options{}); fault == nil {
+			t.Fatalf("a put to %v", at)
+		}
+	}
+	client, _, fault := Get(server, "a", Options{})
+	if fault != nil {
+		t.Fatal(fault)
+	}
+	defer client.Close()
+	if _, fault = client.Receive(none[2], []byte("\x00\x03\x00\x01abc"), make([]byte, 512)); fault == nil {
+		t.Fatal("a datagram from an IPv6 address")
+	}
+}
+
+func TestNetasciiAndWaits(t *testing.T) {
+	same(t, "a text on the wire", ToWire([]byte("a\nb\rc")), []byte("a\r\nb\r\x00c"))
+	if ToWire(nil) == nil || len(ToWire(nil)) != 0 {
+		t.Fatal("no text on the wire")
+	}
+	client, event, fault := Get(server, "a", Options{Netascii: true, Backoff: true, Retries: 2})
+	if fault != nil {
+		t.Fatal(fault)
+	}
+	defer client.Close()
+	same(t, "the request", event.Send, []byte("\x00\x01a\x00netascii\x00"))
+	for _, wait := range []time.Duration{1, 2, 4} {
+		if event.Interval != wait*time.Second {
+			t.Fatal(event)
+		}
+		if event, fault = client.Timeout(); fault != nil {
+			t.Fatal(fault)
+		}
+	}
+	if event.Outcome != TimedOut {
+		t.Fatal(event)
+	}
+}

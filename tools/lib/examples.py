@@ -83,8 +83,26 @@ def in_c(room: Path, compiler: str, checker: str) -> Built:
     return it
 
 
+def refused(*words: Union[str, Path]) -> str:
+    """What a compiler says of a header that it refuses, by one line."""
+    done = subprocess.run([*words, "-fsyntax-only", TOP / "include/tftp.h"], capture_output=True, text=True, check=False)
+    errors = [line for line in done.stderr.splitlines() if "error:" in line]
+    if done.returncode == 0 or len(errors) != 1:
+        raise AssertionError(f"{' '.join(map(str, words))}: status {done.returncode}: {done.stderr}")
+    return errors[0]
+
+
+def is_for_this() -> None:
+    """A standard before C99, and a processor that the library is not built for, are refused by a line that says so."""
+    for words, said in [(["gcc", "-std=c89"], "needs C99"), (["gcc", "-std=gnu90"], "needs C99"),
+                        (["gcc", "-m32"], "no other processor"), (["gcc", "-mx32"], "no other processor")]:
+        if said not in refused(*words):
+            raise AssertionError(f"{' '.join(words)}: {refused(*words)}")
+
+
 def in_c_alone(room: Path) -> Built:
     """The client without an operating system, linked to the library and to no C library: it has all that the library calls."""
+    is_for_this()
     listed = run("nm", "--undefined-only", "--format=just-symbols", room / "libtftp.a").split()
     defined = run("nm", "--defined-only", "--extern-only", "--format=just-symbols", room / "libtftp.a").split()
     wanted = {it for it in listed if not it.endswith(":")} - {*defined} - OF_C
@@ -110,6 +128,7 @@ def in_cpp(room: Path, compiler: str, checker: str) -> Built:
     folder = room / f"{compiler}-{checker}"
     folder.mkdir()
     words = [compiler, "-std=c++17", *WARNINGS[1:], *flags]
+    run(*words, "-fsyntax-only", "-I", TOP / "include", TOP / "tools/cpp_views.cpp")
     client = linked(words, folder / "client", EXAMPLES / "cpp/client.cpp", room / "libtftp.a")
     for verb in ["get", "put"]:
         it.words[f"{verb} in C++"] = [*before, client, verb]
@@ -138,7 +157,7 @@ def go_checks_pointers() -> bool:
 
 
 def in_rust(room: Path, checker: str) -> Built:
-    """The crate's tests are run, those of its documentation too, and its example is built."""
+    """The tests of both crates are run, those of their documentation too, and the example is built; they are formatted."""
     folder = room / f"rust-{checker}"
     shutil.copytree(EXAMPLES / "rust", folder, ignore=shutil.ignore_patterns("target", "Cargo.lock"))
     env = {**os.environ, "TFTP_LIB": str(room)}
@@ -146,8 +165,10 @@ def in_rust(room: Path, checker: str) -> Built:
     if checker == "sanitized":
         # a stable compiler has the sanitizer's runtime, and no stable flag for it
         env |= {"RUSTC_BOOTSTRAP": "1", "RUSTFLAGS": "-Zsanitizer=address", "RUSTDOCFLAGS": "-Zsanitizer=address"}
-    for words in [["test"], ["build", "--examples"]]:
+    for words in [["test", "--workspace"], ["build", "--examples"]]:
         run("cargo", "--offline", "--quiet", *words, *target, cwd=folder, env=env)
+    if shutil.which("rustfmt"):
+        run("cargo", "fmt", "--all", "--check", cwd=folder, env=env)
     before = [*VALGRIND, *LOST] if checker == "valgrind" else []
     it = Built(f"Rust ({checker})", bool(before))
     for verb in ["get", "put"]:
@@ -156,7 +177,8 @@ def in_rust(room: Path, checker: str) -> Built:
 
 
 def in_python(room: Path, checker: str) -> Built:
-    """The module for Python as a program, whose buffers are blocks of malloc, with the library that it loads."""
+    """The module for Python, whose tests are run, and as a program, whose buffers are blocks of malloc, with the library that
+    it loads."""
     before, env = list[str](), {"PYTHONMALLOC": "malloc", "TFTP_LIBRARY": str(room / "libtftp.so.1")}
     if checker == "sanitized":
         # (the interpreter frees not all at its end)
@@ -166,6 +188,7 @@ def in_python(room: Path, checker: str) -> Built:
         (room / "suppressed").write_text(INTERPRETER)
         before = [*VALGRIND, f"--suppressions={room / 'suppressed'}"]
     it = Built(f"Python ({checker})", bool(before), **env)
+    run(*before, sys.executable, "-m", "unittest", "tftp_test", cwd=EXAMPLES / "python", env=it.env)
     for verb in ["get", "put"]:
         it.words[f"{verb} in Python"] = [*before, sys.executable, "-S", str(EXAMPLES / "python/tftp.py"), verb]
     return it

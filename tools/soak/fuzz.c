@@ -236,10 +236,10 @@ static void try_receive(const uint8_t *rest, size_t left) {
     while ((datagram = next_datagram(&rest, &left, &length))) {
         const struct tftp_endpoint *from = length % 13 == 12 ? &OTHER : &PEER;
         uint8_t status = tftp_receive(&end, from, datagram, length, file, 65464, reply, TFTP_MAX_REQUEST, &event);
-        check(status == TFTP_OK || status == TFTP_CLOSED, "the status of a receive");
+        check(status == TFTP_OK || status == TFTP_FAULT_CLOSED, "the status of a receive");
         check(event.file_len <= 65464 && event.send_len <= TFTP_MAX_REQUEST, "the lengths of a receive");
         if (length % 7 == 6)
-            check(tftp_timeout(&end, reply, TFTP_MAX_REQUEST, &event) <= TFTP_CLOSED, "the status of a timeout");
+            check(tftp_timeout(&end, reply, TFTP_MAX_REQUEST, &event) <= TFTP_FAULT_CLOSED, "the status of a timeout");
     }
     tftp_close(&end);
 }
@@ -272,7 +272,7 @@ static void try_server(const uint8_t *rest, size_t left) {
                                      TFTP_HEADER + 1428, &event);
         else if (question.wants == TFTP_WANTS_BEGIN)
             status = tftp_server_put(&server, tid++, from, datagram, length, reply, TFTP_HEADER + 1428, &event);
-        check(status <= TFTP_IN_USE, "the status of an opening");
+        check(status <= TFTP_FAULT_IN_USE, "the status of an opening");
         if (length % 3 == 2)
             tftp_server_give_up(&server, (uint16_t)(tid - 1));
     }

@@ -9,7 +9,9 @@ use Rattle.tftp_server.specs.Request.{AdmissionState, Admits}
 use Rattle.tftp_server.specs.State.{at, with_new}
 use Rattle.tftp_server.specs.declared.fault.ServerFault.TheVariants.{TidInUse}
 use Rattle.tftp_c.specs.declared.elsewhere.Absent.{Absent}
+use Rattle.tftp_c.specs.Elsewhere.{stated_in_files}
 use Rattle.tftp_c.specs.Reports.{endpoint_of}
+use Rattle.tftp_c.specs.Stated.{StatedBy}
 use Rattle.tftp_c.specs.declared.event.TftpEndpoint.{TftpEndpoint}
 use Rattle.tftp_c.specs.HeldServer.{OpensAt, Table}
 
@@ -20,11 +22,12 @@ pub opens_at : {T : Type 0} (done : T) (tid : ℕ) (from : TftpEndpoint) (peer :
     Admits old peer request admission.ask →
     admission.bytes ≡ request →
     (IsErrOf {T = T} (Ok done) TidInUse ↔ IsSome (at tid old.held)) →
+    StatedBy end.position.last_sent (stated_in_files files) →
     (path : List ℕ) × (asked_path admission.ask ≡ Some path) × (new ≡ record old {
       held = with_new tid (record { end = end; files = files; path = path; request = admission.bytes }) old.held;
     }) →
     OpensAt tid from request (λ e. e ≡ end) old new
-opens_at {T = T} done tid from peer request end files admission old new is admits same in_use h =
+opens_at {T = T} done tid from peer request end files admission old new is admits same in_use stated h =
     record {
       ask = admission.ask;
       admits = subst (λ (p : Endpoint). Admits old p request admission.ask) is admits;
@@ -33,6 +36,7 @@ opens_at {T = T} done tid from peer request end files admission old new is admit
       vacant = λ some. let e : IsErrOf {T = T} (Ok done) TidInUse = in_use.1 some in absurd (cc);
       by_request = same;
       end = refl;
+      stated = stated;
       held = h.2;
     }
 
@@ -50,5 +54,6 @@ opens_as tid from request end serves old new h holds =
       vacant = h.vacant;
       by_request = h.by_request;
       end = subst (λ (e : EndState). serves e) (sym h.end) holds;
+      stated = h.stated;
       held = h.held;
     }

@@ -1,5 +1,8 @@
 -- The store of a server whose files are its caller's: it has no file, and refuses every call.
-use Rattle.std.specs.Prelude.{◌≡◌, [], None, ⊤}
+use Rattle.std.specs.Prelude.{ℕ, ◌≡◌, [], Option, None, ⊤}
+use Rattle.tftp_file.specs.declared.files.Files.{Files}
+use Rattle.tftp_file.specs.declared.files.Files.TheVariants.{Source, Sink}
+use Rattle.tftp_c.specs.declared.elsewhere.Absent.{Absent}
 use Rattle.tftp_file.specs.Source.{SourceMeaning}
 use Rattle.tftp_file.specs.declared.fault.StoreFault.TheVariants.{Io}
 use Rattle.tftp_store.specs.Store.{StoreMeaning}
@@ -35,3 +38,8 @@ no_store =
       may_refuse_append = λ s draft bytes fault. fault ≡ Io;
       may_refuse_commit = λ s path draft replace fault. fault ≡ Io;
     }
+
+-- the length of the file of a transfer, if one was stated
+abbrev pub stated_in_files : Files Absent Absent → Option ℕ
+stated_in_files (Source file) = file.stated
+stated_in_files (Sink file) = file.stated

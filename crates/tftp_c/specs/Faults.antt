@@ -1,15 +1,23 @@
 -- Which fault an opening returns, and when.
-use Rattle.std.specs.Prelude.{ℕ, ◌≡◌, ◌*◌, ◌<◌, ◌≤◌, ◌⊎◌, List, [], Option, None, Ok, Err, IsSome}
-use Rattle.tftp_wire.specs.Spelling.{Spells}
+use Rattle.std.specs.Prelude.{ℕ, ◌≡◌, ◌+◌, ◌*◌, ◌<◌, ◌≤◌, ◌⊎◌, List, [], length, Option, None, Result, Ok, Err}
+use Rattle.std.specs.Prelude.{IsSome}
+use Rattle.tftp_wire.specs.Spelling.{Spells, canonical}
+use Rattle.tftp_wire.specs.declared.limits.TheConstants.{HEADER}
 use Rattle.tftp_wire.specs.declared.packet.Packet.TheVariants.{Read, Write}
 use Rattle.tftp_wire.specs.declared.packet.Request.{Request}
 use Rattle.tftp_negotiate.specs.Agreed.{size}
-use Rattle.tftp_negotiate.specs.Answer.{answer}
+use Rattle.tftp_negotiate.specs.declared.known.Kind.{Kind}
 use Rattle.tftp_negotiate.specs.declared.known.Kind.TheVariants as kinds
+use Rattle.tftp_negotiate.specs.declared.limits.Limits.{Limits}
 use Rattle.tftp_negotiate.specs.declared.known.Known.{Known}
 use Rattle.tftp_negotiate.specs.declared.refusal.Refusal.{Refusal}
+use Rattle.tftp_negotiate.specs.declared.refusal.Refusal.TheVariants as refusals
 use Rattle.tftp_file.specs.Memory.{memory_source}
 use Rattle.tftp_ends.specs.Opening.{CannotStart, MayGet, MayAskPut, MayPut, PutsTooLarge}
+use Rattle.tftp_ends.specs.Opening.{ServesRead, request_of, serving_write}
+use Rattle.tftp_ends.specs.End.{EndState}
+use Rattle.tftp_ends.specs.declared.endpoint.Endpoint.{Endpoint}
+use Rattle.tftp_wire.specs.declared.mode.Mode.{Mode}
 use Rattle.tftp_ends.specs.declared.fault.OpenFault.{OpenFault}
 use Rattle.tftp_ends.specs.declared.fault.OpenFault.TheVariants.{BadRequest, Memory, TooLarge}
 use Rattle.tftp_ends.specs.declared.fault.OpenFault.TheVariants.{SourceFault}
@@ -24,10 +32,11 @@ use Rattle.tftp_server.specs.declared.fault.ServerFault.TheVariants as table_fau
 use Rattle.tftp_c.specs.declared.event.TftpEndpoint.{TftpEndpoint}
 use Rattle.tftp_c.specs.declared.event.TftpOptions.{TftpOptions}
 use Rattle.tftp_c.specs.Opens.{asked_of, mode_of}
-use Rattle.tftp_c.specs.Options.{HasSize}
+use Rattle.tftp_c.specs.Answers.{AsksLong, answer_to}
+use Rattle.tftp_c.specs.Options.{HasSize, SizeRefused, options_in}
 use Rattle.tftp_c.specs.Reports.{endpoint_of}
 use Rattle.tftp_c.specs.HeldServer.{Table, config_of, table_fault}
-use Rattle.tftp_c.specs.ServerOpens.{limits_of, LimitsBlocks}
+use Rattle.tftp_c.specs.ServerOpens.{limits_of, read_limits, LimitsBlocks}
 
 -- the number of a fault of an end
 abbrev pub open_fault : OpenFault → ℕ
@@ -42,10 +51,10 @@ pub record Returns (because : OpenFault → Type 0) (returned : ℕ) : Type 0 wh
   pub number : returned ≡ open_fault fault
   pub why : because fault
 
--- the options have no size (11), or an opening with them fails so
-abbrev pub FailsWith : TftpOptions → Type 0 → ℕ → Type 0
-FailsWith options fails returned =
-    ((returned ≡ 11) × (HasSize options → ⊥)) ⊎ (HasSize options × fails)
+-- the struct of the options is refused, or an opening with them fails so
+abbrev pub FailsWith : List ℕ → (TftpOptions → Type 0) → ℕ → Type 0
+FailsWith given fails returned =
+    SizeRefused given returned ⊎ (HasSize given × fails (options_in given))
 
 -- ---- a client
 -- it does not get: its request is not allowed, or memory is lacking for one that is
@@ -65,14 +74,27 @@ PutRefused name whole options TooLarge =
     PutsTooLarge name (mode_of options) (asked_of options whole) whole
 PutRefused name whole options SourceFault = ⊥
 
--- it does not open, and the call returns this number
-abbrev pub GetFault : List ℕ → TftpOptions → ℕ → Type 0
-GetFault name options returned =
-    FailsWith options (Returns (GetRefused name options) returned) returned
+-- its request is allowed, and does not fit a buffer of this length (12)
+abbrev pub GetHasNoRoom : List ℕ → TftpOptions → ℕ → ℕ → Type 0
+GetHasNoRoom name options room returned =
+    (returned ≡ 12) × MayGet name (mode_of options) (asked_of options 0)
+    × (room < length (canonical (Read (request_of name (mode_of options) (asked_of options 0)))))
 
-abbrev pub PutFault : List ℕ → ℕ → TftpOptions → ℕ → Type 0
-PutFault name whole options returned =
-    FailsWith options (Returns (PutRefused name whole options) returned) returned
+abbrev pub PutHasNoRoom : List ℕ → ℕ → TftpOptions → ℕ → ℕ → Type 0
+PutHasNoRoom name whole options room returned =
+    (returned ≡ 12) × MayPut name (mode_of options) (asked_of options whole) whole
+    × (room < length (canonical (Write (request_of name (mode_of options) (asked_of options whole)))))
+
+-- it does not open, and the call returns this number
+abbrev pub GetFault : List ℕ → List ℕ → ℕ → ℕ → Type 0
+GetFault name given room returned =
+    FailsWith given (λ options. Returns (GetRefused name options) returned
+    ⊎ GetHasNoRoom name options room returned) returned
+
+abbrev pub PutFault : List ℕ → ℕ → List ℕ → ℕ → ℕ → Type 0
+PutFault name whole given room returned =
+    FailsWith given (λ options. Returns (PutRefused name whole options) returned
+    ⊎ PutHasNoRoom name whole options room returned) returned
 
 -- ---- a server's end
 -- an end does not send a file of this length: it has too many blocks, or, without an option, `next`
@@ -91,66 +113,117 @@ NoRead datagram = (request : Request) → Spells (Read request) datagram → ⊥
 abbrev pub NoWrite : List ℕ → Type 0
 NoWrite datagram = (request : Request) → Spells (Write request) datagram → ⊥
 
--- the options of a read of a file of this length are refused; the end does not open
-pub record GetOptionsRefused (datagram : List ℕ) (whole : ℕ) (options : TftpOptions) : Type 0 where
+-- the number of a refusal: a length above the server's limit (13) is answered by another ERROR than
+-- the others (7)
+abbrev pub refusal_fault : Refusal → ℕ
+refusal_fault refusals.TooLarge = 13
+refusal_fault _ = 7
+
+-- an answer is a refusal of this number
+pub record RefusedAs (answer : Result (List Known) Refusal) (returned : ℕ) : Type 0 where
+  pub refusal : Refusal
+  pub refuses : answer ≡ Err refusal
+  pub number : returned ≡ refusal_fault refusal
+
+-- a request is not answered: its options are refused, or memory is lacking to leave its timeout out
+abbrev pub AnswerRefused : TftpOptions → Request → Kind → ℕ → Limits → ℕ → Type 0
+AnswerRefused options request kind whole limits returned =
+    RefusedAs (answer_to options request kind whole limits) returned
+    ⊎ ((returned ≡ 3) × AsksLong options request kind whole limits)
+
+-- the options of a read of a file of this length are not answered; the end does not open
+pub record GetOptionsRefused (datagram : List ℕ) (whole : ℕ) (options : TftpOptions)
+    (room returned : ℕ) : Type 0 where
   pub request : Request
   pub asked : Spells (Read request) datagram
-  pub refusal : Refusal
-  pub answers :
-      answer request.options kinds.Read request.mode whole (limits_of options) ≡ Err refusal
+  pub why : AnswerRefused options request kinds.Read whole (read_limits options room) returned
 
 pub record GetUnopened (datagram : List ℕ) (whole : ℕ) (next : List ℕ) (options : TftpOptions)
-    (returned : ℕ) : Type 0 where
+    (room returned : ℕ) : Type 0 where
   pub request : Request
   pub asked : Spells (Read request) datagram
   pub agreed : List Known
-  pub answers : answer request.options kinds.Read request.mode whole (limits_of options) ≡ Ok agreed
+  pub answers : answer_to options request kinds.Read whole (read_limits options room) ≡ Ok agreed
   pub why : Returns (SendRefused agreed whole next) returned
 
+-- the first datagram of such an end does not fit a buffer of this length
+pub record FirstIsLong (agreed : List Known) (mode : Mode) (whole retries : ℕ) (next : List ℕ)
+    (room : ℕ) : Type 0 where
+  pub peer : Endpoint
+  pub rest : List ℕ
+  pub end : EndState
+  pub serves : ServesRead memory_source agreed peer mode whole retries next rest end
+  pub long : room < length end.position.last_sent
+
+-- they are answered, and a buffer of this length has no room for a DATA of the agreed size, or for the
+-- first datagram (12)
+pub record GetHasNoReply (datagram : List ℕ) (whole : ℕ) (next : List ℕ) (options : TftpOptions)
+    (room : ℕ) : Type 0
+  where
+    pub request : Request
+    pub asked : Spells (Read request) datagram
+    pub agreed : List Known
+    pub answers : answer_to options request kinds.Read whole (read_limits options room) ≡ Ok agreed
+    pub why : (room < HEADER + size agreed)
+        ⊎ FirstIsLong agreed request.mode whole options.retries next room
+
 -- the same of a write
-pub record PutOptionsRefused (datagram : List ℕ) (options : TftpOptions) : Type 0 where
-  pub request : Request
-  pub asked : Spells (Write request) datagram
-  pub refusal : Refusal
-  pub answers : answer request.options kinds.Write request.mode 0 (limits_of options) ≡ Err refusal
+pub record PutOptionsRefused (datagram : List ℕ) (options : TftpOptions) (returned : ℕ) : Type 0
+  where
+    pub request : Request
+    pub asked : Spells (Write request) datagram
+    pub why : AnswerRefused options request kinds.Write 0 (limits_of options) returned
 
 pub record PutAnswered (datagram : List ℕ) (options : TftpOptions) : Type 0 where
   pub request : Request
   pub asked : Spells (Write request) datagram
   pub agreed : List Known
-  pub answers : answer request.options kinds.Write request.mode 0 (limits_of options) ≡ Ok agreed
+  pub answers : answer_to options request kinds.Write 0 (limits_of options) ≡ Ok agreed
 
--- a read request is not served: the largest block size is none, or the datagram is no read request
-abbrev pub GetUnserved : List ℕ → ℕ → List ℕ → TftpOptions → ℕ → Type 0
-GetUnserved datagram whole next options returned =
+-- they are answered, and a buffer of this length has no room for the first datagram (12)
+pub record PutHasNoReply (datagram : List ℕ) (options : TftpOptions) (room : ℕ) : Type 0 where
+  pub request : Request
+  pub asked : Spells (Write request) datagram
+  pub agreed : List Known
+  pub answers : answer_to options request kinds.Write 0 (limits_of options) ≡ Ok agreed
+  pub peer : Endpoint
+  pub long : room
+      < length (serving_write agreed peer request.mode options.retries).position.last_sent
+
+-- a read request is not served: the largest block size is none, or the datagram is no read request,
+-- or its options, its end or the buffer fail it
+abbrev pub GetUnserved : List ℕ → ℕ → List ℕ → TftpOptions → ℕ → ℕ → Type 0
+GetUnserved datagram whole next options room returned =
     ((returned ≡ 2) × (LimitsBlocks options → ⊥))
     ⊎ ((returned ≡ 2) × NoRead datagram)
-    ⊎ ((returned ≡ 7) × GetOptionsRefused datagram whole options)
-    ⊎ GetUnopened datagram whole next options returned
+    ⊎ GetOptionsRefused datagram whole options room returned
+    ⊎ GetUnopened datagram whole next options room returned
+    ⊎ ((returned ≡ 12) × GetHasNoReply datagram whole next options room)
 
 -- a write request is not served: its end lacks only memory
-abbrev pub PutUnserved : List ℕ → TftpOptions → ℕ → Type 0
-PutUnserved datagram options returned =
+abbrev pub PutUnserved : List ℕ → TftpOptions → ℕ → ℕ → Type 0
+PutUnserved datagram options room returned =
     ((returned ≡ 2) × (LimitsBlocks options → ⊥))
     ⊎ ((returned ≡ 2) × NoWrite datagram)
-    ⊎ ((returned ≡ 7) × PutOptionsRefused datagram options)
+    ⊎ PutOptionsRefused datagram options returned
     ⊎ ((returned ≡ 3) × PutAnswered datagram options)
+    ⊎ ((returned ≡ 12) × PutHasNoReply datagram options room)
 
 -- the end of a handle does not open for it
-abbrev pub ServeGetFault : List ℕ → ℕ → List ℕ → TftpOptions → ℕ → Type 0
-ServeGetFault datagram whole next options returned =
-    FailsWith options (GetUnserved datagram whole next options returned) returned
+abbrev pub ServeGetFault : List ℕ → ℕ → List ℕ → List ℕ → ℕ → ℕ → Type 0
+ServeGetFault datagram whole next given room returned =
+    FailsWith given (λ options. GetUnserved datagram whole next options room returned) returned
 
-abbrev pub ServePutFault : List ℕ → TftpOptions → ℕ → Type 0
-ServePutFault datagram options returned =
-    FailsWith options (PutUnserved datagram options returned) returned
+abbrev pub ServePutFault : List ℕ → List ℕ → ℕ → ℕ → Type 0
+ServePutFault datagram given room returned =
+    FailsWith given (λ options. PutUnserved datagram options room returned) returned
 
 -- ---- a server, and a transfer of it
 -- a server does not open: a number is out of its range, or memory is lacking
-abbrev pub StartRefused : TftpOptions → ℕ → ℕ → Type 0
-StartRefused options transfers returned =
-    FailsWith options
-    (((returned ≡ 2) × (IsConfig (config_of options transfers) → ⊥))
+abbrev pub StartRefused : List ℕ → ℕ → ℕ → Type 0
+StartRefused given transfers returned =
+    FailsWith given
+    (λ options. ((returned ≡ 2) × (IsConfig (config_of options transfers) → ⊥))
     ⊎ ((returned ≡ 3) × IsConfig (config_of options transfers))) returned
 
 -- what the port decides for a request asks for such a file, or for none
@@ -177,11 +250,11 @@ pub record ReturnsHeld (tid : ℕ) (from : TftpEndpoint) (request : List ℕ) (t
   pub why : HoldRefused tid from request table fault
 
 -- a transfer does not open: its request is not served, or its end is not held
-abbrev pub GetFails : ℕ → TftpEndpoint → List ℕ → ℕ → List ℕ → TftpOptions → Table → ℕ → Type 0
-GetFails tid from request whole next options table returned =
-    GetUnserved request whole next options returned
+abbrev pub GetFails : ℕ → TftpEndpoint → List ℕ → ℕ → List ℕ → TftpOptions → Table → ℕ → ℕ → Type 0
+GetFails tid from request whole next options table room returned =
+    GetUnserved request whole next options room returned
     ⊎ ReturnsHeld tid from request table returned
 
-abbrev pub PutFails : ℕ → TftpEndpoint → List ℕ → TftpOptions → Table → ℕ → Type 0
-PutFails tid from request options table returned =
-    PutUnserved request options returned ⊎ ReturnsHeld tid from request table returned
+abbrev pub PutFails : ℕ → TftpEndpoint → List ℕ → TftpOptions → Table → ℕ → ℕ → Type 0
+PutFails tid from request options table room returned =
+    PutUnserved request options room returned ⊎ ReturnsHeld tid from request table returned

@@ -1,8 +1,10 @@
 -- What the calls of a server do, for C: a table of transfers, whose files are the caller's.
-use Rattle.std.specs.Prelude.{ℕ, ◌≡◌, ◌≤◌, List, [], length, take, Option, Some, None}
+use Rattle.std.specs.Prelude.{ℕ, ◌≡◌, ◌+◌, ◌≤◌, ◌<◌, ◌++◌, List, [], ◌∷◌, length, take, Option, Some}
+use Rattle.std.specs.Prelude.{None}
 use Rattle.std.specs.Prelude.{IsSome, false}
 use Rattle.tftp_ends.specs.End.{EndState}
 use Rattle.tftp_ends.specs.Step.{error_bytes}
+use Rattle.tftp_wire.specs.declared.mode.Mode.{Mode}
 use Rattle.tftp_server.specs.CallersFiles.{asked_path}
 use Rattle.tftp_server.specs.Port.{Ask, Ignores, Refuses, Reads, Writes}
 use Rattle.tftp_server.specs.Request.{Admits}
@@ -18,8 +20,11 @@ use Rattle.tftp_c.specs.declared.event.TftpEvent.{TftpEvent}
 use Rattle.tftp_c.specs.declared.event.TftpOptions.{TftpOptions}
 use Rattle.tftp_c.specs.declared.event.TftpQuestion.{TftpQuestion}
 use Rattle.tftp_c.specs.declared.held_server.HeldServer.{HeldServer}
+use Rattle.tftp_c.specs.Elsewhere.{stated_in_files}
 use Rattle.tftp_c.specs.Handled.{Received, Sent, TimedOut}
+use Rattle.tftp_c.specs.Modes.{mode_number}
 use Rattle.tftp_c.specs.Reports.{endpoint_of}
+use Rattle.tftp_c.specs.Stated.{StatedBy}
 use Rattle.tftp_c.specs.ServerOpens.{limits_of, ServesGet, ServesPut}
 
 -- a transfer of such a server, and the server
@@ -58,21 +63,35 @@ OnServer (Some s) (Some t) does = does s t
 
 -- ---- a datagram to the request port
 
--- this many bytes are copied to the start of a buffer, if they fit it
-pub record Copied (bytes buffer : List ℕ) (count : ℕ) : Type 0 where
-  pub len : count ≡ length bytes
-  pub written : length bytes ≤ length buffer → take (length bytes) buffer ≡ bytes
+-- a path is copied to the start of a buffer, if it fits it, with a zero byte behind it, if that fits
+pub record Named (path buffer : List ℕ) (count : ℕ) : Type 0 where
+  pub len : count ≡ length path
+  pub written : length path ≤ length buffer → take (length path) buffer ≡ path
+  pub ended : length path < length buffer → take (length path + 1) buffer ≡ path ++ 0 ∷ []
 
--- it is ignored, it is answered by an ERROR, or the caller is asked to open the file at a path (1),
--- or to begin it (2)
+-- an ERROR is copied to the start of a buffer, or does not fit, and nothing is to be sent
+pub record Refused (error buffer : List ℕ) (count : ℕ) : Type 0 where
+  pub whole : length error ≤ length buffer
+      → (count ≡ length error) × (take (length error) buffer ≡ error)
+  pub lost : length buffer < length error → count ≡ 0
+
+-- the caller is asked for the file at a path: to open it (1), or to begin it (2)
+pub record AsksPath (wants : ℕ) (path : List ℕ) (mode : Mode) (name : List ℕ)
+    (question : TftpQuestion) : Type 0 where
+  pub asks : question.wants ≡ wants
+  pub encodes : question.mode ≡ mode_number mode
+  pub named : Named path name question.name_len
+  pub silent : question.send_len ≡ 0
+
+-- it is ignored, it is answered by an ERROR, or the caller is asked for a file
 abbrev pub Asks : Ask → List ℕ → List ℕ → TftpQuestion → Type 0
-Asks Ignores name reply question = (question.wants ≡ 0) × (question.send_len ≡ 0)
+Asks Ignores name reply question =
+    (question.wants ≡ 0) × (question.mode ≡ 0) × (question.name_len ≡ 0) × (question.send_len ≡ 0)
 Asks (Refuses error) name reply question =
-    (question.wants ≡ 0) × Copied (error_bytes error) reply question.send_len
-Asks (Reads path mode options) name reply question =
-    (question.wants ≡ 1) × (question.send_len ≡ 0) × Copied path name question.name_len
-Asks (Writes path mode agreed) name reply question =
-    (question.wants ≡ 2) × (question.send_len ≡ 0) × Copied path name question.name_len
+    (question.wants ≡ 0) × (question.mode ≡ 0) × (question.name_len ≡ 0)
+    × Refused (error_bytes error) reply question.send_len
+Asks (Reads path mode options) name reply question = AsksPath 1 path mode name question
+Asks (Writes path mode agreed) name reply question = AsksPath 2 path mode name question
 
 -- what the port decides is what is asked
 pub record AsksFor (table : Table) (from : TftpEndpoint) (datagram name reply : List ℕ)
@@ -89,7 +108,8 @@ pub record AsksOf (table : Table) (from : TftpEndpoint) (datagram name reply : L
 
 -- ---- the transfers
 
--- a request that the port admits has a new transfer, whose end serves it; nothing else changes
+-- a request that the port admits has a new transfer, whose end serves it, and which knows the length that
+-- its first datagram states; nothing else changes
 pub record OpensAt (tid : ℕ) (from : TftpEndpoint) (request : List ℕ) (serves : EndState → Type 0)
     (old new : Table) : Type 0 where
   pub ask : Ask
@@ -99,6 +119,7 @@ pub record OpensAt (tid : ℕ) (from : TftpEndpoint) (request : List ℕ) (serve
   pub vacant : IsSome (at tid old.held) → ⊥
   pub by_request : transfer.request ≡ request
   pub end : serves transfer.end
+  pub stated : StatedBy transfer.end.position.last_sent (stated_in_files transfer.files)
   pub held : new ≡ record old { held = with_new tid transfer old.held }
 
 -- the transfer that has the identifier makes a step; nothing else changes

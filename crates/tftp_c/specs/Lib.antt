@@ -1,4 +1,5 @@
 pub mod Aborted
+pub mod Answers
 pub mod Built
 pub mod Elsewhere
 pub mod Faults
@@ -11,8 +12,10 @@ pub mod Options
 pub mod Opens
 pub mod Owned
 pub mod Reports
+pub mod Samples
 pub mod HeldServer
 pub mod ServerOpens
 pub mod Shown
 pub mod Slices
 pub mod Stated
+pub mod Waits

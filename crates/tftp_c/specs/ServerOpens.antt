@@ -1,23 +1,25 @@
 -- How a server's end opens for C.
-use Rattle.std.specs.Prelude.{ℕ, ◌≡◌, ◌-◌, ◌*◌, ◌<◌, ◌==◌, if◌then◌else◌, List, length, Option, Some, None, Ok}
+use Rattle.std.specs.Prelude.{ℕ, ◌≡◌, ◌+◌, ◌-◌, ◌*◌, ◌<◌, ◌≤◌, ◌==◌, false, if◌then◌else◌, List, length, Option}
+use Rattle.std.specs.Prelude.{Some, None, Ok, max, min}
 use Rattle.tftp_wire.specs.Spelling.{Spells}
-use Rattle.tftp_wire.specs.declared.limits.TheConstants.{MAX_BLOCK}
+use Rattle.tftp_wire.specs.declared.limits.TheConstants.{HEADER, MAX_BLOCK}
 use Rattle.tftp_wire.specs.declared.packet.Packet.TheVariants.{Read, Write}
 use Rattle.tftp_wire.specs.declared.packet.Request.{Request}
 use Rattle.tftp_negotiate.specs.Agreed as agreements
-use Rattle.tftp_negotiate.specs.Answer.{answer}
 use Rattle.tftp_negotiate.specs.Ranges.{IsBlockSize}
 use Rattle.tftp_negotiate.specs.declared.known.Kind.TheVariants as kinds
 use Rattle.tftp_negotiate.specs.declared.known.Known.{Known}
 use Rattle.tftp_negotiate.specs.declared.limits.Limits.{Limits}
+use Rattle.tftp_negotiate.specs.declared.limits.TheConstants.{DEFAULT_BLOCK}
 use Rattle.tftp_file.specs.Memory.{memory_source}
 use Rattle.tftp_ends.specs.declared.endpoint.Endpoint.{Endpoint}
-use Rattle.tftp_ends.specs.End.{EndState}
+use Rattle.tftp_ends.specs.End.{EndState, record_of, seconds_of}
 use Rattle.tftp_ends.specs.Opening.{ServesRead, serving_write}
 use Rattle.tftp_c.specs.declared.client.Client.{Client}
 use Rattle.tftp_c.specs.declared.event.TftpEndpoint.{TftpEndpoint}
 use Rattle.tftp_c.specs.declared.event.TftpEvent.{TftpEvent}
 use Rattle.tftp_c.specs.declared.event.TftpOptions.{TftpOptions}
+use Rattle.tftp_c.specs.Answers.{answer_to}
 use Rattle.tftp_c.specs.Reports.{endpoint_of, Sends, Reports}
 
 -- the limits of a server: the block size that C gives is the largest, and 0 is for any
@@ -32,21 +34,34 @@ limits_of options =
 abbrev pub LimitsBlocks : TftpOptions → Type 0
 LimitsBlocks options = IsBlockSize (limits_of options).max_block
 
--- an end that opened sends its first datagram
+-- those of a read, whose buffer for a datagram has this room: no block is longer than the buffer has
+-- room for, except one of the default size
+abbrev pub read_limits : TftpOptions → ℕ → Limits
+read_limits options room =
+    record {
+      max_block = min (limits_of options).max_block (max DEFAULT_BLOCK (room - HEADER));
+      max_file = options.max_file;
+    }
+
+-- an end that opened sends its first datagram, which fits the buffer
 pub record FirstSent (e : EndState) (peer : Endpoint) (reply : List ℕ) (event : TftpEvent) : Type 0
   where
     pub sends : Sends (Some peer) e.position.last_sent reply event
+    pub fits : length e.position.last_sent ≤ length reply
+    pub progress : event.progress ≡ false
+    pub interval : event.interval ≡ seconds_of (record_of e).timeout
     pub reports : Reports e event
 
--- a read request has such an end: its options are answered, and the `count` bytes that are sent come
--- from `next`, of which `rest` is left
+-- a read request has such an end: its options are answered, a DATA of the agreed size fits the buffer,
+-- and the `count` bytes that are sent come from `next`, of which `rest` is left
 pub record AnswersGet (client : TftpEndpoint) (datagram : List ℕ) (size : ℕ) (next : List ℕ)
-    (options : TftpOptions) (e : EndState) (count : ℕ) : Type 0 where
+    (options : TftpOptions) (room : ℕ) (e : EndState) (count : ℕ) : Type 0 where
   pub limits : LimitsBlocks options
   pub request : Request
   pub asked : Spells (Read request) datagram
   pub agreed : List Known
-  pub answers : answer request.options kinds.Read request.mode size (limits_of options) ≡ Ok agreed
+  pub answers : answer_to options request kinds.Read size (read_limits options room) ≡ Ok agreed
+  pub block_fits : HEADER + agreements.size agreed ≤ room
   pub fits : size < 65535 * agreements.size agreed
   pub rest : List ℕ
   pub serves : ServesRead memory_source agreed (endpoint_of client) request.mode size
@@ -60,14 +75,14 @@ pub record AnswersPut (client : TftpEndpoint) (datagram : List ℕ) (options : T
   pub request : Request
   pub asked : Spells (Write request) datagram
   pub agreed : List Known
-  pub answers : answer request.options kinds.Write request.mode 0 (limits_of options) ≡ Ok agreed
+  pub answers : answer_to options request kinds.Write 0 (limits_of options) ≡ Ok agreed
   pub state : e ≡ serving_write agreed (endpoint_of client) request.mode options.retries
 
 -- a read request is served: its end has sent its first datagram, and `count` bytes of the file
 pub record ServesGet (client : TftpEndpoint) (datagram : List ℕ) (size : ℕ) (next : List ℕ)
     (options : TftpOptions) (e : EndState) (reply : List ℕ) (event : TftpEvent) : Type 0 where
   pub count : ℕ
-  pub answers : AnswersGet client datagram size next options e count
+  pub answers : AnswersGet client datagram size next options (length reply) e count
   pub taken : event.file_len ≡ count
   pub sent : FirstSent e (endpoint_of client) reply event
 

@@ -1,6 +1,6 @@
 //! A transfer that its caller ends by an ERROR.
 
-ghost use Rattle.std.specs.Prelude.{◌≡◌, ◌⊎◌, IfErr, None, OnErr, OnOk, IsSome};
+ghost use Rattle.std.specs.Prelude.{◌≡◌, ◌⊎◌, ◌≤◌, IfErr, None, OnErr, OnOk, IsSome, length};
 ghost use Rattle.tftp_server.specs.State.{at};
 ghost use Rattle.tftp_c.specs.Aborted.{AbortFails, AbortsOpen, AbortsAt, AtFault, Tells};
 ghost use Rattle.tftp_c.specs.Aborted.{abort_number};
@@ -37,14 +37,16 @@ pub(crate) fn number(fault: AbortFault, over: u8) -> u8
 /// Reports the abort of a transfer, and copies its ERROR for the peer, if there is one yet.
 fn report_abort(state: &Record, error: &[u8], reply: &mut [u8], event: &mut TftpEvent)
     requires { state.now.outcome ≡ None }
-    ensures { Tells state.now error.now reply.new event.new }
+    ensures tells { Tells state.now error.now reply.new event.new }
+    ensures fits { event.new.send_len ≤ length reply.old }
 {
     let step = Step {
         to: state.peer,
         progress: false,
         closed: None,
     };
-    report_apart(state, step, error, reply, 0, event);
+    let wait = u16::from(state.interval());
+    report_apart(state, wait, step, error, reply, 0, event);
     event.complete = false;
     event.outcome = event::ABORTED;
 }
@@ -59,6 +61,7 @@ pub(crate) fn abort(
     event: &mut TftpEvent,
 ) -> Result<(), AbortFault>
     ensures ok { OnOk result (AbortsOpen state.now code text.now reply.new event.new) }
+    ensures fits { OnOk result (event.new.send_len ≤ length reply.old) }
     ensures err { IfErr result (AbortFails state.now text.now) }
     ensures unmoved { OnErr result ((event.new ≡ event.old) × (reply.new ≡ reply.old)) }
 {
@@ -89,6 +92,7 @@ pub(crate) fn abort_at(
 ) -> u8
     ensures ok { result ≡ 0
         → AbortsAt tid code text.now reply.new event.new server.old server.new }
+    ensures fits { result ≡ 0 → event.new.send_len ≤ length reply.old }
     ensures fault { (result ≡ 0 → ⊥) → AtFault tid text.now server.old result }
     ensures err { (result ≡ 0 → ⊥) → server.new ≡ server.old }
     ensures unmoved { (result ≡ 0 → ⊥) → (event.new ≡ event.old) × (reply.new ≡ reply.old) }

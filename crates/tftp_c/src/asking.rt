@@ -1,47 +1,79 @@
 //! A datagram at the request port of a server for C: what its caller is asked.
 
-ghost use Rattle.std.specs.Prelude.{◌≡◌, ◌≤◌, length, take, IfSome};
+ghost use Rattle.std.specs.Prelude.{◌≡◌, ◌≤◌, length, IfSome};
 ghost use Rattle.tftp_ends.specs.Step.{error_bytes};
-ghost use Rattle.tftp_c.specs.HeldServer.{Asks, AsksOf, Copied};
+ghost use Rattle.tftp_server.specs.CallersFiles.{asked_mode};
+ghost use Rattle.tftp_c.specs.Modes.{mode_or_none};
+ghost use Rattle.tftp_c.specs.HeldServer.{Asks, AsksOf, AsksPath, Named, Refused};
 
 use crate::elsewhere::Elsewhere;
 use crate::event::{self, TftpEndpoint, TftpQuestion};
-use crate::report::{copy, endpoint};
+use crate::packet::mode_number;
+use crate::report::{endpoint, write};
+use crate::slice_sink::write_at;
 use std::alloc::Global;
 use tftp_ends::ErrorReply;
 use tftp_server::{Admission, Server};
 
+/// Writes a path to the start of a buffer, if it fits, with a zero byte behind it, if that fits.
+fn write_path(path: &[u8], name: &mut [u8]) -> usize
+    ensures { Named path.now name.new result }
+{
+    let len = path.len();
+    if let Some(end) = write_at(name, 0, path) {
+        write_at(name, end, &[0]);
+    }
+    len
+}
+
+/// The number of the mode of a request that may be served, or 0.
+fn mode_of(admission: &Admission<'_>) -> u8
+    ensures { result ≡ mode_or_none (asked_mode admission.now.ask) }
+{
+    match admission.mode() {
+        Some(mode) => mode_number(mode),
+        None => 0,
+    }
+}
+
 /// Asks for the file at a path, which is written to `name`.
-fn about(wants: u8, path: &[u8], name: &mut [u8]) -> TftpQuestion
+fn about(wants: u8, mode: u8, path: &[u8], name: &mut [u8]) -> TftpQuestion
     ensures wants { result.wants ≡ wants }
+    ensures mode { result.mode ≡ mode }
     ensures none { result.send_len ≡ 0 }
-    ensures path { Copied path.now name.new result.name_len }
+    ensures path { Named path.now name.new result.name_len }
 {
     TftpQuestion {
         send_len: 0,
-        name_len: copy(path, name),
+        name_len: write_path(path, name),
         wants,
+        mode,
+        reserved: [0; 6],
     }
 }
 
 /// Asks nothing, and has an ERROR of this length to be sent, or 0.
 fn answered(send_len: usize) -> TftpQuestion
-    ensures { result ≡ record { send_len = send_len; name_len = 0; wants = 0 } }
+    ensures len { result.send_len ≡ send_len }
+    ensures nothing { (result.wants ≡ 0) × (result.mode ≡ 0) × (result.name_len ≡ 0) }
 {
     TftpQuestion {
         send_len,
         name_len: 0,
         wants: 0,
+        mode: 0,
+        reserved: [0; 6],
     }
 }
 
-/// Writes an ERROR to `reply`, and returns its length; `None` out of memory.
+/// Writes an ERROR to `reply`, and returns its length, or 0 if it does not fit; `None` out of memory.
 fn refuse(alloc: Global, error: ErrorReply, reply: &mut [u8]) -> Option<usize>
-    ensures { IfSome result (Copied (error_bytes error) reply.new) }
+    ensures refused { IfSome result (Refused (error_bytes error) reply.new) }
+    ensures fits { IfSome result (λ len. len ≤ length reply.old) }
 {
     let mut out = Vec::new(alloc);
     match error.append_to(&mut out) {
-        Ok(()) => Some(copy(out.as_slice(), reply)),
+        Ok(()) => Some(write(out.as_slice(), reply).len),
         Err(_) => None,
     }
 }
@@ -53,13 +85,15 @@ fn question_of(
     name: &mut [u8],
     reply: &mut [u8],
 ) -> Option<TftpQuestion>
-    ensures { IfSome result (Asks admission.now.ask name.new reply.new) }
+    ensures asks { IfSome result (Asks admission.now.ask name.new reply.new) }
+    ensures fits { IfSome result (λ question. question.send_len ≤ length reply.old) }
 {
+    let mode = mode_of(admission);
     if let Some(path) = admission.read_path() {
-        return Some(about(event::WANTS_OPEN, path.as_bytes(), name));
+        return Some(about(event::WANTS_OPEN, mode, path.as_bytes(), name));
     }
     if let Some(path) = admission.write_path() {
-        return Some(about(event::WANTS_BEGIN, path.as_bytes(), name));
+        return Some(about(event::WANTS_BEGIN, mode, path.as_bytes(), name));
     }
     match admission.refusal() {
         Some(error) => match refuse(alloc, error, reply) {
@@ -83,6 +117,7 @@ pub(crate) fn request(
 ) -> u8
     ensures ok { result ≡ 0
         → AsksOf server.now from.now datagram.now name.new reply.new question.new }
+    ensures fits { result ≡ 0 → question.new.send_len ≤ length reply.old }
     ensures unmoved { (result ≡ 0 → ⊥) → question.new ≡ question.old }
 {
     if from.port == 0 {

@@ -6,8 +6,11 @@ use tftp_store::{Opening, Store};
 use tftp_wire::Mode;
 
 /// In place of a source or a draft, which the caller has.
-#[derive(Drop)]
-pub struct Absent;
+#[derive(Clone, Copy)]
+pub struct Absent {
+    /// The length of the file that the first datagram of the transfer stated (`tsize`).
+    pub(crate) stated: Option<u64>,
+}
 
 impl Source for Absent {
     ghost use Rattle.std.specs.Prelude.{⊤};

@@ -6,7 +6,7 @@ ghost use Rattle.tftp_wire.specs.Texts.{IsText};
 ghost use Rattle.tftp_wire.specs.declared.packet.Packet.TheVariants.{Error};
 ghost use Rattle.tftp_c.specs.Aborted.{MayTell};
 
-use crate::report::copy;
+use crate::slice_sink::copy_to;
 use std::alloc::Global;
 use tftp_wire::{MAX_REQUEST, append_error, is_text};
 
@@ -21,7 +21,8 @@ pub(crate) fn copy_whole(bytes: &[u8], to: &mut [u8]) -> usize
     if bytes.len() > to.len() {
         return 0;
     }
-    copy(bytes, to)
+    copy_to(to, bytes);
+    bytes.len()
 }
 
 /// Whether an ERROR may have this text.

@@ -1,8 +1,10 @@
 //! What crosses to C by value.
 
-ghost use Rattle.std.specs.Prelude.{◌↔◌, IsTrue};
-ghost use Rattle.tftp_c.specs.Informed.{HasInfoSize};
-ghost use Rattle.tftp_c.specs.Options.{HasSize};
+ghost use Rattle.std.specs.Prelude.{◌≡◌};
+ghost use Rattle.tftp_c.specs.Informed.{InfoSize};
+ghost use Rattle.tftp_c.specs.Waits.{backoff_of};
+
+use tftp_ends::Backoff;
 
 /// The numbers that the calls return: 0 is success.
 pub(crate) const NOT_OPEN: u8 = 1;
@@ -27,11 +29,14 @@ pub(crate) const IN_USE: u8 = 10;
 
 pub(crate) const BAD_OPTIONS: u8 = 11;
 
+pub(crate) const NO_ROOM: u8 = 12;
+
+pub(crate) const OVER_LIMIT: u8 = 13;
+
+pub(crate) const LATER_STRUCT: u8 = 14;
+
 /// How an end closed that its caller aborts; 1 to 9 are the numbers of `Outcome`.
 pub(crate) const ABORTED: u8 = 10;
-
-/// The size of [`TftpOptions`] in bytes, which its field `size` states.
-pub(crate) const OPTIONS_SIZE: usize = 24;
 
 /// The size of [`TftpInfo`] in bytes, which its field `size` states.
 pub(crate) const INFO_SIZE: usize = 24;
@@ -49,12 +54,9 @@ pub struct TftpEndpoint {
     pub port: u16,
 }
 
-/// What a request asks.
-#[repr(C)]
+/// What a request asks, or how far a server goes, as `struct tftp_options` has it.
 #[derive(Clone, Copy)]
 pub struct TftpOptions {
-    /// The size of this struct where the caller was compiled: a later one has further fields.
-    pub size: usize,
     /// The longest file that is accepted, where the peer states its length.
     pub max_file: u64,
     /// The block size, or 0 for none.
@@ -65,14 +67,21 @@ pub struct TftpOptions {
     pub retries: u8,
     pub asks_tsize: bool,
     pub is_netascii: bool,
+    /// Whether waits grow after timeouts.
+    pub backoff: bool,
+    /// The longest timeout that a server agrees to, in seconds, or 0 for any.
+    pub max_timeout: u8,
 }
 
 impl TftpOptions {
-    /// Whether the caller has set the size: then it knows these fields, and no other.
-    pub(crate) fn has_size(&self) -> bool
-        ensures { IsTrue result ↔ HasSize self.now }
+    pub(crate) fn backoff(&self) -> Backoff
+        ensures { result ≡ backoff_of self.now }
     {
-        self.size == OPTIONS_SIZE
+        if self.backoff {
+            Backoff::Doubling
+        } else {
+            Backoff::Constant
+        }
     }
 }
 
@@ -92,13 +101,16 @@ pub struct TftpEvent {
     pub number: u16,
     /// The block size in bytes; 512 while there is no peer.
     pub block_size: u16,
+    /// The timeout interval in seconds.
+    pub interval: u16,
     /// How the end closed, 1 to 10, or 0.
     pub outcome: u8,
-    /// The timeout interval in seconds.
-    pub interval: u8,
     pub progress: bool,
     /// Whether the whole file was stored, or acknowledged.
     pub complete: bool,
+    /// Whether the buffer had no room for the datagram, which is lost.
+    pub no_room: bool,
+    pub reserved: [u8; 6],
 }
 
 /// What an end and its peer have agreed.
@@ -112,14 +124,24 @@ pub struct TftpInfo {
     /// The agreed timeout in seconds, or 0.
     pub timeout: u8,
     pub has_length: bool,
+    /// The agreed block size in bytes; 512 while there is no peer.
+    pub block_size: u16,
+    pub reserved: [u8; 4],
 }
 
 impl TftpInfo {
-    /// Whether the caller has set the size: then it knows these fields, and no other.
-    pub(crate) fn has_size(&self) -> bool
-        ensures { IsTrue result ↔ HasInfoSize self.now }
+    /// The number of the fault of a size that is larger, or none; 0 if it is the size of this struct:
+    /// then the caller knows these fields, and no other.
+    pub(crate) fn size_fault(&self) -> u8
+        ensures { InfoSize self.now result }
     {
-        self.size == INFO_SIZE
+        if self.size > INFO_SIZE {
+            return LATER_STRUCT;
+        }
+        if self.size < INFO_SIZE {
+            return BAD_OPTIONS;
+        }
+        0
     }
 }
 
@@ -133,4 +155,7 @@ pub struct TftpQuestion {
     pub name_len: usize,
     /// 1 to open the file, 2 to begin it, or 0.
     pub wants: u8,
+    /// 1 octet, 2 netascii, of a request whose file is wanted, or 0.
+    pub mode: u8,
+    pub reserved: [u8; 6],
 }

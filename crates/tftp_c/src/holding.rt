@@ -1,19 +1,23 @@
 //! How a server for C opens, and how a transfer opens in it: once its caller has found the file.
 
-ghost use Rattle.std.specs.Prelude.{◌≡◌, IfOk, IfErr, OnOk};
+ghost use Rattle.std.specs.Prelude.{◌≡◌, ◌≤◌, IfOk, IfErr, OnOk, length as list_length};
 ghost use Rattle.tftp_ends.specs.Files.{AreFilesOf};
 ghost use Rattle.tftp_server.specs.Config.{IsConfig};
 ghost use Rattle.tftp_c.specs.Faults.{GetFails, PutFails, ReturnsHeld, StartRefused};
 ghost use Rattle.tftp_c.specs.HeldServer.{config_of, table_fault, OpensAt, OpensGet, OpensPut, Starts};
-ghost use Rattle.tftp_c.specs.Options.{HasSize};
+ghost use Rattle.tftp_c.specs.Elsewhere.{stated_in_files};
+ghost use Rattle.tftp_c.specs.Options.{HasSize, options_in};
 ghost use Rattle.tftp_c.specs.Reports.{endpoint_of};
 ghost use Rattle.tftp_c.specs.ServerOpens.{FirstSent};
+ghost use Rattle.tftp_c.specs.Stated.{StatedBy};
 
 use crate::elsewhere::{Absent, Elsewhere};
 use crate::event::{self, TftpEndpoint, TftpEvent, TftpOptions};
+use crate::given;
 use crate::held_server::HeldServer;
 use crate::report::{endpoint, report_opening};
 use crate::serving::{Served, limits, serve_get, serve_put};
+use crate::stated::stated_by;
 use std::alloc::Global;
 use tftp_ends::End;
 use tftp_file::Files;
@@ -31,24 +35,22 @@ fn config(options: &TftpOptions, transfers: u8) -> Config
 }
 
 /// A server without transfers, which holds so many at once.
-pub(crate) fn start(alloc: Global, options: &TftpOptions, transfers: u8) -> Result<HeldServer, u8>
-    ensures ok { IfOk result (Starts options.now transfers) }
+pub(crate) fn start(alloc: Global, options: &[u8], transfers: u8) -> Result<HeldServer, u8>
+    ensures ok { IfOk result (Starts (options_in options.now) transfers) }
     ensures allowed { OnOk result (HasSize options.now
-        × IsConfig (config_of options.now transfers)) }
+        × IsConfig (config_of (options_in options.now) transfers)) }
     ensures err { IfErr result (StartRefused options.now transfers) }
 {
-    if !options.has_size() {
-        return Err(event::BAD_OPTIONS);
-    }
-    let config = config(options, transfers);
+    let options = match given::options(options) {
+        Ok(options) => options,
+        Err(fault) => return Err(fault),
+    };
+    let config = config(&options, transfers);
     if !config.is_valid() {
         return Err(event::BAD_REQUEST);
     }
     match Server::new(alloc, config, Elsewhere) {
-        Ok(server) => Ok(HeldServer {
-            server,
-            options: *options,
-        }),
+        Ok(server) => Ok(HeldServer { server, options }),
         Err(_) => Err(event::MEMORY),
     }
 }
@@ -64,13 +66,14 @@ pub(crate) fn number(fault: ServerFault) -> u8
 }
 
 /// In place of the files of an end, which the caller has.
-fn absent_files(end: &End) -> Files<Absent, Absent>
-    ensures { AreFilesOf end.now.role.side result }
+fn absent_files(end: &End, stated: Option<u64>) -> Files<Absent, Absent>
+    ensures files { AreFilesOf end.now.role.side result }
+    ensures stated { stated_in_files result ≡ stated }
 {
     if end.record().side.is_sender() {
-        Files::Source(Absent)
+        Files::Source(Absent { stated })
     } else {
-        Files::Sink(Absent)
+        Files::Sink(Absent { stated })
     }
 }
 
@@ -81,7 +84,9 @@ fn hold(
     from: &TftpEndpoint,
     request: &[u8],
     end: End,
+    stated: Option<u64>,
 ) -> u8
+    requires { StatedBy end.position.last_sent stated }
     ensures ok { result ≡ 0
         → OpensAt tid from.now request.now (λ e. e ≡ end) server.old server.new }
     ensures fault { (result ≡ 0 → ⊥) → ReturnsHeld tid from.now request.now server.old result }
@@ -90,7 +95,7 @@ fn hold(
     let Ok(admission) = server.admit(endpoint(from), request) else {
         return event::MEMORY;
     };
-    let files = absent_files(&end);
+    let files = absent_files(&end, stated);
     match server.hold(admission, tid, end, files) {
         Ok(()) => 0,
         Err(fault) => number(fault),
@@ -107,11 +112,14 @@ fn open(
     reply: &mut [u8],
     event: &mut TftpEvent,
 ) -> u8
-    requires { served.first.items ≡ served.end.position.last_sent }
+    requires first { served.first.items ≡ served.end.position.last_sent }
+    requires fits { list_length served.end.position.last_sent ≤ list_length reply.old }
     ensures ok { result ≡ 0
         → OpensAt tid from.now request.now (λ e. e ≡ served.end) server.old server.new }
     ensures sent { result ≡ 0
         → FirstSent served.end (endpoint_of from.now) reply.new event.new }
+    ensures fits { result ≡ 0 → event.new.send_len ≤ list_length reply.old }
+    ensures room { list_length reply.new ≡ list_length reply.old }
     ensures file { result ≡ 0 → event.new.file_len ≡ served.count }
     ensures fault { (result ≡ 0 → ⊥) → ReturnsHeld tid from.now request.now server.old result }
     ensures err { (result ≡ 0 → ⊥) → server.new ≡ server.old }
@@ -119,7 +127,8 @@ fn open(
 {
     let Served { end, count, first } = served;
     let state = end.record();
-    let fault = hold(server, tid, from, request, end);
+    let stated = stated_by(first.as_slice());
+    let fault = hold(server, tid, from, request, end, stated);
     if fault == 0 {
         report_opening(
             &state,
@@ -148,12 +157,14 @@ pub(crate) fn get(
     ensures ok { result ≡ 0 → OpensGet tid from.now request.now length next.now served.old.options
         reply.new event.new served.old.server served.new.server }
     ensures fault { (result ≡ 0 → ⊥) → GetFails tid from.now request.now length next.now
-        served.old.options served.old.server result }
+        served.old.options served.old.server (list_length reply.old) result }
+    ensures fits { result ≡ 0 → event.new.send_len ≤ list_length reply.old }
     ensures options { served.new.options ≡ served.old.options }
     ensures err { (result ≡ 0 → ⊥) → served.new ≡ served.old }
     ensures unmoved { (result ≡ 0 → ⊥) → (event.new ≡ event.old) × (reply.new ≡ reply.old) }
 {
-    match serve_get(alloc, from, request, length, next, &served.options) {
+    let room = reply.len();
+    match serve_get(alloc, from, request, length, next, &served.options, room) {
         Ok(opened) => open(&mut served.server, tid, from, request, opened, reply, event),
         Err(fault) => fault,
     }
@@ -172,12 +183,13 @@ pub(crate) fn put(
     ensures ok { result ≡ 0 → OpensPut tid from.now request.now served.old.options reply.new
         event.new served.old.server served.new.server }
     ensures fault { (result ≡ 0 → ⊥) → PutFails tid from.now request.now served.old.options
-        served.old.server result }
+        served.old.server (list_length reply.old) result }
+    ensures fits { result ≡ 0 → event.new.send_len ≤ list_length reply.old }
     ensures options { served.new.options ≡ served.old.options }
     ensures err { (result ≡ 0 → ⊥) → served.new ≡ served.old }
     ensures unmoved { (result ≡ 0 → ⊥) → (event.new ≡ event.old) × (reply.new ≡ reply.old) }
 {
-    match serve_put(alloc, from, request, &served.options) {
+    match serve_put(alloc, from, request, &served.options, reply.len()) {
         Ok(opened) => open(&mut served.server, tid, from, request, opened, reply, event),
         Err(fault) => fault,
     }

@@ -6,12 +6,14 @@
 #![tactic(auto)]
 
 mod aborting;
+mod answering;
 mod asking;
 mod building;
 mod client;
 mod elsewhere;
 mod error;
 mod event;
+mod given;
 mod handle;
 mod held_server;
 mod holding;
@@ -34,8 +36,8 @@ mod stepping;
 mod transfers;
 mod wire_text;
 
-ghost use Rattle.std.specs.Prelude.{◌≡◌, ◌⊎◌, ◌++◌, ◌^◌, ◌-◌, Some, None, length, min, take};
-ghost use Rattle.std.specs.Prelude.{true, false};
+ghost use Rattle.std.specs.Prelude.{◌≡◌, ◌⊎◌, ◌++◌, ◌^◌, ◌-◌, ◌≤◌, Some, None, length, min, take};
+ghost use Rattle.std.specs.Prelude.{true, false, length as list_length};
 ghost use Rattle.tftp_wire.specs.Reading.{first_fault};
 ghost use Rattle.tftp_wire.specs.Faults.{kind_number};
 ghost use Rattle.tftp_wire.specs.Spelling.{Spells, canonical};
@@ -52,13 +54,14 @@ ghost use Rattle.tftp_c.specs.Informed.{InfoFault, Informs};
 ghost use Rattle.tftp_c.specs.Listed.{option_at, option_named, WritesOption};
 ghost use Rattle.tftp_c.specs.Faults.{GetFault, PutFault, ServeGetFault, ServePutFault};
 ghost use Rattle.tftp_c.specs.Opens.{asked_of, gets, mode_of, puts, Opens};
-ghost use Rattle.tftp_c.specs.Options.{HasSize};
+ghost use Rattle.tftp_c.specs.Options.{HasSize, options_in};
 ghost use Rattle.tftp_c.specs.ServerOpens.{HoldsSuch, ServesGet, ServesPut};
-ghost use Rattle.tftp_c.specs.Shown.{Shows};
+ghost use Rattle.tftp_c.specs.Shown.{Shows, shown_fault};
 ghost use Rattle.tftp_c.specs.Stated.{KnowsFirst, LearnsFrom, States, StatesNone};
+ghost use Rattle.tftp_c.specs.Waits.{backoff_of, Waits};
 
 use crate::error::write_error;
-use crate::event::{TftpEndpoint, TftpEvent, TftpInfo, TftpOptions, TftpQuestion};
+use crate::event::{TftpEndpoint, TftpEvent, TftpInfo, TftpQuestion};
 use crate::handle::TftpEnd;
 use crate::packet::{TftpPacket, decode};
 use crate::samples::TftpSizes;
@@ -73,30 +76,35 @@ pub extern "C" fn tftp_decode(datagram: &[u8], packet: &mut TftpPacket) -> u8
     ensures spelled { (p : Packet) → Spells p datagram.now
         → (result ≡ 0) × Shows p datagram.now packet.new }
     ensures fault { (e : PacketFault) → first_fault datagram.now ≡ Some e
-        → (result ≡ kind_number e.kind) × (packet.new.fault_at ≡ e.at) }
+        → (result ≡ kind_number e.kind) × (packet.new ≡ shown_fault e) }
 {
     decode(datagram, packet)
 }
 
-/// Opens a client that gets a file, after closing what `end` held. The request to send is written
+/// Opens a client that gets a file, by the bytes of its options, after closing what `end` held. The request to send is written
 /// to `request`. After a fault `end` is closed.
 #[unsafe(no_mangle)]
-pub extern "C" fn tftp_get(
+pub extern "C" fn tftp_open_get(
     alloc: Global,
     end: &mut TftpEnd,
     server: &TftpEndpoint,
     name: &[u8],
-    options: &TftpOptions,
+    options: &[u8],
     request: &mut [u8],
     event: &mut TftpEvent,
 ) -> u8
-    ensures ok { result ≡ 0 → Opens end.new.slot.value (gets server.now name.now options.now)
-        server.now request.new event.new }
+    ensures ok { result ≡ 0 → Opens end.new.slot.value
+        (gets server.now name.now (options_in options.now)) server.now request.new event.new }
     ensures unstated { result ≡ 0
         → HoldsClient end.new.slot.value (λ c. c.stated ≡ None) }
+    ensures backoff { result ≡ 0 → HoldsClient end.new.slot.value
+        (λ c. c.backoff ≡ backoff_of (options_in options.now)) }
     ensures allowed { result ≡ 0 → HasSize options.now
-        × MayGet name.now (mode_of options.now) (asked_of options.now 0) }
-    ensures fault { (result ≡ 0 → ⊥) → GetFault name.now options.now result }
+        × MayGet name.now (mode_of (options_in options.now))
+        (asked_of (options_in options.now) 0) }
+    ensures fits { result ≡ 0 → event.new.send_len ≤ list_length request.old }
+    ensures fault { (result ≡ 0 → ⊥)
+        → GetFault name.now options.now (list_length request.old) result }
     ensures err { (result ≡ 0 → ⊥) → end.new.slot.value ≡ None }
     ensures unmoved { (result ≡ 0 → ⊥)
         → (event.new ≡ event.old) × (request.new ≡ request.old) }
@@ -114,23 +122,28 @@ pub extern "C" fn tftp_get(
 /// Opens a client that puts a file of `length` bytes, after closing what `end` held. The request to
 /// send is written to `request`. After a fault `end` is closed.
 #[unsafe(no_mangle)]
-pub extern "C" fn tftp_put(
+pub extern "C" fn tftp_open_put(
     alloc: Global,
     end: &mut TftpEnd,
     server: &TftpEndpoint,
     name: &[u8],
     length: u64,
-    options: &TftpOptions,
+    options: &[u8],
     request: &mut [u8],
     event: &mut TftpEvent,
 ) -> u8
     ensures ok { result ≡ 0 → Opens end.new.slot.value
-        (puts server.now name.now length options.now) server.now request.new event.new }
+        (puts server.now name.now length (options_in options.now)) server.now request.new event.new }
     ensures unstated { result ≡ 0
         → HoldsClient end.new.slot.value (λ c. c.stated ≡ None) }
+    ensures backoff { result ≡ 0 → HoldsClient end.new.slot.value
+        (λ c. c.backoff ≡ backoff_of (options_in options.now)) }
     ensures allowed { result ≡ 0 → HasSize options.now
-        × MayPut name.now (mode_of options.now) (asked_of options.now length) length }
-    ensures fault { (result ≡ 0 → ⊥) → PutFault name.now length options.now result }
+        × MayPut name.now (mode_of (options_in options.now))
+        (asked_of (options_in options.now) length) length }
+    ensures fits { result ≡ 0 → event.new.send_len ≤ list_length request.old }
+    ensures fault { (result ≡ 0 → ⊥)
+        → PutFault name.now length options.now (list_length request.old) result }
     ensures err { (result ≡ 0 → ⊥) → end.new.slot.value ≡ None }
     ensures unmoved { (result ≡ 0 → ⊥)
         → (event.new ≡ event.old) × (request.new ≡ request.old) }
@@ -160,6 +173,11 @@ pub extern "C" fn tftp_receive(
         → Received from.now datagram.now before e file.old file.new reply.new event.new) }
     ensures learns { OnClient end.old.slot.value end.new.slot.value (λ c d. result ≡ 0
         → LearnsFrom datagram.now c d) }
+    ensures waits { OnClient end.old.slot.value end.new.slot.value (λ c d. result ≡ 0
+        → Waits c.backoff d.end event.new) }
+    ensures backoff { OnClient end.old.slot.value end.new.slot.value (λ c d.
+        d.backoff ≡ c.backoff) }
+    ensures fits { result ≡ 0 → event.new.send_len ≤ list_length reply.old }
     ensures err { (result ≡ 0 → ⊥) → end.new.slot.value ≡ end.old.slot.value }
     ensures unmoved { (result ≡ 0 → ⊥) → event.new ≡ event.old }
     ensures none { end.old.slot.value ≡ None → result ≡ 1 }
@@ -185,6 +203,11 @@ pub extern "C" fn tftp_send(
         → Sent from.now datagram.now before e next.now reply.new event.new) }
     ensures learns { OnClient end.old.slot.value end.new.slot.value (λ c d. result ≡ 0
         → LearnsFrom datagram.now c d) }
+    ensures waits { OnClient end.old.slot.value end.new.slot.value (λ c d. result ≡ 0
+        → Waits c.backoff d.end event.new) }
+    ensures backoff { OnClient end.old.slot.value end.new.slot.value (λ c d.
+        d.backoff ≡ c.backoff) }
+    ensures fits { result ≡ 0 → event.new.send_len ≤ list_length reply.old }
     ensures err { (result ≡ 0 → ⊥) → end.new.slot.value ≡ end.old.slot.value }
     ensures unmoved { (result ≡ 0 → ⊥) → event.new ≡ event.old }
     ensures none { end.old.slot.value ≡ None → result ≡ 1 }
@@ -202,6 +225,11 @@ pub extern "C" fn tftp_timeout(end: &mut TftpEnd, reply: &mut [u8], event: &mut 
         → TimedOut before e reply.new event.new) }
     ensures stated { OnClient end.old.slot.value end.new.slot.value (λ c d.
         d.stated ≡ c.stated) }
+    ensures waits { OnClient end.old.slot.value end.new.slot.value (λ c d. result ≡ 0
+        → Waits c.backoff d.end event.new) }
+    ensures backoff { OnClient end.old.slot.value end.new.slot.value (λ c d.
+        d.backoff ≡ c.backoff) }
+    ensures fits { result ≡ 0 → event.new.send_len ≤ list_length reply.old }
     ensures err { (result ≡ 0 → ⊥) → end.new.slot.value ≡ end.old.slot.value }
     ensures unmoved { (result ≡ 0 → ⊥) → event.new ≡ event.old }
     ensures none { end.old.slot.value ≡ None → result ≡ 1 }
@@ -228,6 +256,7 @@ pub extern "C" fn tftp_abort(
     ensures ok { result ≡ 0 → OnRecord end.old.slot.value
         (λ r. AbortsOpen r code text.now reply.new event.new) }
     ensures closed { result ≡ 0 → end.new.slot.value ≡ None }
+    ensures fits { result ≡ 0 → event.new.send_len ≤ list_length reply.old }
     ensures fault { (result ≡ 0 → ⊥) → (end.old.slot.value ≡ None)
         ⊎ OnRecord end.old.slot.value (λ r. AbortRefused 4 r text.now result) }
     ensures err { (result ≡ 0 → ⊥) → end.new.slot.value ≡ end.old.slot.value }
@@ -255,8 +284,9 @@ pub extern "C" fn tftp_end_info(end: &mut TftpEnd, info: &mut TftpInfo) -> u8
     ensures same { end.new.slot.value ≡ end.old.slot.value }
     ensures unmoved { (result ≡ 0 → ⊥) → info.new ≡ info.old }
 {
-    if !info.has_size() {
-        return event::BAD_OPTIONS;
+    let fault = info.size_fault();
+    if fault != 0 {
+        return fault;
     }
     if !end.is_open() {
         return event::NOT_OPEN;
@@ -277,23 +307,26 @@ pub extern "C" fn tftp_close_end(alloc: Global, end: &mut TftpEnd)
 /// Opens a server's end that sends the file of a read request from `client`: `length` bytes, of which
 /// `next` are the first. After a fault `end` is closed.
 #[unsafe(no_mangle)]
-pub extern "C" fn tftp_serve_get(
+pub extern "C" fn tftp_open_serve_get(
     alloc: Global,
     end: &mut TftpEnd,
     client: &TftpEndpoint,
     request: &[u8],
     length: u64,
     next: &[u8],
-    options: &TftpOptions,
+    options: &[u8],
     reply: &mut [u8],
     event: &mut TftpEvent,
 ) -> u8
     ensures ok { result ≡ 0 → HoldsSuch end.new.slot.value (λ e. ServesGet client.now request.now
-        length next.now options.now e reply.new event.new) }
+        length next.now (options_in options.now) e reply.new event.new) }
     ensures stated { result ≡ 0 → HoldsClient end.new.slot.value KnowsFirst }
+    ensures backoff { result ≡ 0 → HoldsClient end.new.slot.value
+        (λ c. c.backoff ≡ backoff_of (options_in options.now)) }
     ensures allowed { result ≡ 0 → HasSize options.now }
     ensures fault { (result ≡ 0 → ⊥)
-        → ServeGetFault request.now length next.now options.now result }
+        → ServeGetFault request.now length next.now options.now (list_length reply.old) result }
+    ensures fits { result ≡ 0 → event.new.send_len ≤ list_length reply.old }
     ensures err { (result ≡ 0 → ⊥) → end.new.slot.value ≡ None }
     ensures unmoved { (result ≡ 0 → ⊥) → (event.new ≡ event.old) × (reply.new ≡ reply.old) }
 {
@@ -310,20 +343,24 @@ pub extern "C" fn tftp_serve_get(
 /// Opens a server's end that receives the file of a write request from `client`. After a fault `end`
 /// is closed.
 #[unsafe(no_mangle)]
-pub extern "C" fn tftp_serve_put(
+pub extern "C" fn tftp_open_serve_put(
     alloc: Global,
     end: &mut TftpEnd,
     client: &TftpEndpoint,
     request: &[u8],
-    options: &TftpOptions,
+    options: &[u8],
     reply: &mut [u8],
     event: &mut TftpEvent,
 ) -> u8
     ensures ok { result ≡ 0 → HoldsSuch end.new.slot.value (λ e. ServesPut client.now request.now
-        options.now e reply.new event.new) }
+        (options_in options.now) e reply.new event.new) }
     ensures stated { result ≡ 0 → HoldsClient end.new.slot.value KnowsFirst }
+    ensures backoff { result ≡ 0 → HoldsClient end.new.slot.value
+        (λ c. c.backoff ≡ backoff_of (options_in options.now)) }
     ensures allowed { result ≡ 0 → HasSize options.now }
-    ensures fault { (result ≡ 0 → ⊥) → ServePutFault request.now options.now result }
+    ensures fits { result ≡ 0 → event.new.send_len ≤ list_length reply.old }
+    ensures fault { (result ≡ 0 → ⊥)
+        → ServePutFault request.now options.now (list_length reply.old) result }
     ensures err { (result ≡ 0 → ⊥) → end.new.slot.value ≡ None }
     ensures unmoved { (result ≡ 0 → ⊥) → (event.new ≡ event.old) × (reply.new ≡ reply.old) }
 {
@@ -449,7 +486,6 @@ pub extern "C" fn tftp_to_wire(alloc: Global, text: &[u8], wire: &mut [u8]) -> u
 #[unsafe(no_mangle)]
 pub extern "C" fn tftp_samples(
     endpoint: &mut TftpEndpoint,
-    options: &mut TftpOptions,
     event: &mut TftpEvent,
     packet: &mut TftpPacket,
     question: &mut TftpQuestion,
@@ -457,7 +493,6 @@ pub extern "C" fn tftp_samples(
     sizes: &mut TftpSizes,
 ) {
     *endpoint = samples::endpoint();
-    *options = samples::options();
     *event = samples::event(samples::endpoint());
     *packet = samples::packet();
     *question = samples::question();

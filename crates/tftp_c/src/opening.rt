@@ -1,17 +1,22 @@
 //! How a client opens for C.
 
-ghost use Rattle.std.specs.Prelude.{◌≡◌, IfOk, IfErr, None, OnOk, OnErr, Some};
+ghost use Rattle.std.specs.Prelude.{◌≡◌, ◌↔◌, ◌⊎◌, ◌≤◌, IfOk, IfErr, IsTrue, None, OnOk, OnErr, Some};
+ghost use Rattle.std.specs.Prelude.{false, length as list_length};
 ghost use Rattle.tftp_ends.specs.Opening.{MayGet, MayPut, getting, putting};
-ghost use Rattle.tftp_c.specs.Faults.{open_fault, GetFault, GetRefused, PutFault, PutRefused};
+ghost use Rattle.tftp_ends.specs.End.{record_of, seconds_of};
+ghost use Rattle.tftp_c.specs.Faults.{open_fault, GetFault, GetHasNoRoom, GetRefused, PutFault};
+ghost use Rattle.tftp_c.specs.Faults.{PutHasNoRoom, PutRefused, Returns};
 ghost use Rattle.tftp_c.specs.Opens.{asked_of, gets, mode_of, puts, Opened};
-ghost use Rattle.tftp_c.specs.Options.{HasSize};
+ghost use Rattle.tftp_c.specs.Options.{HasSize, options_in};
+ghost use Rattle.tftp_c.specs.Waits.{backoff_of};
 ghost use Rattle.tftp_c.specs.Reports.{Reports, Sends};
 
 use crate::client::Client;
 use crate::event::{self, TftpEndpoint, TftpEvent, TftpOptions};
-use crate::report::{endpoint, report};
+use crate::given;
+use crate::report::{endpoint, report_opening, state_of};
 use std::alloc::Global;
-use tftp_ends::{End, EndConfig, Endpoint, OpenFault, Outgoing, Step};
+use tftp_ends::{End, EndConfig, Endpoint, OpenFault, Outgoing};
 use tftp_negotiate::{Asked, Limits};
 use tftp_wire::{MAX_BLOCK, Mode};
 
@@ -72,6 +77,21 @@ pub(crate) fn number(fault: OpenFault) -> u8
     }
 }
 
+/// A client whose peer has stated nothing yet.
+fn client_of(end: End, options: &TftpOptions) -> Client
+    ensures { result ≡ record {
+      end = end;
+      stated = None;
+      backoff = backoff_of options.now;
+    } }
+{
+    Client {
+        end,
+        stated: None,
+        backoff: options.backoff(),
+    }
+}
+
 /// A client that gets, behind a pointer, before anything is reported.
 fn open_get(
     alloc: Global,
@@ -82,13 +102,14 @@ fn open_get(
     ensures ok { IfOk result (λ c. c.value.end ≡ getting to name.now (mode_of options.now)
         (asked_of options.now 0) options.now.max_file options.now.retries) }
     ensures unstated { IfOk result (λ c. c.value.stated ≡ None) }
+    ensures backoff { IfOk result (λ c. c.value.backoff ≡ backoff_of options.now) }
     ensures allowed { OnOk result
         (MayGet name.now (mode_of options.now) (asked_of options.now 0)) }
     ensures err { IfErr result (GetRefused name.now options.now) }
 {
     let asked = asked(options, 0);
     match End::open_get(alloc, to, name, mode(options), &asked, &config(options)) {
-        Ok(end) => match Box::new(alloc, Client { end, stated: None }) {
+        Ok(end) => match Box::new(alloc, client_of(end, options)) {
             Ok(client) => Ok(client),
             Err(_) => Err(OpenFault::Memory),
         },
@@ -107,6 +128,7 @@ fn open_put(
     ensures ok { IfOk result (λ c. c.value.end ≡ putting to name.now (mode_of options.now)
         (asked_of options.now length) length options.now.max_file options.now.retries) }
     ensures unstated { IfOk result (λ c. c.value.stated ≡ None) }
+    ensures backoff { IfOk result (λ c. c.value.backoff ≡ backoff_of options.now) }
     ensures allowed { OnOk result
         (MayPut name.now (mode_of options.now) (asked_of options.now length) length) }
     ensures err { IfErr result (PutRefused name.now length options.now) }
@@ -114,7 +136,7 @@ fn open_put(
     let asked = asked(options, length);
     let config = config(options);
     match End::open_put(alloc, to, name, mode(options), &asked, length, &config) {
-        Ok(end) => match Box::new(alloc, Client { end, stated: None }) {
+        Ok(end) => match Box::new(alloc, client_of(end, options)) {
             Ok(client) => Ok(client),
             Err(_) => Err(OpenFault::Memory),
         },
@@ -125,19 +147,28 @@ fn open_put(
 /// Reports that a client has opened, whose request is for `to`.
 fn report_client(client: &Client, to: Endpoint, request: &mut [u8], event: &mut TftpEvent)
     ensures sends { Sends (Some to) client.now.end.position.last_sent request.new event.new }
+    ensures fits { event.new.send_len ≤ list_length request.old }
+    ensures room { list_length request.new ≡ list_length request.old }
     ensures file { event.new.file_len ≡ 0 }
+    ensures progress { event.new.progress ≡ false }
+    ensures interval { event.new.interval ≡ seconds_of (record_of client.now.end).timeout }
     ensures reports { Reports client.now.end event.new }
 {
-    let step = Step {
-        to: Some(to),
-        progress: false,
-        closed: None,
-    };
-    report(&client.end, step, Outgoing::LastSent, request, 0, event);
+    let state = state_of(&client.end);
+    let datagram = client.end.bytes_of(Outgoing::LastSent);
+    report_opening(&state, to, datagram, request, 0, event);
 }
 
-/// Opens a client that gets.
-pub(crate) fn get(
+/// Whether the request of a client fits the buffer.
+fn fits(client: &Client, request: &[u8]) -> bool
+    ensures { IsTrue result
+        ↔ (list_length client.now.end.position.last_sent ≤ list_length request.now) }
+{
+    client.end.bytes_of(Outgoing::LastSent).len() <= request.len()
+}
+
+/// Opens a client that gets, with these options.
+fn get_with(
     alloc: Global,
     server: &TftpEndpoint,
     name: &[u8],
@@ -148,17 +179,20 @@ pub(crate) fn get(
     ensures ok { IfOk result (λ c. Opened c.value.end (gets server.now name.now options.now)
         server.now request.new event.new) }
     ensures unstated { IfOk result (λ c. c.value.stated ≡ None) }
-    ensures allowed { OnOk result (HasSize options.now
-        × MayGet name.now (mode_of options.now) (asked_of options.now 0)) }
-    ensures err { IfErr result (GetFault name.now options.now) }
+    ensures backoff { IfOk result (λ c. c.value.backoff ≡ backoff_of options.now) }
+    ensures allowed { OnOk result
+        (MayGet name.now (mode_of options.now) (asked_of options.now 0)) }
+    ensures fits { OnOk result (event.new.send_len ≤ list_length request.old) }
+    ensures err { IfErr result (λ returned. Returns (GetRefused name.now options.now) returned
+        ⊎ GetHasNoRoom name.now options.now (list_length request.old) returned) }
     ensures unmoved { OnErr result ((event.new ≡ event.old) × (request.new ≡ request.old)) }
 {
-    if !options.has_size() {
-        return Err(event::BAD_OPTIONS);
-    }
     let to = endpoint(server);
     match open_get(alloc, to, name, options) {
         Ok(client) => {
+            if !fits(&client, request) {
+                return Err(event::NO_ROOM);
+            }
             report_client(&client, to, request, event);
             Ok(client)
         }
@@ -166,8 +200,8 @@ pub(crate) fn get(
     }
 }
 
-/// Opens a client that puts a file of `length` bytes.
-pub(crate) fn put(
+/// Opens a client that puts a file of `length` bytes, with these options.
+fn put_with(
     alloc: Global,
     server: &TftpEndpoint,
     name: &[u8],
@@ -179,20 +213,76 @@ pub(crate) fn put(
     ensures ok { IfOk result (λ c. Opened c.value.end (puts server.now name.now length options.now)
         server.now request.new event.new) }
     ensures unstated { IfOk result (λ c. c.value.stated ≡ None) }
-    ensures allowed { OnOk result (HasSize options.now
-        × MayPut name.now (mode_of options.now) (asked_of options.now length) length) }
-    ensures err { IfErr result (PutFault name.now length options.now) }
+    ensures backoff { IfOk result (λ c. c.value.backoff ≡ backoff_of options.now) }
+    ensures allowed { OnOk result
+        (MayPut name.now (mode_of options.now) (asked_of options.now length) length) }
+    ensures fits { OnOk result (event.new.send_len ≤ list_length request.old) }
+    ensures err { IfErr result (λ returned. Returns (PutRefused name.now length options.now) returned
+        ⊎ PutHasNoRoom name.now length options.now (list_length request.old) returned) }
     ensures unmoved { OnErr result ((event.new ≡ event.old) × (request.new ≡ request.old)) }
 {
-    if !options.has_size() {
-        return Err(event::BAD_OPTIONS);
-    }
     let to = endpoint(server);
     match open_put(alloc, to, name, length, options) {
         Ok(client) => {
+            if !fits(&client, request) {
+                return Err(event::NO_ROOM);
+            }
             report_client(&client, to, request, event);
             Ok(client)
         }
         Err(fault) => Err(number(fault)),
+    }
+}
+
+/// Opens a client that gets.
+pub(crate) fn get(
+    alloc: Global,
+    server: &TftpEndpoint,
+    name: &[u8],
+    options: &[u8],
+    request: &mut [u8],
+    event: &mut TftpEvent,
+) -> Result<Box<Client>, u8>
+    ensures ok { IfOk result (λ c. Opened c.value.end (gets server.now name.now (options_in options.now))
+        server.now request.new event.new) }
+    ensures unstated { IfOk result (λ c. c.value.stated ≡ None) }
+    ensures backoff { IfOk result (λ c. c.value.backoff ≡ backoff_of (options_in options.now)) }
+    ensures allowed { OnOk result (HasSize options.now
+        × MayGet name.now (mode_of (options_in options.now))
+        (asked_of (options_in options.now) 0)) }
+    ensures fits { OnOk result (event.new.send_len ≤ list_length request.old) }
+    ensures err { IfErr result (GetFault name.now options.now (list_length request.old)) }
+    ensures unmoved { OnErr result ((event.new ≡ event.old) × (request.new ≡ request.old)) }
+{
+    match given::options(options) {
+        Ok(options) => get_with(alloc, server, name, &options, request, event),
+        Err(fault) => Err(fault),
+    }
+}
+
+/// Opens a client that puts a file of `length` bytes.
+pub(crate) fn put(
+    alloc: Global,
+    server: &TftpEndpoint,
+    name: &[u8],
+    length: u64,
+    options: &[u8],
+    request: &mut [u8],
+    event: &mut TftpEvent,
+) -> Result<Box<Client>, u8>
+    ensures ok { IfOk result (λ c. Opened c.value.end (puts server.now name.now length (options_in options.now))
+        server.now request.new event.new) }
+    ensures unstated { IfOk result (λ c. c.value.stated ≡ None) }
+    ensures backoff { IfOk result (λ c. c.value.backoff ≡ backoff_of (options_in options.now)) }
+    ensures allowed { OnOk result (HasSize options.now
+        × MayPut name.now (mode_of (options_in options.now))
+        (asked_of (options_in options.now) length) length) }
+    ensures fits { OnOk result (event.new.send_len ≤ list_length request.old) }
+    ensures err { IfErr result (PutFault name.now length options.now (list_length request.old)) }
+    ensures unmoved { OnErr result ((event.new ≡ event.old) × (request.new ≡ request.old)) }
+{
+    match given::options(options) {
+        Ok(options) => put_with(alloc, server, name, length, &options, request, event),
+        Err(fault) => Err(fault),
     }
 }

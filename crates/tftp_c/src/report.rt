@@ -1,14 +1,16 @@
 //! What the calls report to C.
 
-ghost use Rattle.std.specs.Prelude.{◌≡◌, ◌≤◌, Some, length, take, option_map};
+ghost use Rattle.std.specs.Prelude.{◌≡◌, ◌≤◌, ◌<◌, true, false, Some, length, take};
 ghost use Rattle.tftp_c.specs.Reports.{endpoint_of, outcome_number, peer_code};
 ghost use Rattle.tftp_c.specs.Reports.{Reports, ReportsRecord, Sends};
-ghost use Rattle.tftp_ends.specs.End.{record_of};
+ghost use Rattle.tftp_ends.specs.Backoff.{timeouts_of, wait_of};
+ghost use Rattle.tftp_ends.specs.End.{record_of, seconds_of};
+ghost use Rattle.tftp_c.specs.Waits.{Waits};
 ghost use Rattle.tftp_ends.specs.Step.{lent};
 
 use crate::event::{TftpEndpoint, TftpEvent};
 use crate::slice_sink::copy_to;
-use tftp_ends::{End, Endpoint, Outcome, Outgoing, Record, Step};
+use tftp_ends::{Backoff, End, Endpoint, Outcome, Outgoing, Record, Step};
 
 pub(crate) fn endpoint(at: &TftpEndpoint) -> Endpoint
     ensures { result ≡ endpoint_of at.now }
@@ -24,18 +26,39 @@ fn address(at: Endpoint) -> TftpEndpoint
     TftpEndpoint { ip, port: at.port }
 }
 
-/// Copies the bytes if they fit, and returns their number.
-pub(crate) fn copy(bytes: &[u8], to: &mut [u8]) -> usize
-    ensures count { result ≡ length bytes.now }
-    ensures copied { length bytes.now ≤ length to.old
-        → take (length bytes.now) to.new ≡ bytes.now }
-    ensures len { length to.new ≡ length to.old }
+/// What was written of a datagram.
+#[derive(Clone, Copy)]
+pub(crate) struct Written {
+    /// Its length, or 0.
+    pub(crate) len: usize,
+    /// Whether it did not fit the buffer, and is lost.
+    pub(crate) is_lost: bool,
+}
+
+/// Writes a datagram to the start of a buffer, or nothing of it if it does not fit.
+#[inline(always)]
+pub(crate) fn write(datagram: &[u8], reply: &mut [u8]) -> Written
+    ensures len { length datagram.now ≤ length reply.new → result.len ≡ length datagram.now }
+    ensures bytes { length datagram.now ≤ length reply.new
+        → take (length datagram.now) reply.new ≡ datagram.now }
+    ensures whole { length datagram.now ≤ length reply.new → result.is_lost ≡ false }
+    ensures none { length reply.new < length datagram.now → result.len ≡ 0 }
+    ensures lost { length reply.new < length datagram.now → result.is_lost ≡ true }
+    ensures fits { result.len ≤ length reply.old }
+    ensures room { length reply.new ≡ length reply.old }
 {
-    let count = bytes.len();
-    if count <= to.len() {
-        copy_to(to, bytes);
+    let len = datagram.len();
+    if len > reply.len() {
+        return Written {
+            len: 0,
+            is_lost: true,
+        };
     }
-    count
+    copy_to(reply, datagram);
+    Written {
+        len,
+        is_lost: false,
+    }
 }
 
 fn outcome_number(outcome: Option<Outcome>) -> u8
@@ -61,6 +84,7 @@ fn peer_code(outcome: Option<Outcome>) -> u16
 #[inline(always)]
 pub(crate) fn report_record(
     state: &Record,
+    interval: u16,
     step: Step,
     datagram: &[u8],
     reply: &mut [u8],
@@ -68,19 +92,25 @@ pub(crate) fn report_record(
     event: &mut TftpEvent,
 )
     ensures sends { Sends step.to datagram.now reply.new event.new }
+    ensures fits { event.new.send_len ≤ length reply.old }
+    ensures room { length reply.new ≡ length reply.old }
     ensures file { event.new.file_len ≡ file_len }
     ensures progress { event.new.progress ≡ step.progress }
+    ensures interval { event.new.interval ≡ interval }
     ensures reports { ReportsRecord state.now event.new }
 {
     event.send_len = 0;
+    event.no_room = false;
     if let Some(to) = step.to {
         let at = address(to);
+        let Written { len, is_lost } = write(datagram, reply);
         event.to = at;
-        event.send_len = copy(datagram, reply);
+        event.send_len = len;
+        event.no_room = is_lost;
     }
     event.file_len = file_len;
     event.progress = step.progress;
-    event.interval = state.interval();
+    event.interval = interval;
     event.complete = state.complete;
     event.number = state.number;
     event.block_size = state.size;
@@ -92,6 +122,7 @@ pub(crate) fn report_record(
 #[inline(never)]
 pub(crate) fn report_apart(
     state: &Record,
+    interval: u16,
     step: Step,
     datagram: &[u8],
     reply: &mut [u8],
@@ -99,11 +130,14 @@ pub(crate) fn report_apart(
     event: &mut TftpEvent,
 )
     ensures sends { Sends step.to datagram.now reply.new event.new }
+    ensures fits { event.new.send_len ≤ length reply.old }
+    ensures room { length reply.new ≡ length reply.old }
     ensures file { event.new.file_len ≡ file_len }
     ensures progress { event.new.progress ≡ step.progress }
+    ensures interval { event.new.interval ≡ interval }
     ensures reports { ReportsRecord state.now event.new }
 {
-    report_record(state, step, datagram, reply, file_len, event);
+    report_record(state, interval, step, datagram, reply, file_len, event);
 }
 
 /// The state of an end, for the same calls.
@@ -114,9 +148,18 @@ pub(crate) fn state_of(end: &End) -> Record
     end.record()
 }
 
+/// How long the caller of an end waits, in seconds.
+#[inline(always)]
+pub(crate) fn wait_of(end: &End, backoff: Backoff) -> u16
+    ensures { result ≡ wait_of backoff (seconds_of (record_of end.now).timeout) (timeouts_of end.now) }
+{
+    backoff.wait(end.interval(), end.timeouts())
+}
+
 /// Reports a step of an end, and copies the datagram to send.
 pub(crate) fn report(
     end: &End,
+    backoff: Backoff,
     step: Step,
     outgoing: Outgoing,
     reply: &mut [u8],
@@ -124,13 +167,17 @@ pub(crate) fn report(
     event: &mut TftpEvent,
 )
     ensures sends { Sends step.to (lent outgoing end.now) reply.new event.new }
+    ensures fits { event.new.send_len ≤ length reply.old }
+    ensures room { length reply.new ≡ length reply.old }
     ensures file { event.new.file_len ≡ file_len }
     ensures progress { event.new.progress ≡ step.progress }
+    ensures waits { Waits backoff end.now event.new }
     ensures reports { Reports end.now event.new }
 {
     let state = state_of(end);
+    let wait = wait_of(end, backoff);
     let datagram = end.bytes_of(outgoing);
-    report_apart(&state, step, datagram, reply, file_len, event);
+    report_apart(&state, wait, step, datagram, reply, file_len, event);
 }
 
 /// Reports an opening, and copies its first datagram, which is for `to`.
@@ -143,7 +190,11 @@ pub(crate) fn report_opening(
     event: &mut TftpEvent,
 )
     ensures sends { Sends (Some to) datagram.now reply.new event.new }
+    ensures fits { event.new.send_len ≤ length reply.old }
+    ensures room { length reply.new ≡ length reply.old }
     ensures file { event.new.file_len ≡ file_len }
+    ensures progress { event.new.progress ≡ false }
+    ensures interval { event.new.interval ≡ seconds_of state.now.timeout }
     ensures reports { ReportsRecord state.now event.new }
 {
     let step = Step {
@@ -151,5 +202,6 @@ pub(crate) fn report_opening(
         progress: false,
         closed: None,
     };
-    report_apart(state, step, datagram, reply, file_len, event);
+    let wait = u16::from(state.interval());
+    report_apart(state, wait, step, datagram, reply, file_len, event);
 }

@@ -2,10 +2,10 @@
 //! that its declarations are these types.
 
 ghost use Rattle.std.specs.Prelude.{◌≡◌, [], ◌∷◌, true, false};
+ghost use Rattle.tftp_c.specs.Samples.{zeros};
 
-use crate::event::{
-    INFO_SIZE, OPTIONS_SIZE, TftpEndpoint, TftpEvent, TftpInfo, TftpOptions, TftpQuestion,
-};
+use crate::event::{INFO_SIZE, TftpEndpoint, TftpEvent, TftpInfo, TftpQuestion};
+use crate::given::OPTIONS_SIZE;
 use crate::handle::TftpEnd;
 use crate::packet::TftpPacket;
 use crate::server_handle::TftpServer;
@@ -26,9 +26,9 @@ pub struct TftpSizes {
 
 const _: () = prove!(size_of::<TftpEndpoint>() == 6);
 
-const _: () = prove!(size_of::<TftpOptions>() == OPTIONS_SIZE);
+const _: () = prove!(OPTIONS_SIZE == 32);
 
-const _: () = prove!(size_of::<TftpEvent>() == 32);
+const _: () = prove!(size_of::<TftpEvent>() == 40);
 
 const _: () = prove!(size_of::<TftpPacket>() == 40);
 
@@ -50,28 +50,6 @@ pub(crate) fn endpoint() -> TftpEndpoint
     }
 }
 
-pub(crate) fn options() -> TftpOptions
-    ensures { result ≡ record {
-      size = 28;
-      max_file = 6;
-      blksize = 7;
-      timeout = 8;
-      retries = 9;
-      asks_tsize = true;
-      is_netascii = false;
-    } }
-{
-    TftpOptions {
-        size: 28,
-        max_file: 6,
-        blksize: 7,
-        timeout: 8,
-        retries: 9,
-        asks_tsize: true,
-        is_netascii: false,
-    }
-}
-
 pub(crate) fn event(to: TftpEndpoint) -> TftpEvent
     ensures { result ≡ record {
       send_len = 10;
@@ -80,10 +58,12 @@ pub(crate) fn event(to: TftpEndpoint) -> TftpEvent
       peer_code = 12;
       number = 13;
       block_size = 14;
-      outcome = 15;
       interval = 16;
+      outcome = 15;
       progress = false;
       complete = true;
+      no_room = false;
+      reserved = zeros;
     } }
 {
     TftpEvent {
@@ -93,10 +73,12 @@ pub(crate) fn event(to: TftpEndpoint) -> TftpEvent
         peer_code: 12,
         number: 13,
         block_size: 14,
-        outcome: 15,
         interval: 16,
+        outcome: 15,
         progress: false,
         complete: true,
+        no_room: false,
+        reserved: [0; 6],
     }
 }
 
@@ -110,6 +92,7 @@ pub(crate) fn packet() -> TftpPacket
       number = 22;
       mode = 23;
       fault = 24;
+      reserved = 0 ∷ 0 ∷ [];
     } }
 {
     TftpPacket {
@@ -121,35 +104,53 @@ pub(crate) fn packet() -> TftpPacket
         number: 22,
         mode: 23,
         fault: 24,
+        reserved: [0; 2],
     }
 }
 
 pub(crate) fn question() -> TftpQuestion
-    ensures { result ≡ record { send_len = 25; name_len = 26; wants = 27 } }
+    ensures { result ≡ record {
+      send_len = 25;
+      name_len = 26;
+      wants = 27;
+      mode = 31;
+      reserved = zeros;
+    } }
 {
     TftpQuestion {
         send_len: 25,
         name_len: 26,
         wants: 27,
+        mode: 31,
+        reserved: [0; 6],
     }
 }
 
 pub(crate) fn info() -> TftpInfo
-    ensures { result ≡ record { size = 32; length = 29; timeout = 30; has_length = true } }
+    ensures { result ≡ record {
+      size = 32;
+      length = 29;
+      timeout = 30;
+      has_length = true;
+      block_size = 33;
+      reserved = 0 ∷ 0 ∷ 0 ∷ 0 ∷ [];
+    } }
 {
     TftpInfo {
         size: 32,
         length: 29,
         timeout: 30,
         has_length: true,
+        block_size: 33,
+        reserved: [0; 4],
     }
 }
 
 pub(crate) fn sizes() -> TftpSizes
     ensures { result ≡ record {
       endpoint = 6;
-      options = 24;
-      event = 32;
+      options = 32;
+      event = 40;
       packet = 40;
       end = 16;
       question = 24;
@@ -159,8 +160,8 @@ pub(crate) fn sizes() -> TftpSizes
 {
     TftpSizes {
         endpoint: 6,
-        options: 24,
-        event: 32,
+        options: 32,
+        event: 40,
         packet: 40,
         end: 16,
         question: 24,

@@ -1,6 +1,6 @@
 //! The calls of a server: its request port, and its transfers over the files of its caller.
 
-ghost use Rattle.std.specs.Prelude.{◌≡◌, ◌↔◌, false, is_some, None};
+ghost use Rattle.std.specs.Prelude.{◌≡◌, ◌↔◌, ◌≤◌, false, is_some, length as list_length, None};
 ghost use Rattle.tftp_server.specs.CallersFiles.{is_open_receiver, is_open_sender};
 ghost use Rattle.tftp_server.specs.Config.{IsConfig};
 ghost use Rattle.tftp_server.specs.State.{at, is_open, without};
@@ -9,26 +9,28 @@ ghost use Rattle.tftp_c.specs.HeldServer.{AsksOf, HoldsServer, OnServer, OpensGe
 ghost use Rattle.tftp_c.specs.Aborted.{AbortsAt, AtFault};
 ghost use Rattle.tftp_c.specs.HeldServer.{config_of};
 ghost use Rattle.tftp_c.specs.HeldServer.{ReceivedAt, SentAt, Starts, TimedOutAt};
-ghost use Rattle.tftp_c.specs.Options.{HasSize};
+ghost use Rattle.tftp_c.specs.Informed.{InformsAt, InfoFaultAt};
+ghost use Rattle.tftp_c.specs.Options.{HasSize, options_in};
+ghost use Rattle.tftp_c.specs.Waits.{backoff_of, WaitsAt};
 
-use crate::event::{self, TftpEndpoint, TftpEvent, TftpOptions, TftpQuestion};
+use crate::event::{self, TftpEndpoint, TftpEvent, TftpInfo, TftpQuestion};
 use crate::server_handle::TftpServer;
-use crate::{aborting, asking, holding, transfers};
+use crate::{aborting, asking, holding, informing, transfers};
 use std::alloc::Global;
 
 /// Opens a server that holds at most so many transfers at once, after closing what `server` held.
 /// After a fault `server` is closed.
 #[unsafe(no_mangle)]
-pub extern "C" fn tftp_server_open(
+pub extern "C" fn tftp_open_server(
     alloc: Global,
     server: &mut TftpServer,
-    options: &TftpOptions,
+    options: &[u8],
     transfers: u8,
 ) -> u8
     ensures ok { result ≡ 0
-        → HoldsServer server.new.slot.value (λ s. Starts options.now transfers s) }
+        → HoldsServer server.new.slot.value (λ s. Starts (options_in options.now) transfers s) }
     ensures allowed { result ≡ 0
-        → HasSize options.now × IsConfig (config_of options.now transfers) }
+        → HasSize options.now × IsConfig (config_of (options_in options.now) transfers) }
     ensures fault { (result ≡ 0 → ⊥) → StartRefused options.now transfers result }
     ensures err { (result ≡ 0 → ⊥) → server.new.slot.value ≡ None }
 {
@@ -59,6 +61,7 @@ pub extern "C" fn tftp_server_request(
 ) -> u8
     ensures ok { OnServer server.old.slot.value server.new.slot.value (λ s _. result ≡ 0
         → AsksOf s.server from.now datagram.now name.new reply.new question.new) }
+    ensures fits { result ≡ 0 → question.new.send_len ≤ list_length reply.old }
     ensures same { server.new.slot.value ≡ server.old.slot.value }
     ensures unmoved { (result ≡ 0 → ⊥) → question.new ≡ question.old }
     ensures none { server.old.slot.value ≡ None → result ≡ 1 }
@@ -88,7 +91,8 @@ pub extern "C" fn tftp_server_get(
         t.server) }
     ensures fault { OnServer server.old.slot.value server.new.slot.value (λ s _.
         (result ≡ 0 → ⊥) → GetFails tid from.now request.now length next.now s.options s.server
-        result) }
+        (list_length reply.old) result) }
+    ensures fits { result ≡ 0 → event.new.send_len ≤ list_length reply.old }
     ensures options { OnServer server.old.slot.value server.new.slot.value (λ s t.
         t.options ≡ s.options) }
     ensures err { (result ≡ 0 → ⊥) → server.new.slot.value ≡ server.old.slot.value }
@@ -116,7 +120,9 @@ pub extern "C" fn tftp_server_put(
     ensures ok { OnServer server.old.slot.value server.new.slot.value (λ s t. result ≡ 0
         → OpensPut tid from.now request.now s.options reply.new event.new s.server t.server) }
     ensures fault { OnServer server.old.slot.value server.new.slot.value (λ s _.
-        (result ≡ 0 → ⊥) → PutFails tid from.now request.now s.options s.server result) }
+        (result ≡ 0 → ⊥) → PutFails tid from.now request.now s.options s.server
+        (list_length reply.old) result) }
+    ensures fits { result ≡ 0 → event.new.send_len ≤ list_length reply.old }
     ensures options { OnServer server.old.slot.value server.new.slot.value (λ s t.
         t.options ≡ s.options) }
     ensures err { (result ≡ 0 → ⊥) → server.new.slot.value ≡ server.old.slot.value }
@@ -144,6 +150,9 @@ pub extern "C" fn tftp_server_receive(
     ensures ok { OnServer server.old.slot.value server.new.slot.value (λ s t. result ≡ 0
         → ReceivedAt tid from.now datagram.now file.old file.new reply.new event.new s.server
         t.server) }
+    ensures fits { result ≡ 0 → event.new.send_len ≤ list_length reply.old }
+    ensures waits { OnServer server.old.slot.value server.new.slot.value (λ s t. result ≡ 0
+        → WaitsAt tid (backoff_of s.options) t.server event.new) }
     ensures options { OnServer server.old.slot.value server.new.slot.value (λ s t.
         t.options ≡ s.options) }
     ensures no_transfer { OnServer server.old.slot.value server.new.slot.value (λ s _.
@@ -156,7 +165,17 @@ pub extern "C" fn tftp_server_receive(
         return event::NOT_OPEN;
     }
     let held = server.slot.server();
-    transfers::receive(&mut held.server, tid, from, datagram, file, reply, event)
+    let backoff = held.options.backoff();
+    transfers::receive(
+        &mut held.server,
+        tid,
+        backoff,
+        from,
+        datagram,
+        file,
+        reply,
+        event,
+    )
 }
 
 /// Handles a datagram at the transfer with the identifier, as `tftp_send`.
@@ -172,6 +191,9 @@ pub extern "C" fn tftp_server_send(
 ) -> u8
     ensures ok { OnServer server.old.slot.value server.new.slot.value (λ s t. result ≡ 0
         → SentAt tid from.now datagram.now next.now reply.new event.new s.server t.server) }
+    ensures fits { result ≡ 0 → event.new.send_len ≤ list_length reply.old }
+    ensures waits { OnServer server.old.slot.value server.new.slot.value (λ s t. result ≡ 0
+        → WaitsAt tid (backoff_of s.options) t.server event.new) }
     ensures options { OnServer server.old.slot.value server.new.slot.value (λ s t.
         t.options ≡ s.options) }
     ensures no_transfer { OnServer server.old.slot.value server.new.slot.value (λ s _.
@@ -184,7 +206,17 @@ pub extern "C" fn tftp_server_send(
         return event::NOT_OPEN;
     }
     let held = server.slot.server();
-    transfers::send(&mut held.server, tid, from, datagram, next, reply, event)
+    let backoff = held.options.backoff();
+    transfers::send(
+        &mut held.server,
+        tid,
+        backoff,
+        from,
+        datagram,
+        next,
+        reply,
+        event,
+    )
 }
 
 /// Delivers a timeout to the transfer with the identifier, as `tftp_timeout`.
@@ -197,6 +229,9 @@ pub extern "C" fn tftp_server_timeout(
 ) -> u8
     ensures ok { OnServer server.old.slot.value server.new.slot.value (λ s t. result ≡ 0
         → TimedOutAt tid reply.new event.new s.server t.server) }
+    ensures fits { result ≡ 0 → event.new.send_len ≤ list_length reply.old }
+    ensures waits { OnServer server.old.slot.value server.new.slot.value (λ s t. result ≡ 0
+        → WaitsAt tid (backoff_of s.options) t.server event.new) }
     ensures options { OnServer server.old.slot.value server.new.slot.value (λ s t.
         t.options ≡ s.options) }
     ensures no_transfer { OnServer server.old.slot.value server.new.slot.value (λ s _.
@@ -209,7 +244,8 @@ pub extern "C" fn tftp_server_timeout(
         return event::NOT_OPEN;
     }
     let held = server.slot.server();
-    transfers::time_out(&mut held.server, tid, reply, event)
+    let backoff = held.options.backoff();
+    transfers::time_out(&mut held.server, tid, backoff, reply, event)
 }
 
 /// Ends the transfer with the identifier by an ERROR, as `tftp_abort`, and removes it.
@@ -225,6 +261,7 @@ pub extern "C" fn tftp_server_abort(
 ) -> u8
     ensures ok { OnServer server.old.slot.value server.new.slot.value (λ s t. result ≡ 0
         → AbortsAt tid code text.now reply.new event.new s.server t.server) }
+    ensures fits { result ≡ 0 → event.new.send_len ≤ list_length reply.old }
     ensures options { OnServer server.old.slot.value server.new.slot.value (λ s t.
         t.options ≡ s.options) }
     ensures fault { OnServer server.old.slot.value server.new.slot.value (λ s _.
@@ -238,6 +275,25 @@ pub extern "C" fn tftp_server_abort(
     }
     let held = server.slot.server();
     aborting::abort_at(alloc, &mut held.server, tid, code, text, reply, event)
+}
+
+/// Reports what the transfer with the identifier and its peer have agreed. After a fault `info` is
+/// unchanged.
+#[unsafe(no_mangle)]
+pub extern "C" fn tftp_server_info(server: &mut TftpServer, tid: u16, info: &mut TftpInfo) -> u8
+    ensures ok { OnServer server.old.slot.value server.new.slot.value (λ s _. result ≡ 0
+        → InformsAt tid s.server info.new) }
+    ensures fault { OnServer server.old.slot.value server.new.slot.value (λ s _.
+        (result ≡ 0 → ⊥) → InfoFaultAt tid s.server info.old result) }
+    ensures same { server.new.slot.value ≡ server.old.slot.value }
+    ensures unmoved { (result ≡ 0 → ⊥) → info.new ≡ info.old }
+    ensures none { server.old.slot.value ≡ None → result ≡ 1 }
+{
+    if !server.is_open() {
+        return event::NOT_OPEN;
+    }
+    let held = server.slot.server();
+    informing::info_at(&held.server, tid, info)
 }
 
 /// Removes the transfer with the identifier, open or closed, and returns whether there was one.

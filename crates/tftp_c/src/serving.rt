@@ -1,7 +1,8 @@
 //! How a server's end opens for C: by a request that the caller has read, and looked up.
 
-ghost use Rattle.std.specs.Prelude.{◌≡◌, ◌-◌, ◌*◌, ◌<◌, List, ℕ, Some, None, length};
-ghost use Rattle.std.specs.Prelude.{IfOk, IfErr, IfSome, OnOk, OnErr};
+ghost use Rattle.std.specs.Prelude.{◌≡◌, ◌-◌, ◌*◌, ◌<◌, ◌≤◌, List, ℕ, Some, None, length};
+ghost use Rattle.std.specs.Prelude.{IfOk, IfErr, IfSome, OnOk, OnErr, length as list_length, max, min};
+ghost use Rattle.tftp_negotiate.specs.Ranges.{IsBlockSize};
 ghost use Rattle.tftp_wire.specs.Borrowed.{owned_request};
 ghost use Rattle.tftp_wire.specs.Spelling.{Spells};
 ghost use Rattle.tftp_wire.specs.declared.packet.Packet.TheVariants.{Read, Write};
@@ -10,22 +11,25 @@ ghost use Rattle.tftp_negotiate.specs.Agreed.{size};
 ghost use Rattle.tftp_ends.specs.Opening.{ServesRead};
 ghost use Rattle.tftp_c.specs.Faults.{GetUnserved, NoRead, NoWrite, PutUnserved, SendRefused};
 ghost use Rattle.tftp_c.specs.Faults.{ServeGetFault, ServePutFault};
-ghost use Rattle.tftp_c.specs.Options.{HasSize};
+ghost use Rattle.tftp_c.specs.Options.{HasSize, options_in};
+ghost use Rattle.tftp_c.specs.Waits.{backoff_of};
 ghost use Rattle.tftp_c.specs.Reports.{endpoint_of};
-ghost use Rattle.tftp_c.specs.ServerOpens.{limits_of, AnswersGet, AnswersPut, FirstSent};
+ghost use Rattle.tftp_c.specs.ServerOpens.{limits_of, read_limits, AnswersGet, AnswersPut, FirstSent};
 ghost use Rattle.tftp_c.specs.ServerOpens.{LimitsBlocks, ServesGet, ServesPut};
 ghost use Rattle.tftp_c.specs.Stated.{KnowsFirst};
 
+use crate::answering::answer;
 use crate::client::Client;
 use crate::event::{self, TftpEndpoint, TftpEvent, TftpOptions};
+use crate::given;
 use crate::opening::number;
 use crate::report::{endpoint, report_opening};
 use crate::slice_source::SliceSource;
 use crate::stated::stated_by;
 use std::alloc::Global;
-use tftp_ends::{End, OpenFault, ReadService};
-use tftp_negotiate::{Agreed, Kind, Limits, accept_ref, is_block_size};
-use tftp_wire::{MAX_BLOCK, PacketRef, RequestRef, decode_ref};
+use tftp_ends::{Backoff, End, OpenFault, ReadService};
+use tftp_negotiate::{Agreed, DEFAULT_BLOCK, Kind, Limits, is_block_size};
+use tftp_wire::{HEADER, MAX_BLOCK, PacketRef, RequestRef, decode_ref};
 
 /// A server's end that has opened, before anything is reported.
 #[derive(Drop)]
@@ -61,6 +65,39 @@ fn valid_limits(options: &TftpOptions) -> Option<Limits>
         Some(limits)
     } else {
         None
+    }
+}
+
+/// These limits, with no block that a buffer of this length has no room for behind a header, except
+/// one of the default size.
+fn within(limits: Limits, room: usize) -> Limits
+    requires { IsBlockSize limits.max_block }
+    ensures limits { result ≡ record {
+      max_block = min limits.max_block (max DEFAULT_BLOCK (room - HEADER));
+      max_file = limits.max_file;
+    } }
+    ensures sized { IsBlockSize result.max_block }
+{
+    let most = room.saturating_sub(HEADER).max(usize::from(DEFAULT_BLOCK));
+    if usize::from(limits.max_block) <= most {
+        return limits;
+    }
+    Limits {
+        max_block: most as u16,
+        max_file: limits.max_file,
+    }
+}
+
+/// The limits of a read, whose buffer for a datagram has this length, or `None` if the largest block
+/// size is none.
+fn read_limits(options: &TftpOptions, room: usize) -> Option<Limits>
+    ensures some { IfSome result (λ l. (l ≡ read_limits options.now room)
+        × IsBlockSize l.max_block × LimitsBlocks options.now) }
+    ensures none { result ≡ None → LimitsBlocks options.now → ⊥ }
+{
+    match valid_limits(options) {
+        Some(limits) => Some(within(limits, room)),
+        None => None,
     }
 }
 
@@ -122,7 +159,21 @@ fn serve(
     }
 }
 
-/// An end that sends the file of a read request.
+/// The end, if its first datagram fits a buffer of this length.
+fn fitting(served: Served, room: usize) -> Result<Served, u8>
+    requires { served.first.items ≡ served.end.position.last_sent }
+    ensures same { IfOk result (λ s. s ≡ served) }
+    ensures fits { OnOk result (list_length served.end.position.last_sent ≤ room) }
+    ensures err { IfErr result (λ returned. (returned ≡ 12)
+        × (room < list_length served.end.position.last_sent)) }
+{
+    if served.first.len() > room {
+        return Err(event::NO_ROOM);
+    }
+    Ok(served)
+}
+
+/// An end that sends the file of a read request. A datagram that it sends has this room.
 pub(crate) fn serve_get(
     alloc: Global,
     client: &TftpEndpoint,
@@ -130,20 +181,25 @@ pub(crate) fn serve_get(
     length: u64,
     next: &[u8],
     options: &TftpOptions,
+    room: usize,
 ) -> Result<Served, u8>
     ensures ok { IfOk result (λ s. AnswersGet client.now request.now length next.now options.now
-        s.end s.count) }
+        room s.end s.count) }
     ensures first { IfOk result (λ s. s.first.items ≡ s.end.position.last_sent) }
-    ensures err { IfErr result (GetUnserved request.now length next.now options.now) }
+    ensures fits { IfOk result (λ s. list_length s.end.position.last_sent ≤ room) }
+    ensures err { IfErr result (GetUnserved request.now length next.now options.now room) }
 {
-    let Some(limits) = valid_limits(options) else {
+    let Some(limits) = read_limits(options, room) else {
         return Err(event::BAD_REQUEST);
     };
     match read_in(request) {
         Some(asked) => {
             let mode = asked.mode;
-            match accept_ref(&asked.options, Kind::Read, mode, length, &limits) {
+            match answer(alloc, options, &asked, Kind::Read, length, &limits) {
                 Ok(agreed) => {
+                    if room < HEADER + usize::from(agreed.block_size()) {
+                        return Err(event::NO_ROOM);
+                    }
                     let read = ReadService {
                         peer: endpoint(client),
                         mode,
@@ -151,28 +207,30 @@ pub(crate) fn serve_get(
                         retries: options.retries,
                     };
                     match serve(alloc, read, &agreed, next) {
-                        Ok(served) => Ok(served),
+                        Ok(served) => fitting(served, room),
                         Err(fault) => Err(number(fault)),
                     }
                 }
-                Err(_) => Err(event::REFUSED_OPTIONS),
+                Err(fault) => Err(fault),
             }
         }
         None => Err(event::BAD_REQUEST),
     }
 }
 
-/// An end that receives the file of a write request.
+/// An end that receives the file of a write request. A datagram that it sends has this room.
 pub(crate) fn serve_put(
     alloc: Global,
     client: &TftpEndpoint,
     request: &[u8],
     options: &TftpOptions,
+    room: usize,
 ) -> Result<Served, u8>
     ensures ok { IfOk result (λ s. AnswersPut client.now request.now options.now s.end) }
     ensures first { IfOk result (λ s. s.first.items ≡ s.end.position.last_sent) }
+    ensures fits { IfOk result (λ s. list_length s.end.position.last_sent ≤ room) }
     ensures none { IfOk result (λ s. s.count ≡ 0) }
-    ensures err { IfErr result (PutUnserved request.now options.now) }
+    ensures err { IfErr result (PutUnserved request.now options.now room) }
 {
     let Some(limits) = valid_limits(options) else {
         return Err(event::BAD_REQUEST);
@@ -180,7 +238,7 @@ pub(crate) fn serve_put(
     match write_in(request) {
         Some(asked) => {
             let mode = asked.mode;
-            match accept_ref(&asked.options, Kind::Write, mode, 0, &limits) {
+            match answer(alloc, options, &asked, Kind::Write, 0, &limits) {
                 Ok(agreed) => {
                     let mut first = Vec::new(alloc);
                     let peer = endpoint(client);
@@ -192,15 +250,18 @@ pub(crate) fn serve_put(
                         options.retries,
                         &mut first,
                     ) {
-                        Ok((end, _)) => Ok(Served {
-                            end,
-                            count: 0,
-                            first,
-                        }),
+                        Ok((end, _)) => fitting(
+                            Served {
+                                end,
+                                count: 0,
+                                first,
+                            },
+                            room,
+                        ),
                         Err(_) => Err(event::MEMORY),
                     }
                 }
-                Err(_) => Err(event::REFUSED_OPTIONS),
+                Err(fault) => Err(fault),
             }
         }
         None => Err(event::BAD_REQUEST),
@@ -212,21 +273,31 @@ fn boxed(
     alloc: Global,
     served: Served,
     client: &TftpEndpoint,
+    backoff: Backoff,
     reply: &mut [u8],
     event: &mut TftpEvent,
 ) -> Option<Box<Client>>
-    requires { served.first.items ≡ served.end.position.last_sent }
+    requires first { served.first.items ≡ served.end.position.last_sent }
+    requires fits { list_length served.end.position.last_sent ≤ list_length reply.old }
     ensures end { IfSome result (λ c. c.value.end ≡ served.end) }
     ensures stated { IfSome result (λ c. KnowsFirst c.value) }
+    ensures backoff { IfSome result (λ c. c.value.backoff ≡ backoff) }
     ensures sent { IfSome result (λ c. FirstSent served.end (endpoint_of client.now) reply.new
         event.new) }
+    ensures fits { IfSome result (λ c. event.new.send_len ≤ list_length reply.old) }
+    ensures room { list_length reply.new ≡ list_length reply.old }
     ensures file { IfSome result (λ c. event.new.file_len ≡ served.count) }
     ensures unmoved { result ≡ None → (event.new ≡ event.old) × (reply.new ≡ reply.old) }
 {
     let Served { end, count, first } = served;
     let state = end.record();
     let stated = stated_by(first.as_slice());
-    match Box::new(alloc, Client { end, stated }) {
+    let opened = Client {
+        end,
+        stated,
+        backoff,
+    };
+    match Box::new(alloc, opened) {
         Ok(opened) => {
             report_opening(
                 &state,
@@ -242,8 +313,8 @@ fn boxed(
     }
 }
 
-/// Opens an end that sends the file of a read request.
-pub(crate) fn open_get(
+/// Opens an end that sends the file of a read request, with these options.
+fn get_with(
     alloc: Global,
     client: &TftpEndpoint,
     request: &[u8],
@@ -256,15 +327,14 @@ pub(crate) fn open_get(
     ensures ok { IfOk result (λ c. ServesGet client.now request.now length next.now options.now
         c.value.end reply.new event.new) }
     ensures stated { IfOk result (λ c. KnowsFirst c.value) }
-    ensures allowed { OnOk result (HasSize options.now) }
-    ensures err { IfErr result (ServeGetFault request.now length next.now options.now) }
+    ensures backoff { IfOk result (λ c. c.value.backoff ≡ backoff_of options.now) }
+    ensures fits { OnOk result (event.new.send_len ≤ list_length reply.old) }
+    ensures err { IfErr result (GetUnserved request.now length next.now options.now
+        (list_length reply.old)) }
     ensures unmoved { OnErr result ((event.new ≡ event.old) × (reply.new ≡ reply.old)) }
 {
-    if !options.has_size() {
-        return Err(event::BAD_OPTIONS);
-    }
-    match serve_get(alloc, client, request, length, next, options) {
-        Ok(served) => match boxed(alloc, served, client, reply, event) {
+    match serve_get(alloc, client, request, length, next, options, reply.len()) {
+        Ok(served) => match boxed(alloc, served, client, options.backoff(), reply, event) {
             Some(opened) => Ok(opened),
             None => Err(event::MEMORY),
         },
@@ -272,8 +342,8 @@ pub(crate) fn open_get(
     }
 }
 
-/// Opens an end that receives the file of a write request.
-pub(crate) fn open_put(
+/// Opens an end that receives the file of a write request, with these options.
+fn put_with(
     alloc: Global,
     client: &TftpEndpoint,
     request: &[u8],
@@ -284,18 +354,67 @@ pub(crate) fn open_put(
     ensures ok { IfOk result (λ c. ServesPut client.now request.now options.now c.value.end
         reply.new event.new) }
     ensures stated { IfOk result (λ c. KnowsFirst c.value) }
-    ensures allowed { OnOk result (HasSize options.now) }
-    ensures err { IfErr result (ServePutFault request.now options.now) }
+    ensures backoff { IfOk result (λ c. c.value.backoff ≡ backoff_of options.now) }
+    ensures fits { OnOk result (event.new.send_len ≤ list_length reply.old) }
+    ensures err { IfErr result (PutUnserved request.now options.now (list_length reply.old)) }
     ensures unmoved { OnErr result ((event.new ≡ event.old) × (reply.new ≡ reply.old)) }
 {
-    if !options.has_size() {
-        return Err(event::BAD_OPTIONS);
-    }
-    match serve_put(alloc, client, request, options) {
-        Ok(served) => match boxed(alloc, served, client, reply, event) {
+    match serve_put(alloc, client, request, options, reply.len()) {
+        Ok(served) => match boxed(alloc, served, client, options.backoff(), reply, event) {
             Some(opened) => Ok(opened),
             None => Err(event::MEMORY),
         },
+        Err(fault) => Err(fault),
+    }
+}
+
+/// Opens an end that sends the file of a read request.
+pub(crate) fn open_get(
+    alloc: Global,
+    client: &TftpEndpoint,
+    request: &[u8],
+    length: u64,
+    next: &[u8],
+    options: &[u8],
+    reply: &mut [u8],
+    event: &mut TftpEvent,
+) -> Result<Box<Client>, u8>
+    ensures ok { IfOk result (λ c. ServesGet client.now request.now length next.now
+        (options_in options.now) c.value.end reply.new event.new) }
+    ensures stated { IfOk result (λ c. KnowsFirst c.value) }
+    ensures backoff { IfOk result (λ c. c.value.backoff ≡ backoff_of (options_in options.now)) }
+    ensures fits { OnOk result (event.new.send_len ≤ list_length reply.old) }
+    ensures allowed { OnOk result (HasSize options.now) }
+    ensures err { IfErr result (ServeGetFault request.now length next.now options.now
+        (list_length reply.old)) }
+    ensures unmoved { OnErr result ((event.new ≡ event.old) × (reply.new ≡ reply.old)) }
+{
+    match given::options(options) {
+        Ok(options) => get_with(alloc, client, request, length, next, &options, reply, event),
+        Err(fault) => Err(fault),
+    }
+}
+
+/// Opens an end that receives the file of a write request.
+pub(crate) fn open_put(
+    alloc: Global,
+    client: &TftpEndpoint,
+    request: &[u8],
+    options: &[u8],
+    reply: &mut [u8],
+    event: &mut TftpEvent,
+) -> Result<Box<Client>, u8>
+    ensures ok { IfOk result (λ c. ServesPut client.now request.now (options_in options.now)
+        c.value.end reply.new event.new) }
+    ensures stated { IfOk result (λ c. KnowsFirst c.value) }
+    ensures backoff { IfOk result (λ c. c.value.backoff ≡ backoff_of (options_in options.now)) }
+    ensures fits { OnOk result (event.new.send_len ≤ list_length reply.old) }
+    ensures allowed { OnOk result (HasSize options.now) }
+    ensures err { IfErr result (ServePutFault request.now options.now (list_length reply.old)) }
+    ensures unmoved { OnErr result ((event.new ≡ event.old) × (reply.new ≡ reply.old)) }
+{
+    match given::options(options) {
+        Ok(options) => put_with(alloc, client, request, &options, reply, event),
         Err(fault) => Err(fault),
     }
 }

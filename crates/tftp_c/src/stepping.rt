@@ -1,13 +1,14 @@
 //! The steps of an end for C.
 
-ghost use Rattle.std.specs.Prelude.{◌≡◌, true, false, IfOk, OnErr};
+ghost use Rattle.std.specs.Prelude.{◌≡◌, ◌≤◌, true, false, length, IfOk, OnErr};
 ghost use Rattle.tftp_ends.specs.End.{is_sender};
 ghost use Rattle.tftp_c.specs.Handled.{Received, Sent, Stored, Taken, TimedOut};
 ghost use Rattle.tftp_c.specs.Stated.{LearnsFrom};
+ghost use Rattle.tftp_c.specs.Waits.{Waits};
 
 use crate::client::Client;
 use crate::event::{self, TftpEndpoint, TftpEvent};
-use crate::report::{endpoint, report, report_record};
+use crate::report::{endpoint, report, report_record, wait_of};
 use crate::slice_sink::SliceSink;
 use crate::slice_source::SliceSource;
 use crate::stated::stated_after;
@@ -47,6 +48,7 @@ fn store(
 }
 
 /// A sender's step over the next bytes of its file, with the number of bytes that it took.
+#[inline(always)]
 fn take(
     end: &mut End,
     from: Endpoint,
@@ -82,6 +84,9 @@ pub(crate) fn receive(
     ensures ok { result ≡ 0 → Received from.now datagram.now client.old.end client.new.end file.old
         file.new reply.new event.new }
     ensures learns { result ≡ 0 → LearnsFrom datagram.now client.old client.new }
+    ensures fits { result ≡ 0 → event.new.send_len ≤ length reply.old }
+    ensures waits { result ≡ 0 → Waits client.old.backoff client.new.end event.new }
+    ensures backoff { client.new.backoff ≡ client.old.backoff }
     ensures err { (result ≡ 0 → ⊥) → (client.new ≡ client.old) × (event.new ≡ event.old) }
 {
     let before = client.end.record();
@@ -96,6 +101,7 @@ pub(crate) fn receive(
             }
             report_record(
                 &after,
+                wait_of(&client.end, client.backoff),
                 step,
                 client.end.bytes_of(outgoing),
                 reply,
@@ -109,6 +115,8 @@ pub(crate) fn receive(
 }
 
 /// Handles a datagram at a sender.
+// As of a receiver, a block's step is one function.
+#[inline(always)]
 pub(crate) fn send(
     client: &mut Client,
     from: &TftpEndpoint,
@@ -120,21 +128,33 @@ pub(crate) fn send(
     ensures ok { result ≡ 0 → Sent from.now datagram.now client.old.end client.new.end next.now
         reply.new event.new }
     ensures learns { result ≡ 0 → LearnsFrom datagram.now client.old client.new }
+    ensures fits { result ≡ 0 → event.new.send_len ≤ length reply.old }
+    ensures waits { result ≡ 0 → Waits client.old.backoff client.new.end event.new }
+    ensures backoff { client.new.backoff ≡ client.old.backoff }
     ensures err { (result ≡ 0 → ⊥) → (client.new ≡ client.old) × (event.new ≡ event.old) }
 {
     let before = client.end.record();
-    if before.side.is_sender() {
-        match take(&mut client.end, endpoint(from), datagram, next) {
-            Ok((step, outgoing, count)) => {
-                let after = client.end.record();
+    if !before.side.is_sender() {
+        return event::WRONG_SIDE;
+    }
+    match take(&mut client.end, endpoint(from), datagram, next) {
+        Ok((step, outgoing, count)) => {
+            let after = client.end.record();
+            if before.peer.is_none() {
                 client.stated = stated_after(before.peer, after.peer, datagram, client.stated);
-                report(&client.end, step, outgoing, reply, count, event);
-                0
             }
-            Err(fault) => number(fault),
+            report_record(
+                &after,
+                wait_of(&client.end, client.backoff),
+                step,
+                client.end.bytes_of(outgoing),
+                reply,
+                count,
+                event,
+            );
+            0
         }
-    } else {
-        event::WRONG_SIDE
+        Err(fault) => number(fault),
     }
 }
 
@@ -142,11 +162,14 @@ pub(crate) fn send(
 pub(crate) fn time_out(client: &mut Client, reply: &mut [u8], event: &mut TftpEvent) -> u8
     ensures ok { result ≡ 0 → TimedOut client.old.end client.new.end reply.new event.new }
     ensures stated { client.new.stated ≡ client.old.stated }
+    ensures fits { result ≡ 0 → event.new.send_len ≤ length reply.old }
+    ensures waits { result ≡ 0 → Waits client.old.backoff client.new.end event.new }
+    ensures backoff { client.new.backoff ≡ client.old.backoff }
     ensures err { (result ≡ 0 → ⊥) → (client.new ≡ client.old) × (event.new ≡ event.old) }
 {
     match client.end.handle_timeout() {
         Ok((step, outgoing)) => {
-            report(&client.end, step, outgoing, reply, 0, event);
+            report(&client.end, client.backoff, step, outgoing, reply, 0, event);
             0
         }
         Err(fault) => number(fault),

@@ -1,11 +1,13 @@
 //! The steps of the transfers of a server for C, over the bytes of its caller.
 
-ghost use Rattle.std.specs.Prelude.{◌≡◌, ◌↔◌, false, IfOk, IsErrOf, IsSome, OnErr, Some};
+ghost use Rattle.std.specs.Prelude.{◌≡◌, ◌↔◌, ◌≤◌, false, IfOk, IsErrOf, IsSome, OnErr, Some};
+ghost use Rattle.std.specs.Prelude.{length};
 ghost use Rattle.tftp_ends.specs.Step.{lent};
 ghost use Rattle.tftp_server.specs.CallersFiles.{is_open_receiver, is_open_sender};
 ghost use Rattle.tftp_server.specs.State.{at, is_open};
 ghost use Rattle.tftp_c.specs.Handled.{Stored, Taken};
 ghost use Rattle.tftp_c.specs.Reports.{Reports, Sends};
+ghost use Rattle.tftp_c.specs.Waits.{WaitsAt};
 ghost use Rattle.tftp_c.specs.HeldServer.{CallersTransfer, ReceivedAt, SentAt, StepsAt, TimedOutAt};
 
 use crate::elsewhere::Elsewhere;
@@ -14,13 +16,14 @@ use crate::holding::number;
 use crate::report::{endpoint, report_apart};
 use crate::slice_sink::SliceSink;
 use crate::slice_source::SliceSource;
-use tftp_ends::{Endpoint, Outgoing, Step};
+use tftp_ends::{Backoff, Endpoint, Outgoing, Step};
 use tftp_server::{Server, ServerFault};
 
 /// Reports a step of the transfer that has the identifier, and copies the datagram to send.
 fn report_at(
     server: &Server<Elsewhere>,
     tid: u16,
+    backoff: Backoff,
     step: Step,
     outgoing: Outgoing,
     reply: &mut [u8],
@@ -32,8 +35,10 @@ fn report_at(
         → Sends step.to (lent outgoing it.end) reply.new event.new }
     ensures reports { (it : CallersTransfer) → at tid server.now.held ≡ Some it
         → Reports it.end event.new }
+    ensures fits { event.new.send_len ≤ length reply.old }
     ensures file { event.new.file_len ≡ file_len }
     ensures progress { event.new.progress ≡ step.progress }
+    ensures waits { WaitsAt tid backoff server.now event.new }
 {
     let Some(record) = server.record(tid) else {
         unreachable!()
@@ -41,7 +46,11 @@ fn report_at(
     let Some(datagram) = server.bytes_of(tid, outgoing) else {
         unreachable!()
     };
-    report_apart(&record, step, datagram, reply, file_len, event);
+    let Some(timeouts) = server.timeouts(tid) else {
+        unreachable!()
+    };
+    let wait = backoff.wait(record.interval(), timeouts);
+    report_apart(&record, wait, step, datagram, reply, file_len, event);
 }
 
 /// A receiver's step over a buffer, with the number of bytes that it stored.
@@ -97,6 +106,7 @@ fn take(
 pub(crate) fn receive(
     server: &mut Server<Elsewhere>,
     tid: u16,
+    backoff: Backoff,
     from: &TftpEndpoint,
     datagram: &[u8],
     file: &mut [u8],
@@ -105,13 +115,15 @@ pub(crate) fn receive(
 ) -> u8
     ensures ok { result ≡ 0 → ReceivedAt tid from.now datagram.now file.old file.new reply.new
         event.new server.old server.new }
+    ensures fits { result ≡ 0 → event.new.send_len ≤ length reply.old }
+    ensures waits { result ≡ 0 → WaitsAt tid backoff server.new event.new }
     ensures no_transfer { (result ≡ 9)
         ↔ (is_open_receiver (at tid server.old.held) ≡ false) }
     ensures err { (result ≡ 0 → ⊥) → (server.new ≡ server.old) × (event.new ≡ event.old) }
 {
     match store(server, tid, endpoint(from), datagram, file) {
         Ok((step, outgoing, count)) => {
-            report_at(server, tid, step, outgoing, reply, count, event);
+            report_at(server, tid, backoff, step, outgoing, reply, count, event);
             0
         }
         Err(fault) => number(fault),
@@ -122,6 +134,7 @@ pub(crate) fn receive(
 pub(crate) fn send(
     server: &mut Server<Elsewhere>,
     tid: u16,
+    backoff: Backoff,
     from: &TftpEndpoint,
     datagram: &[u8],
     next: &[u8],
@@ -130,13 +143,15 @@ pub(crate) fn send(
 ) -> u8
     ensures ok { result ≡ 0 → SentAt tid from.now datagram.now next.now reply.new event.new
         server.old server.new }
+    ensures fits { result ≡ 0 → event.new.send_len ≤ length reply.old }
+    ensures waits { result ≡ 0 → WaitsAt tid backoff server.new event.new }
     ensures no_transfer { (result ≡ 9)
         ↔ (is_open_sender (at tid server.old.held) ≡ false) }
     ensures err { (result ≡ 0 → ⊥) → (server.new ≡ server.old) × (event.new ≡ event.old) }
 {
     match take(server, tid, endpoint(from), datagram, next) {
         Ok((step, outgoing, count)) => {
-            report_at(server, tid, step, outgoing, reply, count, event);
+            report_at(server, tid, backoff, step, outgoing, reply, count, event);
             0
         }
         Err(fault) => number(fault),
@@ -147,16 +162,19 @@ pub(crate) fn send(
 pub(crate) fn time_out(
     server: &mut Server<Elsewhere>,
     tid: u16,
+    backoff: Backoff,
     reply: &mut [u8],
     event: &mut TftpEvent,
 ) -> u8
     ensures ok { result ≡ 0 → TimedOutAt tid reply.new event.new server.old server.new }
+    ensures fits { result ≡ 0 → event.new.send_len ≤ length reply.old }
+    ensures waits { result ≡ 0 → WaitsAt tid backoff server.new event.new }
     ensures no_transfer { (result ≡ 9) ↔ (is_open (at tid server.old.held) ≡ false) }
     ensures err { (result ≡ 0 → ⊥) → (server.new ≡ server.old) × (event.new ≡ event.old) }
 {
     match server.handle_timeout(tid) {
         Ok((step, outgoing)) => {
-            report_at(server, tid, step, outgoing, reply, 0, event);
+            report_at(server, tid, backoff, step, outgoing, reply, 0, event);
             0
         }
         Err(fault) => number(fault),

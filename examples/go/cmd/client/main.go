@@ -1,4 +1,4 @@
-// Gets or puts a file by TFTP: client get|put ADDR PORT NAME LOCAL [BLKSIZE]
+// Gets or puts a file by TFTP: client get|put ADDR PORT NAME LOCAL [BLKSIZE [netascii]]
 package main
 
 import (
@@ -25,7 +25,7 @@ func run(words []string) error {
 	if err != nil {
 		return err
 	}
-	options := tftp.Options{AsksTsize: true}
+	options := tftp.Options{AsksTsize: true, Netascii: len(words) > 6, Backoff: true}
 	if len(words) > 5 {
 		number, err := strconv.ParseUint(words[5], 10, 16)
 		if err != nil {
@@ -45,6 +45,9 @@ func run(words []string) error {
 	if puts {
 		if file, err = os.ReadFile(words[4]); err != nil {
 			return err
+		}
+		if options.Netascii {
+			file = tftp.ToWire(file)
 		}
 		client, event, err = tftp.Put(server, words[3], uint64(len(file)), options)
 	} else {

@@ -1,5 +1,5 @@
 -- The end that was held is that which serves the request.
-use Rattle.std.proofs.Common.{◌∙◌}
+use Rattle.std.proofs.Common.{inl, ◌∙◌}
 use Rattle.tftp_c.proofs.HoldingLemmas.{opens_as}
 use Rattle.tftp_c.proofs.holding.put.Goals as goal
 
@@ -14,3 +14,6 @@ returns-in-Ok-clause-ok c = λ opened.
             sent = c.open.ensures.sent opened;
           });
     }
+
+pub returns-in-Err-clause-fault : goal.returns-in-Err-clause-fault
+returns-in-Err-clause-fault c = λ _. inl c.in-Err.ensures.err
