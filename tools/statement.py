@@ -2,8 +2,8 @@
 """Writes docs/STATEMENT.md, the theorem from disk to disk from the top down, from the definitions in `crates/*/specs`.
 
 statement.py --write writes the document; without a word it is compared, and the status is 1 where it differs. What is
-shown in full is named below; all that the theorems need beyond that is listed by file. A name that is not found, or that
-no theorem needs, ends the program. The last line counts the words, of which there are meant to be 6,000 at most.
+shown in full is named below; what that names beyond it is listed with its file. A name that is not found, or that no
+theorem needs, ends the program.
 """
 import sys
 from textwrap import wrap
@@ -13,26 +13,43 @@ from lib import rows
 from specs import TOP, all_files, source_of
 
 DOCUMENT = TOP / "docs" / "STATEMENT.md"
-MOST_WORDS = 6_000
-# as many names of a file are listed; of more their number is
-MOST_NAMES = 1
 
 HEAD = """# The theorem, word by word
 
-Made by `make docs` from the definitions in `crates/*/specs`, which the prover checks as they stand there. It is read
-from the top. Outside it, in docs/PROVED.md: that traces are true, and that no peer is blamed.
+`make docs` makes this page from the definitions in `crates/*/specs`, which the prover checks as they stand there. Read it
+from the top. Two things that the theorem rests on are in docs/PROVED.md: that traces are true, and that no peer is blamed.
 
-**Notation.** `A → B` is "if A then B", and before a value "for all"; `×` is "and", or "there is" before a name; `⊎` is
-"or"; `≡` "equals", `≢` "differs from". `[]` is the empty list, `x ∷ xs` a list with a first element, `++` joins.
-`slice_get xs k` is the element of a list at an index, if there is one; `Contains xs x` says that it has x; `All P xs`
-and `AllByRecursion P xs` say that P holds of each. A `record` has fields, a `data` cases; `record r { a = b }` is r
-with that a. Orders and traces have the newest event first. A name that a definition does not bind is a
-parameter of its module, as `programs`, or `stores`, `sources`, `inputs` and `outputs`: the models of the server's store
-and files and of the clients' files.
+The page is about runs that have ended: `tftpd` and each `tftp` have returned, and `status` is what they returned. The
+theorem says nothing of a server that still runs, or that a signal has ended. `ip` is the address of the host of a run. It is no argument: the premise on the network says where datagrams can
+come from, and `AllAsk` says that the arguments of the clients name the server's address.
 
-**Words of the definitions.** *Words* are the arguments of a command line. A *trace* is what a program asked
-of the system and what it answered. A *stranger* is a third party. A *draft* is the temporary
-file of a put.
+## Notation
+
+| On this page | What it says |
+|---|---|
+| `A → B` | if A then B; for `(x : A) → B`, B holds for every x |
+| `A × B`, `(x : A) × B` | A and B; there is an x such that B holds |
+| `x.0`, `x.1` | the first and the second part of a pair |
+| `A ⊎ B`, `inl`, `inr` | A or B; the first of the two, and the second |
+| `∥ A ∥₁` | A holds, and nothing is said of why |
+| `⊥`, `A → ⊥` | what never holds; A does not hold |
+| `Unit {0}` | what always holds |
+| `x ≡ y`, `x ≢ y` | x equals y; x differs from y |
+| `[]`, `x ∷ xs`, `xs ++ ys` | the empty list; a list with a first element; two lists joined |
+| `slice_get xs k`, `Contains xs x` | the element of a list at an index, if there is one; the list has x |
+| `All P xs`, `AllByRecursion P xs` | P holds of each element |
+| `Some x`, `None`; `Ok x`, `Err e` | a value, or none; what a call returned, or why it failed |
+| `record`, `data` | a definition with fields, all of which hold; one with cases, of which one holds |
+| `record r { a = b }` | r with b in the place of its field a |
+| `abbrev` | a definition that the prover unfolds |
+| `λ x. t`, `f x y` | the function that takes x to t; f of x and y |
+
+Orders and traces have the newest event first. A name that a definition does not bind is a parameter of its module:
+`programs`, or `stores`, `sources`, `inputs` and `outputs`, which are the models of the server's store and files and of the
+clients' files. A name without a definition on this page is in the list at its end.
+
+*Words* are the arguments of a command line. A *trace* is what a program asked of the system and what the system answered. A
+*stranger* is a third party. A *draft* is the temporary file of a put.
 """
 
 
@@ -171,42 +188,51 @@ def paragraph(text) -> list[str]:
     return [*wrap(text, 120, break_on_hyphens=False), ""]
 
 
-def rest_of(definitions) -> list[str]:
-    """The names of these definitions, by crate and file."""
-    by_file: dict[tuple[str, str], list[str]] = {}
-    for crate, file, name in sorted(definitions):
-        by_file.setdefault((crate, file), []).append(f"`{name}`")
-    lines, last = [], ""
-    for (crate, file), names in by_file.items():
-        if crate != last:
-            lines += [""] * bool(last) + [f"**{crate}**", ""]
-            last = crate
-        told = ", ".join(names) if len(names) <= MOST_NAMES else str(len(names))
-        lines += wrap(f"- {file}: {told}", 120, subsequent_indent="  ", break_on_hyphens=False)
+def link_to(definition) -> str:
+    """The file of a definition, as a link from docs/."""
+    place = f"crates/{definition.crate}/specs/{definition.file}.antt"
+    return f"[{definition.crate}/{definition.file}](../{place})"
+
+
+def named_by(files, shown, left) -> list[str]:
+    """A line for each definition that one on the page names and that is not on the page: what it says, and its file."""
+    found: dict[str, Any] = {}
+    for each in shown:
+        for word in each.words():
+            source = source_of(files, each.crate, each.file, word)
+            if source and not isinstance(source, str) and key_of(source) in left:
+                found[word] = source
+    lines = []
+    for word, source in sorted(found.items()):
+        says = " ".join(line for line in source.comment if not line.startswith("---- "))
+        lines += wrap(f"- `{word}`: {says + '; ' if says else ''}{link_to(source)}", 120, subsequent_indent="  ",
+                      break_on_hyphens=False, break_long_words=False)
     return lines
 
 
 def document() -> str:
     files = all_files()
     roots = [found_at(files, theorem.root) for theorem in THEOREMS]
-    left = needed(files, roots)
+    left, on_page = needed(files, roots), []
     lines = [HEAD]
     for theorem, root in zip(THEOREMS, roots):
         lines += [f"## {theorem.title}", "", *paragraph(theorem.says)]
         if theorem.is_shown:
             lines += text_of([root])
+            on_page.append(root)
             del left[key_of(root)]
         for word in theorem.words:
             shown = [found_at(files, place) for place in word.shown]
             unneeded = [each.name for each in shown if key_of(each) not in left]
             if unneeded:
                 sys.exit(f"statement.py: shown twice, or not needed: {', '.join(unneeded)}")
+            on_page += shown
             for each in shown:
                 del left[key_of(each)]
             lines += [f"### {word.name}", "", *paragraph(word.says), *text_of(shown)]
-    lines += ["## The rest, by name and file", "",
-              *paragraph(f"These {len(left)} definitions are needed, too; of a file with more than {MOST_NAMES} their number "
-                         "stands here. Each has a comment where it stands, `crates/CRATE/specs/FILE.antt`."), *rest_of(left)]
+    lines += ["## Names without a definition on this page", "",
+              *paragraph("Each line has the comment of the definition, and the file where it stands. What these definitions name "
+                         "in turn is imported at the head of that file."), *named_by(files, on_page, left)]
     return "\n".join(lines).rstrip() + "\n"
 
 
@@ -219,7 +245,7 @@ def main() -> int:
     elif not DOCUMENT.is_file() or DOCUMENT.read_text() != text:
         print("docs/STATEMENT.md differs: run tools/statement.py --write")
         return 1
-    print(f"docs/STATEMENT.md: {text.count(chr(10))} lines, {count:,} words of {MOST_WORDS:,}")
+    print(f"docs/STATEMENT.md: {text.count(chr(10))} lines, {count:,} words")
     rows.ended(len(THEOREMS))
     return 0
 
