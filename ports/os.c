@@ -1,13 +1,13 @@
 /* The system for the programs, in C: what compiled Rattle code calls by names of its own. The toolchain has objects of
  * them for x86-64 with glibc; this file is linked in their place for another processor or C library, from the assembly
  * too. It is trusted: no proof reads it. Above each function stands what the toolchain declares of it. Only calls that
- * these programs name are here, and tools/assembly.py checks that none is missing. Link it with -Wl,--wrap=main.
+ * these programs name are here, and tools/from_assembly.py checks that none is missing. Link it with -Wl,--wrap=main.
  *
  * A slice is a pointer and a length. A name ends with a zero byte. -1 leaves the reason in errno. */
 #define _GNU_SOURCE
+#include <dirent.h>
 #include <errno.h>
 #include <fcntl.h>
-#include <netdb.h>
 #include <signal.h>
 #include <spawn.h>
 #include <stdbool.h>
@@ -17,10 +17,7 @@
 #include <string.h>
 #include <sys/epoll.h>
 #include <sys/ioctl.h>
-#include <sys/prctl.h>
-#include <sys/socket.h>
 #include <sys/syscall.h>
-#include <sys/uio.h>
 #include <sys/wait.h>
 #include <unistd.h>
 
@@ -72,9 +69,6 @@ static ssize_t copied(const char *text, uint8_t *buf, size_t room) {
     return length <= room ? (ssize_t)length : -2;
 }
 
-/* How many arguments there are, the program's name included. */
-size_t rattle_arg_count(void) { return (size_t)argument_count; }
-
 /* Puts argument i at the start of buf, as `copied`; -1 if there is no such argument. */
 ssize_t rattle_arg(size_t i, uint8_t *buf, size_t room) {
     return i < (size_t)argument_count ? copied(arguments[i], buf, room) : -1;
@@ -101,55 +95,13 @@ int32_t rattle_errno(void) { return errno; }
 /* Sets it. */
 void rattle_set_errno(int32_t error) { errno = error; }
 
-/* ---- Files and sockets */
-
-/* Opens the directory that name reaches from `folder`, for reading. Returns a descriptor, or -1, also if the name ends in
- * a link or reaches no directory. */
-int32_t rattle_open_dir_at(int32_t folder, const char *name) {
-    return openat(folder, name, O_RDONLY | O_DIRECTORY | O_NOFOLLOW | O_CLOEXEC);
-}
+/* ---- Readiness */
 
 /* Sets or clears O_NONBLOCK of what fd is open on. Returns 0 or -1. */
 int32_t rattle_set_nonblocking(int32_t fd, bool on) {
     int word = on;
     return ioctl(fd, FIONBIO, &word);
 }
-
-/* Writes the four buffers in their order, as `write`; to a socket as `send` with MSG_NOSIGNAL. */
-ssize_t rattle_write_parts(int32_t fd, bool is_socket, const uint8_t *a, size_t a_len, const uint8_t *b, size_t b_len,
-                           const uint8_t *c, size_t c_len, const uint8_t *d, size_t d_len) {
-    struct iovec parts[] = {{(void *)a, a_len}, {(void *)b, b_len}, {(void *)c, c_len}, {(void *)d, d_len}};
-    if (!is_socket) return writev(fd, parts, 4);
-    struct msghdr message = {.msg_iov = parts, .msg_iovlen = 4};
-    return sendmsg(fd, &message, MSG_NOSIGNAL);
-}
-
-/* Locks or unlocks a range of a file for its open descriptor, counted from the start of the file, without waiting.
- * Returns 0 or -1. */
-int32_t rattle_lock_range(int32_t fd, int16_t kind, int64_t start, int64_t length) {
-    struct flock range = {.l_type = kind, .l_whence = SEEK_SET, .l_start = start, .l_len = length};
-    return fcntl(fd, F_OFD_SETLK, &range);
-}
-
-/* `write`, with SIGPIPE held back. */
-ssize_t rattle_write_no_sigpipe(int32_t fd, const uint8_t *buf, size_t length) {
-    sigset_t pipe, old, pending;
-    sigemptyset(&pipe);
-    sigaddset(&pipe, SIGPIPE);
-    pthread_sigmask(SIG_BLOCK, &pipe, &old);
-    sigpending(&pending);
-    ssize_t wrote = write(fd, buf, length);
-    int error = errno;
-    if ((wrote < 0 || (size_t)wrote < length) && !sigismember(&pending, SIGPIPE)) {
-        /* the signal of this write is taken, if there is one */
-        while (sigtimedwait(&pipe, NULL, &(struct timespec){0, 0}) < 0 && errno == EINTR) continue;
-    }
-    pthread_sigmask(SIG_SETMASK, &old, NULL);
-    errno = error;
-    return wrote;
-}
-
-/* ---- Readiness */
 
 /* `epoll_ctl`, with the two fields of its entry as arguments. Returns 0 or -1. */
 int32_t rattle_epoll_ctl(int32_t poll, int32_t op, int32_t fd, uint32_t events, uint64_t data) {
@@ -174,9 +126,6 @@ ssize_t rattle_epoll_wait(int32_t poll, struct entry *found, size_t room, int32_
 
 /* ---- Processes */
 
-/* The name of the calling thread becomes this one, of at most 15 bytes. Returns 0 or -1. */
-int32_t rattle_set_thread_name(const char *name) { return prctl(PR_SET_NAME, name, 0, 0, 0); }
-
 /* Pointers to texts that stand one behind another, and NULL behind them; or NULL if there is no memory. */
 static char **list_of(const uint8_t *texts, size_t length) {
     size_t count = 0;
@@ -189,16 +138,21 @@ static char **list_of(const uint8_t *texts, size_t length) {
     return list;
 }
 
-/* No child has a descriptor of this program from 3 on, whoever opened it: glibc's addclosefrom_np is not in musl. */
-static void keep_from_children(void) {
-    enum { SINCE_5_11 = 1 << 2 }; /* CLOSE_RANGE_CLOEXEC */
+/* No child has a descriptor of this program from 3 on, whoever opened it: glibc's addclosefrom_np is not in musl. Returns an
+ * error. */
+static int keep_from_children(void) {
 #ifdef SYS_close_range
-    if (syscall(SYS_close_range, 3U, ~0U, SINCE_5_11) == 0) return;
+    enum { SINCE_5_11 = 1 << 2 }; /* CLOSE_RANGE_CLOEXEC */
+    if (syscall(SYS_close_range, 3U, ~0U, SINCE_5_11) == 0) return 0;
 #endif
-    for (int fd = 3, end = (int)sysconf(_SC_OPEN_MAX); fd < end; fd++) {
-        int flags = fcntl(fd, F_GETFD);
+    DIR *list = opendir("/proc/self/fd");
+    if (!list) return errno;
+    for (struct dirent *entry; (entry = readdir(list));) {
+        int fd = atoi(entry->d_name), flags = fd < 3 ? -1 : fcntl(fd, F_GETFD);
         if (flags >= 0) fcntl(fd, F_SETFD, flags | FD_CLOEXEC);
     }
+    closedir(list);
+    return 0;
 }
 
 /* What a child is before its program starts. Returns an error. */
@@ -224,7 +178,7 @@ static int start(pid_t *child, const char *path, char **args, char **env, const 
     error = posix_spawnattr_init(&how);
     if (!error) {
         error = prepare(&actions, &how, folder, fds);
-        keep_from_children();
+        if (!error) error = keep_from_children();
         if (!error) error = posix_spawn(child, path, &actions, &how, args, env);
         posix_spawnattr_destroy(&how);
     }
@@ -263,36 +217,9 @@ int32_t rattle_kill_child(int32_t child) {
     return kill(child, SIGKILL);
 }
 
-/* ---- Names of hosts */
-
-/* An address as C's sockaddr_in or sockaddr_in6, in the first `length` bytes. */
-struct address {
-    uint8_t bytes[128];
-    uint32_t length;
-};
-
-/* `getaddrinfo`: puts the name's first addresses at the start of `found`. Returns how many, or the error, which is
- * negative. */
-ssize_t rattle_lookup_host(const char *name, struct address *found, size_t room) {
-    struct addrinfo *list, hints = {.ai_socktype = SOCK_STREAM};
-    int error = getaddrinfo(name, NULL, &hints, &list);
-    if (error) return error < 0 ? error : -error;
-    size_t count = 0;
-    for (struct addrinfo *it = list; it && count < room; it = it->ai_next)
-        if ((it->ai_family == AF_INET || it->ai_family == AF_INET6) && it->ai_addrlen <= sizeof found->bytes) {
-            memcpy(found[count].bytes, it->ai_addr, it->ai_addrlen);
-            found[count++].length = it->ai_addrlen;
-        }
-    freeaddrinfo(list);
-    return (ssize_t)count;
-}
-
 /* ---- What glibc has, and other C libraries lack or lacked */
 
 #ifndef __GLIBC__
-/* Linux's getdents64: the next entries of a directory. */
-__attribute__((weak)) ssize_t getdents64(int fd, void *buf, size_t room) { return syscall(SYS_getdents64, fd, buf, room); }
-
 /* Linux's statx. */
 __attribute__((weak)) int statx(int folder, const char *name, int flags, unsigned mask, void *found) {
     return (int)syscall(SYS_statx, folder, name, flags, mask, found);

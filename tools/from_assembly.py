@@ -21,7 +21,7 @@ import tempfile
 from pathlib import Path
 from typing import Any
 
-from arm64 import emulated, of_loopback, text_of
+from arm64 import emulated, of_loopback, statuses, text_of
 from lib import rows
 from lib.programs import NAMES, TOP
 from library_chroot import ROOM, Inside, furnish, is_possible
@@ -125,11 +125,10 @@ def crossed(archive: Path, room: Path, compiler: str) -> list[str]:
         run(emulator, place / "layout")
         programs = emulated(top / "bin", place / "emulated", emulator)
         faults += over(place / "emulated", *of_loopback()[0])
-        for words in [[sys.executable, "-m", "unittest", "tools.tests.test_rows"],
-                      [str(TOP / "tools/statuses.py"), *(programs[name] for name in NAMES)]]:
-            done = subprocess.run(words, cwd=TOP, env={**os.environ, "TFTP_PROGRAMS": str(place / "emulated")}, check=False,
-                                  stdin=subprocess.DEVNULL)
-            faults += [f"{' '.join(words[:3])} for RISC-V: status {done.returncode}"] * bool(done.returncode)
+        faults += statuses(programs)
+        done = subprocess.run([sys.executable, "-m", "unittest", "tools.tests.test_rows"], cwd=TOP, check=False,
+                              env={**os.environ, "TFTP_PROGRAMS": str(place / "emulated")}, stdin=subprocess.DEVNULL)
+        faults += [f"test_rows for RISC-V: status {done.returncode}"] * bool(done.returncode)
     return faults
 
 

@@ -27,7 +27,7 @@ from lib.programs import TOP, programs
 
 PARTS = Path("/usr/local/share/arm64-parts")
 EMULATOR, COMPILER = "qemu-system-aarch64", "aarch64-linux-gnu-gcc"
-LIFE, LENGTH, CLIENTS = 180, 1_000_003, 8
+LIFE, LENGTH, CLIENTS, PUTS = 180, 1_000_003, 8, 3
 RETRIES = ["--retries", "10"]
 
 
@@ -96,7 +96,7 @@ def is_served(tftp: str, folder: Path, at: str, expected: str) -> None:
         client(tftp, folder, "get", at, "image", f"got-{number}", "--blksize", "1428")
         if hashlib.sha256((folder / f"got-{number}").read_bytes()).hexdigest() != expected:
             raise Failure(f"got-{number} has another hash")
-        if number < 3:
+        if number < PUTS:
             client(tftp, folder, "put", at, f"got-{number}", f"put-{number}", "--blksize", "1428")
 
     with ThreadPoolExecutor(CLIENTS) as pool:
@@ -126,8 +126,12 @@ def tried(parts: Path, room: Path) -> list[str]:
         faults.append(f"what the machine printed first: {first}")
     if hashlib.sha256((served / "from-the-machine").read_bytes()).hexdigest() != expected:
         faults.append("what the machine has put has another hash")
-    if len([it for it in last if it.startswith("has put-")]) != 3 or last[-1] != "left behind 0":
+    counted = sum(int(it.split()[-1]) for it in last if re.match('counted .*outcome="complete"', it, re.I))
+    if len([it for it in last if it.startswith("has put-")]) != PUTS or last[-1] != "left behind 0":
         faults.append(f"what the machine printed last: {last}")
+    # (and the file `end`)
+    if counted != CLIENTS + PUTS + 1:
+        faults.append(f"the servers have counted {counted} transfers of {CLIENTS + PUTS + 1}")
     return faults
 
 
