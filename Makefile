@@ -161,7 +161,7 @@ dist: $(PROGRAMS) $(LIBRARY) assembly
 # what is kept of the same text is not proved again
 assembly:
 	$(NEEDS_RT)
-	@for arch in amd64 arm64 riscv64; do tools/modules.py $$arch || exit; done
+	@for arch in amd64 arm64; do tools/modules.py $$arch || exit; done
 	@tools/assembly.sh '$(VERSION)'
 
 deb: $(PROGRAMS) $(LIBRARY)

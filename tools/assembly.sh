@@ -14,7 +14,7 @@ top=$room/$name
 
 # what is copied as it is, and from where: the same as in the other archive, and the sources in C
 files() {
-    ls -d completions/* man/*.[1-8] packaging/* include/* examples/c/*
+    ls -d completions/* man/*.[1-8] packaging/* include/* examples/c/* examples/efi/*
     printf '%s\n' LICENSE SECURITY.md docs/OPERATING.md docs/dashboard.svg examples/monitoring/tftpd.rules.yml \
         examples/monitoring/dashboard.json examples/loopback.sh examples/packets.hex examples/lossy.script
 }
@@ -35,22 +35,12 @@ for file in os heap malloc; do put "ports/$file.c" "c/$file.c"; done
 put tools/install.sh install.sh 755
 put ports/assembly/Makefile Makefile
 
-processors='' riscv=''
-for arch in amd64 arm64 riscv64; do
-    test -d "out/modules/$arch" || continue
-    processors="$processors $arch"
+for arch in amd64 arm64; do
     for program in tftp tftpd tftp-show tftp-play libtftp libtftp-bare; do
-        test "$arch/$program" = riscv64/libtftp-bare || put "out/modules/$arch/$program/$program.s" "$arch/$program.s"
+        put "out/modules/$arch/$program/$program.s" "$arch/$program.s"
     done
 done
-case $processors in
-*riscv64*)
-    riscv='The prover knows no RISC-V: the assembly for it is compiled from\nthe modules that were proved for x86-64, with the'
-    riscv="$riscv target exchanged. It is tested, and not proved. "
-    ;;
-esac
-sed "s/@VERSION@/$version/; s/@PROCESSORS@/It has the processors$(echo "$processors" | sed 's/ \([a-z0-9]*\)$/ and \1/; s/\([0-9]\) \([a-z0-9]* and\)/\1, \2/')/
-    s|@RISCV@|$riscv|" ports/assembly/README > "$room/README"
+sed "s/@VERSION@/$version/" ports/assembly/README > "$room/README"
 put "$room/README" README
 {
     echo "commit $(git rev-parse HEAD)$(git diff --quiet HEAD 2> /dev/null || echo ' with changes')"
@@ -60,7 +50,6 @@ put "$room/README" README
             echo "$arch/$program.s $(cat "out/modules/$arch/$program/verdict")"
         done
     done
-    test ! -d out/modules/riscv64 || echo "riscv64/ is compiled from the modules of amd64/, with the target exchanged: not proved"
 } > "$room/BUILT-FROM"
 put "$room/BUILT-FROM" BUILT-FROM
 

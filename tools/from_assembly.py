@@ -6,13 +6,10 @@ calls which the programs make by names of the toolchain are those of os.c, no mo
 of this host's packages of gcc, make, musl and a shell, which has no part of this repository and not the toolchain. With that
 folder as the root, `make check` and `make install` run with gcc, and again with musl-gcc and STATIC=1. Then tools/loopback
 runs over the programs that gcc built, all tests, and over those of musl, without tests that load a library before a
-program's own. The parts for ARM64 and RISC-V 64 are built by cross compilers, statically, and run by qemu-user: `make check`,
-and for RISC-V, which no proof is about, tools/tests/test_rows.py, tools/statuses.py, the tests of tools/loopback that
-tools/arm64.py runs, and the test of the library's header.
+program's own. The half for ARM64 is built by the cross compiler, statically, and its `make check` run by qemu-aarch64.
 
 What a host lacks is skipped, with a line.
 """
-import os
 import re
 import shutil
 import subprocess
@@ -21,7 +18,7 @@ import tempfile
 from pathlib import Path
 from typing import Any
 
-from arm64 import emulated, of_loopback, statuses, text_of
+from arm64 import COMPILER, EMULATOR, text_of
 from lib import rows
 from lib.programs import NAMES, TOP
 from library_chroot import ROOM, Inside, furnish, is_possible
@@ -32,8 +29,6 @@ import run as loopback  # noqa: E402
 PACKAGES = ["coreutils", "dash", "gcc", "libc6-dev", "make", "musl-tools", "sed", "grep", "diffutils", "tar", "xz-utils"]
 # the processors, and what the nm of their objects is
 PROCESSORS = {"amd64": "nm", "arm64": "aarch64-linux-gnu-nm"}
-# the compilers for other processors, and what runs what they make
-CROSS = {"aarch64-linux-gnu-gcc": "qemu-aarch64", "riscv64-linux-gnu-gcc": "qemu-riscv64"}
 # a test that loads a library before the program's own, which a static program does not
 PRELOADS = re.compile(r"preloaded\(|\.watch\(|\.delay\(")
 
@@ -111,25 +106,12 @@ def over(programs: Path, *tests: str) -> list[str]:
     return [f"tools/loopback over {programs.name}: status {status}"] * bool(status)
 
 
-def crossed(archive: Path, room: Path, compiler: str) -> list[str]:
-    """The part for another processor, by its cross compiler."""
-    place, emulator = room / compiler, CROSS[compiler]
-    place.mkdir()
-    run("tar", "-xf", archive, "-C", place)
-    top = next(place.glob("fanjuvery-*"))
-    words = [f"CC={compiler}", "STATIC=1", f"EMULATOR={shutil.which(emulator)}"]
-    faults = checked(top, compiler, run("make", "-j2", "check", *words, cwd=top))
-    if "riscv" in compiler:
-        wrap = ["-Wl,--wrap=malloc,--wrap=realloc", "-static", "-I", "include"]
-        run(compiler, *wrap, TOP / "tools/c_library.c", "bin/libtftp.a", "-o", place / "layout", cwd=top)
-        run(emulator, place / "layout")
-        programs = emulated(top / "bin", place / "emulated", emulator)
-        faults += over(place / "emulated", *of_loopback()[0])
-        faults += statuses(programs)
-        done = subprocess.run([sys.executable, "-m", "unittest", "tools.tests.test_rows"], cwd=TOP, check=False,
-                              env={**os.environ, "TFTP_PROGRAMS": str(place / "emulated")}, stdin=subprocess.DEVNULL)
-        faults += [f"test_rows for RISC-V: status {done.returncode}"] * bool(done.returncode)
-    return faults
+def for_arm64(archive: Path, room: Path) -> list[str]:
+    """The half for ARM64, by the cross compiler."""
+    run("tar", "-xf", archive, "-C", room)
+    top = next(room.glob("fanjuvery-*"))
+    words = [f"CC={COMPILER}", "STATIC=1", f"EMULATOR={shutil.which(EMULATOR)}"]
+    return checked(top, COMPILER, run("make", "-j2", "check", *words, cwd=top))
 
 
 def in_chroot(archive: Path, root: Path, has_musl: bool) -> list[str]:
@@ -148,17 +130,17 @@ def in_chroot(archive: Path, root: Path, has_musl: bool) -> list[str]:
     return faults
 
 
-ROWS = ["the archive", "gcc", "musl-gcc", *CROSS]
+ROWS = ["the archive", "gcc", "musl-gcc", COMPILER]
 
 
 def main() -> None:
     rows.listed(ROWS)
-    skipped, tried = [it for it in ["xz", "git", "gcc", "musl-gcc", *CROSS, *CROSS.values()] if not shutil.which(it)], ["the archive"]
+    skipped, tried = [it for it in ["xz", "git", "gcc", "musl-gcc", COMPILER, EMULATOR] if not shutil.which(it)], ["the archive"]
     if {"xz", "git", "gcc"} & {*skipped}:
         print(f"from assembly: skipped: no {', no '.join(skipped)}")
         rows.ended(0, len(ROWS))
         return
-    for arch in [*PROCESSORS, "riscv64"]:
+    for arch in PROCESSORS:
         print(run(TOP / "tools/modules.py", arch), end="", flush=True)
     archive = packed()
     print(f"from assembly: {archive.name}: {archive.stat().st_size:,} bytes", flush=True)
@@ -167,10 +149,9 @@ def main() -> None:
         room, root = Path(name), Path(name, "root")
         root.mkdir()
         room.chmod(0o755)
-        for compiler, emulator in CROSS.items():
-            if not {compiler, emulator} & {*skipped}:
-                faults += crossed(archive, room, compiler)
-                tried.append(compiler)
+        if not {COMPILER, EMULATOR} & {*skipped}:
+            faults += for_arm64(archive, room)
+            tried.append(COMPILER)
         why = is_possible(root)
         if why:
             print(f"from assembly: skipped: the chroot: {why}")

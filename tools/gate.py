@@ -48,8 +48,7 @@ NEEDS = {
     "tools/loopback/run.py": "root valgrind strace trace mount ipv6 networks tftp", "tools/soak/run.py": "mount",
     "tools/behaviours.py": "strace trace", "tools/network.py": "ip nft unshare networks mount filter",
     "tools/arm64.py": f"root aarch64-linux-gnu-gcc libc6-dev-arm64-cross qemu-aarch64 dpkg-deb in.tftpd atftpd dnsmasq {CLIENTS}",
-    "tools/from_assembly.py": "root mount xz git gcc make musl-gcc aarch64-linux-gnu-gcc libc6-dev-arm64-cross "
-                              "qemu-aarch64 riscv64-linux-gnu-gcc libc6-dev-riscv64-cross qemu-riscv64",
+    "tools/from_assembly.py": "root mount xz git gcc make musl-gcc aarch64-linux-gnu-gcc libc6-dev-arm64-cross qemu-aarch64",
     "tools/machine.py": "aarch64-linux-gnu-gcc libc6-dev-arm64-cross qemu-system-aarch64 cpio arm64-parts",
     "tools/bare.py": "gcc objdump aarch64-linux-gnu-gcc libc6-dev-arm64-cross qemu-aarch64",
     "tools/efi.py": "root make gcc gnu-efi ovmf qemu-efi-aarch64 qemu-system-x86_64 qemu-system-aarch64 aarch64-linux-gnu-gcc "

@@ -1,7 +1,7 @@
 #!/usr/bin/env python3
 """Proves and compiles the programs and the library for C for a processor, and keeps their modules: modules.py ARCH [NAME..]
 
-ARCH is amd64 (every processor of x86-64), arm64 or riscv64, NAME a program or `libtftp`; without names it is all. Libraries
+ARCH is amd64 (every processor of x86-64) or arm64, NAME a program or `libtftp`; without names it is all of them. Libraries
 below that are not built yet are built first (tools/build.sh). The prover then proves the functions of the crate itself, of
 a program or of the library, for that target. A folder out/modules/ARCH/NAME has what comes of it:
 
@@ -13,12 +13,10 @@ a program or of the library, for that target. A folder out/modules/ARCH/NAME has
 `libtftp-bare` is made of the module of `libtftp`: the attributes of its functions are exchanged, so that its code has no
 register of floating point or SIMD, and on x86-64 nothing below the stack pointer; its folder has that module, and `NAME.s`.
 
-The prover knows no RISC-V. For riscv64 each module is that for amd64 with the target exchanged: what is compiled from it is not
-proved. Both are little-endian, with words of 64 bits and one numbering of what is asked of the system (there is no bare one).
-
 What is there of the same text already is not made again. Prints a line for each. JOBS is the number of processors that
 one proof takes (2).
 """
+import fcntl
 import os
 import re
 import shutil
@@ -38,12 +36,6 @@ LIBRARY, BARE = "libtftp", "libtftp-bare"
 TRIPLES = {"amd64": "x86_64-unknown-linux-gnu", "arm64": "aarch64-unknown-linux-gnu"}
 # what is for every processor of its kind, and the word that says so: the prover's own choice for arm64
 CPUS = {"amd64": ["--cpu=x86-64"], "arm64": []}
-# what is exchanged in a module for amd64, and the words of the compiler for that
-EXCHANGED = "riscv64"
-EXCHANGES = [(r'(?m)^target datalayout = ".*"$', 'target datalayout = "e-m:e-p:64:64-i64:64-i128:128-n32:64-S128"'),
-             (r'(?m)^target triple = ".*"$', 'target triple = "riscv64-unknown-linux-gnu"'),
-             (r'"target-cpu"="x86-64"', '"target-cpu"="generic-rv64"'), (r' "(probe-stack|stack-probe-size)"="[^"]*"', "")]
-EXCHANGED_WORDS = ["--target=riscv64-unknown-linux-gnu", "-march=rv64gc", "-mabi=lp64d"]
 # what is added to the attributes of each function of the library for bare machines, and words of the compiler for it
 BARE_ATTRIBUTES = {"amd64": 'noredzone noimplicitfloat "target-features"="-mmx,-sse,-sse2,-x87,+soft-float"',
                    "arm64": 'noimplicitfloat "target-features"="-fp-armv8,-neon"'}
@@ -144,13 +136,13 @@ def words_of(folder: Path, module: Path, to: Path) -> list[str]:
 
 
 def assembled(folder: Path, name: str, module: Optional[Path] = None, exchanged: Optional[list[str]] = None) -> Path:
-    """The assembly of what is kept in a folder, or of another module by more words. It has no `.addrsig`, and for RISC-V no name of
-    the processor's parts, which GNU's assembler does not know."""
+    """The assembly of what is kept in a folder, or of another module by more words. It has no `.addrsig`, which GNU's
+    assembler does not know."""
     to = folder / f"{name}.s"
     words = [word for word in words_of(folder, module or module_in(folder), to) if word not in NOT_OF_ASSEMBLY]
     run([KIT / "toolchain/bin/clang", "-S", *words, *(exchanged or [])])
     lines = to.read_text().splitlines(keepends=True)
-    to.write_text("".join(line for line in lines if not re.match(r"\s*\.(addrsig|attribute\s+5,)", line)))
+    to.write_text("".join(line for line in lines if not re.match(r"\s*\.addrsig", line)))
     return to
 
 
@@ -181,22 +173,15 @@ def for_bare_machines(arch: str, room: Path) -> None:
     assembled(room, BARE, exchanged=BARE_WORDS[arch])
 
 
-def exchanged(name: str, room: Path) -> None:
-    """The module for amd64 with another target."""
-    make("amd64", name)
-    text, module = text_of(module_in(place_of("amd64", name))), room / "module.ll"
-    if "llvm.x86" in text:
-        sys.exit(f"modules: {name} names what only x86-64 has")
-    for pattern, other in EXCHANGES:
-        text = re.sub(pattern, other, text)
-    module.write_text(text)
-    shutil.copy2(place_of("amd64", name) / "words", room / "words")
-    shutil.copy2(place_of("amd64", name) / "verdict", room / "verdict")
-    assembled(room, name, exchanged=EXCHANGED_WORDS)
-
-
 def make(arch: str, name: str) -> None:
-    """Proves, compiles and keeps one, where it is not kept."""
+    """Proves, compiles and keeps one, where it is not kept. A second run waits for the first."""
+    place_of(arch, name).parent.mkdir(parents=True, exist_ok=True)
+    with place_of(arch, name).with_name(f"{name}.lock").open("w") as lock:
+        fcntl.flock(lock, fcntl.LOCK_EX)
+        make_alone(arch, name)
+
+
+def make_alone(arch: str, name: str) -> None:
     place = place_of(arch, name)
     if is_kept(arch, name):
         print(f"{name} for {arch}: made before", flush=True)
@@ -204,27 +189,24 @@ def make(arch: str, name: str) -> None:
     stamp = stamp_of(name, arch)
     room = place.with_name(f"{name}.new")
     shutil.rmtree(room, ignore_errors=True)
-    room.mkdir(parents=True)
+    room.mkdir()
     if name == BARE:
         make(arch, LIBRARY)
         for_bare_machines(arch, room)
         shutil.copy2(place_of(arch, LIBRARY) / "verdict", room / "verdict")
-    elif arch == EXCHANGED:
-        exchanged(name, room)
     else:
         proved(arch, name, room)
         assembled(room, name)
     (room / "stamp").write_text(stamp)
     shutil.rmtree(place, ignore_errors=True)
     room.rename(place)
-    how = "compiled from the module for amd64: " * (arch == EXCHANGED)
-    print(f"{name} for {arch}: {how}{(place / 'verdict').read_text()}", end="", flush=True)
+    print(f"{name} for {arch}: {(place / 'verdict').read_text()}", end="", flush=True)
 
 
 def main() -> None:
     arch, *names = sys.argv[1:] or [""]
-    known = [*NAMES, LIBRARY, *([BARE] if arch != EXCHANGED else [])]
-    if arch not in (*TRIPLES, EXCHANGED) or not {*names} <= {*known}:
+    known = [*NAMES, LIBRARY, BARE]
+    if arch not in TRIPLES or not {*names} <= {*known}:
         sys.exit(__doc__)
     names = [name for name in names or known]
     build_below([name for name in names if not is_kept(arch, name)])
