@@ -148,14 +148,15 @@ STATED = [128, 256, 512, 1_024, 1_536, 2_048, 3_072, 4_096, 8_192]
 MADE = re.compile(r'(?s)\.\\" made by tools/bare\.py --write\n(.*?)\.\\" end of what is made\n')
 
 
-def names() -> list[str]:
-    """The calls of the header."""
-    return sorted(set(re.findall(r"(?m)^ +(tftp_\w+);$", MAP.read_text())) - {"tftp_samples"})
+def names() -> dict[str, str]:
+    """The symbols of the library, each with its call: an opening with options is an inline function over a symbol."""
+    symbols = sorted(set(re.findall(r"(?m)^ +(tftp_\w+);$", MAP.read_text())) - {"tftp_samples"})
+    return {name: {"tftp_open_server": "tftp_server_open"}.get(name, name.replace("_open_", "_")) for name in symbols}
 
 
 def stacks(codes: Sequence[Code]) -> dict[str, int]:
     """The most stack of each call, of all processors."""
-    return {name: max(code.stack(name) for code in codes if name in code.functions) for name in names()}
+    return {call: max(code.stack(name) for code in codes) for name, call in names().items()}
 
 
 def table(codes: Sequence[Code]) -> str:

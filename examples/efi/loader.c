@@ -139,7 +139,7 @@ static size_t get(uint8_t *image, size_t room) {
             fault = tftp_receive(&end, &from, datagram, len, image + total, room - total, reply, sizeof reply, &event);
         else
             fault = tftp_timeout(&end, reply, sizeof reply, &event);
-        if (fault == TFTP_MEMORY) {
+        if (fault == TFTP_FAULT_MEMORY) {
             fault = 0; /* nothing has changed: the peer sends again */
             continue;
         }
