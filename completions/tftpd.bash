@@ -3,8 +3,8 @@
 _tftpd() {
     local options
     COMPREPLY=()
-    options='--listen --requests-only --ports --max-block --max-file --retries --cap --per-client --longest
-         --overwrite --read-only --uploads --transfers --rounds --forever --drain --servers --server --log --log-time
+    options='--listen --requests-only --ports --max-block --max-file --retries --backoff --cap --per-client
+         --longest --overwrite --read-only --uploads --transfers --rounds --forever --drain --servers --server --log --log-time
          --status --help -h --version -V'
     case $3 in
     --listen)

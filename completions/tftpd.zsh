@@ -6,8 +6,9 @@ _arguments \
   '--requests-only[drop what begins neither as RRQ nor as WRQ at that port]' \
   '--ports=[ports of transfers, each drawn at random]:A\:B:' \
   '--max-block=[largest block size that is agreed]:bytes, 8 to 65464:' \
-  '--max-file=[longest file that is taken]:bytes:' \
+  '--max-file=[longest file that a write may announce]:bytes:' \
   '--retries=[how often a datagram is sent again without progress]:times, 0 to 10:' \
+  '--backoff[wait twice as long after each further timeout]' \
   '--cap=[transfers that are open at once]:transfers, 1 to 64:' \
   '--per-client=[transfers of one address that are open at once]:transfers, 1 to 64:' \
   '--longest=[age at which a transfer times out]:seconds:' \

@@ -86,7 +86,17 @@ mv "$doc/tftpd.default" "$root/etc/default/fanjuvery-tftpd"
 mkdir -p "$root/usr/share/zsh/vendor-completions"
 mv "$root"/usr/share/zsh/site-functions/* "$root/usr/share/zsh/vendor-completions"
 rmdir "$root/usr/share/zsh/site-functions"
+# what other packages have, too, has a name of its own: postinst gives it that one where it is free
+mv "$root/usr/bin/tftp" "$root/usr/bin/fanjuvery-tftp"
+mv "$root/usr/share/man/man1/tftp.1" "$root/usr/share/man/man1/fanjuvery-tftp.1"
+mv "$root/usr/share/man/man8/tftpd.8" "$root/usr/share/man/man8/fanjuvery-tftpd.8"
+mv "$root/usr/share/bash-completion/completions/tftp" "$root/usr/share/bash-completion/completions/fanjuvery-tftp"
 gzip -9n "$root"/usr/share/man/man*/*
+mkdir -p "$root/usr/share/lintian/overrides"
+{
+    echo "# it is fanjuvery-tftpd.8: other servers have a manual of the name tftpd.8"
+    echo "fanjuvery: no-manual-page [usr/bin/tftpd]"
+} > "$root/usr/share/lintian/overrides/fanjuvery"
 rm "$doc/LICENSE"
 cp debian/copyright "$doc/copyright"
 gzip -9nc debian/changelog > "$doc/changelog.gz"

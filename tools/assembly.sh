@@ -15,7 +15,7 @@ top=$room/$name
 # what is copied as it is, and from where: the same as in the other archive, and the sources in C
 files() {
     ls -d completions/* man/*.[1-8] packaging/* include/* examples/c/* examples/efi/*
-    printf '%s\n' LICENSE SECURITY.md docs/OPERATING.md docs/dashboard.svg examples/monitoring/tftpd.rules.yml \
+    printf '%s\n' LICENSE SECURITY.md docs/OPERATING.md examples/monitoring/tftpd.rules.yml \
         examples/monitoring/dashboard.json examples/loopback.sh examples/packets.hex examples/lossy.script
 }
 

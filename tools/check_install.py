@@ -20,7 +20,7 @@ from lib import rows
 TOP = Path(__file__).resolve().parent.parent
 PROGRAMS = ["tftp", "tftpd", "tftp-show", "tftp-play"]
 COPIED = ["Makefile", "LICENSE", "SECURITY.md", "crates.txt", "completions", "debian", "docs/OPERATING.md", "ports",
-          "docs/dashboard.svg", "examples", "include", "man", "packaging", "tools"]
+          "examples", "include", "man", "packaging", "tools"]
 LIBRARY = ["include/tftp.h", "include/tftp.hpp", "lib/libtftp.a", "lib/libtftp.so", "lib/libtftp.so.1",
            "lib/cmake/tftp/tftp-config.cmake", "lib/cmake/tftp/tftp-config-version.cmake", "lib/pkgconfig/tftp.pc",
            "man/man3/tftp.3"]
@@ -28,7 +28,7 @@ WORDS = ["PREFIX=/usr", "PROGRAM_PREFIX=x-", "MANDIR=/usr/man", "UNITDIR=/usr/un
 SHELLS = {"bash": ["bash", "-n"], "zsh": ["zsh", "-f", "-n"], "fish": ["fish", "--no-execute"]}
 PATIENCE = 600
 # what is installed with these words, but the programs and what is named for each
-DOCUMENTS = ["LICENSE", "OPERATING.md", "README.md", "SECURITY.md", "dashboard.json", "dashboard.svg", "tftpd.default",
+DOCUMENTS = ["LICENSE", "OPERATING.md", "README.md", "SECURITY.md", "dashboard.json", "tftpd.default",
              "tftpd.nft", "tftpd.rules.yml"]
 MANUALS = ["man1/x-tftp.1", "man1/x-tftp-play.1", "man1/x-tftp-show.1", "man5/x-tftp-play.5", "man8/x-tftpd.8"]
 UNITS = ["x-tftpd.service", "x-tftpd@.service", "x-tftpd.socket", "x-tftpd-socket.service"]
@@ -181,7 +181,7 @@ class Trial:
             return
         package = self.top / self.run("debian/pack.sh", "9").strip()
         held = self.run("dpkg-deb", "--contents", package)
-        for name in ["usr/bin/tftpd", "usr/share/man/man8/tftpd.8.gz", "usr/share/doc/fanjuvery/copyright",
+        for name in ["usr/bin/tftpd", "usr/bin/fanjuvery-tftp", "usr/share/man/man8/fanjuvery-tftpd.8.gz", "usr/share/doc/fanjuvery/copyright",
                      "usr/share/doc/fanjuvery/changelog.gz", "lib/systemd/system/tftpd.service",
                      "etc/default/fanjuvery-tftpd"]:
             self.expect(f" ./{name}\n" in held, True, f"whether the package has {name}")
@@ -206,17 +206,48 @@ class Trial:
         root = self.room / "debian"
         (root / "var/lib/dpkg").mkdir(parents=True)
         (root / "var/lib/dpkg/status").touch()
-        words = ["dpkg", "--root", root, "--force-depends", "--force-not-root", "--force-script-chrootless"]
-        if os.geteuid() != 0:
-            words = ["fakeroot", *words]
-            if not shutil.which("fakeroot"):
-                self.skipped.append("the removal of the package (no fakeroot)")
-                return
+        words = self.dpkg(root)
+        if not shutil.which(words[0]):
+            self.skipped.append("the removal of the package (no fakeroot)")
+            return
         self.run(*words, "--install", package)
         self.expect((root / "usr/bin/tftpd").is_file(), True, "whether the package installs tftpd")
+        found = os.readlink(root / "usr/bin/tftp"), os.readlink(root / "etc/alternatives/tftp")
+        self.expect(found, ("/etc/alternatives/tftp", "/usr/bin/fanjuvery-tftp"), "what tftp is, where nobody else has it")
         self.run(*words, "--purge", "fanjuvery")
         left = [name for name in files_below(root) if "tftp" in name or "fanjuvery" in name]
         self.expect(left, [], "what a purge leaves")
+        self.check_beside(package)
+
+    @staticmethod
+    def dpkg(root) -> list[object]:
+        """dpkg below a folder."""
+        as_root = [] if os.geteuid() == 0 else ["fakeroot"]
+        return [*as_root, "dpkg", "--root", root, "--force-depends", "--force-not-root", "--force-script-chrootless"]
+
+    def check_beside(self, package) -> None:
+        """A client and a server of another package stay as they are, whichever was installed first, and when this one is
+        purged: what is `tftp` is theirs."""
+        other, built = self.room / "other", self.room / "other.deb"
+        for folder in ("DEBIAN", "usr/bin", "usr/share/man/man8"):
+            (other / folder).mkdir(parents=True)
+        (other / "usr/bin/tftp").write_text("another client")
+        (other / "usr/share/man/man8/in.tftpd.8.gz").touch()
+        os.symlink("in.tftpd.8.gz", other / "usr/share/man/man8/tftpd.8.gz")
+        (other / "DEBIAN/control").write_text("Package: other\nVersion: 1\nArchitecture: all\nMaintainer: p <p@example.org>\n"
+                                              "Description: another client and server\n of TFTP\n")
+        self.run("dpkg-deb", "--root-owner-group", "--build", other, built)
+        for number, order in enumerate([(built, package), (package, built)]):
+            root = self.room / f"beside{number}"
+            (root / "var/lib/dpkg").mkdir(parents=True)
+            (root / "var/lib/dpkg/status").touch()
+            for each in order:
+                self.run(*self.dpkg(root), "--install", each)
+            for what in ("installed", "purged"):
+                names = [root / "usr/bin/tftp", root / "usr/share/man/man8/tftpd.8.gz"]
+                found = [os.readlink(name) if name.is_symlink() else name.is_file() and name.read_text() for name in names]
+                self.expect(found, ["another client", "in.tftpd.8.gz"], f"what the other package has once this is {what}")
+                self.run(*self.dpkg(root), "--purge", "fanjuvery")
 
     def unpacked(self, package) -> Path:
         root = self.room / package

@@ -127,7 +127,7 @@ files() {
     done
     echo "644 $DOCDIR/tftpd.nft packaging/tftpd.nft"
     echo "644 $DOCDIR/tftpd.default $(named packaging/tftpd.default)"
-    for document in LICENSE SECURITY.md docs/OPERATING.md docs/dashboard.svg examples/monitoring/tftpd.rules.yml \
+    for document in LICENSE SECURITY.md docs/OPERATING.md examples/monitoring/tftpd.rules.yml \
         examples/monitoring/dashboard.json "$(named packaging/README.md)"; do
         echo "644 $DOCDIR/${document##*/} $document"
     done
@@ -139,7 +139,7 @@ packed() {
     for program in $programs; do echo "bin/$program"; done
     for file in bin/libtftp.a bin/libtftp.so.1; do test ! -e "$file" || echo "$file"; done
     ls -d completions/* man/*.[1-8] packaging/* include/* examples/c/*
-    echo LICENSE SECURITY.md docs/OPERATING.md docs/dashboard.svg examples/monitoring/tftpd.rules.yml \
+    echo LICENSE SECURITY.md docs/OPERATING.md examples/monitoring/tftpd.rules.yml \
         examples/monitoring/dashboard.json examples/loopback.sh examples/packets.hex | tr ' ' '\n'
 }
 

@@ -12,8 +12,8 @@ from pathlib import Path
 from statistics import median
 from typing import Any, Iterator
 
-from datagrams import PATIENCE, PATIENT, ack, data, error, expect, free_ports, oack, rrq
-from scene import Server, first_line, patiently, preloaded
+from datagrams import PATIENCE, PATIENT, ack, data, error, expect, free_ports, oack, rrq, wrq
+from scene import Server, first_line, next_line, patiently, preloaded
 from server_alone import first_block_of
 from servers import MARKED, children_of, is_gone, wait_for_servers, wait_until
 
@@ -203,11 +203,12 @@ def test_several_servers_at_a_socket_that_is_handed_over(scene) -> None:
 
 
 def test_several_servers_at_a_port_that_is_taken(scene) -> None:
-    """No server starts."""
+    """No server starts, once the port was tried for ten seconds."""
     taken = scene.port()
     process = scene.start("tftpd", [".", "--listen", taken.word, "--servers", "2", "--forever"])
     printed, errors = (text.decode() for text in process.communicate(timeout=PATIENCE))
-    said = f"tftpd: socket fault\ntftpd: {taken.word}: address in use\n"
+    said = (f"tftpd: {taken.word}: address in use, tried for 10 s\n"
+            f"tftpd: socket fault\ntftpd: {taken.word}: address in use\n")
     expect((process.returncode, printed, errors), (2, "", said), "what is said of a port that is taken")
 
 
@@ -238,11 +239,11 @@ def test_words_of_several_servers(scene) -> None:
     scene.make_folder("-odd root")
     scene.make_folder("-odd root/in")
     words = ["--listen", f"{scene.address}:0", "--servers", "2", "--forever", "--max-block", "8192", "--max-file", "99999",
-             "--retries", "7", "--cap", "9", "--per-client", "8", "--overwrite", "--uploads", "in", "--longest", "77", "--log",
+             "--retries", "7", "--backoff", "--cap", "9", "--per-client", "8", "--overwrite", "--uploads", "in", "--longest", "77", "--log",
              "--log-time", "--requests-only", "--ports", "40001:40003", "--", "-odd root"]
     # (a child has the words of its supervisor until it executes its own)
     server = served(scene.start("tftpd", words), 2)
-    shared = ["--max-block=8192", "--max-file=99999", "--retries=7", "--cap=9", "--per-client=8", "--overwrite",
+    shared = ["--max-block=8192", "--max-file=99999", "--retries=7", "--backoff", "--cap=9", "--per-client=8", "--overwrite",
               "--uploads=in", "--longest=77", "--forever", "--log", "--log-time", "--", "-odd root"]
     for number, pid, ports in zip((1, 2), children_of(server.process), ("40001:40001", "40002:40003")):
         expected = ["--listen=stdin", f"--server={number}", f"--ports={ports}", "--requests-only", *shared]
@@ -281,9 +282,81 @@ def test_lines_of_several_servers_are_whole(scene) -> None:
     expect(sum(" closed " in line for line in log), 64, "the closed lines of the log")
 
 
+def serves_after(scene, server, words) -> Server:
+    """Ends a supervisor by TERM, and starts another one with the same words, which serves once the servers of the first have
+    ended."""
+    pids = children_of(server.process)
+    server.process.terminate()
+    server.process.wait(PATIENCE)
+    time.sleep(1)
+    expect([is_gone(pid) for pid in pids].count(False) > 0, True, "whether a server outlives its supervisor")
+    return served(scene.start("tftpd", words), 2)
+
+
+def test_a_supervisor_waits_for_a_server_that_syncs(scene) -> None:
+    """The system syncs a file for three seconds, in which the server cannot end: the port is tried until it has."""
+    words = [".", "--listen", f"{scene.address}:{free_ports(1)}", "--servers", "2", "--forever"]
+    server = served(scene.start("tftpd", words, env=preloaded(scene, "slow_sync.c", SLOWED=3_000)), 2)
+    port = scene.port()
+    port.send(wrq("b", **PATIENT), server.address)
+    _, transfer = port.receive()
+    port.send(data(1, b"ABC"), transfer)
+    time.sleep(0.3)
+    serves_after(scene, server, words).process.kill()
+
+
+def test_a_supervisor_waits_for_a_server_whose_log_is_not_read(scene) -> None:
+    """A server waits in the write of a line, since the pipe of its log is full: it ends once that is read."""
+    scene.make("a", b"ABC")
+    words = [".", "--listen", f"{scene.address}:{free_ports(1)}", "--servers", "2", "--forever", "--log"]
+    server = served(scene.start("tftpd", words), 2)
+    for _ in range(2_000):
+        scene.port().send(rrq("none"), server.address)
+    time.sleep(0.5)
+    reader = threading.Timer(3, server.process.stderr.read)
+    reader.start()
+    serves_after(scene, server, words).process.kill()
+    reader.join()
+
+
+def test_an_address_that_comes_later(scene) -> None:
+    """The other one is served meanwhile, and a line says which is tried again: then that is served, too, by each of its
+    servers."""
+    scene.make("a", b"ABC")
+    there = scene.folder.with_name(f"{scene.folder.name}.there")
+    env, late = preloaded(scene, "absent_address.c", ABSENT=77, UNTIL=there), f"127.77.77.77:{free_ports(1)}"
+    words = [".", "--listen", f"{scene.address}:0", "--listen", late, "--servers", "2", "--forever"]
+    process = scene.start("tftpd", words, env=env)
+    said = f"tftpd: {late}: address not available, tried again each second\n"
+    expect(next_line(process.stderr), said, "what is said of the address")
+    server = served(process, 2)
+    scene.tftp("get", server.word, "a", "one", "--no-dally").completes(3)
+    there.touch()
+    expect(next_line(process.stdout), f"listening {late}\n", "what is said once it is there")
+    wait_for_servers(process, 4)
+    for name in ("two", "three"):
+        scene.tftp("get", late, "a", name, "--no-dally").completes(3)
+    process.kill()
+    there.unlink()
+    # without any that is there nothing is served
+    process = scene.start("tftpd", [".", "--listen", late, "--listen", "127.77.77.77:0", "--forever"], env=env)
+    printed, errors = (text.decode() for text in process.communicate(timeout=PATIENCE))
+    last = f"tftpd: socket fault\ntftpd: {late}: address not available\n"
+    expect((process.returncode, printed, errors.endswith(last)), (2, "", True), f"what is said of no address: {errors}")
+
+
+def test_automatic_servers_at_many_addresses(scene) -> None:
+    """As many as 64 in all allow, though the processors are more."""
+    scene.make_folder("root")
+    listens = [word for last in range(1, 34) for word in ("--listen", f"127.0.{scene.address.split('.')[2]}.{last}:0")]
+    process = scene.start("tftpd", ["root", *listens, "--servers", "auto", "--forever"])
+    wait_for_servers(process, 33)
+    expect(len(children_of(process)), 33, "the servers")
+    process.kill()
+
+
 def test_a_supervisor_takes_the_port_of_the_one_before(scene) -> None:
-    """Which was ended a moment ago, so that its servers may have the port: it is tried for half a second, which lasts long
-    enough here for them to end on a busy host."""
+    """Which was ended a moment ago, so that its servers may have the port: it is tried until they have ended."""
     scene.make("a", b"ABC")
     port, env = free_ports(1), preloaded(scene, "long_waits.c", LONGER=LONGER)
     words = [".", "--listen", f"{scene.address}:{port}", "--servers", "4", "--forever"]

@@ -9,7 +9,7 @@ from itertools import product
 from pathlib import Path
 from typing import Optional
 
-from datagrams import PATIENCE, expect, rrq, wrq
+from datagrams import PATIENCE, PATIENT, expect, rrq, wrq
 from scene import Server
 from servers import children_of, unmarked, wait_for_servers, wait_until
 from several_servers import ended, served
@@ -19,6 +19,8 @@ from lib.metrics import Sample, metrics, promtool_says, value
 ROOT, DRAIN, STATUS = "served", "drain.now", "tftpd.prom"
 # What the log says of a close
 CLOSED = re.compile(r"closed .*, (\d+) bytes, \d+ ms, (\d+) sent again, (\w+)")
+# how old the text of a server gets at most, in seconds, with a second for its wait and more on a busy host
+LONGEST_AGE = 90
 OUTCOMES = {"Complete": "complete", "TimedOut": "timed_out", "PeerError": "peer_error"}
 
 
@@ -69,7 +71,8 @@ def test_a_status_file_counts_as_the_log(scene) -> None:
     first = read(scene.folder / STATUS)
     expect([value(first, f"tftpd_{name}_total") for name in ("requests", "transfers", "bytes")], [0, 0, 0], "the first text")
     expect(value(first, "tftpd_transfers_limit"), 16, "the limit")
-    expect(before - 1 <= value(first, "tftpd_start_time_seconds") <= time.time(), True, "when it started")
+    for metric in ("start", "report"):
+        expect(before - 1 <= value(first, f"tftpd_{metric}_time_seconds") <= time.time(), True, f"the time of the {metric}")
     for name in ["one", "two"]:
         scene.tftp("get", server.word, "a", name, "--no-dally").completes(515)
     scene.tftp("put", server.word, "one", "b").completes(515)
@@ -189,7 +192,8 @@ def test_each_of_several_servers_has_a_file(scene) -> None:
     found = {}
     for number in ("1", "2"):
         own = read(scene.folder / f"tftpd.{number}.prom")
-        expect({dict(labels).get("server") for _, labels in own}, {number}, "the labels")
+        labels = {(dict(labels).get("server"), dict(labels).get("address")) for _, labels in own}
+        expect(labels, {(number, server.word)}, "the labels")
         found.update(own)
     has_counted(found, [unmarked(line) for line in log])
     expect((scene.folder / STATUS).exists(), False, "whether there is a file of all")
@@ -209,6 +213,62 @@ def test_a_status_file_that_cannot_be_written(scene) -> None:
     has_counted(read(scene.folder / "later" / STATUS), log)
 
 
+def lies_at(path) -> tuple[int, int]:
+    """Which file lies at a path, and what it is."""
+    found = os.lstat(path)
+    return found.st_ino, found.st_mode
+
+
+def test_a_status_file_replaces_a_file_or_nothing(scene) -> None:
+    """A FIFO, a link and a device stay, at its path and at that of its temporary file. That is said once."""
+    scene.make(f"{ROOT}/a", b"ABC")
+    scene.make("other", b"kept")
+    os.symlink("other", scene.folder / "link")
+    for name in ("fifo", "draft~"):
+        os.mkfifo(scene.folder / name)
+    places = [("fifo", "fifo"), ("link", "link"), ("draft", "draft~")]
+    if os.geteuid() == 0:
+        os.mknod(scene.folder / "null", stat.S_IFCHR | 0o666, os.makedev(1, 3))
+        places.append(("null", "null"))
+    for name, place in places:
+        before = lies_at(scene.folder / place)
+        server = scene.serve("--forever", "--log", "--drain", DRAIN, "--status", name, root=ROOT)
+        expect(server.log_line(), "tftpd: --status: not a file", f"what is said of {name}")
+        scene.tftp("get", server.word, "a", f"{name}.got", "--no-dally").completes(3)
+        log = drained(scene, server)
+        os.remove(scene.folder / DRAIN)
+        expect([line for line in log if "--status" in line], [], "what is said again")
+        expect(lies_at(scene.folder / place), before, f"what lies at {place}")
+    expect((scene.folder / "other").read_bytes(), b"kept", "what the link leads to")
+
+
+def test_an_idle_server_writes_its_file_each_minute(scene) -> None:
+    """So it is told from one that hangs: nothing has changed but the time."""
+    scene.make_folder(ROOT)
+    serve(scene)
+    first = read(scene.folder / STATUS)
+    began = time.monotonic()
+    while (second := read(scene.folder / STATUS)) == first and time.monotonic() < began + LONGEST_AGE:
+        time.sleep(0.1)
+    lasted = time.monotonic() - began
+    expect(LONGEST_AGE / 2 < lasted < LONGEST_AGE, True, f"whether it comes after a minute, and not {lasted:.1f} s")
+    changed = {name for (name, labels), count in second.items() if first[name, labels] != count}
+    expect(changed, {"tftpd_report_time_seconds"}, "what changes")
+
+
+def test_a_datagram_that_the_system_refuses_is_not_sent(scene) -> None:
+    """It does not count as one that was sent."""
+    scene.make("a", b"ABC")
+    # (the server serves the whole folder of the test)
+    place = scene.folder.with_name(f"{scene.folder.name}.prom")
+    server = scene.watch("--log", "--status", place, unsent=1)
+    wait_until(place.exists, "the first text")
+    scene.port().send(rrq("a", **PATIENT), server.address)
+    wait_until(lambda: value(read(place), "tftpd_datagrams_total", way="received") == 1, "the request")
+    expect(value(read(place), "tftpd_datagrams_total", way="sent"), 0, "the datagrams that were sent")
+    server.process.kill()
+
+
 def test_words_of_a_status_file(scene) -> None:
     """No name, or a place that it may not have."""
     scene.make_folder(ROOT)
@@ -223,11 +283,18 @@ def test_words_of_a_status_file(scene) -> None:
                   ["--status", "link/a.prom", "--servers", "2", "--forever"]]:
         said = f"tftpd: file fault\ntftpd: --status {words[1]}: in ROOT or below it\n"
         expect(refused(scene, words), said, f"what is said of {words}")
+    # the file of --drain by another spelling
+    scene.make_folder("runs")
+    os.symlink("runs", scene.folder / "same")
+    for file, drain in [("a", "./a"), ("a", f"{scene.folder}//a"), (f"{scene.folder}/a", "a~"), ("runs/a", "same/a"),
+                        ("same/../runs/a", f"{ROOT}/../runs/./a")]:
+        said = f"tftpd: file fault\ntftpd: --status {file}: of this server it would be the file of --drain\n"
+        expect(refused(scene, ["--status", file, "--drain", drain]), said, f"what is said of {file} and {drain}")
     # (the first server may listen by then)
     words = ["--status", "a.prom", "--drain", "a.2.prom", "--servers", "2", "--forever"]
     said = refused(scene, words, printed=r"(listening .*\n)?")
     expect("of this server it would be the file of --drain" in said, True, f"what is said of a server's file: {said}")
-    expect([name for name in scene.files() if name != "a.1.prom"], [], "the files")
+    expect([name for name in scene.files() if name not in ("a.1.prom", "runs", "same")], [], "the files")
 
 
 def refused(scene, words, printed="") -> str:

@@ -26,7 +26,7 @@ pub free : is_simple_and_free tftpd_app ≡ true
 free = refl
 
 -- the words of an option, by their row
-words_by_rows : (found : Found) (id : List ℕ) → words_of found id ≡ words_in (rows_of found) id
+pub words_by_rows : (found : Found) (id : List ℕ) → words_of found id ≡ words_in (rows_of found) id
 words_by_rows found id =
     go (find (λ (e : Entry). bytes_eq e.0.now id) found.entries.items)
     ∙ ap (λ (r : Option Row). option_map_or (λ (row : Row). row.values) r [])

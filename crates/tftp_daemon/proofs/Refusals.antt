@@ -13,7 +13,7 @@ use Rattle.std.proofs.lemmas.Slice.Eq.{bytes_eq-Decides}
 use Rattle.clap.specs.Facts.{Entry}
 use Rattle.clap.specs.Matches.{ReadsOne, first_value, found_of, matched_of, one_text, raw_values}
 use Rattle.clap.specs.Values.{read_as}
-use Rattle.clap.specs.Walk.{Row, one_of, row_of, rows_of}
+use Rattle.clap.specs.Walk.{Row, first_of, one_of, row_of, rows_of}
 use Rattle.clap.specs.declared.builder.value_parser.Reading.{Reading}
 use Rattle.clap.specs.declared.parser.matches.ArgMatches.{ArgMatches}
 use Rattle.clap.specs.declared.parser.matches.Found.{Found}
@@ -33,7 +33,7 @@ use Rattle.tftp_daemon.specs.Refused.{StandTogether, StatusApart, is_given, root
 use Rattle.tftp_daemon.specs.declared.daemon.DaemonConfig.{DaemonConfig}
 use Rattle.tftp_daemon.specs.declared.listen.Listen.{Listen}
 use Rattle.tftp_daemon.specs.declared.listen.Listen.TheVariants.{At, Handed}
-use Rattle.tftp_daemon.proofs.Commands.{by_rows}
+use Rattle.tftp_daemon.proofs.Commands.{by_rows, words_by_rows}
 
 -- ---- what was found of an option
 -- a flag that is read as a `bool` is set as its text says
@@ -289,9 +289,14 @@ module _ (m : ArgMatches) (config : DaemonConfig) (each : ℕ)
 
 -- a configuration starts as many servers at each address as the rows say
 pub starts_for : (m : ArgMatches) (config : DaemonConfig) (processors each : ℕ)
-    → ServersFor processors (first_value (found_of m) (codes "servers")) each → config.instance.servers ≡ each
-    → StartsInRows processors (rows_of (found_of m)) config
+    → ServersFor processors (length (words_of (found_of m) (codes "listen"))) (first_value (found_of m) (codes "servers"))
+    each
+    → config.instance.servers ≡ each → StartsInRows processors (rows_of (found_of m)) config
 starts_for m config processors each are is =
-    subst (λ (word : Option (List ℕ)). ServersFor processors word config.instance.servers)
+    subst (λ (listens : List (List ℕ)). ServersFor processors (length listens) (first_of (codes "servers") (rows_of (found_of m)))
+    config.instance.servers) (words_by_rows (found_of m) (codes "listen"))
+    (subst (λ (word : Option (List ℕ)).
+    ServersFor processors (length (words_of (found_of m) (codes "listen"))) word config.instance.servers)
     (first_value-rows (found_of m) (codes "servers"))
-    (subst (λ (n : ℕ). ServersFor processors (first_value (found_of m) (codes "servers")) n) (sym is) are)
+    (subst (λ (n : ℕ). ServersFor processors (length (words_of (found_of m) (codes "listen")))
+    (first_value (found_of m) (codes "servers")) n) (sym is) are))

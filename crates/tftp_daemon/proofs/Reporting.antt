@@ -1,9 +1,8 @@
 -- The report of a run is that of the configuration that its words name.
 use Rattle.std.proofs.Common.{◌≡◌, ◌∙◌, ℕ, List, [], ◌∷◌, Option, ap, refl, subst, sym}
 use Rattle.std.specs.Prelude.{Some, None, IfSome, option_map}
-use Rattle.tftp_sockets.specs.declared.entry.Entry.{Entry}
-use Rattle.tftp_status.specs.StatusEvent.{StatusEvent, texts_in, told_in}
-use Rattle.tftp_status.specs.StatusEvent.StatusEvent.{Told, Handed}
+use Rattle.tftp_status.specs.StatusEvent.{StatusEvent, texts_in}
+use Rattle.tftp_status.specs.StatusEvent.StatusEvent.{Told, Moved, Handed}
 use Rattle.tftp_status.specs.StatusFile.{AllOwn, HandsCounts, KeepsCounts, Status, draft_of}
 use Rattle.tftp_daemon.specs.CommandLine.{IfExit, IfRun}
 use Rattle.tftp_daemon.specs.Reported.{AreTextsOf, ReportsWords, RunReportsAlone}
@@ -63,20 +62,22 @@ reports_words words line before None status names is same none = tt
 reports_words words (Run config) before (Some a) status names is same none = (config, names, is)
 reports_words words (Exit n) before (Some a) status names is same none = absurd (cc)
 
--- texts of what was told are texts of that and one entry more
-later_told : (entry : Entry) (told : List Entry) (texts : List (List ℕ)) → AreTextsOf told texts
-    → AreTextsOf (entry ∷ told) texts
-later_told entry told [] are = tt
-later_told entry told (text ∷ earlier) (by_then, (later, is), is_text, before) =
-    (by_then, (entry ∷ later, ap (λ (entries : List Entry). entry ∷ entries) is), is_text, before)
+-- texts of what was noted are texts of that and one event more
+later_noted : (event : StatusEvent) (events : List StatusEvent) (texts : List (List ℕ)) → AreTextsOf events texts
+    → AreTextsOf (event ∷ events) texts
+later_noted event events [] are = tt
+later_noted event events (text ∷ earlier) (by_then, (later, is), is_text, before) =
+    (by_then, (event ∷ later, ap (λ (all : List StatusEvent). event ∷ all) is), is_text, before)
 
--- each text that was handed is one of what was told by then
-texts_told : (events : List StatusEvent) → HandsCounts events → AreTextsOf (told_in events) (texts_in events)
-texts_told [] hands = tt
-texts_told (Told entry ∷ before) hands =
-    later_told entry (told_in before) (texts_in before) (texts_told before hands)
-texts_told (Handed text ∷ before) (is_text, hands) =
-    (told_in before, ([], refl), is_text, texts_told before hands)
+-- each text that was handed is one of what was noted by then
+texts_noted : (events : List StatusEvent) → HandsCounts events → AreTextsOf events (texts_in events)
+texts_noted [] hands = tt
+texts_noted (Told entry ∷ before) hands =
+    later_noted (Told entry) before (texts_in before) (texts_noted before hands)
+texts_noted (Moved way ∷ before) hands =
+    later_noted (Moved way) before (texts_in before) (texts_noted before hands)
+texts_noted (Handed text ∷ before) (is_text, hands) =
+    (before, (Handed text ∷ [], refl), is_text, texts_noted before hands)
 
 -- a run changes on the disk of its counts the file that its words name alone
 pub reports_alone : RunReportsAlone
@@ -90,5 +91,6 @@ reports_alone words status (config, names, is) = record {
   changes =
       subst (λ (own : List ℕ). AllOwn own (draft_of own) status.log) is.is_at
       (subst (λ (draft : List ℕ). AllOwn status.file draft status.log) is.keeps.beside is.keeps.own);
-  texts = subst (AreTextsOf (told_in status.events)) (sym is.keeps.texts) (texts_told status.events is.keeps.handed);
+  replaces = is.keeps.replaces;
+  texts = subst (AreTextsOf status.events) (sym is.keeps.texts) (texts_noted status.events is.keeps.handed);
 }

@@ -88,6 +88,7 @@ config = record {
   per_client = None;
   ending = record { transfers = 1; rounds = 1000000 };
   longest = None;
+  backoff = Constant;
   drain = None;
   status = None;
   logs = false;
@@ -140,6 +141,7 @@ configured = record {
     read_only = refl;
     uploads = refl;
     longest = refl;
+    backoff = refl;
     ending = Ends_after refl refl refl;
     drain = refl;
     status = refl;

@@ -1,6 +1,6 @@
 -- The server that the words of a command line configure, as they were read (own).
-use Rattle.std.specs.Prelude.{ℕ, ◌≡◌, ◌≢◌, ◌≤◌, ◌+◌, ◌*◌, ◌⊎◌, Bool, true, false, max, min}
-use Rattle.std.specs.Prelude.{List, [], ◌∷◌, ◌++◌, codes, drop, length, find}
+use Rattle.std.specs.Prelude.{ℕ, ◌≡◌, ◌≢◌, ◌≤◌, ◌+◌, ◌*◌, ◌/◌, ◌⊎◌, Bool, true, false, max, min}
+use Rattle.std.specs.Prelude.{List, [], ◌∷◌, ◌++◌, codes, drop, length, find, if◌then◌else◌}
 use Rattle.std.specs.Prelude.{Option, Some, None, option_map}
 use Rattle.std.specs.List.{AllByRecursion}
 use Rattle.std.specs.Option.{option_map_or}
@@ -8,6 +8,8 @@ use Rattle.std.specs.Str.{bytes_eq}
 use Rattle.clap.specs.Matches.{matched_of, raw_values}
 use Rattle.clap.specs.Walk.{Row, first_of}
 use Rattle.clap.specs.declared.parser.matches.Found.{Found}
+use Rattle.tftp_ends.specs.declared.backoff.Backoff.{Backoff}
+use Rattle.tftp_ends.specs.declared.backoff.Backoff.TheVariants.{Constant, Doubling}
 use Rattle.tftp_ends.specs.declared.endpoint.Endpoint.{Endpoint}
 use Rattle.tftp_server.specs.declared.config.Config.{Config}
 use Rattle.tftp_arguments.specs.Read.{IsNumber, ReadWords, read_in}
@@ -25,6 +27,10 @@ use Rattle.tftp_daemon.specs.declared.listen.Listen.TheVariants.{At, Handed}
 abbrev pub is_on : Option (List ℕ) → Bool
 is_on None = false
 is_on (Some text) = bytes_eq text (codes "true")
+
+-- how long a transfer waits after timeouts without progress, as a flag says
+abbrev pub backoff_of : Bool → Backoff
+backoff_of on = if on then Doubling else Constant
 
 -- the limits of transfers, as they were read
 pub record ConfiguresAs (read : ReadWords) (config : Config) : Type 0 where
@@ -95,12 +101,18 @@ abbrev pub HasApart : Listen → List Endpoint → Type 0
 HasApart (At at) others = IsApart at others × AllDistinct others
 HasApart Handed others = AllDistinct others
 
--- how many servers there are at each address, as a word names them where the process has so many
--- processors: by their number, from 1 to 64, or `auto`, for one for each processor, 64 at most
-abbrev pub ServersFor : ℕ → Option (List ℕ) → ℕ → Type 0
-ServersFor processors None servers = ⊥
-ServersFor processors (Some word) servers =
-    ((word ≡ codes "auto") × (servers ≡ max 1 (min processors 64)))
+-- the most servers at each of so many addresses, of which there is one at least: 64 in all, but one at
+-- each address
+abbrev pub most_each : ℕ → ℕ
+most_each addresses = max 1 (64 / max 1 addresses)
+
+-- how many servers there are at each of so many addresses, as a word names them where the process has
+-- so many processors: by their number, from 1 to 64, or `auto`, for one for each processor, as far as
+-- there may be so many
+abbrev pub ServersFor : ℕ → ℕ → Option (List ℕ) → ℕ → Type 0
+ServersFor processors addresses None servers = ⊥
+ServersFor processors addresses (Some word) servers =
+    ((word ≡ codes "auto") × (servers ≡ max 1 (min processors (most_each addresses))))
     ⊎ (IsNumber 8 (Some word) (Some servers) × (1 ≤ servers) × (servers ≤ 64))
 
 -- the same, whatever processors the process has: for `auto` there are 1 to 64
@@ -124,7 +136,7 @@ servers_of config = config.instance.servers * (length config.others.items + 1)
 abbrev pub IsOfSeveral : DaemonConfig → Type 0
 IsOfSeveral config = (2 ≤ config.instance.servers) ⊎ (config.others.items ≢ [])
 
--- the configuration has the folder, the address, the ports, the limits, the age, the end, the flags
+-- the configuration has the folder, the address, the ports, the limits, the age, the waits, the end, the flags
 -- and the number of servers that were read, and which of several it is; and where `--listen` was
 -- given again, with these words, the addresses of the words behind the first, none of them twice
 pub record NamesServer (read : ReadWords) (listens : List (List ℕ)) (config : DaemonConfig) : Type 0
@@ -141,6 +153,7 @@ pub record NamesServer (read : ReadWords) (listens : List (List ℕ)) (config : 
     pub read_only : config.read_only ≡ is_on (read.text (codes "read-only"))
     pub uploads : read.word (codes "uploads") ≡ option_map (λ folder. folder.now) config.uploads
     pub longest : IsNumber 32 (read.text (codes "longest")) config.longest
+    pub backoff : config.backoff ≡ backoff_of (is_on (read.text (codes "backoff")))
     pub ending : EndsAs read config.ending
     pub drain : read.word (codes "drain") ≡ option_map (λ path. path.now) config.drain
     pub status : read.word (codes "status") ≡ option_map (λ path. path.now) config.status
@@ -156,7 +169,8 @@ NamesInRows rows config = NamesServer (read_in rows) (words_in rows (codes "list
 -- processors
 abbrev pub StartsInRows : ℕ → List Row → DaemonConfig → Type 0
 StartsInRows processors rows config =
-    ServersFor processors (first_of (codes "servers") rows) config.instance.servers
+    ServersFor processors (length (words_in rows (codes "listen"))) (first_of (codes "servers") rows)
+    config.instance.servers
 
 -- what holds of the configuration that a command line has the program serve by
 abbrev pub IfRun : CommandLine → (DaemonConfig → Type 0) → Type 0

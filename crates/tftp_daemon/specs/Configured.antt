@@ -2,7 +2,6 @@
 use Rattle.std.specs.Prelude.{ℕ, ◌≡◌, ◌≢◌, ◌≤◌, ◌⊎◌, List, [], Option, Some, None, Result, Ok, Err}
 use Rattle.std.specs.Prelude.{option_map, is_some}
 use Rattle.std.specs.String.{string_bytes}
-use Rattle.tftp_ends.specs.declared.backoff.Backoff.TheVariants.{Constant}
 use Rattle.tftp_ends.specs.declared.endpoint.Endpoint.{Endpoint}
 use Rattle.tftp_file.specs.Source.{SourceMeaning}
 use Rattle.tftp_store.specs.Store.{StoreMeaning}
@@ -44,7 +43,7 @@ service_at config at = record {
   ports = config.ports;
   ending = config.ending;
   longest = config.longest;
-  backoff = Constant;
+  backoff = config.backoff;
   requests_only = config.requests_only;
   per_client = config.per_client;
   drains = is_some config.drain;

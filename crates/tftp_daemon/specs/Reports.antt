@@ -1,12 +1,14 @@
 -- The file of a server's counts, as its configuration names it (own).
-use Rattle.std.specs.Prelude.{ℕ, ◌≡◌, ◌≢◌, ◌==◌, if◌then◌else◌, length, List, ◌∷◌, Option, Some, None, Ok, Err, IfSome}
+use Rattle.std.specs.Prelude.{ℕ, ◌≡◌, ◌≢◌, ◌==◌, if◌then◌else◌, length, List, [], ◌∷◌, Option, Some, None, Ok, Err, IfSome}
 use Rattle.std.specs.Prelude.{codes, option_map}
 use Rattle.std.specs.Path.{PathStartsWith, path_parent}
 use Rattle.std.specs.declared.io.Error.{Error}
 use Rattle.tftp_disk.specs.DiskTrace.{DiskEvent}
-use Rattle.tftp_disk.specs.DiskTrace.DiskEvent.{Resolved}
+use Rattle.tftp_disk.specs.DiskTrace.DiskEvent.{Followed, Resolved}
+use Rattle.tftp_disk.specs.declared.found.Found.{Found}
 use Rattle.tftp_status.specs.FileName.{IsFileOf}
 use Rattle.tftp_status.specs.StatusFile.{IsNewAt, KeepsCounts, Status, draft_of}
+use Rattle.tftp_daemon.specs.Refused.{name_in}
 use Rattle.tftp_daemon.specs.declared.daemon.DaemonConfig.{DaemonConfig}
 
 -- a folder, which is this one if its path is empty
@@ -37,6 +39,41 @@ pub data LooksOutside (root folder : List ℕ) (before after : List DiskEvent) :
 abbrev pub IsOwnFile : List ℕ → Option ℕ → List ℕ → Type 0
 IsOwnFile file None own = own ≡ file
 IsOwnFile file (Some server) own = IsFileOf file server own
+
+-- the file of `--drain` has another name than the status file and its temporary file
+abbrev pub IsNamedApart : List ℕ → List ℕ → Type 0
+IsNamedApart drain own = (name_in drain ≢ name_in own) × (name_in drain ≢ name_in (draft_of own))
+
+-- the system led the folder of the status file and that of the file of `--drain` to two folders, or one
+-- of both nowhere, or these files have different names
+pub data LooksApartFrom (drain own : List ℕ) (before after : List DiskEvent) : Type 0 where
+  No_place : (error : Error) → after ≡ Resolved (folder_of own) (Err error) ∷ before
+      → LooksApartFrom drain own before after
+  No_drain : (place : List ℕ) (error : Error)
+      → after ≡ Resolved (folder_of drain) (Err error) ∷ Resolved (folder_of own) (Ok place) ∷ before
+      → LooksApartFrom drain own before after
+  Two : (place other : List ℕ)
+      → after ≡ Resolved (folder_of drain) (Ok other) ∷ Resolved (folder_of own) (Ok place) ∷ before
+      → (place ≡ other → IsNamedApart drain own) → LooksApartFrom drain own before after
+
+-- so it is of the file that is a server's own
+pub record LooksApart (server : Option ℕ) (drain file : List ℕ) (before after : List DiskEvent)
+    : Type 0 where
+  pub own : List ℕ
+  pub is_own : IsOwnFile file server own
+  pub looks : LooksApartFrom drain own before after
+
+-- a view of the disk was made, and asked so
+abbrev pub HasLooked : {V : Type 0} → (V → List DiskEvent)
+    → (List DiskEvent → List DiskEvent → Type 0) → Type 0
+HasLooked {V} log Looks = (view : V) × Looks [] (log view)
+
+-- the signal to drain was given by a view whose newest look found the file at this path
+abbrev pub IsGivenBy : {V : Type 0} → (V → List DiskEvent) → Option (List ℕ) → Type 0
+IsGivenBy {V} log None = ⊥
+IsGivenBy {V} log (Some path) =
+    (view : V) × (found : Found) × (before : List DiskEvent)
+    × (log view ≡ Followed path (Ok found) ∷ before)
 
 -- the status file is a new one of the configuration: at the path that it names, and neither it nor its
 -- temporary file is the file that has the server drain

@@ -44,11 +44,13 @@ with_limits app =
     (with_rule
     (with_rule
     (with_rule
+    (with_rule
     (with_rule app
     (by_default (decimal default_config.limits.max_block)
     (within (codes "max-block") 8 65464)))
     (by_default (decimal default_config.limits.max_file) (any_number (codes "max-file"))))
     (by_default (decimal default_config.retries) (within (codes "retries") 0 10)))
+    (flag_rule (codes "backoff")))
     (by_default (decimal default_config.cap) (within (codes "cap") 1 64)))
     (within (codes "per-client") 1 64))
     (within (codes "longest") 1 4294967295)

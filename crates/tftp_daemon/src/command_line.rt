@@ -1,6 +1,6 @@
 //! The command line of `tftpd`, and the configuration that its words name.
 
-ghost use Rattle.std.specs.Prelude.{◌≡◌, ◌≤◌, Some, codes, drop, map, IfOk, IfSome};
+ghost use Rattle.std.specs.Prelude.{◌≡◌, ◌≤◌, Some, codes, drop, length, map, IfOk, IfSome};
 ghost use Rattle.clap.specs.Matches.{first_value, found_of};
 ghost use Rattle.clap.specs.Walk.{rows_of};
 ghost use Rattle.tftp_server.specs.Config.{IsConfig};
@@ -9,7 +9,7 @@ ghost use Rattle.tftp_arguments.specs.Read.{IsNumber, read_of};
 ghost use Rattle.tftp_arguments.specs.Rules.{IsApp};
 ghost use Rattle.tftp_daemon.specs.CommandLine.{ConfiguresAs, EndsAs, IfExit, IfRun, NameEndpoints};
 ghost use Rattle.tftp_daemon.specs.CommandLine.{NamesServer, PortsAs, ServersAs, ServersFor};
-ghost use Rattle.tftp_daemon.specs.CommandLine.{StartsInRows, words_of};
+ghost use Rattle.tftp_daemon.specs.CommandLine.{StartsInRows, backoff_of, most_each, words_of};
 ghost use Rattle.tftp_daemon.specs.Refused.{Configures};
 ghost use Rattle.tftp_daemon.specs.Words.{StartsFor, WordsConfigure, tftpd_app};
 
@@ -18,7 +18,7 @@ use crate::error_output::ErrorOutput;
 use crate::listen::{Listen, has_apart};
 use crate::matched::{is_on, listen_words, server_count};
 use crate::options::{
-    DRAIN, FOREVER, LISTEN, LOG, LOG_TIME, LONGEST, PER_CLIENT, PORTS, READ_ONLY, REQUESTS_ONLY,
+    BACKOFF, DRAIN, FOREVER, LISTEN, LOG, LOG_TIME, LONGEST, PER_CLIENT, PORTS, READ_ONLY, REQUESTS_ONLY,
     ROOT, ROUNDS, SERVER, SERVERS, STATUS, TRANSFERS, Texts, UPLOADS, command,
 };
 use crate::ports::{NoPorts, port_range};
@@ -31,7 +31,7 @@ use clap::{ArgMatches, Command};
 use std::alloc::{AllocError, Global};
 use std::convert::AsStr;
 use tftp_arguments::print_usage;
-use tftp_ends::Endpoint;
+use tftp_ends::{Backoff, Endpoint};
 use tftp_loop::{Ending, PortRange};
 use tftp_negotiate::Limits;
 use tftp_server::Config;
@@ -142,21 +142,36 @@ fn read_matches<'a, P: Print + Eprint>(
 /// The number of servers that are to start at each address, if the word of `--servers` is one.
 fn servers_each(matches: &ArgMatches<'_>, processors: u8) -> Option<u8>
     ensures number { IfSome result
-        (ServersFor processors (first_value (found_of matches.now) (codes "servers"))) }
+        (ServersFor processors (length (words_of (found_of matches.now) (codes "listen")))
+        (first_value (found_of matches.now) (codes "servers"))) }
     ensures bounds { IfSome result
         (ServersAs (first_value (found_of matches.now) (codes "servers"))) }
 {
-    servers_in(matches.get_str(SERVERS)?, processors)
+    let addresses = listen_words(matches).len();
+    servers_in(matches.get_str(SERVERS)?, processors, addresses)
 }
 
-/// The number of servers in a word, from 1 to 64; for `auto` that of the processors. Else `None`.
-fn servers_in(word: &str, processors: u8) -> Option<u8>
-    ensures number { IfSome result (ServersFor processors (Some word.now)) }
+/// The number of servers at each of so many addresses in a word, from 1 to 64; for `auto` that of the
+/// processors, as far as there may be so many. Else `None`.
+fn servers_in(word: &str, processors: u8, addresses: usize) -> Option<u8>
+    ensures number { IfSome result (ServersFor processors addresses (Some word.now)) }
     ensures bounds { IfSome result (ServersAs (Some word.now)) }
 {
     match word {
-        "auto" => Some(processors.clamp(1, MOST_SERVERS)),
+        "auto" => Some(processors.min(most_each(addresses)).max(1)),
         _ => number_of_servers(word),
+    }
+}
+
+/// The most servers at each of so many addresses: 64 in all, but one at each address.
+fn most_each(addresses: usize) -> u8
+    ensures most { result ≡ most_each addresses }
+    ensures bounds { (1 ≤ result) × (result ≤ 64) }
+{
+    let addresses = addresses.max(1);
+    match u8::try_from(usize::from(MOST_SERVERS) / addresses) {
+        Ok(most) => most.max(1),
+        Err(_) => MOST_SERVERS,
     }
 }
 
@@ -259,6 +274,7 @@ fn service<'a>(
         per_client: matches.get_one::<u8>(PER_CLIENT),
         ending,
         longest: matches.get_one::<u32>(LONGEST),
+        backoff: backoff(is_on(matches, BACKOFF)),
         drain: matches.get_str(DRAIN),
         status: matches.get_str(STATUS),
         logs: is_on(matches, LOG),
@@ -269,6 +285,17 @@ fn service<'a>(
         },
         has_priority: errors.has_priority(),
     })
+}
+
+/// How long a transfer waits after timeouts without progress, by the flag.
+fn backoff(is_doubling: bool) -> Backoff
+    ensures { result ≡ backoff_of is_doubling }
+{
+    if is_doubling {
+        Backoff::Doubling
+    } else {
+        Backoff::Constant
+    }
 }
 
 /// When the server ends.

@@ -11,14 +11,15 @@ ghost use Rattle.tftp_folder.specs.Opened.{IsRootOf};
 ghost use Rattle.tftp_daemon.specs.Configured.{IsOfSeveral, IsServerOf, IsUploads, ListensAt};
 ghost use Rattle.tftp_daemon.specs.Configured.{MayServe, RunsService, drafts_in, servers_of};
 ghost use Rattle.tftp_daemon.specs.Configured.{service_at, daemon_status};
-ghost use Rattle.tftp_daemon.specs.Reports.{IsReportOf};
+ghost use Rattle.tftp_daemon.specs.Reports.{HasLooked, IsReportOf, LooksApart, LooksOutside};
+ghost use Rattle.tftp_daemon.specs.Reports.{folder_of};
 ghost use Rattle.tftp_daemon.specs.Supervised.{MaySupervise, Supervised};
 ghost use Rattle.tftp_status.specs.StatusFile.{KeepsCounts};
 
 use crate::drain_file::DrainFile;
 use crate::listen::Listen;
 use crate::servers::supervise;
-use crate::status::{begin_reports, check_place};
+use crate::status::{begin_reports, check_drain, check_place};
 use std::alloc::{AllocError, Global};
 use std::io::{self, ErrorKind};
 use std::process::ExitStatus;
@@ -60,6 +61,8 @@ pub(crate) struct DaemonConfig<'a> {
     /// The age of a transfer, in seconds, behind which its datagrams are dropped; `None` for no
     /// limit.
     pub(crate) longest: Option<u32>,
+    /// How long a transfer waits after timeouts without progress.
+    pub(crate) backoff: Backoff,
     /// The file that has the server drain once it is there; `None` if none does.
     pub(crate) drain: Option<&'a str>,
     /// The file of the counts, with the server's number if it is one of several; `None` for none.
@@ -114,7 +117,7 @@ impl DaemonConfig<'_> {
             ports: self.ports,
             ending: self.ending,
             longest: self.longest,
-            backoff: Backoff::Constant,
+            backoff: self.backoff,
             requests_only: self.requests_only,
             per_client: self.per_client,
             drains: self.drain.is_some(),
@@ -194,14 +197,58 @@ pub(crate) fn serve<P: Print + ErrorLines + Clock + Supervise, D: Disk, N: Serve
     serve_alone(alloc, disk, net, config, input)
 }
 
-/// Refuses a status file in the folder of a configuration. Without one it asks nothing.
+/// Refuses a status file in the folder of a configuration, and one that is the file of `--drain`,
+/// wherever links lead. Without one it asks nothing.
 fn check_status<D: Disk>(
     disk: &D,
     alloc: Global,
     config: &DaemonConfig<'_>,
-) -> Result<(), DaemonFault> {
+) -> Result<(), DaemonFault>
+    ensures place { OnOk result (IfSome config.now.status (λ file.
+        HasLooked D.View.log (LooksOutside config.now.root.now (folder_of file.now)))) }
+    ensures drain { OnOk result (IfSome config.now.status (λ file. IfSome config.now.drain (λ drain.
+        HasLooked D.View.log (LooksApart config.now.instance.server drain.now file.now)))) }
+{
     match config.status {
-        Some(file) => check_place(&mut disk.view(), alloc, config.root, file),
+        Some(file) => check_file(disk, alloc, config, file),
+        None => Ok(()),
+    }
+}
+
+/// As [`check_status`], of a status file with this path.
+fn check_file<D: Disk>(
+    disk: &D,
+    alloc: Global,
+    config: &DaemonConfig<'_>,
+    file: &str,
+) -> Result<(), DaemonFault>
+    ensures place { OnOk result (HasLooked D.View.log
+        (LooksOutside config.now.root.now (folder_of file.now))) }
+    ensures drain { OnOk result (IfSome config.now.drain (λ drain.
+        HasLooked D.View.log (LooksApart config.now.instance.server drain.now file.now))) }
+{
+    let mut looks = disk.view();
+    match check_place(&mut looks, alloc, config.root, file) {
+        Ok(()) => check_file_and_drain(disk, alloc, config, file),
+        Err(fault) => Err(fault),
+    }
+}
+
+/// Refuses a status file that is the file of `--drain`, if there is one.
+fn check_file_and_drain<D: Disk>(
+    disk: &D,
+    alloc: Global,
+    config: &DaemonConfig<'_>,
+    file: &str,
+) -> Result<(), DaemonFault>
+    ensures { OnOk result (IfSome config.now.drain (λ drain.
+        HasLooked D.View.log (LooksApart config.now.instance.server drain.now file.now))) }
+{
+    match config.drain {
+        Some(drain) => {
+            let mut looks = disk.view();
+            check_drain(&mut looks, alloc, config.instance.server, drain, file)
+        }
         None => Ok(()),
     }
 }
@@ -242,10 +289,7 @@ fn serve_alone<D: Disk, N: ServerUdp + Eprint>(
         (λ report. IsReportOf config.now report.status) }
 {
     set_log(&mut net.net, alloc, config);
-    match begin_reports(net, alloc, config) {
-        Ok(()) => serve_where_asked(alloc, disk, net, config, input),
-        Err(fault) => Err(fault),
-    }
+    serve_where_asked(alloc, disk, net, config, input)
 }
 
 /// Serves where requests arrive.
@@ -263,8 +307,8 @@ fn serve_where_asked<D: Disk, N: ServerUdp + Eprint>(
     ensures runs { MayServe D.log (D.log disk) ⟦<FolderStore<D> as Store>⟧.meaning
         ⟦<FolderSource<D::View> as Source>⟧.meaning
         config.now (daemon_status result) (N.log net.old.net.net) (N.log net.new.net.net) }
-    ensures reports { IfSome net.old.report (λ report. IsReportOf config.now report.status)
-        → IfSome net.new.report (λ report. IsReportOf config.now report.status) }
+    ensures reports { net.old.report ≡ None → IfSome net.new.report
+        (λ report. IsReportOf config.now report.status) }
 {
     match config.listen {
         Listen::At(at) => {
@@ -301,8 +345,8 @@ fn serve_handed<D: Disk, N: ServerUdp + Eprint>(
     ensures runs { MayServe D.log (D.log disk) ⟦<FolderStore<D> as Store>⟧.meaning
         ⟦<FolderSource<D::View> as Source>⟧.meaning
         config.now (daemon_status result) (N.log net.old.net.net) (N.log net.new.net.net) }
-    ensures reports { IfSome net.old.report (λ report. IsReportOf config.now report.status)
-        → IfSome net.new.report (λ report. IsReportOf config.now report.status) }
+    ensures reports { net.old.report ≡ None → IfSome net.new.report
+        (λ report. IsReportOf config.now report.status) }
 {
     match HandedSocket::new(input) {
         Ok(socket) => {
@@ -334,6 +378,31 @@ fn hand_over<N: ServerUdp>(
 
 /// Serves with the request port at this endpoint.
 fn serve_at<D: Disk, N: ServerUdp + Eprint>(
+    alloc: Global,
+    disk: D,
+    net: &mut Counted<HandedUdp<N>, D>,
+    config: &DaemonConfig<'_>,
+    at: Endpoint,
+) -> Result<(), DaemonFault>
+    requires valid { IsConfig config.now.config }
+    requires alone { config.now.instance.servers ≤ 1 }
+    requires at_one_address { config.now.others.items ≡ [] }
+    requires listens { ListensAt config.now.listen at }
+    ensures status { daemon_status result ≤ 2 }
+    ensures runs { MayServe D.log (D.log disk) ⟦<FolderStore<D> as Store>⟧.meaning
+        ⟦<FolderSource<D::View> as Source>⟧.meaning
+        config.now (daemon_status result) (N.log net.old.net.net) (N.log net.new.net.net) }
+    ensures reports { net.old.report ≡ None → IfSome net.new.report
+        (λ report. IsReportOf config.now report.status) }
+{
+    match begin_reports(net, alloc, config, at) {
+        Ok(()) => serve_reported(alloc, disk, net, config, at),
+        Err(fault) => Err(fault),
+    }
+}
+
+/// As [`serve_at`], once its reports have begun.
+fn serve_reported<D: Disk, N: ServerUdp + Eprint>(
     alloc: Global,
     disk: D,
     net: &mut Counted<HandedUdp<N>, D>,

@@ -5,7 +5,7 @@ ghost use Rattle.std.specs.Fmt.{decimal};
 ghost use Rattle.std.specs.String.{string_bytes};
 ghost use Rattle.clap.specs.Simple.{App};
 ghost use Rattle.tftp_server.specs.Config.{default_config};
-ghost use Rattle.tftp_arguments.specs.Rules.{HasRule, IsApp, by_default, within};
+ghost use Rattle.tftp_arguments.specs.Rules.{HasRule, IsApp, by_default, flag_rule, within};
 ghost use Rattle.tftp_daemon.specs.Words.{any_number, bare_app, option_rule, repeated, tftpd_app};
 ghost use Rattle.tftp_daemon.specs.Words.{with_ending, with_folder_and_ports, with_limits, with_log};
 ghost use Rattle.tftp_daemon.specs.Words.{with_servers, with_writes};
@@ -19,8 +19,8 @@ use tftp_server::Config;
 
 const EXAMPLES: &str = "\
 Examples:
-  tftpd /srv/tftp --listen 192.0.2.1:6969 --forever --read-only
-  tftpd /srv/tftp --listen 192.0.2.1:6969 --listen 198.51.100.1:6969 --forever --uploads incoming
+  tftpd /srv/tftp --listen 192.0.2.1:6969 --requests-only --forever --read-only
+  tftpd /srv/tftp --listen 192.0.2.1:6969 --listen 198.51.100.1:6969 --requests-only --forever --uploads incoming
   tftpd . --listen 127.0.0.1:0 --max-block 8192 --cap 64";
 
 /// The name of the folder that is served.
@@ -36,6 +36,8 @@ pub(crate) const PORTS: &str = "ports";
 pub(crate) const PER_CLIENT: &str = "per-client";
 
 pub(crate) const LONGEST: &str = "longest";
+
+pub(crate) const BACKOFF: &str = "backoff";
 
 pub(crate) const READ_ONLY: &str = "read-only";
 
@@ -170,6 +172,7 @@ fn with_limits<'a>(alloc: Global, command: Command<'a>, texts: &'a Texts) -> Res
     let command = command.arg(max_block(alloc, texts))?;
     let command = command.arg(max_file(alloc, texts))?;
     let command = command.arg(retries(alloc, texts))?;
+    let command = command.arg(backoff(alloc))?;
     let command = command.arg(cap(alloc, texts))?;
     let command = command.arg(per_client(alloc))?;
     Ok(command.arg(longest(alloc))?)
@@ -200,7 +203,7 @@ fn max_file<'a>(alloc: Global, texts: &'a Texts) -> Arg<'a>
         "max-file",
         "0..2^64-1",
         value_parser!(u64),
-        "Longest file that is taken, in bytes",
+        "Longest file that a write may announce by tsize, in bytes",
     );
     max_file.default_value(texts.max_file.as_str())
 }
@@ -218,6 +221,17 @@ fn retries<'a>(alloc: Global, texts: &'a Texts) -> Arg<'a>
         "How often a datagram is sent again without progress",
     );
     retries.default_value(texts.retries.as_str())
+}
+
+/// The argument for the waits after timeouts (RFC 1123, section 4.2.3.2).
+fn backoff<'a>(alloc: Global) -> Arg<'a>
+    ensures { HasRule (flag_rule (codes "backoff")) result }
+{
+    flag(
+        alloc,
+        BACKOFF,
+        "Waits twice as long after each further timeout without progress, up to eight times (RFC 1123)",
+    )
 }
 
 /// The argument for the limit of open transfers.

@@ -18,18 +18,27 @@ use std::convert::AsStr;
 use std::io::{self, ErrorKind};
 use std::os::fd::OwnedFd;
 use std::time::{Clock, Duration};
-use tftp_ends::Endpoint;
+use tftp_ends::{Backoff, Endpoint};
 use tftp_lines::reason_of;
 use tftp_loop::{LoopFault, PortRange};
-use tftp_service::{HandedSocket, Input, Supervise, SupervisorFault};
+use tftp_service::{HandedSocket, Input, Place, Supervise, SupervisorFault};
 use tftp_sockets::address_of;
 
-/// How often a port that is in use is tried: the servers of a supervisor that has just ended have it
-/// until they have ended, too.
-const BINDS: u32 = 26;
+/// For how long a port that is in use is tried, in seconds: the servers of a supervisor that has just
+/// ended have it until they have ended, too. One that syncs a file, or waits for the reader of its log,
+/// ends only after that.
+const BIND_SECONDS: u64 = 10;
+
+/// How often it is tried in this time.
+const BINDS: u32 = 501;
+
+/// After how many tries that is said.
+const SILENT_BINDS: u32 = 26;
 
 /// The time between two tries, in milliseconds.
 const BIND_PAUSE: u64 = 20;
+
+const _: () = prove!((BINDS as u64 - 1) * BIND_PAUSE == BIND_SECONDS * 1_000);
 
 /// Starts the servers of a configuration, so many at each address, and supervises them until they
 /// have ended.
@@ -41,9 +50,9 @@ pub(crate) fn supervise<R: Supervise + Clock + Print + Eprint>(
 ) -> Result<(), DaemonFault>
     ensures { OnOk result (Supervised R.supervised config.now) }
 {
-    let sockets = sockets_of(rt, alloc, config, input)?;
+    let places = places_of(rt, alloc, config, input)?;
     let servers = command_lines(rt, alloc, config)?;
-    let (ended, _history) = rt.supervise(sockets.as_slice(), servers.as_slice());
+    let (ended, _history) = rt.supervise(places.as_slice(), servers.as_slice());
     match ended {
         Ok(()) => Ok(()),
         Err(fault) => Err(fault_of(fault)),
@@ -61,70 +70,113 @@ fn fault_of(fault: SupervisorFault) -> DaemonFault {
     }
 }
 
-/// The sockets of the servers, in their order: those at one address have the same request port.
-fn sockets_of<R: Supervise + Clock>(
+/// The places of the servers, in their order: those at one address have the same request port. Of several
+/// addresses those that this host does not have yet are tried later, but one has to be there.
+fn places_of<R: Supervise + Clock + Eprint>(
     rt: &R,
     alloc: Global,
     config: &DaemonConfig<'_>,
     input: Input,
-) -> Result<Vec<OwnedFd>, DaemonFault> {
-    let mut sockets = Vec::new(alloc);
-    let first = first_socket(rt, config.listen, input)?;
-    add_sockets(&mut sockets, &first, config.instance.servers)?;
+) -> Result<Vec<Place>, DaemonFault> {
+    let mut places = Vec::new(alloc);
+    let first = first_place(rt, config, input)?;
+    add_places(&mut places, &first, config.instance.servers)?;
     for at in config.others.iter() {
-        let socket = bound_socket(rt, *at)?;
-        add_sockets(&mut sockets, &socket, config.instance.servers)?;
+        let place = place_at(rt, config, *at)?;
+        add_places(&mut places, &place, config.instance.servers)?;
     }
-    Ok(sockets)
+    if let Listen::At(at) = config.listen {
+        if places.iter().all(|place| is_absent(place)) {
+            let _ = bound_socket(rt, at)?;
+        }
+    }
+    Ok(places)
 }
 
-/// Adds a socket, once for each of so many servers.
-fn add_sockets(
-    sockets: &mut Vec<OwnedFd>,
-    socket: &OwnedFd,
-    servers: u8,
-) -> Result<(), DaemonFault> {
+/// Whether an address is absent.
+fn is_absent(place: &Place) -> bool {
+    match place {
+        Place::Bound(_) => false,
+        Place::Absent(_) => true,
+    }
+}
+
+/// Adds a place, once for each of so many servers.
+fn add_places(places: &mut Vec<Place>, place: &Place, servers: u8) -> Result<(), DaemonFault> {
     for _ in 0..servers {
-        let same = match socket.try_clone() {
+        let same = match same_place(place) {
             Ok(same) => same,
             Err(error) => return Err(DaemonFault::Start(reason_of(&error))),
         };
-        if sockets.push(same).is_err() {
+        if places.push(same).is_err() {
             return Err(DaemonFault::Memory);
         }
     }
     Ok(())
 }
 
-/// The socket of the first address: bound here, or handed over.
-fn first_socket<R: Supervise + Clock>(
+/// The same place, for another server.
+fn same_place(place: &Place) -> io::Result<Place> {
+    match place {
+        Place::Bound(socket) => Ok(Place::Bound(socket.try_clone()?)),
+        Place::Absent(at) => Ok(Place::Absent(*at)),
+    }
+}
+
+/// The place of the first address: bound here, absent, or handed over.
+fn first_place<R: Supervise + Clock + Eprint>(
     rt: &R,
-    listen: Listen,
+    config: &DaemonConfig<'_>,
     input: Input,
-) -> Result<OwnedFd, DaemonFault> {
-    match listen {
-        Listen::At(at) => bound_socket(rt, at),
+) -> Result<Place, DaemonFault> {
+    match config.listen {
+        Listen::At(at) => place_at(rt, config, at),
         Listen::Handed => match HandedSocket::new(input) {
-            Ok(socket) => Ok(socket.into_descriptor()),
+            Ok(socket) => Ok(Place::Bound(socket.into_descriptor())),
             Err(fault) => Err(DaemonFault::Handed(fault)),
         },
     }
 }
 
+/// The place of an address: bound here, or of several addresses absent, which is said.
+fn place_at<R: Supervise + Clock + Eprint>(
+    rt: &R,
+    config: &DaemonConfig<'_>,
+    at: Endpoint,
+) -> Result<Place, DaemonFault> {
+    match bind(rt, at) {
+        Ok(socket) => Ok(Place::Bound(socket)),
+        Err(error) => {
+            let reason = reason_of(&error);
+            if error.kind() == ErrorKind::AddrNotAvailable && !config.others.is_empty() {
+                let _ = eprintln!(rt; "tftpd: {at}: {reason}, tried again each second");
+                return Ok(Place::Absent(address_of(at)));
+            }
+            Err(DaemonFault::Bind(at, reason))
+        }
+    }
+}
+
 /// A socket that is bound to this endpoint.
-fn bound_socket<R: Supervise + Clock>(rt: &R, at: Endpoint) -> Result<OwnedFd, DaemonFault> {
+fn bound_socket<R: Supervise + Clock + Eprint>(
+    rt: &R,
+    at: Endpoint,
+) -> Result<OwnedFd, DaemonFault> {
     match bind(rt, at) {
         Ok(socket) => Ok(socket),
         Err(error) => Err(DaemonFault::Bind(at, reason_of(&error))),
     }
 }
 
-/// Binds a socket to this endpoint, for which it waits half a second.
-fn bind<R: Supervise + Clock>(rt: &R, at: Endpoint) -> io::Result<OwnedFd> {
-    for _ in 1..BINDS {
+/// Binds a socket to this endpoint, for which it waits some seconds while another socket has it.
+fn bind<R: Supervise + Clock + Eprint>(rt: &R, at: Endpoint) -> io::Result<OwnedFd> {
+    for tries in 1..BINDS {
         let bound = rt.bind_shared(address_of(at));
         if !is_in_use(&bound) {
             return bound;
+        }
+        if tries == SILENT_BINDS {
+            let _ = eprintln!(rt; "tftpd: {at}: address in use, tried for {BIND_SECONDS} s");
         }
         rt.sleep(Duration::from_millis(BIND_PAUSE));
     }
@@ -290,6 +342,9 @@ fn add_limits(
     add(words, format!(in alloc; "--max-block={max_block}")?)?;
     add(words, format!(in alloc; "--max-file={max_file}")?)?;
     add(words, format!(in alloc; "--retries={retries}")?)?;
+    if config.backoff == Backoff::Doubling {
+        add(words, format!(in alloc; "--backoff")?)?;
+    }
     add(words, format!(in alloc; "--cap={cap}")?)?;
     match config.per_client {
         Some(most) => add(words, format!(in alloc; "--per-client={most}")?),
@@ -400,15 +455,17 @@ fn has_same_settings(own: &DaemonConfig<'_>, config: &DaemonConfig<'_>) -> bool
         && own.log_times == config.log_times
 }
 
-/// Whether two servers end alike, and their transfers.
+/// Whether two servers end alike, and their transfers, which wait alike.
 fn has_same_end(own: &DaemonConfig<'_>, config: &DaemonConfig<'_>) -> bool
     ensures transfers { IsTrue result → own.now.ending.transfers ≡ config.now.ending.transfers }
     ensures rounds { IsTrue result → own.now.ending.rounds ≡ config.now.ending.rounds }
     ensures longest { IsTrue result → own.now.longest ≡ config.now.longest }
+    ensures backoff { IsTrue result → own.now.backoff ≡ config.now.backoff }
 {
     own.ending.transfers == config.ending.transfers
         && own.ending.rounds == config.ending.rounds
         && is_same_age(own.longest, config.longest)
+        && own.backoff == config.backoff
 }
 
 /// Whether two ages that may be given are the same.

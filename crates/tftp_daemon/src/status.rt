@@ -5,16 +5,18 @@ ghost use Rattle.std.specs.Prelude.{is_some};
 ghost use Rattle.std.specs.String.{string_bytes};
 ghost use Rattle.tftp_status.specs.StatusFile.{draft_of};
 ghost use Rattle.tftp_daemon.specs.Refused.{is_name, name_in, names_file};
-ghost use Rattle.tftp_daemon.specs.Reports.{IsOwnFile, IsReported, LooksOutside, folder_of, or_here};
+ghost use Rattle.tftp_daemon.specs.Reports.{IsOwnFile, IsReported, LooksApart, LooksApartFrom};
+ghost use Rattle.tftp_daemon.specs.Reports.{LooksOutside, folder_of, or_here};
 
 use crate::daemon::{DaemonConfig, DaemonFault, StatusFault};
 use std::alloc::{AllocError, Global};
 use std::path::Path;
 use tftp_arguments::VERSION;
 use tftp_disk::{Disk, Looks};
+use tftp_ends::Endpoint;
 use tftp_service::HandedUdp;
 use tftp_sockets::ServerUdp;
-use tftp_status::{Counted, ReportSettings, file_of_server};
+use tftp_status::{Counted, Labels, ReportSettings, file_of_server};
 
 /// Refuses a status file in the served folder or below it, wherever the links of both lead. A folder
 /// that cannot be resolved is none of a file that can be written by now.
@@ -40,6 +42,75 @@ pub(crate) fn check_place<L: Looks>(
     } else {
         Ok(())
     }
+}
+
+/// Refuses a status file that is the file of `--drain`, as is its temporary file, wherever the links of
+/// both folders lead: of several servers this server's own. A folder that cannot be resolved has no
+/// file by now.
+pub(crate) fn check_drain<L: Looks>(
+    looks: &mut L,
+    alloc: Global,
+    server: Option<u8>,
+    drain: &str,
+    file: &str,
+) -> Result<(), DaemonFault>
+    ensures { OnOk result (LooksApart server drain.now file.now (L.log looks.old)
+        (L.log looks.new)) }
+{
+    let own = own_file(alloc, file, server)?;
+    let draft = draft_of(alloc, own.as_str())?;
+    check_own(looks, alloc, drain, own.as_str(), draft.as_str())
+}
+
+/// As [`check_drain`], of a server's own file and its temporary file.
+fn check_own<L: Looks>(
+    looks: &mut L,
+    alloc: Global,
+    drain: &str,
+    own: &str,
+    draft: &str,
+) -> Result<(), DaemonFault>
+    requires { draft.now ≡ draft_of own.now }
+    ensures { OnOk result (LooksApartFrom drain.now own.now (L.log looks.old) (L.log looks.new)) }
+{
+    let place = match looks.resolve(alloc, folder_of(own)) {
+        Ok(place) => place,
+        Err(_) => return Ok(()),
+    };
+    let other = match looks.resolve(alloc, folder_of(drain)) {
+        Ok(other) => other,
+        Err(_) => return Ok(()),
+    };
+    if !is_same(place.as_str(), other.as_str()) {
+        return Ok(());
+    }
+    if is_named_apart(drain, own, draft) {
+        Ok(())
+    } else {
+        Err(DaemonFault::Status(StatusFault::Drain))
+    }
+}
+
+/// Whether two texts are the same.
+fn is_same(one: &str, other: &str) -> bool
+    ensures { one.now ≡ other.now → result ≡ true }
+{
+    one == other
+}
+
+/// Whether the file of `--drain` has another name than a status file and its temporary file.
+fn is_named_apart(drain: &str, own: &str, draft: &str) -> bool
+    ensures { result ≡ true → (name_in drain.now ≢ name_in own.now)
+        × (name_in drain.now ≢ name_in draft.now) }
+{
+    differs(name_in(drain), name_in(own)) && differs(name_in(drain), name_in(draft))
+}
+
+/// Whether two texts differ.
+fn differs(one: &str, other: &str) -> bool
+    ensures { result ≡ true → one.now ≢ other.now }
+{
+    one != other
 }
 
 /// The folder of a file.
@@ -84,11 +155,12 @@ fn is_name(name: &str) -> bool
 }
 
 /// Begins the reports of a server, if its configuration has a file for them: the one that it names, or
-/// of several servers the one with this server's number.
+/// of several servers the one with this server's number. Its samples have the address.
 pub(crate) fn begin_reports<D: Disk, N: ServerUdp>(
     net: &mut Counted<HandedUdp<N>, D>,
     alloc: Global,
     config: &DaemonConfig<'_>,
+    at: Endpoint,
 ) -> Result<(), DaemonFault>
     ensures net { net.new.net ≡ net.old.net }
     ensures none { config.now.status ≡ None → net.new ≡ net.old }
@@ -107,7 +179,10 @@ pub(crate) fn begin_reports<D: Disk, N: ServerUdp>(
     }
     let settings = ReportSettings {
         file: own.as_str(),
-        server: config.instance.server,
+        labels: Labels {
+            address: at,
+            server: config.instance.server,
+        },
         version: VERSION,
         limit: u64::from(config.config.cap),
         start: start_of(&net.net),

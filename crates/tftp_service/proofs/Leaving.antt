@@ -4,7 +4,7 @@ use Rattle.std.specs.Prelude.{max, min}
 use Rattle.tftp_sockets.specs.declared.load.Load.{Load}
 use Rattle.tftp_service.specs.declared.share.Debt.{Debt}
 use Rattle.tftp_service.specs.declared.share.TheConstants.{PART, SAVED}
-use Rattle.tftp_service.specs.Looks.{Looks, MayLeave}
+use Rattle.tftp_service.specs.Looks.{HasPart, Looks}
 use Rattle.tftp_service.specs.Looks.Looks.{First, Looked, Settled}
 use Rattle.tftp_service.specs.Share.{debt_at, last_time, left_since}
 
@@ -32,7 +32,7 @@ below : (used now last : ℕ) (all : ℕ) → min all last ≤ used → used < n
 below used now last all h unused soon = omega (arith, h, unused, soon)
 
 pub leaves_little : (start left now : ℕ) (load : Load) (debt : Debt) → now ≤ last_time
-    → Looks start left debt → MayLeave now (debt_at load now debt)
+    → Looks start left debt → HasPart now (debt_at load now debt)
     → (left + left_since debt.left_at now) * PART + (start - SAVED) < now
 leaves_little start left now load debt soon looks may =
     let used = used_up start left debt looks in
@@ -40,4 +40,4 @@ leaves_little start left now load debt soon looks may =
     ((left + left_since debt.left_at now) * PART + (start - SAVED))
     (grows (start - SAVED) debt.used (now - SAVED) left PART last_time used
     (left_since debt.left_at now))
-    may.unused soon
+    may soon

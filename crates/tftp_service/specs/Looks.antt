@@ -6,11 +6,15 @@ use Rattle.tftp_service.specs.declared.share.Debt.{Debt}
 use Rattle.tftp_service.specs.declared.share.TheConstants.{PART, SAVED}
 use Rattle.tftp_service.specs.Share.{debt_at, last_time, left_since}
 
--- a server leaves a request that waits at this time: it owes the others time, and has not used up
--- its part
+-- a server has not used up the part of its time at this time
+abbrev pub HasPart : ℕ → Debt → Type 0
+HasPart now debt = debt.used < now
+
+-- a server that may open more leaves a request that waits at this time: it owes the others time, and
+-- has not used up its part
 pub record MayLeave (now : ℕ) (debt : Debt) : Type 0 where
   pub owes : 0 < debt.owed
-  pub unused : debt.used < now
+  pub unused : HasPart now debt
 
 -- the debt once it is known whether a server leaves a request at this time
 abbrev pub noted_at : Bool → ℕ → Debt → Debt
@@ -24,10 +28,10 @@ settled_at load debt = record debt { transfers = load.open; owed = 0; left_at = 
 -- microseconds, and its debt after it
 pub data Looks (start : ℕ) : ℕ → Debt → Type 0 where
   First : (load : Load) (debt : Debt) (leaves : Bool)
-      → (leaves ≡ true → MayLeave start (debt_at load start debt))
+      → (leaves ≡ true → HasPart start (debt_at load start debt))
       → Looks start 0 (noted_at leaves start (debt_at load start debt))
   Looked : (left now : ℕ) (load : Load) (debt : Debt) (leaves : Bool) → Looks start left debt
-      → (leaves ≡ true → MayLeave now (debt_at load now debt))
+      → (leaves ≡ true → HasPart now (debt_at load now debt))
       → Looks start (left + left_since debt.left_at now)
       (noted_at leaves now (debt_at load now debt))
   Settled : (left : ℕ) (load : Load) (debt : Debt) → Looks start left debt
@@ -38,5 +42,5 @@ pub data Looks (start : ℕ) : ℕ → Debt → Type 0 where
 abbrev pub LeavesLittle : Type 0
 LeavesLittle =
     (start left now : ℕ) (load : Load) (debt : Debt) → now ≤ last_time → Looks start left debt
-    → MayLeave now (debt_at load now debt)
+    → HasPart now (debt_at load now debt)
     → (left + left_since debt.left_at now) * PART + (start - SAVED) < now

@@ -1,5 +1,5 @@
 -- What a server has printed so far, and what is passed on of it (ours).
-use Rattle.std.specs.Prelude.{ℕ, ◌≡◌, ◌≢◌, ◌||◌, Bool, true, List, [], ◌∷◌, ◌++◌, All, map}
+use Rattle.std.specs.Prelude.{ℕ, ◌≡◌, ◌≢◌, ◌||◌, true, List, [], ◌∷◌, ◌++◌, All, map}
 use Rattle.std.specs.declared.vec.Vec.{Vec}
 use Rattle.tftp_service.specs.Lines.{HasNoEnd, has_any, line_passed, passed, ended_lines}
 use Rattle.tftp_service.specs.Lines.{with_first}

@@ -1,5 +1,5 @@
 -- What is printed of the lines of several servers (ours).
-use Rattle.std.specs.Prelude.{ℕ, ◌≡◌, ◌==◌, Bool, true, false, List, [], ◌∷◌, ◌++◌, All}
+use Rattle.std.specs.Prelude.{ℕ, ◌≡◌, ◌==◌, List, [], ◌∷◌, ◌++◌, All}
 use Rattle.std.specs.Prelude.{if◌then◌else◌}
 use Rattle.tftp_service.specs.Lines.{HasNoEnd, has_any, line_passed, ended_lines, with_first}
 use Rattle.tftp_service.specs.ProcessEvent.{ProcessEvent, given_by, printed_in}

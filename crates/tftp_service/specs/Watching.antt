@@ -1,5 +1,5 @@
 -- What a supervisor knows of its servers, by what their outputs gave (ours).
-use Rattle.std.specs.Prelude.{ℕ, ◌≡◌, ◌<◌, ◌+◌, Bool, true, false, List, [], ◌∷◌, length}
+use Rattle.std.specs.Prelude.{ℕ, ◌≡◌, ◌<◌, ◌+◌, true, false, List, [], ◌∷◌, length}
 use Rattle.std.specs.Prelude.{Ok, Some, pos, slice_index_or}
 use Rattle.std.specs.Process.{exit_code}
 use Rattle.std.specs.declared.process.status.ExitStatus.{ExitStatus}

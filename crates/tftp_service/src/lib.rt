@@ -28,6 +28,6 @@ pub use handed_fault::HandedFault;
 pub use handed_input::{Input, standard_input};
 pub use handed_socket::HandedSocket;
 pub use handed_udp::HandedUdp;
-pub use supervise::Supervise;
+pub use supervise::{Place, Supervise};
 pub use supervisor_fault::SupervisorFault;
 pub use system::History;

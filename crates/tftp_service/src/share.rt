@@ -1,7 +1,7 @@
 //! Which of several servers takes a request.
 
 ghost use Rattle.std.specs.Prelude.{◌≡◌, ◌≢◌, ◌≤◌, ◌<◌, ◌-◌, ◌↔◌, None, IfNone, IfSome, IsSome, IsTrue};
-ghost use Rattle.tftp_service.specs.Looks.{MayLeave, noted_at, settled_at};
+ghost use Rattle.tftp_service.specs.Looks.{HasPart, MayLeave, noted_at, settled_at};
 ghost use Rattle.tftp_service.specs.Share.{debt_at, left_since, owed_after, pause_of, used_after};
 
 use std::cell::Cell;
@@ -26,8 +26,9 @@ const SAVED: u64 = 320_000;
 
 /// When a server takes a request, which all of them find. One that has opened a transfer first leaves
 /// requests to the others for a pause, which passes only while one waits: so each opens about as
-/// many. Where they keep coming pauses would hold them up, so that a server leaves them for a part
-/// of its time at most. One that may open no more leaves each, since it would refuse it.
+/// many. One that may open no more leaves each for longer, since it would refuse it. Where requests
+/// keep coming pauses would hold them up, and a server that leaves them spins: so it leaves them for a
+/// part of its time at most.
 #[derive(Drop)]
 pub(crate) struct Share {
     debt: Cell<Debt>,
@@ -84,34 +85,32 @@ impl Share {
         let Some(now) = net.micros() else {
             return false;
         };
-        if is_full(load) {
-            self.debt.set(self.debt.get().settled(load));
-            return self.leaves_when_full(net.first_sender(requests), load, now);
-        }
-        self.leaves_when_owed(net, requests, load, now)
-    }
-
-    /// Whether a server that owes the others time leaves what waits to them.
-    fn leaves_when_owed<N: ServerUdp>(
-        &self,
-        net: &N,
-        requests: &ServerSocket,
-        load: Load,
-        now: u64,
-    ) -> bool {
         let debt = self.debt.get().at(load, now);
-        let leaves = debt.is_due(now) && net.first_sender(requests).is_some();
+        let sender = net.first_sender(requests);
+        let leaves = self.leaves_of(sender, load, now, debt);
         self.debt.set(debt.noted(leaves, now));
         leaves
     }
 
+    /// Whether a server with this debt leaves what waits, from this sender, to the others.
+    fn leaves_of(&self, sender: Option<Endpoint>, load: Load, now: u64, debt: Debt) -> bool
+        ensures found { IsTrue result → IsSome sender }
+        ensures part { IsTrue result → HasPart now debt }
+    {
+        if is_full(load) {
+            return self.leaves_when_full(sender, load, now, debt);
+        }
+        debt.is_due(now) && sender.is_some()
+    }
+
     /// Whether a server that may open no more leaves what waits, from this sender, to the others.
-    fn leaves_when_full(&self, sender: Option<Endpoint>, load: Load, now: u64) -> bool
-        ensures { IsTrue result → IsSome sender }
+    fn leaves_when_full(&self, sender: Option<Endpoint>, load: Load, now: u64, debt: Debt) -> bool
+        ensures found { IsTrue result → IsSome sender }
+        ensures part { IsTrue result → HasPart now debt }
     {
         let left = left_by(sender, self.left.get(), load, now);
         self.left.set(left);
-        left.is_some()
+        left.is_some() && debt.has_part(now)
     }
 }
 
@@ -165,6 +164,13 @@ impl Debt {
         if self.owed == 0 {
             return false;
         }
+        self.has_part(now)
+    }
+
+    /// Whether the part of its time is not used up at this time.
+    fn has_part(self, now: u64) -> bool
+        ensures { IsTrue result ↔ HasPart now self }
+    {
         self.used < now
     }
 

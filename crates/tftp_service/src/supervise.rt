@@ -11,6 +11,15 @@ use std::io;
 use std::net::SocketAddr;
 use std::os::fd::OwnedFd;
 
+/// Where the requests of a server arrive.
+#[derive(Drop)]
+pub enum Place {
+    /// At this socket.
+    Bound(OwnedFd),
+    /// At this address, which the host does not have yet: it is tried to bind a socket there each second.
+    Absent(SocketAddr),
+}
+
 /// Starts servers of its own program, and supervises them.
 pub trait Supervise {
     /// What a supervisor did. Only clauses read it, and nothing but a supervisor makes one.
@@ -24,14 +33,15 @@ pub trait Supervise {
 
     /// Starts a server for each of these command lines, whose first word is the program's name,
     /// with the socket of its place as its standard input, and prints what they print, each line with
-    /// its server.
+    /// its server. The process of one whose address is absent begins once the host has that.
     ///
     /// It returns `Ok` once each of them has ended with the status 0, and an error once one of them
     /// ended otherwise or could not be started, or a line could not be printed: then it has ended
-    /// all of them. A 256th server is refused, as the system refuses one, and one without a socket.
+    /// all of them. So it is, too, once those alone are left whose address is absent. A 256th server
+    /// is refused, as the system refuses one, and one without a place.
     fn supervise(
         &self,
-        sockets: &[OwnedFd],
+        places: &[Place],
         servers: &[Vec<String>],
     ) -> (Result<(), SupervisorFault>, Self::History)
         // A server is started for each command line, in their order, as far as it comes.

@@ -7,22 +7,24 @@
 
 ghost use Rattle.std.specs.Prelude.{◌≡◌, [], IfOk};
 
+mod absent;
 mod event_ref;
 mod reports;
 mod trace;
 
 use crate::processes::ServerProcesses;
-use crate::supervise::Supervise;
+use crate::supervise::{Place, Supervise};
 use crate::supervisor;
 use crate::supervisor_fault::SupervisorFault;
+use absent::{Absent, Tried};
 use event_ref::EventRef;
 use reports::Reports;
-use std::env;
 use std::io::{self, ErrorKind, Read};
 use std::net::{SocketAddr, UdpSocket};
 use std::os::fd::OwnedFd;
 use std::path::PathBuf;
 use std::process::{Child, Command, ExitStatus, Stdio};
+use std::{env, mem};
 use trace::{ProcessEvents, Trace};
 
 /// Servers of this program, each with the socket of its place as its standard input.
@@ -30,22 +32,25 @@ use trace::{ProcessEvents, Trace};
 struct SystemProcesses<'a> {
     rt: HostRuntime,
     program: PathBuf,
-    sockets: &'a [OwnedFd],
-    children: Vec<Child>,
+    places: &'a [Place],
+    /// The process of each server, once its address is there.
+    children: Vec<Option<Child>>,
+    /// The servers whose addresses are absent.
+    absent: Vec<Absent>,
     reports: Reports,
     trace: Trace,
 }
 
 impl<'a> SystemProcesses<'a> {
     /// No server.
-    fn new(rt: HostRuntime, sockets: &'a [OwnedFd]) -> Result<SystemProcesses<'a>, SupervisorFault>
+    fn new(rt: HostRuntime, places: &'a [Place]) -> Result<SystemProcesses<'a>, SupervisorFault>
         ensures { IfOk result (λ processes. processes.trace.events ≡ []) }
     {
         let program = match env::current_exe(&rt) {
             Ok(program) => program,
             Err(error) => return Err(SupervisorFault::of_program(error)),
         };
-        match SystemProcesses::of_program(rt, program, sockets) {
+        match SystemProcesses::of_program(rt, program, places) {
             Ok(processes) => Ok(processes),
             Err(error) => Err(SupervisorFault::of(error)),
         }
@@ -55,25 +60,23 @@ impl<'a> SystemProcesses<'a> {
     fn of_program(
         rt: HostRuntime,
         program: PathBuf,
-        sockets: &'a [OwnedFd],
+        places: &'a [Place],
     ) -> io::Result<SystemProcesses<'a>>
         ensures { IfOk result (λ processes. processes.trace.events ≡ []) }
     {
         Ok(SystemProcesses {
             rt,
             program,
-            sockets,
+            places,
             children: Vec::new(rt.alloc()),
+            absent: Vec::new(rt.alloc()),
             reports: Reports::new(&rt)?,
             trace: Trace::new(&ProcessEvents),
         })
     }
 
-    /// Starts a process, with the socket of its place.
-    fn spawn(&self, line: &[String]) -> io::Result<Child> {
-        let Some(socket) = self.sockets.get(self.children.len()) else {
-            return Err(io::Error::from(ErrorKind::NotFound));
-        };
+    /// Starts a process, with this socket.
+    fn spawn(&self, line: &[String], socket: &OwnedFd) -> io::Result<Child> {
         let mut command = Command::new(self.rt.alloc(), self.program.as_path())?;
         for word in line.iter().skip(1) {
             command.arg(word.as_str())?;
@@ -82,6 +85,57 @@ impl<'a> SystemProcesses<'a> {
         command.stdout(Stdio::piped());
         command.spawn(&self.rt)
     }
+
+    /// Starts the process of the next server, or notes that its address is absent.
+    fn begin(&mut self, line: &[String]) -> io::Result<Option<Child>>
+        ensures { self.new.trace ≡ self.old.trace }
+    {
+        let index = self.children.len();
+        match self.places.get(index) {
+            Some(Place::Bound(socket)) => Ok(Some(self.spawn(line, socket)?)),
+            Some(Place::Absent(at)) => {
+                let absent = Absent::new(self.rt.alloc(), index, *at, line)?;
+                self.absent.push(absent)?;
+                Ok(None)
+            }
+            None => Err(io::Error::from(ErrorKind::NotFound)),
+        }
+    }
+
+    /// Starts the processes of the servers whose addresses are there by now. Those at one address stand
+    /// together, and share its socket. It fails if no other server is left.
+    fn begin_absent(&mut self) -> io::Result<()>
+        ensures { self.new.trace ≡ self.old.trace }
+    {
+        if self.absent.is_empty() {
+            return Ok(());
+        }
+        if !self.children.iter().any(|child| is_open(child)) {
+            return Err(io::Error::from(ErrorKind::AddrNotAvailable));
+        }
+        let absent = mem::replace(&mut self.absent, Vec::new(self.rt.alloc()));
+        let mut tried = Tried::new();
+        for server in absent {
+            self.begin_late(&mut tried, server)?;
+        }
+        Ok(())
+    }
+
+    /// Starts the process of a server whose address was absent, if it is there.
+    fn begin_late(&mut self, tried: &mut Tried, server: Absent) -> io::Result<()>
+        ensures { self.new.trace ≡ self.old.trace }
+    {
+        let Some(socket) = tried.socket_at(&self.rt, server.at) else {
+            self.absent.push(server)?;
+            return Ok(());
+        };
+        let child = self.spawn(server.line.as_slice(), socket)?;
+        self.reports.add(&child, server.index)?;
+        if let Some(place) = self.children.get_mut(server.index) {
+            *place = Some(child);
+        }
+        Ok(())
+    }
 }
 
 impl ServerProcesses for SystemProcesses<'_> {
@@ -89,14 +143,16 @@ impl ServerProcesses for SystemProcesses<'_> {
 
     fn start(&mut self, line: &[String]) -> io::Result<()> {
         self.children.reserve(1)?;
-        let child = self.spawn(line)?;
+        let child = self.begin(line)?;
         self.children.push(child)?;
         self.trace.note(&EventRef::Started(line));
         Ok(())
     }
 
     fn wait(&mut self, reported: &mut Vec<u8>) -> io::Result<()> {
-        self.reports.wait(self.children.as_slice(), reported)
+        self.begin_absent()?;
+        let limit = absent::limit(self.absent.as_slice());
+        self.reports.wait(self.children.as_slice(), reported, limit)
     }
 
     fn read<'b>(&mut self, server: u8, buffer: &'b mut [u8]) -> io::Result<Option<&'b [u8]>> {
@@ -127,16 +183,25 @@ impl ServerProcesses for SystemProcesses<'_> {
     }
 }
 
-/// The process of a server.
-fn child_of(children: &mut [Child], server: u8) -> io::Result<&mut Child> {
+/// The process of a server, once it has begun.
+fn child_of(children: &mut [Option<Child>], server: u8) -> io::Result<&mut Child> {
     let index = usize::from(server).wrapping_sub(1);
-    children
-        .get_mut(index)
-        .ok_or(io::Error::from(ErrorKind::NotFound))
+    match children.get_mut(index) {
+        Some(Some(child)) => Ok(child),
+        _ => Err(io::Error::from(ErrorKind::NotFound)),
+    }
+}
+
+/// Whether a server has begun, and its output was not read to the end.
+fn is_open(child: &Option<Child>) -> bool {
+    match child {
+        Some(child) => child.stdout.is_some(),
+        None => false,
+    }
 }
 
 /// Kills the process of a server, if it has not ended, and waits for it.
-fn ended(children: &mut [Child], server: u8) -> io::Result<ExitStatus> {
+fn ended(children: &mut [Option<Child>], server: u8) -> io::Result<ExitStatus> {
     let child = child_of(children, server)?;
     child.kill()?;
     child.wait()
@@ -159,10 +224,10 @@ impl Supervise for HostRuntime {
 
     fn supervise(
         &self,
-        sockets: &[OwnedFd],
+        places: &[Place],
         servers: &[Vec<String>],
     ) -> (Result<(), SupervisorFault>, History) {
-        match SystemProcesses::new(*self, sockets) {
+        match SystemProcesses::new(*self, places) {
             Ok(mut processes) => {
                 let ended = supervisor::supervise(&mut processes, self.alloc(), servers);
                 let SystemProcesses { trace, .. } = processes;

@@ -1,15 +1,12 @@
 -- The counts of one entry more are those after it.
-use Rattle.std.proofs.Common.{◌≡◌, ◌∙◌, ℕ, List, [], ◌∷◌, ◌++◌, ◌+◌, refl, sym, ap, arith}
-use Rattle.std.specs.Prelude.{min}
+use Rattle.std.proofs.Common.{◌≡◌, ◌∙◌, ℕ, List, ◌∷◌, ◌+◌, refl, ap, arith}
 use Rattle.tftp_ends.specs.declared.outcome.Outcome.{Outcome}
 use Rattle.tftp_ends.specs.declared.outcome.Outcome.TheVariants as outcomes
 use Rattle.tftp_sockets.specs.declared.entry.Direction.{Direction}
 use Rattle.tftp_sockets.specs.declared.entry.Direction.TheVariants.{Read, Write}
 use Rattle.tftp_sockets.specs.declared.entry.Entry.{Entry}
 use Rattle.tftp_sockets.specs.declared.entry.Entry.TheVariants as entries
-use Rattle.tftp_status.specs.declared.counts.Counts.{Counts}
 use Rattle.tftp_status.specs.declared.counts.TransferCounts.{TransferCounts}
-use Rattle.tftp_status.specs.declared.counts.OutcomeCounts.{OutcomeCounts}
 use Rattle.tftp_status.specs.Counts.{after, again_by, bytes_by, closed_by, closed_with, counts_of}
 use Rattle.tftp_status.specs.Counts.{ended_with, ends_by, opened_by, outcomes_of, saturated, total}
 use Rattle.tftp_status.specs.Counts.{busy_by, ignored_by, lost_by, refused_by, transfers_of}

@@ -1,8 +1,10 @@
 pub mod Counts
-pub mod StatusText
 pub mod StatusEvent
+pub mod Datagrams
+pub mod StatusText
 pub mod EventRef
-pub mod StatusFile
 pub mod OpenLine
+pub mod Comments
+pub mod StatusFile
 pub mod Told
 pub mod FileName

@@ -1,10 +1,13 @@
 //! A device that counts what a server tells, and reports it in a file.
 
-ghost use Rattle.std.specs.Prelude.{◌≡◌, [], None, IfSome, OnOk, is_some, true};
+ghost use Rattle.std.specs.Prelude.{◌≡◌, ◌∷◌, [], None, IfSome, OnOk, is_some, option_map, true};
+ghost use Rattle.tftp_status.specs.Datagrams.{with_receipt};
+ghost use Rattle.tftp_status.specs.StatusEvent.StatusEvent.{Moved};
 ghost use Rattle.tftp_status.specs.StatusFile.{IsNewAt, KeepsCounts};
+ghost use Rattle.tftp_status.specs.Told.{told_to};
 
+use crate::datagrams::Way;
 use crate::report::{Report, ReportSettings};
-use crate::status_text::Datagrams;
 use crate::unused_disk::UnusedDisk;
 use rand::rngs::StdRng;
 use std::alloc::{AllocError, Global};
@@ -13,7 +16,7 @@ use std::io;
 use std::net::UdpSocket;
 use tftp_disk::Disk;
 use tftp_ends::Endpoint;
-use tftp_lines::{Printed, Reason, reason_of};
+use tftp_lines::{Printed, Reason};
 use tftp_sockets::{
     DrainSignal, Entry, Load, OpenTransfer, PortPoll, Receipt, Reports, ServerSocket, ServerUdp,
     Udp, Watch,
@@ -27,7 +30,6 @@ pub struct Counted<N, D: Disk> {
     pub net: N,
     /// The disk for the reports, until they begin.
     disk: Option<UnusedDisk<D>>,
-    datagrams: Datagrams,
     report: Option<Report<D>>,
 }
 
@@ -42,10 +44,6 @@ impl<N, D: Disk> Counted<N, D> {
         Counted {
             net,
             disk: Some(UnusedDisk::new(disk)),
-            datagrams: Datagrams {
-                received: 0,
-                sent: 0,
-            },
             report: None,
         }
     }
@@ -79,13 +77,33 @@ impl<N, D: Disk> Counted<N, D> {
         }
     }
 
+    /// Counts a datagram, if it reports.
+    fn count_datagram(&mut self, way: Way)
+        ensures net { self.new.net ≡ self.old.net }
+        ensures events { option_map (λ report. report.status.events) self.new.report
+            ≡ option_map (λ report. Moved way ∷ report.status.events) self.old.report }
+        ensures told { told_to (option_map (λ report. report.status) self.new.report)
+            ≡ told_to (option_map (λ report. report.status) self.old.report) }
+        ensures file { option_map (λ report. report.status.file) self.new.report
+            ≡ option_map (λ report. report.status.file) self.old.report }
+    {
+        if let Some(report) = &mut self.report {
+            report.add_datagram(way);
+        }
+    }
+
     /// Counts a datagram that was received, if one was.
     fn count_receipt(&mut self, receipt: Receipt)
         ensures net { self.new.net ≡ self.old.net }
-        ensures report { self.new.report ≡ self.old.report }
+        ensures events { option_map (λ report. report.status.events) self.new.report
+            ≡ option_map (λ report. with_receipt receipt report.status.events) self.old.report }
+        ensures told { told_to (option_map (λ report. report.status) self.new.report)
+            ≡ told_to (option_map (λ report. report.status) self.old.report) }
+        ensures file { option_map (λ report. report.status.file) self.new.report
+            ≡ option_map (λ report. report.status.file) self.old.report }
     {
         if let Receipt::Datagram(..) = receipt {
-            self.datagrams.received = self.datagrams.received.saturating_add(1);
+            self.count_datagram(Way::Received);
         }
     }
 }
@@ -150,8 +168,11 @@ impl<N: ServerUdp + Eprint, D: Disk> ServerUdp for Counted<N, D> {
     }
 
     fn send(&mut self, socket: &ServerSocket, peer: Endpoint, bytes: &[u8]) -> Result<(), Reason> {
-        self.datagrams.sent = self.datagrams.sent.saturating_add(1);
-        self.net.send(socket, peer, bytes)
+        let sent = self.net.send(socket, peer, bytes);
+        if sent.is_ok() {
+            self.count_datagram(Way::Sent);
+        }
+        sent
     }
 
     fn poll(&self) -> io::Result<PortPoll> {
@@ -222,7 +243,7 @@ impl<N: ServerUdp + Eprint, D: Disk> ServerUdp for Counted<N, D> {
 
     fn is_report_due(&self, now: u64) -> bool {
         match &self.report {
-            Some(report) => report.is_due(now, self.datagrams),
+            Some(report) => report.is_due(now),
             None => false,
         }
     }
@@ -233,11 +254,12 @@ impl<N: ServerUdp + Eprint, D: Disk> ServerUdp for Counted<N, D> {
         }
     }
 
-    /// Writes the file, if something has changed. The first time that it cannot be written is said.
+    /// Writes the file, if something has changed or it is a minute old. The first time that it cannot be
+    /// written is said.
     fn end_report(&mut self, now: u64) {
+        let time = self.net.utc_millis().unwrap_or(0) / 1_000;
         if let Some(report) = &mut self.report {
-            if let Some(error) = report.write(now, self.datagrams) {
-                let reason = reason_of(&error);
+            if let Some(reason) = report.write(now, time) {
                 let _ = eprintln!(self.net; "tftpd: --status: {reason}");
             }
         }

@@ -1,5 +1,6 @@
 //! The events of a status file, as values of the code.
 
+use crate::datagrams::Way;
 use crate::trace::StatusEvents;
 use tftp_sockets::Entry;
 use tftp_trace::Kind;
@@ -9,6 +10,8 @@ use tftp_trace::Kind;
 pub(crate) enum EventRef<'a> {
     /// The server told this.
     Told(Entry),
+    /// A datagram went this way.
+    Moved(Way),
     /// The file was handed this text.
     Handed(&'a str),
 }

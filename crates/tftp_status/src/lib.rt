@@ -7,10 +7,13 @@
 //! Begin with [`Counted`], a device over another one, and [`StatusFile`].
 #![tactic(auto)]
 
+mod comments;
 mod counted;
 mod counts;
+mod datagrams;
 mod event_ref;
 mod file_name;
+mod labels;
 mod open_line;
 mod report;
 mod status_file;
@@ -18,9 +21,12 @@ mod status_text;
 mod trace;
 mod unused_disk;
 
+pub use comments::Comments;
 pub use counted::Counted;
 pub use counts::{Counts, OutcomeCounts, RequestCounts, TransferCounts};
+pub use datagrams::{Datagrams, Way};
 pub use file_name::file_of_server;
+pub use labels::Labels;
 pub use report::ReportSettings;
 pub use status_file::StatusFile;
-pub use status_text::{Datagrams, Facts, StatusText};
+pub use status_text::{Facts, StatusText};

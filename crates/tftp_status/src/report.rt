@@ -2,27 +2,33 @@
 
 ghost use Rattle.std.specs.Prelude.{◌≡◌, ◌∷◌, [], IfOk};
 ghost use Rattle.tftp_status.specs.StatusEvent.{told_in};
-ghost use Rattle.tftp_status.specs.StatusEvent.StatusEvent.{Told};
+ghost use Rattle.tftp_status.specs.StatusEvent.StatusEvent.{Moved, Told};
 ghost use Rattle.tftp_status.specs.StatusFile.{KeepsCounts, draft_of};
 
-use crate::open_line::OpenLine;
+use crate::comments::Comments;
+use crate::datagrams::Way;
+use crate::labels::Labels;
 use crate::status_file::StatusFile;
-use crate::status_text::{Datagrams, Facts};
+use crate::status_text::Facts;
 use std::alloc::{AllocError, Global};
-use std::io;
 use tftp_disk::Disk;
+use tftp_lines::Reason;
 use tftp_sockets::{Entry, OpenTransfer};
 
 /// The time between two texts, in milliseconds.
 const PERIOD: u64 = 1_000;
+
+/// The age at which a text is written again though nothing has changed, in milliseconds: whoever reads
+/// it tells a server that hangs from one that is idle.
+const LONGEST_AGE: u64 = 60_000;
 
 /// The file of a server's reports, and what they say of the server beside its counts.
 #[derive(Clone, Copy)]
 pub struct ReportSettings<'a> {
     /// The path of the file.
     pub file: &'a str,
-    /// Which server it is of, if it is one of several.
-    pub server: Option<u8>,
+    /// Which server it is of.
+    pub labels: Labels,
     /// The version of the program.
     pub version: &'a str,
     /// The most transfers that may be open.
@@ -36,18 +42,18 @@ pub struct ReportSettings<'a> {
 pub(crate) struct Report<D: Disk> {
     pub(crate) status: StatusFile<D>,
     alloc: Global,
-    server: Option<u8>,
+    labels: Labels,
     version: String,
     limit: u64,
     start: u64,
     /// The lines of the open transfers, of the report that is being made.
-    lines: String,
-    /// The time of the next text, in milliseconds of the watch.
+    lines: Comments,
+    /// The earliest time of the next text, in milliseconds of the watch.
     due: u64,
-    /// Whether the newest text lacks an entry, or was not written.
+    /// The latest time of the next text, in milliseconds of the watch.
+    stale: u64,
+    /// Whether the newest text lacks what was counted since, or was not written.
     is_changed: bool,
-    /// The datagrams of the newest text.
-    datagrams: Datagrams,
     /// Whether a failure was said.
     has_failed: bool,
 }
@@ -68,17 +74,14 @@ impl<D: Disk> Report<D> {
         Ok(Report {
             status: StatusFile::new(alloc, disk, settings.file)?,
             alloc,
-            server: settings.server,
+            labels: settings.labels,
             version: String::from_str(alloc, settings.version)?,
             limit: settings.limit,
             start: settings.start,
-            lines: String::new(alloc),
+            lines: Comments::new(alloc),
             due: 0,
+            stale: 0,
             is_changed: true,
-            datagrams: Datagrams {
-                received: 0,
-                sent: 0,
-            },
             has_failed: false,
         })
     }
@@ -92,6 +95,15 @@ impl<D: Disk> Report<D> {
         self.is_changed = true;
     }
 
+    /// Counts a datagram.
+    pub(crate) fn add_datagram(&mut self, way: Way)
+        ensures events { self.new.status.events ≡ Moved way ∷ self.old.status.events }
+        ensures file { self.new.status.file ≡ self.old.status.file }
+    {
+        self.status.add_datagram(way);
+        self.is_changed = true;
+    }
+
     /// What its file keeps. It does nothing.
     pub(crate) fn keeps_counts(&self)
         ensures { KeepsCounts self.now.status }
@@ -99,35 +111,33 @@ impl<D: Disk> Report<D> {
         let _ = self.status.counts();
     }
 
-    /// Whether a text is to be written at this time: something has changed, and the last one is a
-    /// second old.
-    pub(crate) fn is_due(&self, now: u64, datagrams: Datagrams) -> bool {
-        now >= self.due && self.lacks(datagrams)
+    /// Whether a text is to be written at this time: something has changed and the last one is a second
+    /// old, or that is a minute old.
+    pub(crate) fn is_due(&self, now: u64) -> bool {
+        now >= self.due && self.lacks(now)
     }
 
-    /// Whether the newest text lacks something.
-    fn lacks(&self, datagrams: Datagrams) -> bool {
-        self.is_changed || datagrams != self.datagrams
+    /// Whether the newest text lacks something, or is too old.
+    fn lacks(&self, now: u64) -> bool {
+        self.is_changed || now >= self.stale
     }
 
     /// Adds the line of an open transfer. Out of memory it is left out.
     pub(crate) fn add_open(&mut self, transfer: OpenTransfer<'_>)
         ensures { self.new.status ≡ self.old.status }
     {
-        let line = OpenLine(transfer);
-        if let Ok(text) = format!(in self.alloc; "{line}") {
-            let _ = self.lines.push_str(text.as_str());
-        }
+        self.lines.add(transfer);
     }
 
-    /// Writes a text, if the newest one lacks something, and begins the next. It returns the first
-    /// failure alone: a later text is tried all the same.
-    pub(crate) fn write(&mut self, now: u64, datagrams: Datagrams) -> Option<io::Error>
+    /// Writes a text at this time of the watch in milliseconds, which is this one in seconds since 1970
+    /// began in UTC, if the newest one lacks something or is too old, and begins the next. It returns
+    /// the first failure alone: a later text is tried all the same.
+    pub(crate) fn write(&mut self, now: u64, time: u64) -> Option<Reason>
         ensures told { told_in self.new.status.events ≡ told_in self.old.status.events }
         ensures file { self.new.status.file ≡ self.old.status.file }
     {
-        let written = if self.lacks(datagrams) {
-            self.write_text(datagrams)
+        let written = if self.lacks(now) {
+            self.write_text(now, time)
         } else {
             Ok(())
         };
@@ -137,39 +147,31 @@ impl<D: Disk> Report<D> {
     }
 
     /// Writes a text.
-    fn write_text(&mut self, datagrams: Datagrams) -> io::Result<()>
+    fn write_text(&mut self, now: u64, time: u64) -> Result<(), Reason>
         ensures told { told_in self.new.status.events ≡ told_in self.old.status.events }
         ensures file { self.new.status.file ≡ self.old.status.file }
     {
         let facts = Facts {
-            server: self.server,
+            labels: self.labels,
             version: self.version.as_str(),
             limit: self.limit,
             start: self.start,
-            datagrams,
-            lines: self.lines.as_str(),
+            time,
         };
-        match self.status.write(self.alloc, facts) {
-            Ok(()) => {
-                self.is_changed = false;
-                self.datagrams = datagrams;
-                Ok(())
-            }
-            Err(error) => {
-                self.is_changed = true;
-                Err(error)
-            }
-        }
+        let written = self.status.write(self.alloc, facts, &self.lines);
+        self.is_changed = written.is_err();
+        self.stale = now.saturating_add(LONGEST_AGE);
+        written
     }
 
     /// The failure, if there is one and none was before.
-    fn first_failure(&mut self, written: io::Result<()>) -> Option<io::Error>
+    fn first_failure(&mut self, written: Result<(), Reason>) -> Option<Reason>
         ensures { self.new.status ≡ self.old.status }
     {
         match written {
-            Err(error) if !self.has_failed => {
+            Err(reason) if !self.has_failed => {
                 self.has_failed = true;
-                Some(error)
+                Some(reason)
             }
             _ => None,
         }

@@ -1,72 +1,59 @@
 //! The text of a status file, in the format that Prometheus reads.
 
 ghost use Rattle.std.specs.Prelude.{◌≡◌, codes};
-ghost use Rattle.tftp_status.specs.StatusText.{closed_of, closed_text, sample_text, sample_line};
+ghost use Rattle.tftp_status.specs.StatusText.{closed_of, closed_text, metric_of, metric_text};
+ghost use Rattle.tftp_status.specs.StatusText.{sample_line, sample_text};
+ghost use Rattle.tftp_status.specs.declared.status_text.Kind.TheVariants.{Gauge};
 
 use crate::counts::{Counts, OutcomeCounts};
+use crate::datagrams::Datagrams;
+use crate::labels::Labels;
 use std::fmt;
 
 /// The text of a status file: Prometheus' text format, and a comment line for each open transfer.
 #[derive(Clone, Copy)]
 pub struct StatusText<'a> {
     pub counts: Counts,
+    pub datagrams: Datagrams,
     pub facts: Facts<'a>,
+    /// A comment line for each open transfer, with its end.
+    pub lines: &'a str,
 }
 
-/// What a status file has beside the counts of entries.
+/// What a status file has beside what was counted and the lines of the open transfers.
 #[derive(Clone, Copy)]
 pub struct Facts<'a> {
-    /// Which server it is of, if it is one of several.
-    pub server: Option<u8>,
+    /// Which server it is of.
+    pub labels: Labels,
     /// The version of the program.
     pub version: &'a str,
     /// The most transfers that may be open.
     pub limit: u64,
     /// When the server started, in seconds since 1970 began in UTC.
     pub start: u64,
-    pub datagrams: Datagrams,
-    /// A comment line for each open transfer, with its end.
-    pub lines: &'a str,
-}
-
-/// The datagrams of a server, those of its requests among them.
-#[derive(Clone, Copy, Debug, PartialEq, Eq)]
-pub struct Datagrams {
-    pub received: u64,
-    /// Those that the system refused to send count, too.
-    pub sent: u64,
+    /// When the text was made, in seconds since 1970 began in UTC.
+    pub time: u64,
 }
 
 impl fmt::Display for StatusText<'_> {
     ghost use Rattle.std.specs.Prelude.{Some};
     ghost use Rattle.tftp_status.specs.StatusText.{status_text};
 
-    ghost output = { λ status. Some (status_text status.counts status.facts) };
+    ghost output = { λ status. Some (status_text status.counts status.datagrams status.facts
+        status.lines.now) };
 
     fn fmt<W: fmt::Write>(&self, f: &mut fmt::Formatter<W>) -> fmt::Result {
-        let counts = self.counts;
-        let Facts {
-            server,
-            version,
-            limit,
-            start,
-            datagrams,
-            lines,
-        } = self.facts;
-        let requests = Requests { counts, server };
-        let transfers = Transfers { counts, server };
-        let amounts = Amounts { counts, server };
+        let (counts, datagrams, lines) = (self.counts, self.datagrams, self.lines);
+        let labels = self.facts.labels;
+        let requests = Requests { counts, labels };
+        let transfers = Transfers { counts, labels };
+        let amounts = Amounts { counts, labels };
         let load = Load {
             counts,
             datagrams,
-            server,
+            labels,
         };
-        let fixed = Fixed {
-            server,
-            limit,
-            start,
-            version,
-        };
+        let fixed = Fixed(self.facts);
         write!(f, "{requests}{transfers}{amounts}{load}{fixed}{lines}")
     }
 }
@@ -112,47 +99,11 @@ impl fmt::Display for Head<'_> {
     }
 }
 
-/// The label of a server of several, behind another label.
-#[derive(Clone, Copy)]
-struct MoreLabel(Option<u8>);
-
-impl fmt::Display for MoreLabel {
-    ghost use Rattle.std.specs.Prelude.{Some};
-    ghost use Rattle.tftp_status.specs.StatusText.{more_label};
-
-    ghost output = { λ label. Some (more_label label.0) };
-
-    fn fmt<W: fmt::Write>(&self, f: &mut fmt::Formatter<W>) -> fmt::Result {
-        match self.0 {
-            Some(server) => write!(f, ",server=\"{server}\""),
-            None => Ok(()),
-        }
-    }
-}
-
-/// The label of a server of several, alone.
-#[derive(Clone, Copy)]
-struct LoneLabel(Option<u8>);
-
-impl fmt::Display for LoneLabel {
-    ghost use Rattle.std.specs.Prelude.{Some};
-    ghost use Rattle.tftp_status.specs.StatusText.{lone_label};
-
-    ghost output = { λ label. Some (lone_label label.0) };
-
-    fn fmt<W: fmt::Write>(&self, f: &mut fmt::Formatter<W>) -> fmt::Result {
-        match self.0 {
-            Some(server) => write!(f, "{{server=\"{server}\"}}"),
-            None => Ok(()),
-        }
-    }
-}
-
 /// A sample of a metric that has no label of its own.
 #[derive(Clone, Copy)]
 struct Lone<'a> {
     name: &'a str,
-    server: Option<u8>,
+    labels: Labels,
     value: u64,
 }
 
@@ -160,11 +111,11 @@ impl fmt::Display for Lone<'_> {
     ghost use Rattle.std.specs.Prelude.{Some};
     ghost use Rattle.tftp_status.specs.StatusText.{lone_text};
 
-    ghost output = { λ lone. Some (lone_text lone.name.now lone.server lone.value) };
+    ghost output = { λ lone. Some (lone_text lone.name.now lone.labels lone.value) };
 
     fn fmt<W: fmt::Write>(&self, f: &mut fmt::Formatter<W>) -> fmt::Result {
-        let (name, label, value) = (self.name, LoneLabel(self.server), self.value);
-        write!(f, "{name}{label} {value}\n")
+        let (name, labels, value) = (self.name, self.labels, self.value);
+        write!(f, "{name}{{{labels}}} {value}\n")
     }
 }
 
@@ -174,7 +125,7 @@ struct Sample<'a> {
     name: &'a str,
     label: &'a str,
     of: &'a str,
-    server: Option<u8>,
+    labels: Labels,
     value: u64,
 }
 
@@ -183,25 +134,25 @@ impl fmt::Display for Sample<'_> {
     ghost use Rattle.tftp_status.specs.StatusText.{sample_text};
 
     ghost output = { λ sample. Some (sample_text sample.name.now sample.label.now sample.of.now
-        sample.server sample.value) };
+        sample.labels sample.value) };
 
     fn fmt<W: fmt::Write>(&self, f: &mut fmt::Formatter<W>) -> fmt::Result {
         let (name, label, of) = (self.name, self.label, self.of);
-        let (more, value) = (MoreLabel(self.server), self.value);
-        write!(f, "{name}{{{label}=\"{of}\"{more}}} {value}\n")
+        let (labels, value) = (self.labels, self.value);
+        write!(f, "{name}{{{label}=\"{of}\",{labels}}} {value}\n")
     }
 }
 
 /// A sample of the datagrams to the request port, with this answer.
-fn answer<'a>(of: &'a str, server: Option<u8>, value: u64) -> Sample<'a>
+fn answer<'a>(of: &'a str, labels: Labels, value: u64) -> Sample<'a>
     ensures { sample_line result
-        ≡ sample_text (codes "tftpd_requests_total") (codes "answer") of.now server value }
+        ≡ sample_text (codes "tftpd_requests_total") (codes "answer") of.now labels value }
 {
     Sample {
         name: "tftpd_requests_total",
         label: "answer",
         of,
-        server,
+        labels,
         value,
     }
 }
@@ -210,28 +161,28 @@ fn answer<'a>(of: &'a str, server: Option<u8>, value: u64) -> Sample<'a>
 #[derive(Clone, Copy)]
 struct Requests {
     counts: Counts,
-    server: Option<u8>,
+    labels: Labels,
 }
 
 impl fmt::Display for Requests {
     ghost use Rattle.std.specs.Prelude.{Some};
     ghost use Rattle.tftp_status.specs.StatusText.{requests_text};
 
-    ghost output = { λ requests. Some (requests_text requests.counts requests.server) };
+    ghost output = { λ requests. Some (requests_text requests.counts requests.labels) };
 
     fn fmt<W: fmt::Write>(&self, f: &mut fmt::Formatter<W>) -> fmt::Result {
-        let (counts, server) = (self.counts, self.server);
+        let (counts, labels) = (self.counts, self.labels);
         let head = Head {
             name: "tftpd_requests_total",
             kind: Kind::Counter,
             help: "Datagrams to the request port, by their answer.",
         };
         let all = counts.reads.opened.saturating_add(counts.writes.opened);
-        let opened = answer("opened", server, all);
-        let refused = answer("refused", server, counts.requests.refused);
-        let busy = answer("busy", server, counts.requests.busy);
-        let ignored = answer("ignored", server, counts.requests.ignored);
-        let lost = answer("lost", server, counts.requests.lost);
+        let opened = answer("opened", labels, all);
+        let refused = answer("refused", labels, counts.requests.refused);
+        let busy = answer("busy", labels, counts.requests.busy);
+        let ignored = answer("ignored", labels, counts.requests.ignored);
+        let lost = answer("lost", labels, counts.requests.lost);
         write!(f, "{head}{opened}{refused}{busy}{ignored}{lost}")
     }
 }
@@ -241,7 +192,7 @@ impl fmt::Display for Requests {
 struct Closed<'a> {
     way: &'a str,
     outcome: &'a str,
-    server: Option<u8>,
+    labels: Labels,
     value: u64,
 }
 
@@ -253,22 +204,22 @@ impl fmt::Display for Closed<'_> {
 
     fn fmt<W: fmt::Write>(&self, f: &mut fmt::Formatter<W>) -> fmt::Result {
         let (way, outcome) = (self.way, self.outcome);
-        let (more, value) = (MoreLabel(self.server), self.value);
+        let (labels, value) = (self.labels, self.value);
         write!(
             f,
-            "tftpd_transfers_total{{direction=\"{way}\",outcome=\"{outcome}\"{more}}} {value}\n"
+            "tftpd_transfers_total{{direction=\"{way}\",outcome=\"{outcome}\",{labels}}} {value}\n"
         )
     }
 }
 
 /// A sample of the closed transfers of a direction, with this outcome.
-fn outcome<'a>(way: &'a str, server: Option<u8>, outcome: &'a str, value: u64) -> Closed<'a>
-    ensures { closed_of result ≡ closed_text way.now outcome.now server value }
+fn outcome<'a>(way: &'a str, labels: Labels, outcome: &'a str, value: u64) -> Closed<'a>
+    ensures { closed_of result ≡ closed_text way.now outcome.now labels value }
 {
     Closed {
         way,
         outcome,
-        server,
+        labels,
         value,
     }
 }
@@ -277,7 +228,7 @@ fn outcome<'a>(way: &'a str, server: Option<u8>, outcome: &'a str, value: u64) -
 #[derive(Clone, Copy)]
 struct Outcomes<'a> {
     way: &'a str,
-    server: Option<u8>,
+    labels: Labels,
     counts: OutcomeCounts,
 }
 
@@ -285,19 +236,19 @@ impl fmt::Display for Outcomes<'_> {
     ghost use Rattle.std.specs.Prelude.{Some};
     ghost use Rattle.tftp_status.specs.StatusText.{outcomes_text};
 
-    ghost output = { λ all. Some (outcomes_text all.way.now all.server all.counts) };
+    ghost output = { λ all. Some (outcomes_text all.way.now all.labels all.counts) };
 
     fn fmt<W: fmt::Write>(&self, f: &mut fmt::Formatter<W>) -> fmt::Result {
-        let (way, server, counts) = (self.way, self.server, self.counts);
-        let complete = outcome(way, server, "complete", counts.complete);
-        let timed_out = outcome(way, server, "timed_out", counts.timed_out);
-        let peer_error = outcome(way, server, "peer_error", counts.peer_error);
-        let illegal = outcome(way, server, "illegal", counts.illegal);
-        let refused = outcome(way, server, "refused", counts.refused);
-        let too_large = outcome(way, server, "too_large", counts.too_large);
-        let store_fault = outcome(way, server, "store_fault", counts.store_fault);
-        let source_fault = outcome(way, server, "source_fault", counts.source_fault);
-        let not_netascii = outcome(way, server, "not_netascii", counts.not_netascii);
+        let (way, labels, counts) = (self.way, self.labels, self.counts);
+        let complete = outcome(way, labels, "complete", counts.complete);
+        let timed_out = outcome(way, labels, "timed_out", counts.timed_out);
+        let peer_error = outcome(way, labels, "peer_error", counts.peer_error);
+        let illegal = outcome(way, labels, "illegal", counts.illegal);
+        let refused = outcome(way, labels, "refused", counts.refused);
+        let too_large = outcome(way, labels, "too_large", counts.too_large);
+        let store_fault = outcome(way, labels, "store_fault", counts.store_fault);
+        let source_fault = outcome(way, labels, "source_fault", counts.source_fault);
+        let not_netascii = outcome(way, labels, "not_netascii", counts.not_netascii);
         write!(f, "{complete}{timed_out}{peer_error}{illegal}{refused}")?;
         write!(f, "{too_large}{store_fault}{source_fault}{not_netascii}")
     }
@@ -307,17 +258,17 @@ impl fmt::Display for Outcomes<'_> {
 #[derive(Clone, Copy)]
 struct Transfers {
     counts: Counts,
-    server: Option<u8>,
+    labels: Labels,
 }
 
 impl fmt::Display for Transfers {
     ghost use Rattle.std.specs.Prelude.{Some};
     ghost use Rattle.tftp_status.specs.StatusText.{transfers_text};
 
-    ghost output = { λ all. Some (transfers_text all.counts all.server) };
+    ghost output = { λ all. Some (transfers_text all.counts all.labels) };
 
     fn fmt<W: fmt::Write>(&self, f: &mut fmt::Formatter<W>) -> fmt::Result {
-        let server = self.server;
+        let labels = self.labels;
         let head = Head {
             name: "tftpd_transfers_total",
             kind: Kind::Counter,
@@ -325,12 +276,12 @@ impl fmt::Display for Transfers {
         };
         let reads = Outcomes {
             way: "read",
-            server,
+            labels,
             counts: self.counts.reads.outcomes,
         };
         let writes = Outcomes {
             way: "write",
-            server,
+            labels,
             counts: self.counts.writes.outcomes,
         };
         write!(f, "{head}{reads}{writes}")
@@ -341,29 +292,29 @@ impl fmt::Display for Transfers {
 #[derive(Clone, Copy)]
 struct Amounts {
     counts: Counts,
-    server: Option<u8>,
+    labels: Labels,
 }
 
 impl fmt::Display for Amounts {
     ghost use Rattle.std.specs.Prelude.{Some};
     ghost use Rattle.tftp_status.specs.StatusText.{amounts_text};
 
-    ghost output = { λ amounts. Some (amounts_text amounts.counts amounts.server) };
+    ghost output = { λ amounts. Some (amounts_text amounts.counts amounts.labels) };
 
     fn fmt<W: fmt::Write>(&self, f: &mut fmt::Formatter<W>) -> fmt::Result {
-        let (counts, server) = (self.counts, self.server);
+        let (counts, labels) = (self.counts, self.labels);
         let bytes = Head {
             name: "tftpd_bytes_total",
             kind: Kind::Counter,
             help: "Bytes of DATA of closed transfers, each block once.",
         };
-        let read = direction("tftpd_bytes_total", "read", server, counts.reads.bytes);
-        let written = direction("tftpd_bytes_total", "write", server, counts.writes.bytes);
+        let read = direction("tftpd_bytes_total", "read", labels, counts.reads.bytes);
+        let written = direction("tftpd_bytes_total", "write", labels, counts.writes.bytes);
         let again = Metric {
             name: "tftpd_blocks_sent_again_total",
             kind: Kind::Counter,
             help: "Datagrams that closed transfers sent again.",
-            server,
+            labels,
             value: counts.again,
         };
         write!(f, "{bytes}{read}{written}{again}")
@@ -371,29 +322,29 @@ impl fmt::Display for Amounts {
 }
 
 /// A sample of a metric by the direction of transfers.
-fn direction<'a>(name: &'a str, way: &'a str, server: Option<u8>, value: u64) -> Sample<'a>
+fn direction<'a>(name: &'a str, way: &'a str, labels: Labels, value: u64) -> Sample<'a>
     ensures { sample_line result
-        ≡ sample_text name.now (codes "direction") way.now server value }
+        ≡ sample_text name.now (codes "direction") way.now labels value }
 {
     Sample {
         name,
         label: "direction",
         of: way,
-        server,
+        labels,
         value,
     }
 }
 
 /// A sample of the datagrams.
-fn moved<'a>(way: &'a str, server: Option<u8>, value: u64) -> Sample<'a>
+fn moved<'a>(way: &'a str, labels: Labels, value: u64) -> Sample<'a>
     ensures { sample_line result
-        ≡ sample_text (codes "tftpd_datagrams_total") (codes "way") way.now server value }
+        ≡ sample_text (codes "tftpd_datagrams_total") (codes "way") way.now labels value }
 {
     Sample {
         name: "tftpd_datagrams_total",
         label: "way",
         of: way,
-        server,
+        labels,
         value,
     }
 }
@@ -403,68 +354,73 @@ fn moved<'a>(way: &'a str, server: Option<u8>, value: u64) -> Sample<'a>
 struct Load {
     counts: Counts,
     datagrams: Datagrams,
-    server: Option<u8>,
+    labels: Labels,
 }
 
 impl fmt::Display for Load {
     ghost use Rattle.std.specs.Prelude.{Some};
     ghost use Rattle.tftp_status.specs.StatusText.{load_text};
 
-    ghost output = { λ load. Some (load_text load.counts load.datagrams load.server) };
+    ghost output = { λ load. Some (load_text load.counts load.datagrams load.labels) };
 
     fn fmt<W: fmt::Write>(&self, f: &mut fmt::Formatter<W>) -> fmt::Result {
-        let (counts, server) = (self.counts, self.server);
+        let (counts, labels) = (self.counts, self.labels);
         let datagrams = Head {
             name: "tftpd_datagrams_total",
             kind: Kind::Counter,
             help: "Datagrams of all ports of the server.",
         };
-        let received = moved("received", server, self.datagrams.received);
-        let sent = moved("sent", server, self.datagrams.sent);
+        let received = moved("received", labels, self.datagrams.received);
+        let sent = moved("sent", labels, self.datagrams.sent);
         let open = Head {
             name: "tftpd_transfers_open",
             kind: Kind::Gauge,
             help: "Transfers that are open.",
         };
         let reads = counts.reads.open();
-        let read = direction("tftpd_transfers_open", "read", server, reads);
+        let read = direction("tftpd_transfers_open", "read", labels, reads);
         let writes = counts.writes.open();
-        let written = direction("tftpd_transfers_open", "write", server, writes);
+        let written = direction("tftpd_transfers_open", "write", labels, writes);
         write!(f, "{datagrams}{received}{sent}{open}{read}{written}")
     }
 }
 
-/// What does not change while the server runs.
+/// What does not change while the server runs, and when the text was made.
 #[derive(Clone, Copy)]
-struct Fixed<'a> {
-    server: Option<u8>,
-    limit: u64,
-    start: u64,
-    version: &'a str,
-}
+struct Fixed<'a>(Facts<'a>);
 
 impl fmt::Display for Fixed<'_> {
     ghost use Rattle.std.specs.Prelude.{Some};
     ghost use Rattle.tftp_status.specs.StatusText.{fixed_text};
 
-    ghost output = { λ fixed. Some (fixed_text fixed.server fixed.limit fixed.start
-        fixed.version.now) };
+    ghost output = { λ fixed. Some (fixed_text fixed.0) };
 
     fn fmt<W: fmt::Write>(&self, f: &mut fmt::Formatter<W>) -> fmt::Result {
-        let limit = Metric {
-            name: "tftpd_transfers_limit",
-            kind: Kind::Gauge,
-            help: "The most transfers that may be open.",
-            server: self.server,
-            value: self.limit,
-        };
-        let start = Metric {
-            name: "tftpd_start_time_seconds",
-            kind: Kind::Gauge,
-            help: "When the server started, since 1970 began in UTC.",
-            server: self.server,
-            value: self.start,
-        };
+        let Facts {
+            labels,
+            version,
+            limit,
+            start,
+            time,
+        } = self.0;
+        let limit = gauge(
+            "tftpd_transfers_limit",
+            "The most transfers that may be open.",
+            labels,
+            limit,
+        );
+        let start = gauge(
+            "tftpd_start_time_seconds",
+            "When the server started, since 1970 began in UTC.",
+            labels,
+            start,
+        );
+        let time = gauge(
+            "tftpd_report_time_seconds",
+            "When this text was made, since 1970 began in UTC.",
+            labels,
+            time,
+        );
         let build = Head {
             name: "tftpd_build_info",
             kind: Kind::Gauge,
@@ -473,11 +429,24 @@ impl fmt::Display for Fixed<'_> {
         let version = Sample {
             name: "tftpd_build_info",
             label: "version",
-            of: self.version,
-            server: self.server,
+            of: version,
+            labels,
             value: 1,
         };
-        write!(f, "{limit}{start}{build}{version}")
+        write!(f, "{limit}{start}{time}{build}{version}")
+    }
+}
+
+/// A gauge of one sample.
+fn gauge<'a>(name: &'a str, help: &'a str, labels: Labels, value: u64) -> Metric<'a>
+    ensures { metric_of result ≡ metric_text name.now Gauge help.now labels value }
+{
+    Metric {
+        name,
+        kind: Kind::Gauge,
+        help,
+        labels,
+        value,
     }
 }
 
@@ -487,16 +456,15 @@ struct Metric<'a> {
     name: &'a str,
     kind: Kind,
     help: &'a str,
-    server: Option<u8>,
+    labels: Labels,
     value: u64,
 }
 
 impl fmt::Display for Metric<'_> {
     ghost use Rattle.std.specs.Prelude.{Some};
-    ghost use Rattle.tftp_status.specs.StatusText.{metric_text};
+    ghost use Rattle.tftp_status.specs.StatusText.{metric_of};
 
-    ghost output = { λ metric. Some (metric_text metric.name.now metric.kind metric.help.now
-        metric.server metric.value) };
+    ghost output = { λ metric. Some (metric_of metric) };
 
     fn fmt<W: fmt::Write>(&self, f: &mut fmt::Formatter<W>) -> fmt::Result {
         let head = Head {
@@ -506,7 +474,7 @@ impl fmt::Display for Metric<'_> {
         };
         let sample = Lone {
             name: self.name,
-            server: self.server,
+            labels: self.labels,
             value: self.value,
         };
         write!(f, "{head}{sample}")

@@ -8,6 +8,7 @@ use mio::{Events, Interest, Poll, Token};
 use std::io;
 use std::os::fd::AsRawFd;
 use std::process::{Child, ChildStdout};
+use std::time::Duration;
 
 /// The most outputs that one wait reports.
 const MOST_REPORTS: usize = 64;
@@ -32,10 +33,16 @@ impl Reports {
         })
     }
 
-    /// Waits until outputs can be read, and puts the numbers of their servers in place of `reported`.
-    pub(super) fn wait(&mut self, children: &[Child], reported: &mut Vec<u8>) -> io::Result<()> {
+    /// Waits until outputs can be read, at most for this time, if there is one, and puts the numbers of
+    /// their servers in place of `reported`.
+    pub(super) fn wait(
+        &mut self,
+        children: &[Option<Child>],
+        reported: &mut Vec<u8>,
+        limit: Option<Duration>,
+    ) -> io::Result<()> {
         self.register(children)?;
-        self.poll.poll(&mut self.events, None)?;
+        self.poll.poll(&mut self.events, limit)?;
         reported.clear();
         for event in self.events.iter() {
             if let Ok(server) = u8::try_from(event.token().0.saturating_add(1)) {
@@ -47,7 +54,7 @@ impl Reports {
 
     /// Has the outputs be reported: those of servers that were started since the last wait, and
     /// again those that it reported, since one read, which cannot wait, follows each report.
-    fn register(&mut self, children: &[Child]) -> io::Result<()> {
+    fn register(&mut self, children: &[Option<Child>]) -> io::Result<()> {
         let registry = self.poll.registry();
         for event in self.events.iter() {
             if let Some(pipe) = pipe_of(children, event.token()) {
@@ -64,9 +71,22 @@ impl Reports {
         self.registered = children.len();
         Ok(())
     }
+
+    /// Has the output of a server be reported that began late.
+    pub(super) fn add(&mut self, child: &Child, index: usize) -> io::Result<()> {
+        let Some(pipe) = child.stdout.as_ref() else {
+            return Ok(());
+        };
+        let fd = pipe.as_raw_fd();
+        let registry = self.poll.registry();
+        registry.register(&mut SourceFd(&fd), Token(index), Interest::READABLE)
+    }
 }
 
 /// The pipe of the process under this token, until it is closed.
-fn pipe_of(children: &[Child], token: Token) -> Option<&ChildStdout> {
-    children.get(token.0)?.stdout.as_ref()
+fn pipe_of(children: &[Option<Child>], token: Token) -> Option<&ChildStdout> {
+    match children.get(token.0) {
+        Some(Some(child)) => child.stdout.as_ref(),
+        _ => None,
+    }
 }

@@ -7,6 +7,7 @@ returns c app is =
     let blocks = commands_grow.adds is c.max_block.ensures c.in_ok-command.ensures in
     let files = commands_grow.adds blocks c.max_file.ensures c.in_ok-command-2.ensures in
     let retries = commands_grow.adds files c.retries.ensures c.in_ok-command-3.ensures in
-    let caps = commands_grow.adds retries c.cap.ensures c.in_ok-command-4.ensures in
-    commands_grow.adds (commands_grow.adds caps c.per_client.ensures c.in_ok-command-5.ensures) c.longest.ensures
+    let backoffs = commands_grow.adds retries c.backoff.ensures c.in_ok-command-4.ensures in
+    let caps = commands_grow.adds backoffs c.cap.ensures c.in_ok-command-5.ensures in
+    commands_grow.adds (commands_grow.adds caps c.per_client.ensures c.in_ok-command-6.ensures) c.longest.ensures
     c.in_ok-arg.ensures

@@ -1,4 +1,4 @@
-use Rattle.std.proofs.Common.{◌≡◌, ◌∷◌, ◌∙◌, ap, sym, List}
+use Rattle.std.proofs.Common.{◌∷◌, ◌∙◌, ap, sym}
 use Rattle.tftp_status.specs.declared.counts.Counts.{Counts}
 use Rattle.tftp_sockets.specs.declared.entry.Entry.{Entry}
 use Rattle.tftp_sockets.specs.declared.entry.Entry.TheVariants.{Closed}

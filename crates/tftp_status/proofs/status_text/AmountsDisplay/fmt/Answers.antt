@@ -1,6 +1,5 @@
 use Rattle.std.proofs.Common.{ℕ, List, ◌++◌, codes, ap, refl, subst}
 use Rattle.std.specs.Fmt.{HasWritten}
-use Rattle.tftp_status.specs.StatusText.{amounts_text}
 use Rattle.tftp_status.specs.StatusText.{head_text}
 use Rattle.tftp_status.specs.declared.status_text.Kind.TheVariants.{Counter}
 use Rattle.tftp_status.proofs.Texts.{then_text}

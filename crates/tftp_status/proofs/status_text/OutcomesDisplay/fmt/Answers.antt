@@ -10,7 +10,7 @@ returns-clause-writes g c plain ok =
     let first = c.write.ensures.writes plain (search rules) in
     let second = c.write-2.ensures.writes first.plain ok in
     put_two g.W.Write.write_str_gives c.args.f.now c.write.new.self c.write-2.new.self _ _
-    (outcomes_text all.way.now all.server all.counts) first second
+    (outcomes_text all.way.now all.labels all.counts) first second
     (then_text
     (then_text c.outcome-complete.ensures (then_text c.outcome-timed_out.ensures
     (then_text c.outcome-peer_error.ensures (then_text c.outcome-illegal.ensures
