@@ -16,12 +16,14 @@ DOCUMENT = TOP / "docs" / "STATEMENT.md"
 
 HEAD = """# The theorem, word by word
 
-`make docs` makes this page from the definitions in `crates/*/specs`, which the prover checks as they stand there. Read it
-from the top. Two things that the theorem rests on are in docs/PROVED.md: that traces are true, and that no peer is blamed.
+`make docs` makes this page from the definitions in `crates/*/specs`, which the prover checks as they stand there. Read
+it from the top. Two things that the theorem rests on are in docs/PROVED.md: that traces are true, and that no peer is
+blamed.
 
 The page is about runs that have ended: `tftpd` and each `tftp` have returned, and `status` is what they returned. The
-theorem says nothing of a server that still runs, or that a signal has ended. `ip` is the address of the host of a run. It is no argument: the premise on the network says where datagrams can
-come from, and `AllAsk` says that the arguments of the clients name the server's address.
+theorem says nothing of a server that still runs, or that a signal has ended. `ip` is the address of the host of a run.
+It is no argument: the premise on the network says where datagrams can come from, and `AllAsk` says that the arguments
+of the clients name the server's address.
 
 ## Notation
 
@@ -45,11 +47,11 @@ come from, and `AllAsk` says that the arguments of the clients name the server's
 | `λ x. t`, `f x y` | the function that takes x to t; f of x and y |
 
 Orders and traces have the newest event first. A name that a definition does not bind is a parameter of its module:
-`programs`, or `stores`, `sources`, `inputs` and `outputs`, which are the models of the server's store and files and of the
-clients' files. A name without a definition on this page is in the list at its end.
+`programs`, or `stores`, `sources`, `inputs` and `outputs`, which are the models of the server's store and files and of
+the clients' files. A name without a definition on this page is in the list at its end.
 
-*Words* are the arguments of a command line. A *trace* is what a program asked of the system and what the system answered. A
-*stranger* is a third party. A *draft* is the temporary file of a put.
+*Words* are the arguments of a command line. A *trace* is what a program asked of the system and what the system
+answered. A *stranger* is a third party. A *draft* is the temporary file of a put.
 """
 
 
