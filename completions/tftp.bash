@@ -22,9 +22,9 @@ _tftp() {
     if [[ $wants_value = yes ]]; then return; fi
 
     case $verb in
-    get) options='--netascii --blksize -b --timeout --tsize --retries --fallback --progress --verbose -v
+    get) options='--netascii --blksize -b --timeout --tsize --retries --backoff --fallback --progress --verbose -v
         --replace --no-dally --help -h' ;;
-    put) options='--netascii --blksize -b --timeout --tsize --retries --fallback --progress --verbose -v
+    put) options='--netascii --blksize -b --timeout --tsize --retries --backoff --fallback --progress --verbose -v
         --help -h' ;;
     *) options='--help -h --version -V' ;;
     esac

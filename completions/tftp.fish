@@ -36,6 +36,7 @@ complete -c tftp -n '__fish_seen_subcommand_from get put' -s b -l blksize -x -d 
 complete -c tftp -n '__fish_seen_subcommand_from get put' -l timeout -x -d 'Ask for a timeout, 1 to 255 seconds'
 complete -c tftp -n '__fish_seen_subcommand_from get put' -l tsize -d 'Ask for the length of the file'
 complete -c tftp -n '__fish_seen_subcommand_from get put' -l retries -x -d 'Send a datagram again, 0 to 10 times'
+complete -c tftp -n '__fish_seen_subcommand_from get put' -l backoff -d 'Wait twice as long after each timeout'
 complete -c tftp -n '__fish_seen_subcommand_from get put' -l fallback -d 'Try again without refused options'
 complete -c tftp -n '__fish_seen_subcommand_from get put' -l progress -d 'Show how far the transfer came'
 complete -c tftp -n '__fish_seen_subcommand_from get put' -s v -l verbose -d 'Accepted; the cause of a failure is always printed'

@@ -8,6 +8,7 @@ transfer=(
   '--timeout=[ask for a timeout]:seconds, 1 to 255:'
   '--tsize[ask for the length of the file]'
   '--retries=[how often a datagram is sent again without progress]:times, 0 to 10:'
+  '--backoff[wait twice as long after each timeout, up to eight times]'
   '--fallback[try again without options where the server refuses them]'
   '--progress[show how far the transfer came]'
   '(-v --verbose)'{-v,--verbose}'[accepted; the cause of a failure is always printed]'

@@ -427,6 +427,33 @@ def test_progress_goes_by_the_clock(scene) -> None:
     expect((count, least <= speed <= most), (f"{length}", True), f"the bytes, and whether {speed} bytes a second are their speed")
 
 
+def seconds_of_sends(scene, verb, names, *words, answer=None) -> list[int]:
+    """The seconds at which a client sends, by a clock that goes by its waits. The server answers its request once, by this
+    datagram, if there is one, and then nothing."""
+    requests, times = scene.port(), scene.folder / "times"
+    times.unlink(missing_ok=True)
+    client = scene.tftp(verb, requests.word, *names, *words, "--retries", "5",
+                        env=preloaded(scene, "counted_clock.c", TIMES=times))
+    if answer:
+        _, sender = requests.receive()
+        scene.port().send(answer, sender)
+    client.fails("TimedOut", f"{requests.word}: no answer{' any more' if answer else '; check address, port and firewalls'}")
+    return [int(line) // 1_000 for line in times.read_text().split()]
+
+
+def test_sends_again_ever_later(scene) -> None:
+    """With `--backoff` a client sends again after 1, 2, 4, 8 and 8 intervals, and without it after one each (RFC 1123,
+    section 4.2.3.2)."""
+    scene.make("local", b"ABC")
+    for verb, names in [("get", ["a", "got"]), ("put", ["local", "a"])]:
+        expect(seconds_of_sends(scene, verb, names), [0, 1, 2, 3, 4, 5], f"when a {verb} sends")
+        expect(seconds_of_sends(scene, verb, names, "--backoff"), [0, 1, 3, 7, 15, 23], f"when a {verb} --backoff sends")
+    for flags, waits in [([], [2, 2, 2, 2, 2]), (["--backoff"], [2, 4, 8, 16, 16])]:
+        # the request may be sent again before its answer is there: the agreed timeout counts from the first ACK on
+        sends = seconds_of_sends(scene, "get", ["a", "got"], "--timeout", "2", *flags, answer=oack(timeout=2))[-6:]
+        expect([later - sooner for sooner, later in zip(sends, sends[1:])], waits, f"the waits with an agreed timeout, {flags}")
+
+
 def test_falls_back(scene) -> None:
     """After ERROR 8 the client retries without options (RFC 2347), from a new port: the system may choose the old one
     again, and hardly does in each of three runs."""

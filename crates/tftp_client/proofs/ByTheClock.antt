@@ -1,14 +1,15 @@
 -- The time of a client, by the readings of its clock.
 use Rattle.std.proofs.Common.{arith, ◌≡◌, ◌<◌, ◌≤◌, ◌⊎◌, ℕ, List, Some, inl, inr, refl, ap, ◌∙◌}
 use Rattle.std.specs.Prelude.{◌+◌, ◌-◌, ◌*◌, min}
-use Rattle.std.proofs.Math.Nat.{lt_of_not-le}
 use Rattle.tftp_negotiate.specs.declared.asked.Asked.{Asked}
 use Rattle.tftp_negotiate.specs.declared.known.Kind.{Kind}
 use Rattle.tftp_negotiate.specs.declared.known.Kind.TheVariants.{Read, Write}
 use Rattle.tftp_file.specs.Sink.{SinkMeaning}
 use Rattle.tftp_file.specs.Source.{SourceMeaning}
 use Rattle.tftp_file.specs.declared.files.Files.{Files}
-use Rattle.tftp_ends.specs.End.{Position, outcome_of}
+use Rattle.tftp_ends.specs.Backoff.{wait_of}
+use Rattle.tftp_ends.specs.End.{EndState, Position, outcome_of}
+use Rattle.tftp_ends.specs.declared.backoff.Backoff.{Backoff}
 use Rattle.tftp_ends.specs.declared.outcome.Outcome.TheVariants.{TimedOut}
 use Rattle.tftp_ends.specs.declared.phase.Phase.TheVariants.{Waiting}
 use Rattle.tftp_sockets.specs.Watch.{last_moment}
@@ -22,7 +23,9 @@ use Rattle.tftp_client.specs.Converses.HandlesReceived.{Answers, Loses}
 use Rattle.tftp_client.specs.Converses.MayElapse.{Stays, Elapses}
 use Rattle.tftp_client.specs.Runs.{begun, opens}
 use Rattle.tftp_client.specs.Seconds.{IsSteady, PassesWithTheClock, ReceivesNone, TimesOutByTheClock}
-use Rattle.tftp_client.proofs.Silent.{closed_not, second, times_out}
+use Rattle.tftp_client.specs.Silence.{seconds_in}
+use Rattle.tftp_client.proofs.Growing.{one_more, wait_least, waiting_deadline}
+use Rattle.tftp_client.proofs.Silent.{before_due, begins_now, closed_not, times_out}
 
 -- ---- one reading
 -- the time advances as much as the clock, if that advances by a second at most
@@ -88,82 +91,127 @@ module _ {S K : Type 0} {sources : SourceMeaning S} {sinks : SinkMeaning K} wher
   passes (Rests run works) steady early = passes run steady early
 
 -- ---- a client to whom nothing comes
--- its request is not answered; each sending so far had a timeout and a second at most
-record Unanswered (retries : ℕ) (s : State) : Type 0 where
+-- its request is not answered; each sending so far had its wait, and a second at most
+record Unanswered (backoff : Backoff) (most : ℕ) (s : State) : Type 0 where
   asked : Asked
   limit : ℕ
   waiting : s.end.position.phase ≡ Waiting asked limit
-  due : s.deadline + s.end.position.retries_left * 2000 ≤ retries * 2000 + 1000
+  grows : s.backoff ≡ backoff
+  used : ℕ
+  counted : s.end.role.retries ≡ used + s.end.position.retries_left
+  due : s.deadline + seconds_in backoff 1 (used + 1) s.end.position.retries_left * 1000
+      + s.end.position.retries_left * 1000 ≤ most
   soon : s.now < s.deadline + 1000
 
-abbrev Alone : ℕ → State → Type 0
-Alone retries s = (outcome_of s.end.position.phase ≡ Some TimedOut) ⊎ Unanswered retries s
+abbrev Alone : Backoff → ℕ → State → Type 0
+Alone backoff most s = (outcome_of s.end.position.phase ≡ Some TimedOut) ⊎ Unanswered backoff most s
 
-after_wait : (retries : ℕ) (s : State) (event : QuietEvent) (watch : Watch) → Unanswered retries s → MayWait s
-    → IsReadBy s watch → s.now < last_moment → Unanswered retries (waited event watch s)
-after_wait retries s event watch h may later early =
-    let before : s.now < s.deadline = lt_of_not-le (λ late. let is = may.due late
-    ∙ second s.now s.end h.asked h.limit h.waiting in absurd (omega (arith, is, late, early))) in
+after_wait : (backoff : Backoff) (most : ℕ) (s : State) (event : QuietEvent) (watch : Watch) → Unanswered backoff most s
+    → MayWait s → IsReadBy s watch → s.now < last_moment → Unanswered backoff most (waited event watch s)
+after_wait backoff most s event watch h may later early =
+    let before = before_due backoff s h.used h.asked h.limit h.waiting h.grows h.counted may early in
     let soon = reads_soon s watch later in
     record {
       asked = h.asked;
       limit = h.limit;
       waiting = h.waiting;
+      grows = h.grows;
+      used = h.used;
+      counted = h.counted;
       due = h.due;
       soon = omega (arith, before, soon);
     }
 
-after_elapsed : (retries port : ℕ) (s : State) → Unanswered retries s → s.deadline ≤ s.now → IsOpen s.end
-    → s.now < last_moment → Alone retries (elapsed port s)
-after_elapsed retries port s h due is_open early = elim (times_out s.end h.asked h.limit h.waiting) [
+after_elapsed : (backoff : Backoff) (most port : ℕ) (s : State) → Unanswered backoff most s → s.deadline ≤ s.now
+    → IsOpen s.end → s.now < last_moment → Alone backoff most (elapsed port s)
+after_elapsed backoff most port s h due is_open early = elim (times_out s.end h.asked h.limit h.waiting) [
   | inl closed ↦ inl closed
   | inr again ↦
-      let left : (elapsed port s).end.position.retries_left ≡ s.end.position.retries_left - 1 =
+      let next = elapsed port s in
+      let left : next.end.position.retries_left ≡ s.end.position.retries_left - 1 =
       ap (λ (p : Position). p.retries_left) again.1 in
-      let is = second s.now s.end h.asked h.limit h.waiting in
+      let waiting = ap (λ (p : Position). p.phase) again.1 ∙ h.waiting in
+      let counted_before = h.counted in
+      let some = again.0 in
+      let counted : next.end.role.retries ≡ (h.used + 1) + next.end.position.retries_left =
+      omega (arith, counted_before, left, some) in
+      let is = begins_now backoff next (h.used + 1) h.asked h.limit waiting h.grows counted in
+      let first = one_more backoff 1 (h.used + 1) s.end.position.retries_left some in
+      let rest : seconds_in backoff 1 (h.used + 1 + 1) next.end.position.retries_left
+      ≡ seconds_in backoff 1 (h.used + 1 + 1) (s.end.position.retries_left - 1) =
+      ap (λ (n : ℕ). seconds_in backoff 1 (h.used + 1 + 1) n) left in
+      let least = wait_least backoff 1 (h.used + 1) in
       let was = h.due in
       let soon = h.soon in
       inr
       (record {
         asked = h.asked;
         limit = h.limit;
-        waiting = ap (λ (p : Position). p.phase) again.1 ∙ h.waiting;
-        due = omega (arith, is, left, again.0, was, soon);
-        soon = omega (arith, is, early);
+        waiting = waiting;
+        grows = h.grows;
+        used = h.used + 1;
+        counted = counted;
+        due = omega (arith, is, left, some, first, rest, was, soon);
+        soon = omega (arith, is, least, early);
       })
 ]
 
-elapses : (retries port : ℕ) {s next : State} → MayElapse port s next → s.now < last_moment → Alone retries s
-    → Alone retries next
-elapses retries port (Stays why) early h = h
-elapses retries port {s} (Elapses due is_open) early (inl closed) = absurd (closed_not s.end TimedOut closed is_open)
-elapses retries port {s} (Elapses due is_open) early (inr h) = after_elapsed retries port s h due is_open early
+elapses : (backoff : Backoff) (most port : ℕ) {s next : State} → MayElapse port s next → s.now < last_moment
+    → Alone backoff most s → Alone backoff most next
+elapses backoff most port (Stays why) early h = h
+elapses backoff most port {s} (Elapses due is_open) early (inl closed) =
+    absurd (closed_not s.end TimedOut closed is_open)
+elapses backoff most port {s} (Elapses due is_open) early (inr h) = after_elapsed backoff most port s h due is_open early
 
 module _ {S K : Type 0} {sources : SourceMeaning S} {sinks : SinkMeaning K} where
-  alone : (retries : ℕ) {port : ℕ} {first : State} {file : Files S K} {s : State} {files : Files S K}
+  alone : (backoff : Backoff) (most : ℕ) {port : ℕ} {first : State} {file : Files S K} {s : State} {files : Files S K}
       (run : Converses sources sinks port first file s files)
-      → ReceivesNone run → Alone retries first → s.now < last_moment → Alone retries s
-  alone retries Begins none h early = h
-  alone retries (Receives run may later answers) none h early = absurd none
-  alone retries (Waits {s} {event = event} {watch = watch} run may nothing later) none h early =
+      → ReceivesNone run → Alone backoff most first → s.now < last_moment → Alone backoff most s
+  alone backoff most Begins none h early = h
+  alone backoff most (Receives run may later answers) none h early = absurd none
+  alone backoff most (Waits {s} {event = event} {watch = watch} run may nothing later) none h early =
       let forward = later.forward in
       let before : s.now < last_moment = omega (arith, forward, early) in
-      elim (alone retries run none h before) [
+      elim (alone backoff most run none h before) [
         | inl closed ↦ absurd (closed_not s.end TimedOut closed may.not_closed)
-        | inr unanswered ↦ inr (after_wait retries s event watch unanswered may later before)
+        | inr unanswered ↦ inr (after_wait backoff most s event watch unanswered may later before)
       ]
-  alone retries {port} (Times {s} {next} run timed) none h early =
+  alone backoff most {port} (Times {s} {next} run timed) none h early =
       let now = (same_elapses timed).now in
       let before : s.now < last_moment = omega (arith, now, early) in
-      elapses retries port timed before (alone retries run none h before)
-  alone retries (Rests run works) none h early = alone retries run none h early
+      elapses backoff most port timed before (alone backoff most run none h before)
+  alone backoff most (Rests run works) none h early = alone backoff most run none h early
+
+-- how long the waits are, and the seconds by which the timeouts may be late, but for the last
+abbrev all_waits : Backoff → ℕ → ℕ
+all_waits backoff retries = seconds_in backoff 1 0 (retries + 1) * 1000 + retries * 1000
+
+first_wait : (backoff : Backoff) (port reading : ℕ) (e : EndState) (before : List SocketEvent) (asked : Asked) (limit : ℕ)
+    → e.position.phase ≡ Waiting asked limit → e.role.retries ≡ 0 + e.position.retries_left
+    → Unanswered backoff (all_waits backoff e.role.retries) (begun backoff port reading e before)
+first_wait backoff port reading e before asked limit waiting counted =
+    let is = waiting_deadline backoff 0 0 e asked limit waiting counted in
+    let first = one_more backoff 1 0 (e.role.retries + 1) (omega arith) in
+    let rest : seconds_in backoff 1 1 (e.role.retries + 1 - 1) ≡ seconds_in backoff 1 1 e.position.retries_left =
+    ap (λ (n : ℕ). seconds_in backoff 1 1 n) (omega (arith, counted)) in
+    record {
+      asked = asked;
+      limit = limit;
+      waiting = waiting;
+      grows = refl;
+      used = 0;
+      counted = counted;
+      due = omega (arith, is, first, rest, counted);
+      soon = omega arith;
+    }
 
 begins : (port reading : ℕ) (kind : Kind) (job : Job) (length : ℕ) (before : List SocketEvent)
-    → Alone job.retries (begun port reading (opens kind job length) before)
+    → Alone job.backoff (all_waits job.backoff job.retries)
+    (begun job.backoff port reading (opens kind job length) before)
 begins port reading Read job length before =
-    inr (record { asked = job.asked; limit = _; waiting = refl; due = omega arith; soon = omega arith })
+    inr (first_wait job.backoff port reading (opens Read job length) before _ _ refl (omega arith))
 begins port reading Write job length before =
-    inr (record { asked = _; limit = _; waiting = refl; due = omega arith; soon = omega arith })
+    inr (first_wait job.backoff port reading (opens Write job length) before _ _ refl (omega arith))
 
 module _ {S K : Type 0} (sources : SourceMeaning S) (sinks : SinkMeaning K) where
   pub passes_with_the_clock : PassesWithTheClock sources sinks
@@ -171,7 +219,8 @@ module _ {S K : Type 0} (sources : SourceMeaning S) (sinks : SinkMeaning K) wher
 
   pub times_out_by_the_clock : TimesOutByTheClock sources sinks
   times_out_by_the_clock port reading kind job length before file s files run none steady early long =
-      elim (alone job.retries run none (begins port reading kind job length before) early) [
+      elim (alone job.backoff (all_waits job.backoff job.retries) run none
+      (begins port reading kind job length before) early) [
         | inl closed ↦ closed
         | inr h ↦
             let passed : s.reading + 0 ≤ reading + s.now = passes run steady early in

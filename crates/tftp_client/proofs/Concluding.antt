@@ -134,7 +134,7 @@ module _ {D F V G : Type 0} {logs : looks.Ghosts D} {writes : write.Ghosts F} {v
   abbrev concluded : {status : ℕ} (job : Job) (kind : Kind) (sent length most : ℕ) (before after : List SocketEvent) {port reading : ℕ}
       (file files : Files (DiskSource G) Local) → MayOpen kind job length → IsNew sources sinks file
       → IsFileOf sources sinks kind file → (job.mode ≡ Octet → sent ≡ length)
-      → (r : Reaches sources sinks status job.dallies most port (begun port reading (opens kind job length) before) file sent after files)
+      → (r : Reaches sources sinks status job.dallies most port (begun job.backoff port reading (opens kind job length) before) file sent after files)
       → BeginsAt job (count_of sent r.files) length file → Concludes sources sinks status most kind job before after
   concluded job kind sent length most before after {port} {reading} file files may new side octet r begins =
       record {
@@ -155,7 +155,7 @@ module _ {D F V G : Type 0} {logs : looks.Ghosts D} {writes : write.Ghosts F} {v
   -- a request is no wait
   pub concludes : {status : ℕ} (job : Job) (kind : Kind) (sent length most : ℕ) (before after : List SocketEvent) {port reading : ℕ}
       {first : State} (file files : Files (DiskSource G) Local) → MayOpen kind job length
-      → first ≡ begun port reading (opens kind job length) before → IsNew sources sinks file → IsFileOf sources sinks kind file
+      → first ≡ begun job.backoff port reading (opens kind job length) before → IsNew sources sinks file → IsFileOf sources sinks kind file
       → (job.mode ≡ Octet → sent ≡ length)
       → (r : Reaches sources sinks status job.dallies (most + waits first.events) port first file sent after files)
       → BeginsAt job (count_of sent r.files) length file
@@ -171,7 +171,7 @@ module _ {D F V G : Type 0} {logs : looks.Ghosts D} {writes : write.Ghosts F} {v
       → KeepsPlace (paths_in before) (paths_in after) (tried_in before) (tried_in after) (log_in before) (log_in after))
       → {status : ℕ} (job : Job) (kind : Kind) (sent length most : ℕ) (before after : List SocketEvent) (disk : D) {port reading : ℕ}
       {first : State} (file files : Files (DiskSource G) Local) → MayOpen kind job length
-      → first ≡ begun port reading (opens kind job length) before → IsNew sources sinks file → IsFileOf sources sinks kind file
+      → first ≡ begun job.backoff port reading (opens kind job length) before → IsNew sources sinks file → IsFileOf sources sinks kind file
       → (job.mode ≡ Octet → sent ≡ length) → IsFor job file → HasDisk files disk
       → (r : Reaches sources sinks status job.dallies (most + waits first.events) port first file sent after files)
       → BeginsAt job (count_of sent r.files) length file

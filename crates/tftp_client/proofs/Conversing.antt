@@ -2,7 +2,6 @@
 use Rattle.std.proofs.Common.{arith, ◌≡◌, ◌≤◌, ℕ, Bool, true, false, List, ◌∷◌, Option, Some, None, Result, Ok}
 use Rattle.std.proofs.Common.{Err, IsErrOf, IsSome, ◌↔◌, inl, inr, refl, sym, ap, subst, ◌∙◌}
 use Rattle.std.proofs.Common.{option_map}
-use Rattle.std.specs.Prelude.{◌==◌, if◌then◌else◌}
 use Rattle.std.proofs.lemmas.Bool.{true≢false}
 use Rattle.tftp_wire.specs.declared.packet.Packet.{Packet}
 use Rattle.tftp_file.specs.Sink.{SinkMeaning}
@@ -10,21 +9,15 @@ use Rattle.tftp_file.specs.Source.{SourceMeaning}
 use Rattle.tftp_file.specs.declared.files.Files.{Files}
 use Rattle.tftp_negotiate.specs.declared.known.Kind.{Kind}
 use Rattle.tftp_negotiate.specs.declared.known.Kind.TheVariants.{Read, Write}
-use Rattle.tftp_ends.specs.Action.{Decodes, datagram_action, timeout_response}
-use Rattle.tftp_ends.specs.End.{EndState, interval_of, outcome_of, terms_of}
-use Rattle.tftp_ends.specs.Phase.{waited as dallied}
-use Rattle.tftp_ends.specs.Step.{Reply, UsesFile, after, after_turn, reply_bytes, timeout_turn}
-use Rattle.tftp_ends.specs.declared.action.Response.TheVariants.{Close, Retransmit}
+use Rattle.tftp_ends.specs.Action.{Decodes, datagram_action}
+use Rattle.tftp_ends.specs.declared.backoff.Backoff.{Backoff}
+use Rattle.tftp_ends.specs.End.{EndState, outcome_of}
+use Rattle.tftp_ends.specs.Step.{Reply, UsesFile, reply_bytes, timeout_turn}
 use Rattle.tftp_ends.specs.declared.endpoint.Endpoint.{Endpoint}
 use Rattle.tftp_ends.specs.declared.fault.EndFault.{EndFault}
 use Rattle.tftp_ends.specs.declared.fault.EndFault.TheVariants.{Closed, Memory}
 use Rattle.tftp_ends.specs.declared.outcome.Outcome.{Outcome}
-use Rattle.tftp_ends.specs.declared.outcome.Outcome.TheVariants.{TimedOut}
-use Rattle.tftp_ends.specs.declared.phase.Dally.TheVariants.{Fresh, Waited}
-use Rattle.tftp_ends.specs.declared.phase.Phase.{Phase}
-use Rattle.tftp_ends.specs.declared.phase.Phase.TheVariants as phases
-use Rattle.tftp_ends.specs.declared.phase.Terms.{Terms}
-use Rattle.tftp_sockets.specs.Watch.{deadline_of, later_by}
+use Rattle.tftp_sockets.specs.Watch.{later_by}
 use Rattle.tftp_sockets.specs.declared.watch.Watch.{Watch}
 use Rattle.tftp_client.specs.declared.transfer.Job.{Job}
 use Rattle.tftp_client.specs.Converses.{AnswersReceived, Converses, HandlesReceived, IsLost, IsOpen, MayElapse}
@@ -50,11 +43,21 @@ replies port (Some reply) {to} {bytes} {events} sent goes lends noted =
     ∙ ap (λ (es : List SocketEvent). Sent port reply.to reply.bytes ∷ es) noted))
 
 -- a state with these fields is that state
-pub state_is : {e e' : EndState} {now now' read read' due due' : ℕ} {events events' : List SocketEvent} → e ≡ e'
-    → now ≡ now' → read ≡ read' → due ≡ due' → events ≡ events'
-    → ◌≡◌ {A = State} (record { end = e; now = now; reading = read; deadline = due; events = events })
-    (record { end = e'; now = now'; reading = read'; deadline = due'; events = events' })
-state_is p q o r t = λ i. record { end = p i; now = q i; reading = o i; deadline = r i; events = t i }
+pub state_is : {e e' : EndState} {now now' read read' due due' : ℕ} {backoff : Backoff} {events events' : List SocketEvent}
+    → e ≡ e' → now ≡ now' → read ≡ read' → due ≡ due' → events ≡ events'
+    → ◌≡◌ {A = State}
+    (record { end = e; now = now; reading = read; deadline = due; backoff = backoff; events = events })
+    (record { end = e'; now = now'; reading = read'; deadline = due'; backoff = backoff; events = events' })
+state_is {backoff = backoff} p q o r t =
+    λ i. record { end = p i; now = q i; reading = o i; deadline = r i; backoff = backoff; events = t i }
+
+-- the same, where the backoff is as it was
+pub state_with : {b b' : Backoff} {e e' : EndState} {now now' read read' due due' : ℕ} {events events' : List SocketEvent}
+    → b ≡ b' → e ≡ e' → now ≡ now' → read ≡ read' → due ≡ due' → events ≡ events'
+    → ◌≡◌ {A = State} (record { end = e; now = now; reading = read; deadline = due; backoff = b; events = events })
+    (record { end = e'; now = now'; reading = read'; deadline = due'; backoff = b'; events = events' })
+state_with b p q o r t =
+    λ i. record { end = p i; now = q i; reading = o i; deadline = r i; backoff = b i; events = t i }
 
 -- a reading of the clock
 pub read_by : (s : State) (watch : Watch) {time : ℕ} → watch.now ≡ time → time ≡ later_by (watch_of s) watch.reading
@@ -75,35 +78,6 @@ lost Closed from bytes e closed memory = inl (closed.0 refl)
 lost Memory from bytes e closed memory = inr (memory refl)
 
 -- ---- waits
--- a timeout leaves the terms
-dallied_terms : (phase : Phase) → terms_of (dallied phase) ≡ terms_of phase
-dallied_terms (phases.Waiting asked limit) = refl
-dallied_terms (phases.Sending terms number) = refl
-dallied_terms (phases.Receiving terms number) = refl
-dallied_terms (phases.Dallying terms number dally) = refl
-dallied_terms (phases.Closed terms number complete outcome) = refl
-
-repeated_terms : (last : Bool) (to : Endpoint) (e : EndState)
-    → terms_of (after (if last then Close TimedOut else Retransmit) to e).phase ≡ terms_of e.position.phase
-repeated_terms true to e = refl
-repeated_terms false to e = refl
-
-response_terms : (left : ℕ) (phase : Phase) (to : Endpoint) (e : EndState)
-    → terms_of (after (timeout_response left phase) to e).phase ≡ terms_of e.position.phase
-response_terms left (phases.Waiting asked limit) to e = repeated_terms (left == 0) to e
-response_terms left (phases.Sending terms number) to e = repeated_terms (left == 0) to e
-response_terms left (phases.Receiving terms number) to e = repeated_terms (left == 0) to e
-response_terms left (phases.Dallying terms number Fresh) to e = dallied_terms e.position.phase
-response_terms left (phases.Dallying terms number Waited) to e = refl
-response_terms left (phases.Closed terms number complete outcome) to e = repeated_terms (left == 0) to e
-
-timeout_terms : (e : EndState) → terms_of (after_turn e (timeout_turn e)).position.phase ≡ terms_of e.position.phase
-timeout_terms e = response_terms e.position.retries_left e.position.phase e.position.last_sent_to e
-
--- once a timeout was delivered, another wait for one begins
-pub due_elapsed : (s : State) → deadline_at s.now s.end ≡ deadline_at s.now (after_turn s.end (timeout_turn s.end))
-due_elapsed s = ap (λ (t : Option Terms). deadline_of s.now (interval_of t)) (sym (timeout_terms s.end))
-
 -- an answer is no wait
 waits_answered : (port : ℕ) (reply : Option Reply) (events : List SocketEvent)
     → waits (answered port reply events) ≡ waits events
@@ -127,13 +101,14 @@ opens_open Read job length closed = true≢false (sym closed)
 opens_open Write job length closed = true≢false (sym closed)
 
 -- and then a wait begins
-pub begun_open : {s : State} (port reading : ℕ) (e : EndState) (before : List SocketEvent)
-    → s ≡ begun port reading e before → IsOpen e → IsOpen s.end
-begun_open port reading e before is is_open = let Of : State → Type 0 = λ t. IsOpen t.end in subst Of (sym is) is_open
+pub begun_open : {s : State} (backoff : Backoff) (port reading : ℕ) (e : EndState) (before : List SocketEvent)
+    → s ≡ begun backoff port reading e before → IsOpen e → IsOpen s.end
+begun_open backoff port reading e before is is_open = let Of : State → Type 0 = λ t. IsOpen t.end in subst Of (sym is) is_open
 
-pub begun_ready : {s : State} (port reading : ℕ) (e : EndState) (before : List SocketEvent)
-    → s ≡ begun port reading e before → s.deadline ≡ deadline_at s.now s.end
-begun_ready port reading e before is = let Of : State → Type 0 = λ t. t.deadline ≡ deadline_at t.now t.end in subst Of (sym is) refl
+pub begun_ready : {s : State} (backoff : Backoff) (port reading : ℕ) (e : EndState) (before : List SocketEvent)
+    → s ≡ begun backoff port reading e before → s.deadline ≡ deadline_at s.backoff s.now s.end
+begun_ready backoff port reading e before is =
+    let Of : State → Type 0 = λ t. t.deadline ≡ deadline_at t.backoff t.now t.end in subst Of (sym is) refl
 
 -- a timeout that was refused: the end is closed
 pub is_closed : {R P : Type 0} (fault : EndFault) → (IsErrOf {T = R} (Err fault) Closed ↔ P)

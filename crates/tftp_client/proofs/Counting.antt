@@ -38,7 +38,7 @@ module _ {S : Type 0} {D F V G : Type 0} {logs : looks.Ghosts D} {writes : write
       → (job : Job) (kind : Kind) (sent length : ℕ) {port : ℕ} {before : List SocketEvent} {last : State}
       {files : Files S (LocalFile D F V G logs writes views reads seeks)} {count : ℕ}
       → MayOpen kind job length
-      → (run : Runs sources sinks port (opens kind job length) before last files) → IsFileOf sources sinks kind run.file
+      → (run : Runs sources sinks job.backoff port (opens kind job length) before last files) → IsFileOf sources sinks kind run.file
       → (job.mode ≡ Octet → sent ≡ length) → count ≡ count_of sent files
       → RunsAs sources sinks port kind job before last files count
   runs_as sources sinks known job kind sent length {port} {before} {last} {files} {count} may run side same is =

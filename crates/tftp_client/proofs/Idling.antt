@@ -21,6 +21,8 @@ use Rattle.tftp_file.specs.declared.fault.StoreFault.{StoreFault}
 use Rattle.tftp_file.specs.declared.files.Files.{Files}
 use Rattle.tftp_file.specs.declared.files.Files.TheVariants.{Source, Sink}
 use Rattle.tftp_ends.specs.Action.{datagram_action, garbled_response, packet_action, timeout_response}
+use Rattle.tftp_ends.specs.Backoff.{timeouts_of, wait_of}
+use Rattle.tftp_ends.specs.declared.backoff.Backoff.{Backoff}
 use Rattle.tftp_ends.specs.End.{EndState, Position, interval_of, is_client, is_progress, is_sender, outcome_of, terms_of}
 use Rattle.tftp_ends.specs.Receiver.{receiver_action, data_action, next_action, dally_response}
 use Rattle.tftp_ends.specs.Sender.{acked_action, illegal_action, sender_action}
@@ -49,7 +51,7 @@ use Rattle.tftp_sockets.specs.declared.watch.Watch.{Watch}
 use Rattle.tftp_sockets.specs.Trace.{SocketEvent, QuietEvent}
 use Rattle.tftp_client.specs.declared.transfer.Job.{Job}
 use Rattle.tftp_client.specs.Converses.{AnswersReceived, Converses, HandlesReceived, IsOpen, IsReadBy, MayElapse, MayWait}
-use Rattle.tftp_client.specs.Converses.{State, deadline_after, deadline_at, elapsed, progress_of, received, waited}
+use Rattle.tftp_client.specs.Converses.{State, deadline_after, deadline_at, elapsed, progress_of, received, seconds_of, waited}
 use Rattle.tftp_client.specs.Converses.Converses.{Begins, Receives, Waits, Times, Rests}
 use Rattle.tftp_client.specs.Converses.HandlesReceived.{Answers, Loses}
 use Rattle.tftp_client.specs.Converses.MayElapse.{Stays, Elapses}
@@ -57,6 +59,7 @@ use Rattle.tftp_client.specs.Runs.{begun, opens}
 use Rattle.tftp_client.specs.Seconds.{ClosesByTheClock, ClosesWithoutProgress, IsIdle, IsSteady, longest_timeout}
 use Rattle.tftp_client.proofs.ByTheClock.{passes_with_the_clock, reads_soon, same_elapses, same_handles}
 use Rattle.tftp_client.proofs.Committing.{by_tests, if_either}
+use Rattle.tftp_client.proofs.Growing.{wait_most}
 use Rattle.tftp_client.proofs.Silent.{timed_out}
 
 -- ---- an action without progress leaves the phase, or closes the end
@@ -332,6 +335,12 @@ module _ {S K : Type 0} (sources : SourceMeaning S) (sinks : SinkMeaning K) wher
   same_deadline (Answers is_open step) = refl
   same_deadline (Loses lost keeps) = refl
 
+  same_backoff : {port : ℕ} {from : Endpoint} {bytes : List ℕ} {s : State} {files : Files S K} {next : State}
+      {files' : Files S K} → HandlesReceived sources sinks port from bytes s files next files'
+      → next.backoff ≡ s.backoff
+  same_backoff (Answers is_open step) = refl
+  same_backoff (Loses lost keeps) = refl
+
 -- ---- the end after a timeout
 -- how many timeouts in sequence close an end
 abbrev timeouts_in : ℕ → Phase → ℕ
@@ -429,7 +438,8 @@ timeout_at (Closed terms number complete outcome) e is_open = absurd (is_open re
 
 -- ---- a run without progress
 -- the end is open: each timeout so far took no longer than it may
-record Unclosed (terms : Option Terms) (base from longest most : ℕ) (s : State) : Type 0 where
+record Unclosed (backoff : Backoff) (terms : Option Terms) (base from longest most : ℕ) (s : State) : Type 0 where
+  grows : s.backoff ≡ backoff
   same : terms_of s.end.position.phase ≡ terms
   some : 1 ≤ timeouts_left s.end
   spent : ℕ
@@ -442,30 +452,40 @@ record Unclosed (terms : Option Terms) (base from longest most : ℕ) (s : State
 not_due : (s : State) → MayWait s → s.now < last_moment → s.now ≤ s.deadline
 not_due s may early =
     let before : s.now < s.deadline + 1 = lt_of_not-le (λ late. let is = may.due (omega (arith, late)) in
-    let at : deadline_at s.now s.end ≡ min (s.now + interval_of (terms_of s.end.position.phase) * 1000) last_moment =
+    let at : deadline_at s.backoff s.now s.end ≡ min (s.now + seconds_of s.backoff s.end * 1000) last_moment =
     refl in absurd (omega (arith, is, at, late, early))) in
     omega (arith, before)
 
-module _ (terms : Option Terms) (base from most : ℕ) (first : from ≤ base) where
-  abbrev millis : ℕ
-  millis = interval_of terms * 1000
+module _ (backoff : Backoff) (terms : Option Terms) (base from most : ℕ) (first : from ≤ base) where
+  -- the longest wait of its end
+  abbrev wait : ℕ
+  wait = wait_of backoff (interval_of terms) 3
 
   abbrev longest : ℕ
-  longest = millis + 2000
+  longest = wait * 1000 + 2000
 
   abbrev Lives : State → Type 0
-  Lives s = IsSome (outcome_of s.end.position.phase) ⊎ Unclosed terms base from longest most s
+  Lives s = IsSome (outcome_of s.end.position.phase) ⊎ Unclosed backoff terms base from longest most s
+
+  -- a wait of an end with these terms is no longer
+  waits_no_longer : (s : State) (e : EndState) → s.backoff ≡ backoff → terms_of e.position.phase ≡ terms
+      → seconds_of s.backoff e ≤ wait
+  waits_no_longer s e grows same =
+      let is : seconds_of s.backoff e ≡ wait_of backoff (interval_of terms) (timeouts_of e) =
+      ap (λ (b : Backoff). seconds_of b e) grows
+      ∙ ap (λ (t : Option Terms). wait_of backoff (interval_of t) (timeouts_of e)) same in
+      let most_is = wait_most backoff (interval_of terms) (timeouts_of e) in
+      omega (arith, is, most_is)
 
   -- after a timeout another wait begins
-  times_out : (port : ℕ) (s : State) → Unclosed terms base from longest most s → s.deadline ≤ s.now → IsOpen s.end
+  times_out : (port : ℕ) (s : State) → Unclosed backoff terms base from longest most s → s.deadline ≤ s.now → IsOpen s.end
       → s.now < last_moment → Lives (elapsed port s)
   times_out port s h due is_open early = elim (timeout_at s.end.position.phase s.end is_open) [
     | inl closed ↦ inl closed
     | inr less ↦
-        let at : deadline_at s.now s.end ≡ min (s.now + interval_of (terms_of s.end.position.phase) * 1000) last_moment
-        = refl in
-        let interval : interval_of (terms_of s.end.position.phase) * 1000 ≡ millis =
-        ap (λ (t : Option Terms). interval_of t * 1000) h.same in
+        let next = elapsed port s in
+        let at : next.deadline ≡ min (s.now + seconds_of s.backoff next.end * 1000) last_moment = refl in
+        let no_longer = waits_no_longer s next.end h.grows (less.terms ∙ h.same) in
         let more : longest * (h.spent + 1) ≡ longest * h.spent + longest * 1 = mul-add longest h.spent 1 in
         let one : longest * 1 ≡ longest = omega arith in
         let fewer = less.fewer in
@@ -475,11 +495,12 @@ module _ (terms : Option Terms) (base from most : ℕ) (first : from ≤ base) w
         let since = h.since in
         inr
         (record {
+          grows = h.grows;
           same = less.terms ∙ h.same;
           some = less.some;
           spent = h.spent + 1;
           few = omega (arith, fewer, few);
-          due = omega (arith, at, interval, more, one, was, soon, first);
+          due = omega (arith, at, no_longer, more, one, was, soon, first);
           since = since;
           soon = omega (arith, at, early);
         })
@@ -491,13 +512,15 @@ module _ (terms : Option Terms) (base from most : ℕ) (first : from ≤ base) w
   elapses port {s} (Elapses due is_open) early (inr h) = times_out port s h due is_open early
 
   after_wait : (s : State) (event : QuietEvent) (watch : Watch) → MayWait s → IsReadBy s watch → s.now < last_moment
-      → Unclosed terms base from longest most s → Unclosed terms base from longest most (waited event watch s)
+      → Unclosed backoff terms base from longest most s
+      → Unclosed backoff terms base from longest most (waited event watch s)
   after_wait s event watch may later early h =
       let before = not_due s may early in
       let soon = reads_soon s watch later in
       let forward = later.forward in
       let since = h.since in
       record {
+        grows = h.grows;
         same = h.same;
         some = h.some;
         spent = h.spent;
@@ -513,7 +536,7 @@ module _ (terms : Option Terms) (base from most : ℕ) (first : from ≤ base) w
         → (answers : AnswersReceived sources sinks port endpoint bytes (received port endpoint bytes watch s) files after
         files')
         → progress_of sources sinks answers.handles ≡ false → s.now < last_moment
-        → Unclosed terms base from longest most s → Lives after
+        → Unclosed backoff terms base from longest most s → Lives after
     after_datagram {s = s} {after = after} {watch = watch} may later answers still early h =
         let next = answers.next in
         let again = answers.again in
@@ -525,7 +548,7 @@ module _ (terms : Option Terms) (base from most : ℕ) (first : from ≤ base) w
               let now : after.now ≡ again.now = ap (λ (t : State). t.now) answers.is in
               let deadline : after.deadline ≡ s.deadline =
               ap (λ (t : State). t.deadline) answers.is
-              ∙ (ap (λ (b : Bool). deadline_after b again.now (interval_of (terms_of next.end.position.phase)) next.deadline)
+              ∙ (ap (λ (b : Bool). deadline_after b again.now (seconds_of next.backoff next.end) next.deadline)
               still ∙ same_deadline sources sinks answers.handles) in
               let next_now : next.now ≡ watch.now = (same_handles answers.handles).now in
               let before = not_due s may early in
@@ -546,6 +569,9 @@ module _ (terms : Option Terms) (base from most : ℕ) (first : from ≤ base) w
               let since = h.since in
               inr
               (record {
+                grows =
+                    ap (λ (t : State). t.backoff) answers.is
+                    ∙ (same_backoff sources sinks answers.handles ∙ h.grows);
                 same = ap (λ (e : EndState). terms_of e.position.phase) ends ∙ (ap terms_of phase ∙ h.same);
                 some = omega (arith, left, some);
                 spent = h.spent;
@@ -584,7 +610,7 @@ module _ (terms : Option Terms) (base from most : ℕ) (first : from ≤ base) w
     lives (Rests run works) idle h early = lives run idle h early
 
   -- the last timeout is over
-  too_late : (s : State) → Unclosed terms base from longest most s → s.now ≤ base + longest * most + 2000
+  too_late : (s : State) → Unclosed backoff terms base from longest most s → s.now ≤ base + longest * most + 2000
   too_late s h =
       let few = h.few in
       let due = h.due in
@@ -599,14 +625,15 @@ module _ (terms : Option Terms) (base from most : ℕ) (first : from ≤ base) w
 -- a state from which a client makes no progress
 begins : (start : State) (most : ℕ) → timeouts_left start.end ≤ most + 1
     → IsSome (outcome_of start.end.position.phase)
-    ⊎ Unclosed (terms_of start.end.position.phase) (max start.deadline start.now) start.now (longest_timeout start.end)
-    most start
+    ⊎ Unclosed start.backoff (terms_of start.end.position.phase) (max start.deadline start.now) start.now
+    (longest_timeout start.backoff start.end) most start
 begins start most few = elim (open_left start.end.position.phase start.end.position.retries_left) [
   | inl closed ↦ inl closed
   | inr some ↦
-      let none : longest_timeout start.end * 0 ≡ 0 = omega arith in
+      let none : longest_timeout start.backoff start.end * 0 ≡ 0 = omega arith in
       inr
       (record {
+        grows = refl;
         same = refl;
         some = some;
         spent = 0;
@@ -621,17 +648,17 @@ module _ {S K : Type 0} (sources : SourceMeaning S) (sinks : SinkMeaning K) wher
   closes : (port most : ℕ) (start : State) (file : Files S K) (s : State) (files : Files S K)
       (run : Converses sources sinks port start file s files) → timeouts_left start.end ≤ most + 1
       → IsIdle run → IsSteady run → s.now < last_moment
-      → start.reading + ((start.deadline - start.now) + 2000 + longest_timeout start.end * most) < s.reading
+      → start.reading + ((start.deadline - start.now) + 2000 + longest_timeout start.backoff start.end * most) < s.reading
       → IsSome (outcome_of s.end.position.phase)
   closes port most start file s files run few idle steady early late =
       let base = max start.deadline start.now in
       let terms = terms_of start.end.position.phase in
       let below : start.now ≤ base = omega arith in
-      elim (lives terms base start.now most below run idle (begins start most few) early) [
+      elim (lives start.backoff terms base start.now most below run idle (begins start most few) early) [
         | inl closed ↦ closed
         | inr h ↦
             let passed = passes_with_the_clock sources sinks port start file s files run steady early in
-            let last = too_late terms base start.now most below s h in
+            let last = too_late start.backoff terms base start.now most below s h in
             absurd (omega (arith, passed, last, late))
       ]
 
@@ -641,24 +668,34 @@ module _ {S K : Type 0} (sources : SourceMeaning S) (sinks : SinkMeaning K) wher
       (most_left start.end.position.phase start.end.position.retries_left) idle steady early late
 
   begun_left : (port reading : ℕ) (kind : Kind) (job : Job) (size : ℕ) (before : List SocketEvent)
-      → timeouts_left (begun port reading (opens kind job size) before).end ≤ job.retries + 1
+      → timeouts_left (begun job.backoff port reading (opens kind job size) before).end ≤ job.retries + 1
   begun_left port reading kinds.Read job size before = omega arith
   begun_left port reading kinds.Write job size before = omega arith
 
+  -- the longest timeout of an end whose request was just sent, and when it is due
+  abbrev longest_of : Job → ℕ
+  longest_of job = wait_of job.backoff 1 3 * 1000 + 2000
+
   begun_longest : (port reading : ℕ) (kind : Kind) (job : Job) (size : ℕ) (before : List SocketEvent)
-      → longest_timeout (begun port reading (opens kind job size) before).end ≡ 3000
+      → longest_timeout job.backoff (begun job.backoff port reading (opens kind job size) before).end ≡ longest_of job
   begun_longest port reading kinds.Read job size before = refl
   begun_longest port reading kinds.Write job size before = refl
 
   begun_due : (port reading : ℕ) (kind : Kind) (job : Job) (size : ℕ) (before : List SocketEvent)
-      → (begun port reading (opens kind job size) before).deadline ≡ 1000
-  begun_due port reading kinds.Read job size before = refl
-  begun_due port reading kinds.Write job size before = refl
+      → (begun job.backoff port reading (opens kind job size) before).deadline ≤ wait_of job.backoff 1 3 * 1000
+  begun_due port reading kinds.Read job size before =
+      let most = wait_most job.backoff 1 (timeouts_of (opens kinds.Read job size)) in omega (arith, most)
+  begun_due port reading kinds.Write job size before =
+      let most = wait_most job.backoff 1 (timeouts_of (opens kinds.Write job size)) in omega (arith, most)
 
   pub closes_by_the_clock : ClosesByTheClock sources sinks
   closes_by_the_clock port reading kind job size before file s files run idle steady early late =
-      let start = begun port reading (opens kind job size) before in
-      let longest = ap (λ (n : ℕ). n * job.retries) (begun_longest port reading kind job size before) in
+      let start = begun job.backoff port reading (opens kind job size) before in
+      let longest : longest_timeout start.backoff start.end * job.retries ≡ longest_of job * job.retries =
+      ap (λ (n : ℕ). n * job.retries) (begun_longest port reading kind job size before) in
       let due = begun_due port reading kind job size before in
+      let all : longest_of job * (job.retries + 1) ≡ longest_of job * job.retries + longest_of job * 1 =
+      mul-add (longest_of job) job.retries 1 in
+      let one : longest_of job * 1 ≡ longest_of job = omega arith in
       closes port job.retries start file s files run (begun_left port reading kind job size before) idle steady early
-      (omega (arith, longest, due, late))
+      (omega (arith, longest, due, all, one, late))

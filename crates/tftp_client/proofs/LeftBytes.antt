@@ -298,7 +298,7 @@ module _ {S : Type 0} {D F V G : Type 0} {logs : looks.Ghosts D} {writes : write
     -- a run that began by its request, with a new file of the job, stopped; a request is no wait
     pub leaves : (most : ℕ) (end : ClientOutcome) (kind : Kind) (job : Job) (length : ℕ) (before after : List SocketEvent)
         (calls : List DiskEvent) {port reading : ℕ} {first : State} (file files' : Files S Local)
-        → MayOpen kind job length → first ≡ begun port reading (opens kind job length) before
+        → MayOpen kind job length → first ≡ begun job.backoff port reading (opens kind job length) before
         → StopsOut sources sinks (most + waits first.events) port first file after files' end
         → IsFileOf sources sinks kind file → IsNew sources sinks file → IsFor job file → HasCalls files' calls
         → LeavesEnd sources sinks (most + waits before) kind job length before after calls end

@@ -6,6 +6,7 @@ pub mod Concluding
 pub mod Conversing
 pub mod Counting
 pub mod GivenBytes
+pub mod Growing
 pub mod HeldBytes
 pub mod Idling
 pub mod LeftBytes

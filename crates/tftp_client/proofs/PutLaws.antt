@@ -44,7 +44,7 @@ module _ {S K : Type 0} (sources : SourceMeaning S) (sinks : SinkMeaning K) wher
   -- of the run of a put
   put_counted : {port reading : ℕ} (job : Job) (size count : ℕ) (mode : Mode) {before : List SocketEvent} {s : State}
       (file files : Files S K)
-      (run : Converses sources sinks port (begun port reading (opens kinds.Write job size) before) file s files)
+      (run : Converses sources sinks port (begun job.backoff port reading (opens kinds.Write job size) before) file s files)
       → IsFileOf sources sinks kinds.Write file → is_complete s.end.position.phase ≡ true → mode ≡ Octet
       → IsCountOf sources sinks files mode size count → count ≡ length (run_moves run nothing_moved).bytes
   put_counted job size count mode file (Sink sink) run side done octet counts =
@@ -55,7 +55,7 @@ module _ {S K : Type 0} (sources : SourceMeaning S) (sinks : SinkMeaning K) wher
 
   run_counted : {port reading : ℕ} (kind : Kind) (job : Job) (size count : ℕ) (mode : Mode) {before : List SocketEvent} {s : State}
       (file files : Files S K)
-      (run : Converses sources sinks port (begun port reading (opens kind job size) before) file s files)
+      (run : Converses sources sinks port (begun job.backoff port reading (opens kind job size) before) file s files)
       → IsFileOf sources sinks kind file → is_complete s.end.position.phase ≡ true → kind ≡ kinds.Write → mode ≡ Octet
       → IsCountOf sources sinks files mode size count → count ≡ length (run_moves run nothing_moved).bytes
   run_counted kinds.Read job size count mode file files run side done writes octet counts =

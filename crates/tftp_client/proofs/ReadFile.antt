@@ -74,7 +74,7 @@ module _ {F K : Type 0} where
     -- a file that was sent
     sent : GivesInOrder sources → {port reading : ℕ} (job : Job) (kind : Kind) (size count : ℕ) {before : List SocketEvent} {s : State}
         (first source : DiskSource F)
-        (run : Converses sources sinks port (begun port reading (opens kind job size) before) (Source first) s (Source source))
+        (run : Converses sources sinks port (begun job.backoff port reading (opens kind job size) before) (Source first) s (Source source))
         → IsFileOf sources sinks kind (Source first) → is_complete s.end.position.phase ≡ true
         → BeginsAt {K = K} job count size (Source first) → IsSent job source count (run_moves run nothing_moved).bytes
     sent in_order job kinds.Read size count first source run side done begins = absurd side
@@ -93,7 +93,7 @@ module _ {F K : Type 0} where
 
     run_sent : GivesInOrder sources → {port reading : ℕ} (job : Job) (kind : Kind) (size count : ℕ) {before : List SocketEvent}
         {s : State} (file files : Files (DiskSource F) K)
-        (run : Converses sources sinks port (begun port reading (opens kind job size) before) file s files)
+        (run : Converses sources sinks port (begun job.backoff port reading (opens kind job size) before) file s files)
         → IsFileOf sources sinks kind file → is_complete s.end.position.phase ≡ true → BeginsAt job count size file
         → IsSentFrom job files count (run_moves run nothing_moved).bytes
     run_sent in_order job kind size count file (Sink sink) run side done begins = tt

@@ -1,7 +1,7 @@
 -- What a client does to whom nothing comes, step by step.
 use Rattle.std.proofs.Common.{◌≡◌, ◌<◌, ◌≤◌, ◌⊎◌, ℕ, Bool, true, false, List, Option, Some, IsSome}
 use Rattle.std.proofs.Common.{inl, inr, refl, sym, ap, subst, ◌∙◌, arith}
-use Rattle.std.specs.Prelude.{◌==◌, ◌+◌, ◌-◌, max, min, if◌then◌else◌}
+use Rattle.std.specs.Prelude.{◌==◌, ◌+◌, ◌-◌, ◌*◌, max, min, if◌then◌else◌}
 use Rattle.std.proofs.Math.Nat.{lt_of_not-le}
 use Rattle.std.proofs.lemmas.Bool.{true≢false}
 use Rattle.std.proofs.lemmas.Option.{none-some, same_Some}
@@ -12,7 +12,9 @@ use Rattle.tftp_file.specs.Sink.{SinkMeaning}
 use Rattle.tftp_file.specs.Source.{SourceMeaning}
 use Rattle.tftp_file.specs.declared.files.Files.{Files}
 use Rattle.tftp_ends.specs.Action.{timeout_response}
-use Rattle.tftp_ends.specs.End.{EndState, Position, interval_of, outcome_of, terms_of}
+use Rattle.tftp_ends.specs.Backoff.{wait_of}
+use Rattle.tftp_ends.specs.End.{EndState, Position, outcome_of}
+use Rattle.tftp_ends.specs.declared.backoff.Backoff.{Backoff}
 use Rattle.tftp_ends.specs.Step.{after, after_turn, timeout_turn}
 use Rattle.tftp_ends.specs.declared.action.Response.{Response}
 use Rattle.tftp_ends.specs.declared.action.Response.TheVariants.{Close, Retransmit}
@@ -21,7 +23,7 @@ use Rattle.tftp_ends.specs.declared.outcome.Outcome.{Outcome}
 use Rattle.tftp_ends.specs.declared.outcome.Outcome.TheVariants.{TimedOut}
 use Rattle.tftp_ends.specs.declared.phase.Phase.{Phase}
 use Rattle.tftp_ends.specs.declared.phase.Phase.TheVariants.{Waiting}
-use Rattle.tftp_sockets.specs.Watch.{deadline_of, last_moment}
+use Rattle.tftp_sockets.specs.Watch.{last_moment}
 use Rattle.tftp_sockets.specs.declared.watch.Watch.{Watch}
 use Rattle.tftp_sockets.specs.Trace.{SocketEvent, QuietEvent}
 use Rattle.tftp_sockets.specs.Trace.QuietEvent.{Empty, Failed}
@@ -32,26 +34,26 @@ use Rattle.tftp_client.specs.Converses.{elapsed, wait_at, waited}
 use Rattle.tftp_client.specs.Converses.Converses.{Begins, Receives, Waits, Times, Rests}
 use Rattle.tftp_client.specs.Converses.MayElapse.{Stays, Elapses}
 use Rattle.tftp_client.specs.Runs.{begun, opens}
-use Rattle.tftp_client.specs.Silence.{IsSilent, TimesOut, WaitsForEachSending}
+use Rattle.tftp_client.specs.Silence.{IsSilent, TimesOut, WaitsForEachSending, seconds_in}
 use Rattle.tftp_client.proofs.Conversing.{waits_elapsed}
+use Rattle.tftp_client.proofs.Growing.{one_more, wait_least, waiting_deadline}
 
--- the request is not answered; each wait so far is one for a sending, and only then is it due
-record Unanswered (most : ℕ) (s : State) : Type 0 where
+-- the request is not answered: some waits of a second at most are left until it is sent again, and then
+-- as many as the waits behind that have seconds
+record Unanswered (backoff : Backoff) (most : ℕ) (s : State) : Type 0 where
   asked : Asked
   limit : ℕ
   waiting : s.end.position.phase ≡ Waiting asked limit
-  near : s.deadline ≤ s.now + 1000
-  early : s.now < s.deadline → waits s.events + s.end.position.retries_left ≤ most
-  few : waits s.events + s.end.position.retries_left ≤ most + 1
+  grows : s.backoff ≡ backoff
+  used : ℕ
+  counted : s.end.role.retries ≡ used + s.end.position.retries_left
+  left : ℕ
+  near : s.deadline ≤ s.now + 1000 * left
+  few : waits s.events + left + seconds_in backoff 1 (used + 1) s.end.position.retries_left ≤ most
 
 -- a silent client has timed out, or its request is not answered
-abbrev Silent : ℕ → State → Type 0
-Silent most s = (outcome_of s.end.position.phase ≡ Some TimedOut) ⊎ Unanswered most s
-
--- its deadline is a second away
-pub second : (now : ℕ) (e : EndState) (asked : Asked) (limit : ℕ) → e.position.phase ≡ Waiting asked limit
-    → deadline_at now e ≡ min (now + 1000) last_moment
-second now e asked limit is = ap (λ (p : Phase). deadline_of now (interval_of (terms_of p))) is
+abbrev Silent : Backoff → ℕ → State → Type 0
+Silent backoff most s = (outcome_of s.end.position.phase ≡ Some TimedOut) ⊎ Unanswered backoff most s
 
 -- a wait is no event of a receive
 no_wait : {port : ℕ} (event : QuietEvent) → (event ≡ Empty port) ⊎ (event ≡ Failed port) → waits_in event ≡ 0
@@ -87,53 +89,86 @@ times_out e asked limit is =
 pub closed_not : (e : EndState) (outcome : Outcome) → outcome_of e.position.phase ≡ Some outcome → IsOpen e → ⊥
 closed_not e outcome is is_open = let Not : Option Outcome → Type 0 = λ o. IsSome o → ⊥ in subst Not is is_open refl
 
--- after a wait that lasted as long as it was to, the end is due for a timeout
-after_wait : (most : ℕ) {port : ℕ} (s : State) (event : QuietEvent) (watch : Watch) → Unanswered most s → MayWait s
-    → (event ≡ Empty port) ⊎ (event ≡ Failed port)
-    → s.now + wait_at s ≤ watch.now → watch.now < last_moment → Unanswered most (waited event watch s)
-after_wait most s event watch h may quiet lasts ends =
+-- the deadline of this state, if its wait began now
+pub begins_now : (backoff : Backoff) (s : State) (used : ℕ) (asked : Asked) (limit : ℕ)
+    → s.end.position.phase ≡ Waiting asked limit → s.backoff ≡ backoff
+    → s.end.role.retries ≡ used + s.end.position.retries_left
+    → deadline_at s.backoff s.now s.end ≡ min (s.now + wait_of backoff 1 used * 1000) last_moment
+begins_now backoff s used asked limit waiting grows counted =
+    ap (λ (b : Backoff). deadline_at b s.now s.end) grows
+    ∙ waiting_deadline backoff s.now used s.end asked limit waiting counted
+
+-- a client that may wait is not due
+pub before_due : (backoff : Backoff) (s : State) (used : ℕ) (asked : Asked) (limit : ℕ)
+    → s.end.position.phase ≡ Waiting asked limit → s.backoff ≡ backoff
+    → s.end.role.retries ≡ used + s.end.position.retries_left → MayWait s → s.now < last_moment → s.now < s.deadline
+before_due backoff s used asked limit waiting grows counted may early =
+    lt_of_not-le (λ late. let is = may.due late ∙ begins_now backoff s used asked limit waiting grows counted in
+    let least = wait_least backoff 1 used in absurd (omega (arith, is, late, least, early)))
+
+-- after a wait that lasted as long as it was to, one less is left
+after_wait : (backoff : Backoff) (most : ℕ) {port : ℕ} (s : State) (event : QuietEvent) (watch : Watch)
+    → Unanswered backoff most s → MayWait s → (event ≡ Empty port) ⊎ (event ≡ Failed port)
+    → s.now + wait_at s ≤ watch.now → s.now < last_moment → Unanswered backoff most (waited event watch s)
+after_wait backoff most s event watch h may quiet lasts early =
     let length : wait_at s ≡ max (min (s.deadline - s.now) 1000) 1 = refl in
-    let before : s.now < s.deadline = lt_of_not-le (λ late. let is = may.due late
-    ∙ second s.now s.end h.asked h.limit h.waiting in absurd (omega (arith, is, late, lasts, ends))) in
-    let due : s.deadline ≤ watch.now = omega (arith, length, before, h.near, lasts) in
+    let before = before_due backoff s h.used h.asked h.limit h.waiting h.grows h.counted may early in
     let none = no_wait event quiet in
-    let early = h.early before in
+    let near = h.near in
+    let few = h.few in
     record {
       asked = h.asked;
       limit = h.limit;
       waiting = h.waiting;
-      near = omega (arith, due);
-      early = λ sooner. absurd (omega (arith, sooner, due));
-      few = omega (arith, none, early);
+      grows = h.grows;
+      used = h.used;
+      counted = h.counted;
+      left = h.left - 1;
+      near = omega (arith, length, before, near, lasts);
+      few = omega (arith, none, few, near, before);
     }
 
 -- after a timeout the request was sent again, and another wait begins
-after_elapsed : (most port : ℕ) (s : State) → Unanswered most s → s.deadline ≤ s.now → IsOpen s.end → s.now < last_moment
-    → Silent most (elapsed port s)
-after_elapsed most port s h due is_open ends = elim (times_out s.end h.asked h.limit h.waiting) [
+after_elapsed : (backoff : Backoff) (most port : ℕ) (s : State) → Unanswered backoff most s → s.deadline ≤ s.now
+    → IsOpen s.end → Silent backoff most (elapsed port s)
+after_elapsed backoff most port s h due is_open = elim (times_out s.end h.asked h.limit h.waiting) [
   | inl closed ↦ inl closed
   | inr again ↦
-      let same : waits (elapsed port s).events ≡ waits s.events =
+      let next = elapsed port s in
+      let same : waits next.events ≡ waits s.events =
       waits_elapsed {port = port} {s = s} (Elapses due is_open) in
-      let left : (elapsed port s).end.position.retries_left ≡ s.end.position.retries_left - 1 =
+      let left : next.end.position.retries_left ≡ s.end.position.retries_left - 1 =
       ap (λ (p : Position). p.retries_left) again.1 in
-      let is = second s.now s.end h.asked h.limit h.waiting in
+      let waiting = ap (λ (p : Position). p.phase) again.1 ∙ h.waiting in
+      let was = h.counted in
+      let some = again.0 in
+      let counted : next.end.role.retries ≡ (h.used + 1) + next.end.position.retries_left =
+      omega (arith, was, left, some) in
+      let is = begins_now backoff (record next { now = s.now }) (h.used + 1) h.asked h.limit waiting h.grows counted in
+      let first = one_more backoff 1 (h.used + 1) s.end.position.retries_left some in
+      let rest : seconds_in backoff 1 (h.used + 1 + 1) next.end.position.retries_left
+      ≡ seconds_in backoff 1 (h.used + 1 + 1) (s.end.position.retries_left - 1) =
+      ap (λ (n : ℕ). seconds_in backoff 1 (h.used + 1 + 1) n) left in
+      let few = h.few in
       inr
       (record {
         asked = h.asked;
         limit = h.limit;
-        waiting = ap (λ (p : Position). p.phase) again.1 ∙ h.waiting;
+        waiting = waiting;
+        grows = h.grows;
+        used = h.used + 1;
+        counted = counted;
+        left = wait_of backoff 1 (h.used + 1);
         near = omega (arith, is);
-        early = λ _. omega (arith, same, left, again.0, h.few);
-        few = omega (arith, same, left, again.0, h.few);
+        few = omega (arith, same, first, rest, few);
       })
 ]
 
-elapses : (most port : ℕ) {s next : State} → MayElapse port s next → s.now < last_moment → Silent most s
-    → Silent most next
-elapses most port (Stays why) ends h = h
-elapses most port {s} (Elapses due is_open) ends (inl closed) = absurd (closed_not s.end TimedOut closed is_open)
-elapses most port {s} (Elapses due is_open) ends (inr h) = after_elapsed most port s h due is_open ends
+elapses : (backoff : Backoff) (most port : ℕ) {s next : State} → MayElapse port s next → Silent backoff most s
+    → Silent backoff most next
+elapses backoff most port (Stays why) h = h
+elapses backoff most port {s} (Elapses due is_open) (inl closed) = absurd (closed_not s.end TimedOut closed is_open)
+elapses backoff most port {s} (Elapses due is_open) (inr h) = after_elapsed backoff most port s h due is_open
 
 -- a timeout takes no time
 same_now : {port : ℕ} {s next : State} → MayElapse port s next → s.now ≡ next.now
@@ -142,55 +177,68 @@ same_now (Elapses due is_open) = refl
 
 module _ {S K : Type 0} {sources : SourceMeaning S} {sinks : SinkMeaning K} where
   -- each moment of a silent run
-  silent : (most : ℕ) {port : ℕ} {first : State} {file : Files S K} {s : State} {files : Files S K}
+  silent : (backoff : Backoff) (most : ℕ) {port : ℕ} {first : State} {file : Files S K} {s : State} {files : Files S K}
       (run : Converses sources sinks port first file s files)
-      → IsSilent run → Silent most first → s.now < last_moment → Silent most s
-  silent most Begins quiet h ends = h
-  silent most (Receives run may time answers) quiet h ends = absurd quiet
-  silent most (Waits {s} {event = event} {watch = watch} run may nothing later) quiet h ends =
+      → IsSilent run → Silent backoff most first → s.now < last_moment → Silent backoff most s
+  silent backoff most Begins quiet h ends = h
+  silent backoff most (Receives run may time answers) quiet h ends = absurd quiet
+  silent backoff most (Waits {s} {event = event} {watch = watch} run may nothing later) quiet h ends =
       let forward = later.forward in
-      elim (silent most run quiet.0 h (omega (arith, forward, ends))) [
+      let early : s.now < last_moment = omega (arith, forward, ends) in
+      elim (silent backoff most run quiet.0 h early) [
         | inl closed ↦ absurd (closed_not s.end TimedOut closed may.not_closed)
-        | inr unanswered ↦ inr (after_wait most s event watch unanswered may nothing quiet.1 ends)
+        | inr unanswered ↦ inr (after_wait backoff most s event watch unanswered may nothing quiet.1 early)
       ]
-  silent most {port} (Times {s} {next} run timed) quiet h ends =
+  silent backoff most {port} (Times {s} {next} run timed) quiet h ends =
       let Before : ℕ → Type 0 = λ n. n < last_moment in
       let early = subst Before (sym (same_now timed)) ends in
-      elapses most port timed early (silent most run quiet h early)
-  silent most (Rests run works) quiet h ends = silent most run quiet h ends
+      elapses backoff most port timed (silent backoff most run quiet h early)
+  silent backoff most (Rests run works) quiet h ends = silent backoff most run quiet h ends
+
+-- a request was just sent
+first_wait : (backoff : Backoff) (port reading : ℕ) (e : EndState) (before : List SocketEvent) (asked : Asked) (limit : ℕ)
+    → e.position.phase ≡ Waiting asked limit → e.role.retries ≡ 0 + e.position.retries_left
+    → Unanswered backoff (seconds_in backoff 1 0 (e.role.retries + 1) + waits before)
+    (begun backoff port reading e before)
+first_wait backoff port reading e before asked limit waiting counted =
+    let is = waiting_deadline backoff 0 0 e asked limit waiting counted in
+    let first = one_more backoff 1 0 (e.role.retries + 1) (omega arith) in
+    let rest : seconds_in backoff 1 1 (e.role.retries + 1 - 1) ≡ seconds_in backoff 1 1 e.position.retries_left =
+    ap (λ (n : ℕ). seconds_in backoff 1 1 n) (omega (arith, counted)) in
+    record {
+      asked = asked;
+      limit = limit;
+      waiting = waiting;
+      grows = refl;
+      used = 0;
+      counted = counted;
+      left = wait_of backoff 1 0;
+      near = omega (arith, is);
+      few = omega (arith, first, rest);
+    }
 
 begins : (port reading : ℕ) (kind : Kind) (job : Job) (length : ℕ) (before : List SocketEvent)
-    → Silent (job.retries + waits before) (begun port reading (opens kind job length) before)
+    → Silent job.backoff (seconds_in job.backoff 1 0 (job.retries + 1) + waits before)
+    (begun job.backoff port reading (opens kind job length) before)
 begins port reading Read job length before =
-    inr (record {
-      asked = job.asked;
-      limit = _;
-      waiting = refl;
-      near = omega arith;
-      early = λ _. omega arith;
-      few = omega arith;
-    })
+    inr (first_wait job.backoff port reading (opens Read job length) before _ _ refl (omega arith))
 begins port reading Write job length before =
-    inr (record {
-      asked = _;
-      limit = _;
-      waiting = refl;
-      near = omega arith;
-      early = λ _. omega arith;
-      few = omega arith;
-    })
+    inr (first_wait job.backoff port reading (opens Write job length) before _ _ refl (omega arith))
 
 module _ {S K : Type 0} (sources : SourceMeaning S) (sinks : SinkMeaning K) where
+  abbrev most_waits : Job → List SocketEvent → ℕ
+  most_waits job before = seconds_in job.backoff 1 0 (job.retries + 1) + waits before
+
   pub waits_for_each_sending : WaitsForEachSending sources sinks
   waits_for_each_sending port reading kind job length before file s files run quiet ends is_open =
-      elim (silent (job.retries + waits before) run quiet (begins port reading kind job length before) ends) [
+      elim (silent job.backoff (most_waits job before) run quiet (begins port reading kind job length before) ends) [
         | inl closed ↦ absurd (closed_not s.end TimedOut closed is_open)
         | inr h ↦ let few = h.few in omega (arith, few)
       ]
 
   pub times_out_alone : TimesOut sources sinks
   times_out_alone port reading kind job length before file s files outcome run quiet ends is =
-      elim (silent (job.retries + waits before) run quiet (begins port reading kind job length before) ends) [
+      elim (silent job.backoff (most_waits job before) run quiet (begins port reading kind job length before) ends) [
         | inl closed ↦ same_Some outcome TimedOut (sym is ∙ closed)
         | inr h ↦ absurd (none-some outcome (sym (ap outcome_of h.waiting) ∙ is))
       ]

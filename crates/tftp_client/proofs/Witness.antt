@@ -17,6 +17,7 @@ use Rattle.tftp_negotiate.specs.declared.known.Kind.TheVariants.{Read, Write}
 use Rattle.tftp_file.specs.declared.files.Files.{Files}
 use Rattle.tftp_file.specs.declared.files.Files.TheVariants.{Sink, Source}
 use Rattle.tftp_ends.specs.declared.endpoint.Endpoint.{Endpoint}
+use Rattle.tftp_ends.specs.declared.backoff.Backoff.TheVariants.{Constant}
 use Rattle.tftp_ends.specs.End.{EndState}
 use Rattle.tftp_ends.specs.Opening.{MayGet, MayPut, getting, putting}
 use Rattle.tftp_ends.specs.declared.action.Response.TheVariants.{Complete}
@@ -106,6 +107,7 @@ get_job = record {
   mode = Octet;
   asked = no_options;
   retries = 5;
+  backoff = Constant;
   falls_back = false;
   progress = Hidden;
   dallies = false;
@@ -169,6 +171,7 @@ get_named = record {
   dallies = (true, set, refl);
   asked = record { blksize = refl; timeout = refl; tsize = (false, unset, refl) };
   retries = refl;
+  backoff = (false, unset, refl);
   falls_back = unset;
 }
 
@@ -182,6 +185,7 @@ put_job = record {
   mode = Octet;
   asked = no_options;
   retries = 5;
+  backoff = Constant;
   falls_back = false;
   progress = Hidden;
   dallies = true;
@@ -199,6 +203,7 @@ put_named = record {
   dallies = (false, left_out, refl);
   asked = record { blksize = refl; timeout = refl; tsize = (false, unset, refl) };
   retries = refl;
+  backoff = (false, unset, refl);
   falls_back = unset;
 }
 
@@ -252,7 +257,7 @@ abbrev pub stores : Turn
 stores = committed_turn (default_terms answers_from) 1 answers_from at_first (Ok done)
 
 abbrev pub s0 : State
-s0 = begun 5000 0 at_first []
+s0 = begun Constant 5000 0 at_first []
 
 abbrev pub s1 : State
 s1 = turned 5000 stores (received 5000 answers_from (data_bytes 1 (65 ∷ [])) (record { now = 10; reading = 10 }) s0)
@@ -562,7 +567,7 @@ abbrev pub at_20 : Watch
 at_20 = record { now = 20; reading = 20 }
 
 abbrev pub p0 : State
-p0 = begun 5001 0 put_first []
+p0 = begun Constant 5001 0 put_first []
 
 abbrev pub p1 : State
 p1 = turned 5001 sends (received 5001 answers_from (ack_bytes 0) at_10 p0)

@@ -5,6 +5,7 @@ use Rattle.tftp_wire.specs.declared.mode.Mode.TheVariants.{Octet, Netascii}
 use Rattle.tftp_negotiate.specs.declared.asked.Asked.{Asked}
 use Rattle.tftp_negotiate.specs.declared.known.Kind.{Kind}
 use Rattle.tftp_negotiate.specs.declared.known.Kind.TheVariants.{Read, Write}
+use Rattle.tftp_ends.specs.declared.backoff.Backoff.TheVariants.{Constant, Doubling}
 use Rattle.tftp_disk.specs.declared.existing.Existing.TheVariants.{Refused, Replaced}
 use Rattle.tftp_arguments.specs.Read.{IsChosen, IsFlag, IsNumber, ReadWords}
 use Rattle.tftp_sockets.specs.Address.{Names}
@@ -35,6 +36,7 @@ pub record NamesJob (kind : Kind) (read : ReadWords) (job : Job) : Type 0 where
   pub dallies : IsChosen (read.text (codes "no-dally")) false true job.dallies
   pub asked : AsksAs read job.asked
   pub retries : IsNumber 8 (read.text (codes "retries")) (Some job.retries)
+  pub backoff : IsChosen (read.text (codes "backoff")) Doubling Constant job.backoff
   pub falls_back : IsFlag (read.text (codes "fallback")) job.falls_back
 
 -- what holds of the job that a command line has the program run

@@ -16,6 +16,7 @@ state_of conversation events =
       now = conversation.watch.now;
       reading = conversation.watch.reading;
       deadline = conversation.deadline;
+      backoff = conversation.backoff;
       events = events;
     }
 
@@ -24,4 +25,5 @@ state_of conversation events =
 abbrev pub IsReady : Conversation → Type 0
 IsReady conversation =
     IsOpen conversation.end → conversation.deadline ≤ conversation.watch.now
-    → conversation.deadline ≡ deadline_at conversation.watch.now conversation.end
+    → conversation.deadline
+    ≡ deadline_at conversation.backoff conversation.watch.now conversation.end

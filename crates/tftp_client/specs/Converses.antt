@@ -8,6 +8,8 @@ use Rattle.tftp_file.specs.Source.{SourceMeaning, ReadsAhead}
 use Rattle.tftp_file.specs.declared.files.Files.{Files}
 use Rattle.tftp_file.specs.declared.files.Files.TheVariants.{Source, Sink}
 use Rattle.tftp_ends.specs.Action.{Decodes, datagram_action}
+use Rattle.tftp_ends.specs.Backoff.{timeouts_of, wait_of}
+use Rattle.tftp_ends.specs.declared.backoff.Backoff.{Backoff}
 use Rattle.tftp_ends.specs.End.{EndState, interval_of, outcome_of, terms_of}
 use Rattle.tftp_ends.specs.Files.{KeepsFiles}
 use Rattle.tftp_ends.specs.Step.{DatagramStep, Turn, UsesFile, after_turn, timeout_turn, reported}
@@ -32,6 +34,8 @@ pub record State : Type 0 where
   pub reading : ℕ
   -- when the end is due for a timeout
   pub deadline : ℕ
+  -- how its wait for one grows
+  pub backoff : Backoff
   pub events : List SocketEvent
 
 -- the watch of a client
@@ -59,10 +63,15 @@ EndsBy most last outcome =
 abbrev pub most_waits : List SocketEvent → ℕ
 most_waits before = MAX_WAITS + waits before
 
--- the deadline at this time, after as many seconds as the end agreed on
--- (RFC 2349, "Timeout Interval Option Specification")
-abbrev pub deadline_at : ℕ → EndState → ℕ
-deadline_at now end = deadline_of now (interval_of (terms_of end.position.phase))
+-- how long an end waits for its peer, in seconds: the interval that it agreed on, or, if its waits
+-- grow, twice as long after each timeout without progress, up to eight times the interval
+-- (RFC 2349, "Timeout Interval Option Specification"; RFC 1123, section 4.2.3.2)
+abbrev pub seconds_of : Backoff → EndState → ℕ
+seconds_of backoff end = wait_of backoff (interval_of (terms_of end.position.phase)) (timeouts_of end)
+
+-- the deadline of a wait that begins at this time
+abbrev pub deadline_at : Backoff → ℕ → EndState → ℕ
+deadline_at backoff now end = deadline_of now (seconds_of backoff end)
 
 -- the deadline after a step: progress begins another wait
 abbrev pub deadline_after : Bool → ℕ → ℕ → ℕ → ℕ
@@ -77,7 +86,7 @@ wait_at s = max (min (s.deadline - s.now) LONGEST_WAIT) 1
 -- for one began at this moment
 pub record MayWait (s : State) : Type 0 where
   pub not_closed : IsOpen s.end
-  pub due : s.deadline ≤ s.now → s.deadline ≡ deadline_at s.now s.end
+  pub due : s.deadline ≤ s.now → s.deadline ≡ deadline_at s.backoff s.now s.end
 
 -- a wait without a datagram was over, by this event, and then the clock was read
 abbrev pub waited : QuietEvent → Watch → State → State
@@ -106,6 +115,7 @@ turned port turn s =
       now = s.now;
       reading = s.reading;
       deadline = s.deadline;
+      backoff = s.backoff;
       events = answered port turn.reply s.events;
     }
 
@@ -118,8 +128,8 @@ renewed progress watch s =
       now = watch.now;
       reading = watch.reading;
       deadline =
-          deadline_after progress watch.now (interval_of (terms_of s.end.position.phase))
-          s.deadline;
+          deadline_after progress watch.now (seconds_of s.backoff s.end) s.deadline;
+      backoff = s.backoff;
       events = Watched watch ∷ s.events;
     }
 
@@ -130,7 +140,8 @@ elapsed port s =
       end = after_turn s.end (timeout_turn s.end);
       now = s.now;
       reading = s.reading;
-      deadline = deadline_at s.now s.end;
+      deadline = deadline_at s.backoff s.now (after_turn s.end (timeout_turn s.end));
+      backoff = s.backoff;
       events = answered port (timeout_turn s.end).reply (Elapsed port s.now ∷ s.events);
     }
 

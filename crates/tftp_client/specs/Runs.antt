@@ -14,6 +14,7 @@ use Rattle.tftp_file.specs.Source.{SourceMeaning}
 use Rattle.tftp_file.specs.declared.files.Files.{Files}
 use Rattle.tftp_file.specs.declared.files.Files.TheVariants.{Source, Sink}
 use Rattle.tftp_file.specs.declared.length.TheConstants.{MAX_WIRE}
+use Rattle.tftp_ends.specs.declared.backoff.Backoff.{Backoff}
 use Rattle.tftp_ends.specs.End.{EndState, is_complete, outcome_of}
 use Rattle.tftp_ends.specs.Opening.{MayGet, MayPut, getting, putting}
 use Rattle.tftp_ends.specs.declared.endpoint.Endpoint.{Endpoint}
@@ -32,19 +33,21 @@ use Rattle.tftp_client.specs.Taken.{nothing}
 
 -- a client whose end opened, once its request was sent from the port (RFC 1350, section 4). Its watch
 -- starts at this reading of the clock
-abbrev pub sent_from : (port reading : ℕ) → EndState → Endpoint → List ℕ → List SocketEvent → State
-sent_from port reading end to bytes before =
+abbrev pub sent_from : Backoff → (port reading : ℕ) → EndState → Endpoint → List ℕ
+    → List SocketEvent → State
+sent_from backoff port reading end to bytes before =
     record {
       end = end;
       now = 0;
       reading = reading;
-      deadline = deadline_at 0 end;
+      deadline = deadline_at backoff 0 end;
+      backoff = backoff;
       events = Sent port to bytes ∷ before;
     }
 
-abbrev pub begun : (port reading : ℕ) → EndState → List SocketEvent → State
-begun port reading end before =
-    sent_from port reading end end.position.last_sent_to end.position.last_sent before
+abbrev pub begun : Backoff → (port reading : ℕ) → EndState → List SocketEvent → State
+begun backoff port reading end before =
+    sent_from backoff port reading end end.position.last_sent_to end.position.last_sent before
 
 -- the options that a job asks, where the file has that length
 -- (RFC 2349, "Transfer Size Option Specification")
@@ -100,13 +103,13 @@ module _ {S K : Type 0} (sources : SourceMeaning S) (sinks : SinkMeaning K) wher
   IsFileOf Write (Sink sink) = ⊥
 
   -- the program did this for an end at the port, from its request on; a received file is new then
-  pub record Runs (port : ℕ) (end : EndState) (before : List SocketEvent) (s : State)
+  pub record Runs (backoff : Backoff) (port : ℕ) (end : EndState) (before : List SocketEvent) (s : State)
       (files : Files S K) : Type 0 where
     -- the reading of the clock at which its watch starts
     pub reading : ℕ
     pub file : Files S K
     pub new : IsNew file
-    pub converses : Converses sources sinks port (begun port reading end before) file s files
+    pub converses : Converses sources sinks port (begun backoff port reading end before) file s files
 
   -- the run of an end from that state stopped, and is not complete; there may be so many waits
   pub record StopsBy (most port : ℕ) (first : State) (file : Files S K) (after : List SocketEvent)
@@ -119,18 +122,18 @@ module _ {S K : Type 0} (sources : SourceMeaning S) (sinks : SinkMeaning K) wher
     pub ends : EndsBy most last outcome
 
   -- the run of an end from its request on stopped, and is not complete
-  pub record Fails (most : ℕ) (end : EndState) (before after : List SocketEvent)
+  pub record Fails (most : ℕ) (backoff : Backoff) (end : EndState) (before after : List SocketEvent)
       (outcome : Outcome) : Type 0 where
     pub port : ℕ
     pub reading : ℕ
     pub file : Files S K
-    pub stops : StopsBy most port (begun port reading end before) file after outcome
+    pub stops : StopsBy most port (begun backoff port reading end before) file after outcome
 
   -- the run of an end of this kind, as a job opens it, stopped
   pub record FailsAs (most : ℕ) (kind : Kind) (job : Job) (length : ℕ)
       (before after : List SocketEvent) (outcome : Outcome) : Type 0 where
     pub may : MayOpen kind job length
-    pub fails : Fails most (opens kind job length) before after outcome
+    pub fails : Fails most job.backoff (opens kind job length) before after outcome
     pub side : IsFileOf kind fails.file
 
   -- the same, of how the program ends; where no transfer was opened nothing was sent
@@ -159,7 +162,7 @@ module _ {S K : Type 0} (sources : SourceMeaning S) (sinks : SinkMeaning K) wher
     -- the length on the wire with which the end opened
     pub length : ℕ
     pub may : MayOpen kind job length
-    pub runs : Runs port (opens kind job length) before s files
+    pub runs : Runs job.backoff port (opens kind job length) before s files
     pub side : IsFileOf kind runs.file
     pub counts : IsCountOf files job.mode length count
 

@@ -28,8 +28,10 @@ abbrev pub with_options : App → App
 with_options app =
     with_reports
     (with_rule
+    (with_rule
     (with_rule (with_asked (with_rule app (flag_rule (codes "netascii"))))
     (by_default (codes "5") (within (codes "retries") 0 10)))
+    (flag_rule (codes "backoff")))
     (flag_rule (codes "fallback")))
 
 -- `tftp get`

@@ -6,6 +6,7 @@ ghost use Rattle.clap.specs.Simple.{App, subcommand_rows_of};
 ghost use Rattle.tftp_wire.specs.declared.mode.Mode.TheVariants.{Octet, Netascii};
 ghost use Rattle.tftp_disk.specs.declared.existing.Existing.TheVariants.{Refused, Replaced};
 ghost use Rattle.tftp_arguments.specs.Fault.{AskForText};
+ghost use Rattle.tftp_ends.specs.declared.backoff.Backoff.TheVariants.{Constant, Doubling};
 ghost use Rattle.tftp_arguments.specs.Read.{IsChosen, read_of, value_text};
 ghost use Rattle.tftp_arguments.specs.Rules.{HasRule, IsApp, by_default, within, word_rule};
 ghost use Rattle.tftp_sockets.specs.Address.{Names};
@@ -21,7 +22,7 @@ use std::convert::AsStr;
 use std::io::IsTerminal;
 use tftp_arguments::{VERSION, flag, is_set, number, print_usage, word};
 use tftp_disk::Existing;
-use tftp_ends::Endpoint;
+use tftp_ends::{Backoff, Endpoint};
 use tftp_negotiate::{Asked, DEFAULT_BLOCK, Kind, MAX_BLOCK, MIN_BLOCK};
 use tftp_sockets::endpoint_in;
 use tftp_wire::Mode;
@@ -177,6 +178,7 @@ fn job_of<'a>(kind: Kind, matches: &ArgMatches<'a>, errors: ErrorOutput) -> Opti
         mode: mode(matches),
         asked: asked(matches),
         retries: matches.get_one::<u8>("retries")?,
+        backoff: backoff(matches),
         falls_back: is_set(matches, "fallback"),
         progress: progress(matches, errors),
         dallies: dallies(matches),
@@ -209,6 +211,17 @@ fn progress(matches: &ArgMatches<'_>, errors: ErrorOutput) -> Progress {
     match errors {
         ErrorOutput::Terminal if matches.get_flag("progress") => Progress::Shown,
         _ => Progress::Hidden,
+    }
+}
+
+/// How long the client waits for the server after timeouts.
+fn backoff(matches: &ArgMatches<'_>) -> Backoff
+    ensures { IsChosen (value_text matches.now (codes "backoff")) Doubling Constant result }
+{
+    if is_set(matches, "backoff") {
+        Backoff::Doubling
+    } else {
+        Backoff::Constant
     }
 }
 
@@ -354,6 +367,12 @@ fn with_options<'a>(
     let command = command.arg(netascii)?;
     let command = with_asked(alloc, command, texts)?;
     let command = command.arg(retries(alloc))?;
+    let backoff = flag(
+        alloc,
+        "backoff",
+        "Waits twice as long after each timeout, up to eight times",
+    );
+    let command = command.arg(backoff)?;
     let fallback = flag(
         alloc,
         "fallback",

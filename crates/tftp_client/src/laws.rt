@@ -14,9 +14,10 @@ use tftp_file::{Sink, Source};
 
 /// A client to whom nothing comes ends by itself. In each run of a client in which nothing is
 /// received and each wait lasts as long as it was to, an end that is still open has waited at most
-/// once for its request and once for each retransmission: at most one more than its retries, each a
-/// second at most. The end that closes then has timed out, and never as complete (RFC 1350,
-/// section 2).
+/// once, for a second at most, for each second of the waits behind its request and behind each
+/// retransmission: these have a second each, or, with `Backoff::Doubling`, 1, 2, 4, 8 and then 8
+/// seconds each. The end that closes then has timed out, and never as complete (RFC 1350, section 2;
+/// RFC 1123, section 4.2.3.2).
 pub fn a_client_alone_times_out<S: Source, K: Sink>()
     ensures waits { WaitsForEachSending S.meaning K.meaning }
     ensures outcome { TimesOut S.meaning K.meaning }
@@ -24,11 +25,13 @@ pub fn a_client_alone_times_out<S: Source, K: Sink>()
 
 /// A client's time is what its clock read. Between two states of a run it advances at least as much
 /// as the readings of the clock, if none of these is more than a second later than the one before.
-/// So a client to whom nothing comes times out by the clock: once the readings have advanced by a
-/// second for its request and for each retry, and by a second more for each, by which the reading
-/// that finds a timeout due may be late. Whatever comes, an end that makes no progress closes, from
-/// its request on or from any later state: after each datagram the clock is read twice, so that each
-/// of its timeouts may be late by two seconds (RFC 1350, section 2).
+/// So a client to whom nothing comes times out by the clock: once the readings have advanced by the
+/// waits for its request and for each retry, of a second each or as they grow, and by a second more
+/// for each, by which the reading that finds a timeout due may be late. Whatever comes, an end that
+/// makes no progress closes, from its request on or from any later state: each of its timeouts takes
+/// its interval at most, or eight times as long if the waits grow, and after each datagram the clock
+/// is read twice, so that each may be late by two seconds (RFC 1350, section 2; RFC 1123, section
+/// 4.2.3.2).
 pub fn a_client_times_out_by_the_clock<S: Source, K: Sink>()
     ensures passes { PassesWithTheClock S.meaning K.meaning }
     ensures outcome { TimesOutByTheClock S.meaning K.meaning }

@@ -38,7 +38,7 @@ pub(crate) use crate::transfer::failure::Failure;
 use crate::without_options::fallback;
 use std::alloc::Global;
 use tftp_disk::{Disk, Existing, Looks, View};
-use tftp_ends::{EndConfig, Endpoint, Outcome};
+use tftp_ends::{Backoff, EndConfig, Endpoint, Outcome};
 use tftp_file::{Files, MAX_WIRE, Sink, Source};
 use tftp_lines::ClientOutcome;
 use tftp_negotiate::{Asked, Kind, Limits, MAX_BLOCK};
@@ -64,6 +64,8 @@ pub(crate) struct Job<'a> {
     pub(crate) asked: Asked,
     /// The limit of retransmissions of a datagram.
     pub(crate) retries: u8,
+    /// How long the client waits for the server after timeouts.
+    pub(crate) backoff: Backoff,
     /// Whether to try again without options if the server refuses them.
     pub(crate) falls_back: bool,
     /// Whether progress is shown on standard error.

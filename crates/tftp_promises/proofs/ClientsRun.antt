@@ -8,6 +8,7 @@ use Rattle.tftp_rules.specs.Machine.{Endpoint}
 use Rattle.tftp_sockets.specs.Trace.{SocketEvent}
 use Rattle.tftp_sockets.specs.Trace.SocketEvent.{Sent}
 use Rattle.tftp_client.specs.Moved.{Moved, handling_moves, run_moves}
+use Rattle.tftp_ends.specs.declared.backoff.Backoff.{Backoff}
 use Rattle.tftp_client.specs.Runs.{begun}
 use Rattle.tftp_client.specs.Converses.{State, Converses, progress_of}
 use Rattle.tftp_client.specs.Converses.Converses.{Begins, Receives, Waits, Times, Rests}
@@ -44,7 +45,7 @@ module _ {G K : Type 0} {inputs : SourceMeaning G} {outputs : SinkMeaning K} {po
   goes_on run more = (goes_so run more).0
 
 pub clients_run : {G K : Type 0} (inputs : SourceMeaning G) (outputs : SinkMeaning K) → ClientsAreRuns inputs outputs
-clients_run inputs outputs port end before s files runs = record {
+clients_run inputs outputs backoff port end before s files runs = record {
   runs_so = goes_on Starts runs.converses;
   stays_so =
       λ line after stays. (
@@ -59,10 +60,10 @@ clients_run inputs outputs port end before s files runs = record {
 -- a run is that of a program
 module _ {G K : Type 0} (inputs : SourceMeaning G) (outputs : SinkMeaning K) {to : Endpoint} where
   program_of : (ip : List ℕ) {first : EndState} {file : Files G K} (opens : ClientOpens inputs outputs to first file)
-      (before : List SocketEvent) (port reading : ℕ) (last : State) (files : Files G K) →
-      (runs : ClientRun inputs outputs port (begun port reading first before) file last files) →
+      (before : List SocketEvent) (backoff : Backoff) (port reading : ℕ) (last : State) (files : Files G K) →
+      (runs : ClientRun inputs outputs port (begun backoff port reading first before) file last files) →
       IsClientRun inputs outputs ip opens before last (moved_in runs)
-  program_of ip {first} {file} opens before port reading last files runs =
+  program_of ip {first} {file} opens before backoff port reading last files runs =
       let since = converse runs in
       let asked : List SocketEvent = Sent port first.position.last_sent_to first.position.last_sent ∷ [] in
       let notes : last.events ≡ (since.0 ++ asked) ++ before =
@@ -72,6 +73,7 @@ module _ {G K : Type 0} (inputs : SourceMeaning G) (outputs : SinkMeaning K) {to
           ip = ip;
           port = port;
           reading = reading;
+          backoff = backoff;
           first = first;
           before = before;
           last = last;
@@ -93,15 +95,15 @@ module _ {G K : Type 0} (inputs : SourceMeaning G) (outputs : SinkMeaning K) {to
 
 pub clients_are_programs : {G K : Type 0} (inputs : SourceMeaning G) (outputs : SinkMeaning K) →
     ClientsArePrograms inputs outputs
-clients_are_programs inputs outputs to ip first file opens before port reading s files converses = record {
+clients_are_programs inputs outputs to ip first file opens before backoff port reading s files converses = record {
   runs_so =
       let so = goes_so Starts converses in
       subst (λ (m : Moved). IsClientRun inputs outputs ip opens before s m) so.1
-      (program_of inputs outputs ip opens before port reading s files so.0);
+      (program_of inputs outputs ip opens before backoff port reading s files so.0);
   stays_so = λ line after stays.
       let so = goes_so Starts converses in
       let on = goes_so (Goes_on so.0 (Prints_line line)) stays.converses in
       subst (λ (m : Moved). IsClientRun inputs outputs ip opens before stays.last m)
       (on.1 ∙ ap (λ (m : Moved). run_moves stays.converses m) so.1)
-      (program_of inputs outputs ip opens before port reading stays.last stays.files on.0);
+      (program_of inputs outputs ip opens before backoff port reading stays.last stays.files on.0);
 }

@@ -24,6 +24,7 @@ use Rattle.tftp_sockets.specs.Trace.SocketEvent.{Received, Sent, Watched, Printe
 use Rattle.tftp_sockets.specs.Trace.QuietEvent.{Slept}
 use Rattle.tftp_client.specs.Converses.{State}
 use Rattle.tftp_client.specs.Converses.HandlesReceived.{Answers}
+use Rattle.tftp_ends.specs.declared.backoff.Backoff.TheVariants.{Constant}
 use Rattle.tftp_client.specs.Runs.{begun}
 use Rattle.tftp_promises.specs.ClientRuns.{ClientDoes, Starts, Goes_on, Receives_one, Prints_line}
 use Rattle.tftp_promises.specs.Others.{TakesOwn}
@@ -111,7 +112,7 @@ stores_so = record {
 
 -- ---- the states
 abbrev s0 : State
-s0 = begun 5000 0 at_first []
+s0 = begun Constant 5000 0 at_first []
 
 abbrev s1 : State
 s1 = record {
@@ -119,6 +120,7 @@ s1 = record {
   now = 10;
   reading = 10;
   deadline = 1000;
+  backoff = Constant;
   events =
       Sent 5000 read_port (ack_bytes 0) ∷ Watched (read_at 10) ∷ Received 5000 read_port (oack_bytes agreed) ∷ Quiet
       (Slept 1000) ∷ s0.events;
@@ -130,6 +132,7 @@ s2 = record {
   now = 20;
   reading = 20;
   deadline = 1000;
+  backoff = Constant;
   events =
       Sent 5000 read_port (ack_bytes 1) ∷ Watched (read_at 20) ∷ Received 5000 read_port (data_bytes 1 read_file) ∷ Quiet
       (Slept 990) ∷ s1.events;
@@ -170,14 +173,15 @@ asking = record {
   ip = other_ip;
   port = 7001;
   reading = 0;
+  backoff = Constant;
   first = at_first;
   before = [];
-  last = begun 7001 0 at_first [];
+  last = begun Constant 7001 0 at_first [];
   files = empty;
   file = empty;
   runs = Starts;
   opens = its_request;
-  noted = (begun 7001 0 at_first []).events;
+  noted = (begun Constant 7001 0 at_first []).events;
   is_noted = refl;
 }
 
@@ -186,6 +190,7 @@ reading = record {
   ip = client_ip;
   port = 5000;
   reading = 0;
+  backoff = Constant;
   first = at_first;
   before = [];
   last = s3;

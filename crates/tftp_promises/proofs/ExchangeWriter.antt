@@ -20,6 +20,7 @@ use Rattle.tftp_sockets.specs.Trace.SocketEvent.{Received, Sent, Watched, Printe
 use Rattle.tftp_sockets.specs.Trace.QuietEvent.{Slept}
 use Rattle.tftp_client.specs.Converses.{State}
 use Rattle.tftp_client.specs.Converses.HandlesReceived.{Answers}
+use Rattle.tftp_ends.specs.declared.backoff.Backoff.TheVariants.{Constant}
 use Rattle.tftp_client.specs.Runs.{begun}
 use Rattle.tftp_promises.specs.ClientRuns.{ClientDoes, Starts, Goes_on, Receives_one, Prints_line}
 use Rattle.tftp_promises.specs.Programs.{ClientOpens, ClientProgram, To_write}
@@ -86,7 +87,7 @@ completes_so = record { decoded = Some (Ack 1); says = ack_spelled 1 (omega arit
 
 -- ---- the states
 abbrev s0 : State
-s0 = begun 5001 0 at_first []
+s0 = begun Constant 5001 0 at_first []
 
 abbrev s1 : State
 s1 = record {
@@ -94,6 +95,7 @@ s1 = record {
   now = 10;
   reading = 10;
   deadline = 1000;
+  backoff = Constant;
   events =
       Sent 5001 read_port (data_bytes 1 write_file) ∷ Watched (read_at 10) ∷ Received 5001 read_port (ack_bytes 0) ∷ Quiet
       (Slept 1000) ∷ s0.events;
@@ -105,6 +107,7 @@ s2 = record {
   now = 20;
   reading = 20;
   deadline = 1000;
+  backoff = Constant;
   events = Watched (read_at 20) ∷ Received 5001 read_port (ack_bytes 1) ∷ Quiet (Slept 990) ∷ s1.events;
 }
 
@@ -143,6 +146,7 @@ writing = record {
   ip = client_ip;
   port = 5001;
   reading = 0;
+  backoff = Constant;
   first = at_first;
   before = [];
   last = s3;

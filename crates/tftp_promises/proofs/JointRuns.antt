@@ -46,7 +46,7 @@ module _ {S F D G K : Type 0} {stores : StoreMeaning S D} {sources : SourceMeani
 
   abbrev Conversed : Client → State → Files G K → Type 0
   Conversed client s files =
-      ClientRun inputs outputs client.port (begun client.port client.reading client.first client.before) client.file s files
+      ClientRun inputs outputs client.port (begun client.backoff client.port client.reading client.first client.before) client.file s files
 
   abbrev snap : {state : LoopState S F D} → ServerRun state → List SocketEvent → List (ClientStage G K) → Snapshot programs
   snap {state} run noted clients = record { state = state; run = run; noted = noted; clients = clients }
@@ -358,7 +358,7 @@ module _ {S F D G K : Type 0} {stores : StoreMeaning S D} {sources : SourceMeani
         (set_again sn.clients k Unasked (just_asked client))
         (Client_asks joint k client is_client (stage_is Unasked)) in
         subst (λ (es : List SocketEvent). Joint
-        (At (Has_asked (begun client.port client.reading client.first client.before) client.file es nothing_moved))) (sym noted_is)
+        (At (Has_asked (begun client.backoff client.port client.reading client.first client.before) client.file es nothing_moved))) (sym noted_is)
         asks
     client_back (Goes_on run does) takes_own noted is seen_is =
         client_last run takes_own.0 does takes_own.1 noted is seen_is

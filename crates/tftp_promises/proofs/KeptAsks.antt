@@ -261,7 +261,7 @@ module _ {S F D G K : Type 0} {stores : StoreMeaning S D} {sources : SourceMeani
               (subst (λ (d : Endpoint). IsThere (kept.messages ++ m ∷ []) (endpoint client.ip p) d bytes') to_is
               (subst (λ (c : List ℕ). IsThere (kept.messages ++ m ∷ []) (endpoint client.ip p) t c) bytes_are there))
 
-    turns : ClientTurns kept k client (begun client.port client.reading client.first client.before) client.file
+    turns : ClientTurns kept k client (begun client.backoff client.port client.reading client.first client.before) client.file
         (Sent client.port client.first.position.last_sent_to client.first.position.last_sent ∷ []) nothing_moved
     turns = record {
       views = kept.views ++ open_view x ∷ [];
@@ -295,6 +295,6 @@ module _ {S F D G K : Type 0} {stores : StoreMeaning S D} {sources : SourceMeani
   pub asks_keeps : IsKept pad (client_did old k (just_asked client))
   asks_keeps =
       let h : Asks_with = requests programs pad k client found client.opens in
-      client_keeps kept fresh k client found Unasked unasked (begun client.port client.reading client.first client.before)
+      client_keeps kept fresh k client found Unasked unasked (begun client.backoff client.port client.reading client.first client.before)
       client.file
       (Sent client.port client.first.position.last_sent_to client.first.position.last_sent ∷ []) nothing_moved (turns h)

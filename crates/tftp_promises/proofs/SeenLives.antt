@@ -16,6 +16,7 @@ use Rattle.tftp_sockets.specs.Trace.QuietEvent.{Slept}
 use Rattle.tftp_client.specs.Converses.{State, wait_at}
 use Rattle.tftp_client.specs.Converses.HandlesReceived.{Answers, Loses}
 use Rattle.tftp_client.specs.Converses.MayElapse.{Stays, Elapses}
+use Rattle.tftp_ends.specs.declared.backoff.Backoff.{Backoff}
 use Rattle.tftp_client.specs.Runs.{begun}
 use Rattle.tftp_promises.specs.ClientRuns.{ClientDoes, Receives_one, Reads_clock, Waits_until, Times_out, File_works}
 use Rattle.tftp_promises.specs.ClientRuns.{Prints_line, ClientRun, Starts, Goes_on}
@@ -260,8 +261,8 @@ module _ {G K : Type 0} {inputs : SourceMeaning G} {outputs : SinkMeaning K} {po
   does_only acts (File_works works) h = h
   does_only {s = s} acts (Prints_line line) h = only_on port before s.events acts (Printed line) tt h
 
-  pub client_only : {reading : ℕ} {end : EndState} {file : Files G K} {s : State} {files : Files G K}
-      (run : ClientRun inputs outputs port (begun port reading end before) file s files) →
+  pub client_only : {backoff : Backoff} {reading : ℕ} {end : EndState} {file : Files G K} {s : State} {files : Files G K}
+      (run : ClientRun inputs outputs port (begun backoff port reading end before) file s files) →
       ReceivesOnly port before s.events (acts_in run)
   client_only {end = end} Starts =
       only_on port before before (Said end.position.last_sent_to end.position.last_sent ∷ [])

@@ -20,6 +20,7 @@ use Rattle.tftp_sockets.specs.Trace.QuietEvent.{Slept}
 use Rattle.tftp_client.specs.Converses.{State, HandlesReceived, MayElapse, wait_at}
 use Rattle.tftp_client.specs.Converses.HandlesReceived.{Answers, Loses}
 use Rattle.tftp_client.specs.Converses.MayElapse.{Stays, Elapses}
+use Rattle.tftp_ends.specs.declared.backoff.Backoff.{Backoff}
 use Rattle.tftp_client.specs.Runs.{begun}
 use Rattle.tftp_loop.specs.Run.{Run}
 use Rattle.tftp_loop.specs.Run.Run.{Start, Then}
@@ -146,8 +147,8 @@ module _ {G K : Type 0} {inputs : SourceMeaning G} {outputs : SinkMeaning K} {po
   does_noted {s = s} acts (Prints_line line) h = noted_on port before s.events acts (Printed line) h
 
   -- the trace of a client tells of what it did
-  pub client_noted : {reading : ℕ} {end : EndState} {file : Files G K} {s : State} {files : Files G K}
-      (run : ClientRun inputs outputs port (begun port reading end before) file s files) →
+  pub client_noted : {backoff : Backoff} {reading : ℕ} {end : EndState} {file : Files G K} {s : State} {files : Files G K}
+      (run : ClientRun inputs outputs port (begun backoff port reading end before) file s files) →
       AreNoted port before s.events (acts_in run)
   client_noted {end = end} Starts =
       noted_says port before before [] end.position.last_sent_to end.position.last_sent

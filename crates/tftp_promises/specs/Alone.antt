@@ -100,7 +100,8 @@ module _ {S F D G K : Type 0} {stores : StoreMeaning S D} {sources : SourceMeani
         reading = client.reading;
         first = client.first;
         before = client.before;
-        last = begun client.port client.reading client.first client.before;
+        backoff = client.backoff;
+        last = begun client.backoff client.port client.reading client.first client.before;
         files = client.file;
         file = client.file;
         runs = Starts;

@@ -11,6 +11,7 @@ use Rattle.tftp_rules.specs.Machine.{Endpoint}
 use Rattle.tftp_sockets.specs.Trace.{SocketEvent}
 use Rattle.tftp_client.specs.Converses.{Converses, State}
 use Rattle.tftp_client.specs.Moved.{Moved, nothing_moved, run_moves}
+use Rattle.tftp_ends.specs.declared.backoff.Backoff.{Backoff}
 use Rattle.tftp_client.specs.Runs.{Dallies, begun, printed}
 use Rattle.tftp_promises.specs.ClientRuns.{moved_in}
 use Rattle.tftp_promises.specs.Programs.{ClientOpens, ClientProgram, name_of}
@@ -43,9 +44,9 @@ module _ {G K : Type 0} (inputs : SourceMeaning G) (outputs : SinkMeaning K) {to
 
   -- from its request on, and up to its line and from then on
   pub record IsProgramRun (ip : List ℕ) {first : EndState} {file : Files G K}
-      (opens : ClientOpens inputs outputs to first file) (before : List SocketEvent) (port reading : ℕ)
-      (s : State) (files : Files G K)
-      (run : Converses inputs outputs port (begun port reading first before) file s files)
+      (opens : ClientOpens inputs outputs to first file) (before : List SocketEvent)
+      (backoff : Backoff) (port reading : ℕ) (s : State) (files : Files G K)
+      (run : Converses inputs outputs port (begun backoff port reading first before) file s files)
       : Type 0 where
     pub runs_so : IsClientRun ip opens before s (run_moves run nothing_moved)
     pub stays_so : (line : List ℕ) (after : List SocketEvent)
@@ -57,7 +58,7 @@ module _ {G K : Type 0} (inputs : SourceMeaning G) (outputs : SinkMeaning K) whe
   abbrev pub ClientsArePrograms : Type 0
   ClientsArePrograms =
       (to : Endpoint) (ip : List ℕ) (first : EndState) (file : Files G K)
-      (opens : ClientOpens inputs outputs to first file) (before : List SocketEvent) (port reading : ℕ)
-      (s : State) (files : Files G K)
-      (run : Converses inputs outputs port (begun port reading first before) file s files)
-      → IsProgramRun inputs outputs ip opens before port reading s files run
+      (opens : ClientOpens inputs outputs to first file) (before : List SocketEvent)
+      (backoff : Backoff) (port reading : ℕ) (s : State) (files : Files G K)
+      (run : Converses inputs outputs port (begun backoff port reading first before) file s files)
+      → IsProgramRun inputs outputs ip opens before backoff port reading s files run

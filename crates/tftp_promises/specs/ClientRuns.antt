@@ -13,6 +13,7 @@ use Rattle.tftp_sockets.specs.Trace.QuietEvent.{Empty, Failed}
 use Rattle.tftp_client.specs.Converses.{State, HandlesReceived, IsReadBy, MayElapse, MayWait}
 use Rattle.tftp_client.specs.Converses.{WorksOnFile}
 use Rattle.tftp_client.specs.Converses.{received, renewed, waited}
+use Rattle.tftp_ends.specs.declared.backoff.Backoff.{Backoff}
 use Rattle.tftp_client.specs.Runs.{Runs, Dallies, begun, printed}
 use Rattle.tftp_promises.specs.Moved.{Moved, nothing_moved, handling_moves}
 
@@ -75,17 +76,20 @@ moved_in (Goes_on run does) = client_moves does (moved_in run)
 module _ {G K : Type 0} (inputs : SourceMeaning G) (outputs : SinkMeaning K) where
   -- what a client with this end did is one run of it: that from its request on, and that of one
   -- that is complete, with its line and what it did after it
-  pub record IsOneRun (port : ℕ) (end : EndState) (before : List SocketEvent) (s : State)
-      (files : Files G K) (runs : Runs inputs outputs port end before s files) : Type 0 where
-    pub runs_so : ClientRun inputs outputs port (begun port runs.reading end before) runs.file s files
+  pub record IsOneRun (backoff : Backoff) (port : ℕ) (end : EndState) (before : List SocketEvent)
+      (s : State) (files : Files G K) (runs : Runs inputs outputs backoff port end before s files)
+      : Type 0 where
+    pub runs_so : ClientRun inputs outputs port (begun backoff port runs.reading end before) runs.file
+        s files
     pub stays_so : (line : List ℕ) (after : List SocketEvent)
         → Dallies inputs outputs port (printed line s) files after
         → (last : State) × (files' : Files G K)
-        × ClientRun inputs outputs port (begun port runs.reading end before) runs.file last files'
+        × ClientRun inputs outputs port (begun backoff port runs.reading end before) runs.file last
+        files'
         × (last.events ≡ after)
 
   abbrev pub ClientsAreRuns : Type 0
   ClientsAreRuns =
-      (port : ℕ) (end : EndState) (before : List SocketEvent) (s : State) (files : Files G K)
-      (runs : Runs inputs outputs port end before s files)
-      → IsOneRun port end before s files runs
+      (backoff : Backoff) (port : ℕ) (end : EndState) (before : List SocketEvent) (s : State)
+      (files : Files G K) (runs : Runs inputs outputs backoff port end before s files)
+      → IsOneRun backoff port end before s files runs

@@ -20,6 +20,7 @@ use Rattle.tftp_sockets.specs.Trace.{SocketEvent}
 use Rattle.tftp_loop.specs.Run.{Run}
 use Rattle.tftp_loop.specs.Steps.{LoopState, LoopStep}
 use Rattle.tftp_client.specs.Converses.{State}
+use Rattle.tftp_ends.specs.declared.backoff.Backoff.{Backoff}
 use Rattle.tftp_client.specs.Runs.{begun}
 use Rattle.tftp_promises.specs.ClientRuns.{ClientRun}
 
@@ -108,13 +109,15 @@ module _ {G K : Type 0} (inputs : SourceMeaning G) (outputs : SinkMeaning K) (to
     pub port : ℕ
     -- the reading of the clock at which its watch starts
     pub reading : ℕ
+    -- how its waits grow
+    pub backoff : Backoff
     pub first : EndState
     pub before : List SocketEvent
     pub last : State
     pub files : Files G K
     -- its file before the run
     pub file : Files G K
-    pub runs : ClientRun inputs outputs port (begun port reading first before) file last files
+    pub runs : ClientRun inputs outputs port (begun backoff port reading first before) file last files
     pub opens : ClientOpens first file
     -- the events of the run, the newest first
     pub noted : List SocketEvent

@@ -192,7 +192,7 @@ module _ {G K : Type 0} {inputs : SourceMeaning G} {outputs : SinkMeaning K}
           let f = failed.1 in
           let opened = job_opens inputs outputs tried.kind tried failed.0 f.fails.file server f.may f.side in
           let run =
-          are_programs to ran.ip (opens tried.kind tried failed.0) f.fails.file opened before f.fails.port f.fails.reading
+          are_programs to ran.ip (opens tried.kind tried failed.0) f.fails.file opened before tried.backoff f.fails.port f.fails.reading
           f.fails.stops.last f.fails.stops.files f.fails.stops.converses in
           subst (λ (events : List SocketEvent). Made most None before events) f.fails.stops.events
           (made_one failed.0 f.fails.file f.may f.side run.runs_so most None tt (
@@ -237,7 +237,7 @@ module _ {G K : Type 0} {inputs : SourceMeaning G} {outputs : SinkMeaning K}
         made_complete most whole =
             let opened = job_opens inputs outputs tried.kind tried runs.length runs.runs.file server runs.may runs.side in
             let run =
-            (are_programs to ran.ip (opens tried.kind tried runs.length) runs.runs.file opened before port runs.runs.reading last files
+            (are_programs to ran.ip (opens tried.kind tried runs.length) runs.runs.file opened before tried.backoff port runs.runs.reading last files
             runs.runs.converses).stays_so line after stays in
             let side_is : run.client.first.role.side ≡ side_of tried.kind =
             ap (λ (e : EndState). e.role.side) run.end ∙ job_side tried.kind tried runs.length in

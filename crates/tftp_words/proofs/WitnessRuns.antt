@@ -9,6 +9,7 @@ use Rattle.tftp_negotiate.specs.Ranges.{IsBlockSize}
 use Rattle.tftp_file.specs.declared.files.Files.TheVariants.{Sink}
 use Rattle.tftp_file.specs.declared.length.TheConstants.{MAX_WIRE}
 use Rattle.tftp_ends.specs.Step.{ack_bytes, data_bytes}
+use Rattle.tftp_ends.specs.declared.backoff.Backoff.TheVariants.{Constant}
 use Rattle.tftp_ends.specs.declared.side.Side.TheVariants.{ClientRead, ClientWrite}
 use Rattle.tftp_lines.specs.ClientOutcome.{end_text}
 use Rattle.tftp_lines.specs.Printed.{line_text}
@@ -136,6 +137,7 @@ getting = record {
   ip = client_ip;
   port = 5000;
   reading = 0;
+  backoff = Constant;
   first = cl.at_first;
   before = [];
   last = printed (end_text (ends.Complete 1)) cl.s2;
@@ -174,6 +176,7 @@ putting = record {
   ip = client_ip;
   port = 5001;
   reading = 0;
+  backoff = Constant;
   first = cl.put_first;
   before = [];
   last = printed (end_text (ends.Complete 1)) cl.p4;

@@ -21,7 +21,8 @@ pub(super) fn ask_to_get<N: ClientUdp>(
     job: &Job<'_>,
 ) -> Result<Conversation, Failure>
     ensures begins { IfOk result (λ conversation. state_of conversation (N.log net.new)
-        ≡ begun conversation.socket.port conversation.watch.reading (opens Read job.now 0)
+        ≡ begun job.now.backoff conversation.socket.port conversation.watch.reading
+        (opens Read job.now 0)
         (N.log net.old)) }
     ensures may { OnOk result (MayOpen Read job.now 0) }
     ensures err { IfErr result (λ failure. (status_of failure.end ≡ 2)
@@ -61,7 +62,8 @@ pub(super) fn ask_to_put<N: ClientUdp>(
     length: u64,
 ) -> Result<Conversation, Failure>
     ensures begins { IfOk result (λ conversation. state_of conversation (N.log net.new)
-        ≡ begun conversation.socket.port conversation.watch.reading (opens Write job.now length)
+        ≡ begun job.now.backoff conversation.socket.port conversation.watch.reading
+        (opens Write job.now length)
         (N.log net.old)) }
     ensures fits { OnOk result (length ≤ MAX_WIRE) }
     ensures may { OnOk result (MayOpen Write job.now length) }
@@ -135,8 +137,8 @@ fn begin<N: ClientUdp>(
     opened: Opened<'_>,
 ) -> Result<Conversation, Failure>
     ensures begins { IfOk result (λ conversation. state_of conversation (N.log net.new)
-        ≡ sent_from conversation.socket.port conversation.watch.reading opened.entry.end
-        job.now.server opened.entry.request.now (N.log net.old)) }
+        ≡ sent_from job.now.backoff conversation.socket.port conversation.watch.reading
+        opened.entry.end job.now.server opened.entry.request.now (N.log net.old)) }
     ensures err { IfErr result (λ failure. (status_of failure.end ≡ 2)
         × (N.log net.new ≡ N.log net.old)) }
 {
@@ -146,7 +148,7 @@ fn begin<N: ClientUdp>(
         request,
         total,
     } = opened;
-    match Conversation::new(net, alloc, socket, end, (job.kind, job.progress), total) {
+    match Conversation::new(net, alloc, socket, end, job, total) {
         Ok(mut conversation) => {
             let sent = net.send(&conversation.socket, job.server, request);
             conversation.unsent = sent.err();

@@ -16,11 +16,13 @@ ghost use Rattle.tftp_sockets.specs.Watch.{later_by};
 ghost use Rattle.tftp_client.specs.Converses.{Converses, MayElapse, WorksOnFile, renewed};
 ghost use Rattle.tftp_client.specs.Converses.{AnswersReceived, HandlesAs};
 ghost use Rattle.tftp_client.specs.Converses.{EndsBy, IsOpen, deadline_at, deadline_after};
+ghost use Rattle.tftp_client.specs.Converses.{seconds_of};
 
 use crate::cause::Cause;
+use crate::transfer::Job;
 use crate::transfer::notes::{note_error, note_sent, note_total};
 use std::alloc::{AllocError, Global};
-use tftp_ends::{End, Endpoint, Outcome, Step};
+use tftp_ends::{Backoff, End, Endpoint, Outcome, Step};
 use tftp_file::{Files, Sink, Source};
 use tftp_lines::{LineClock, ProgressLine, Reason};
 use tftp_negotiate::Kind;
@@ -58,6 +60,7 @@ pub(crate) struct Conversation {
     end: End,
     watch: Watch,
     deadline: u64,
+    backoff: Backoff,
     /// The time of the last progress, in milliseconds.
     advanced_at: u64,
     buffer: Vec<u8>,
@@ -77,36 +80,37 @@ pub(crate) struct Conversation {
 impl Conversation {
     ghost use Rattle.tftp_client.specs.Conversation.{IsReady, state_of};
 
-    /// A conversation at its start. The caller sends the end's request.
+    /// The conversation of a job at its start. The caller sends the end's request.
     pub(crate) fn new<N: ClientUdp>(
         net: &N,
         alloc: Global,
         socket: ClientSocket,
         end: End,
-        how: (Kind, Progress),
+        job: &Job<'_>,
         total: Option<u64>,
     ) -> Result<Conversation, AllocError>
         ensures { IfOk result (λ conversation. (conversation.end ≡ end)
             × (conversation.socket.port ≡ socket.port) × (conversation.watch.now ≡ 0)
-            × (conversation.deadline ≡ deadline_at 0 end)) }
+            × (conversation.backoff ≡ job.now.backoff)
+            × (conversation.deadline ≡ deadline_at job.now.backoff 0 end)) }
     {
         let watch = net.start_watch();
-        let due = deadline(0, u16::from(end.interval()));
-        let (kind, progress) = how;
+        let due = deadline(0, seconds(job.backoff, &end));
         Ok(Conversation {
             alloc,
             socket,
             end,
             watch,
             deadline: due,
+            backoff: job.backoff,
             advanced_at: watch.now,
             buffer: Vec::from_elem(alloc, 0u8, DATAGRAM_BUFFER)?,
-            lines: match progress {
+            lines: match job.progress {
                 Progress::Shown => Some(LineClock::default()),
                 Progress::Hidden => None,
             },
             total,
-            kind,
+            kind: job.kind,
             said: None,
             unsent: None,
         })
@@ -220,7 +224,8 @@ impl Conversation {
         ensures port { self.new.socket.port ≡ self.old.socket.port }
         ensures files { AreFilesOf self.new.end.role.side files.new }
         ensures advanced { result.progress ≡ true
-            → self.new.deadline ≡ deadline_at self.new.watch.now self.new.end }
+            → self.new.deadline
+            ≡ deadline_at self.new.backoff self.new.watch.now self.new.end }
         ensures waits { waits_in (N.log net.new) ≡ 1 + waits_in (N.log net.old) }
     {
         let received = receive_until(
@@ -256,7 +261,8 @@ impl Conversation {
         ensures port { self.new.socket.port ≡ self.old.socket.port }
         ensures files { AreFilesOf self.new.end.role.side files.new }
         ensures advanced { result.progress ≡ true
-            → self.new.deadline ≡ deadline_at self.new.watch.now self.new.end }
+            → self.new.deadline
+            ≡ deadline_at self.new.backoff self.new.watch.now self.new.end }
     {
         let step = self.take_datagram(net, files, from, count);
         self.renew(net, &step);
@@ -272,11 +278,14 @@ impl Conversation {
         ensures forward { self.old.watch.now ≤ self.new.watch.now }
         ensures port { self.new.socket.port ≡ self.old.socket.port }
         ensures end { self.new.end ≡ self.old.end }
+        ensures backoff { self.new.backoff ≡ self.old.backoff }
         ensures advanced { step.now.progress ≡ true
-            → self.new.deadline ≡ deadline_at self.new.watch.now self.new.end }
+            → self.new.deadline
+            ≡ deadline_at self.new.backoff self.new.watch.now self.new.end }
     {
         let now = net.read_watch(&mut self.watch);
-        self.deadline = deadline_after(step, now, self.end.interval(), self.deadline);
+        let seconds = seconds(self.backoff, &self.end);
+        self.deadline = deadline_after(step, now, seconds, self.deadline);
     }
 
     /// Handles the datagram in the buffer, and sends the answer. Out of memory, it loses the
@@ -344,11 +353,10 @@ impl Conversation {
         ensures ready { IsReady self.new }
     {
         let now = self.watch.now;
-        let seconds = u16::from(self.end.interval());
         let Ok((step, outgoing)) = self.end.handle_timeout() else {
             return;
         };
-        self.deadline = deadline(now, seconds);
+        self.deadline = deadline(now, seconds(self.backoff, &self.end));
         net.elapsed(self.socket.port(), now);
         let sent = reply(&self.socket, net, step.to, self.end.bytes_of(outgoing));
         note_sent(&mut self.unsent, &step, sent);
@@ -373,6 +381,7 @@ impl Conversation {
         ensures end { self.new.end ≡ self.old.end }
         ensures watch { self.new.watch ≡ self.old.watch }
         ensures deadline { self.new.deadline ≡ self.old.deadline }
+        ensures backoff { self.new.backoff ≡ self.old.backoff }
         ensures port { self.new.socket.port ≡ self.old.socket.port }
     {
         let Some(lines) = &mut self.lines else {
@@ -482,13 +491,21 @@ fn reply<N: ClientUdp>(
     }
 }
 
+/// How long an end waits for its peer, in seconds: its interval, or twice as long after each timeout
+/// without progress (RFC 2349, "Timeout Interval Option Specification"; RFC 1123, section 4.2.3.2).
+fn seconds(backoff: Backoff, end: &End) -> u16
+    ensures { result ≡ seconds_of backoff end.now }
+{
+    backoff.wait(end.interval(), end.timeouts())
+}
+
 /// The deadline after a step at `now`, in milliseconds: progress restarts the timeout of `seconds`
 /// (RFC 2349, "Timeout Interval Option Specification").
-fn deadline_after(step: &Step, now: u64, seconds: u8, current: u64) -> u64
+fn deadline_after(step: &Step, now: u64, seconds: u16, current: u64) -> u64
     ensures { result ≡ deadline_after step.now.progress now seconds current }
 {
     if step.progress {
-        deadline(now, u16::from(seconds))
+        deadline(now, seconds)
     } else {
         current
     }

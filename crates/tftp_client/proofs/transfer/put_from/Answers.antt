@@ -52,12 +52,12 @@ returns-in-Err-clause-err g c calls =
 
 pub converse-requires-clause-not_closed : goal.converse-requires-clause-not_closed
 converse-requires-clause-not_closed g c =
-    begun_open {s = state_of c.in-Ok.conversation (g.N.Udp.log c.ask_to_put.new.net)} c.in-Ok.conversation.socket.port
+    begun_open {s = state_of c.in-Ok.conversation (g.N.Udp.log c.ask_to_put.new.net)} c.args.job.now.backoff c.in-Ok.conversation.socket.port
     c.in-Ok.conversation.watch.reading (opens Write c.args.job.now c.args.outbound.length.wire_bytes) (g.N.Udp.log c.args.net.now)
     c.in-Ok.ensures.begins (opens_open Write c.args.job.now c.args.outbound.length.wire_bytes)
 
 pub converse-requires-clause-ready : goal.converse-requires-clause-ready
 converse-requires-clause-ready g c is_open due =
-    begun_ready {s = state_of c.in-Ok.conversation (g.N.Udp.log c.ask_to_put.new.net)} c.in-Ok.conversation.socket.port
+    begun_ready {s = state_of c.in-Ok.conversation (g.N.Udp.log c.ask_to_put.new.net)} c.args.job.now.backoff c.in-Ok.conversation.socket.port
     c.in-Ok.conversation.watch.reading (opens Write c.args.job.now c.args.outbound.length.wire_bytes) (g.N.Udp.log c.args.net.now)
     c.in-Ok.ensures.begins

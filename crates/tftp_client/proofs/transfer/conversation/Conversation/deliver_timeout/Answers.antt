@@ -7,7 +7,7 @@ use Rattle.tftp_client.specs.Conversation.{state_of}
 use Rattle.tftp_client.specs.Converses.{IsOpen, MayElapse, State, deadline_at}
 use Rattle.tftp_client.specs.Converses.MayElapse.{Stays, Elapses}
 use Rattle.tftp_sockets.specs.Trace.SocketEvent.{Elapsed}
-use Rattle.tftp_client.proofs.Conversing.{due_elapsed, is_closed, not_refused, replies, state_is}
+use Rattle.tftp_client.proofs.Conversing.{is_closed, not_refused, replies, state_is}
 use Rattle.tftp_client.proofs.transfer.conversation.Conversation.deliver_timeout.Goals as goal
 
 pub returns-in_default-clause-elapses : goal.returns-in_default-clause-elapses
@@ -26,7 +26,8 @@ returns-clause-elapses g c =
     let noted = c.elapsed.ensures.noted ∙ ap (λ (p : ℕ). Elapsed p s.now ∷ s.events) c.port.ensures in
     let sent = replies port (timeout_turn s.end).reply c.reply-sent.ensures lends.goes (c.bytes_of.ensures
     ∙ lends.bytes) noted in
-    let due = c.deadline-self.ensures.value ∙ ap (λ (n : ℕ). deadline_of s.now n) c.interval-seconds.ensures in
+    let due = c.deadline-self.ensures.value ∙ (ap (λ (n : ℕ). deadline_of s.now n) c.seconds.ensures
+    ∙ ap (λ (e : EndState). deadline_at s.backoff s.now e) lends.state) in
     subst At (sym (state_is lends.state refl refl due sent))
     (Elapses c.requires (not_refused _ _ c.in-Ok.ensures.closed))
 
@@ -38,6 +39,4 @@ returns-in_default-clause-ready g c is_open due =
 pub returns-clause-ready : goal.returns-clause-ready
 returns-clause-ready g c is_open due =
     let s : State = state_of c.args.self.now (g.N.Udp.log c.args.net.now) in
-    c.deadline-self.ensures.value
-    ∙ (ap (λ (n : ℕ). deadline_of s.now n) c.interval-seconds.ensures
-    ∙ (due_elapsed s ∙ ap (λ (e : EndState). deadline_at s.now e) (sym c.in-Ok.ensures.steps.0.state)))
+    c.deadline-self.ensures.value ∙ ap (λ (n : ℕ). deadline_of s.now n) c.seconds.ensures

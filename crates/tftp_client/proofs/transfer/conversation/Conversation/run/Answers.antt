@@ -6,7 +6,7 @@ use Rattle.tftp_sockets.specs.declared.watch.Watch.{Watch}
 use Rattle.tftp_client.specs.Conversation.{state_of}
 use Rattle.tftp_client.specs.Converses.{Converses, IsOpen, State, deadline_at}
 use Rattle.tftp_client.specs.Converses.Converses.{Begins}
-use Rattle.tftp_client.proofs.Conversing.{none_open, onward_at, state_is}
+use Rattle.tftp_client.proofs.Conversing.{none_open, onward_at, state_with}
 use Rattle.tftp_client.proofs.Running.{if_err}
 use Rattle.tftp_client.proofs.transfer.conversation.Conversation.run.Goals as goal
 
@@ -54,8 +54,8 @@ loop-made-preserved g c =
     let Fit : EndState → Type 0 = λ e. AreFilesOf e.role.side c.turn.new.files in
     let At : State → Type 0 = λ t. Converses g.S.Source.meaning g.K.Sink.meaning c.args.self.now.socket.port first
     c.args.files.now t c.turn.new.files in
-    let Ready : State → Type 0 = λ t. IsOpen t.end → t.deadline ≤ t.now → t.deadline ≡ deadline_at t.now t.end in
-    let same = state_is (sym c.show.ensures.end) (sym (ap (λ (w : Watch). w.now) c.show.ensures.watch))
+    let Ready : State → Type 0 = λ t. IsOpen t.end → t.deadline ≤ t.now → t.deadline ≡ deadline_at t.backoff t.now t.end in
+    let same = state_with (sym c.show.ensures.backoff) (sym c.show.ensures.end) (sym (ap (λ (w : Watch). w.now) c.show.ensures.watch))
     (sym (ap (λ (w : Watch). w.reading) c.show.ensures.watch)) (sym c.show.ensures.deadline) refl in
     record {
       fit = subst Fit (sym c.show.ensures.end) c.turn.ensures.files;

@@ -25,6 +25,7 @@ returns-in-Datagram-clause-converses g c =
       now = watch.now;
       reading = watch.reading;
       deadline = s.deadline;
+      backoff = s.backoff;
       events = (g.N.Udp.log c.read_watch.new.self);
     } in
     let At : State → Type 0 = λ t. handles c.receive_until-received.new.buffer port t in
