@@ -12,8 +12,9 @@ use Rattle.tftp_sockets.specs.Trace.QuietEvent.{New_socket, No_socket}
 use Rattle.tftp_sockets.specs.Quiet.{is_among}
 use Rattle.tftp_sockets.specs.declared.sockets.ServerSocket.{ServerSocket}
 use Rattle.tftp_loop.specs.Run.Run.{Start, Then}
-use Rattle.tftp_loop.specs.PortOrder.{HasPorts, IsOneOf, IsOrderOf, Mixes, UsesNext, coming, ports_of}
+use Rattle.tftp_loop.specs.PortOrder.{HasPorts, IsOneOf, IsOrderOf, Mixes, UsesNext, coming, drawn_from, ports_of}
 use Rattle.tftp_loop.specs.PortPool.{AreAllMissed, Binds, Tries, TriesInVain, TriesPorts, after_bind, missed_last}
+use Rattle.tftp_loop.specs.PortsInTurn.{DrawsNext}
 use Rattle.tftp_loop.specs.declared.port_order.PortOrder.{PortOrder}
 use Rattle.tftp_loop.specs.declared.port_order.PortRange.{PortRange}
 use Rattle.tftp_loop.proofs.PortUses.{ComesLast, rest_long}
@@ -89,6 +90,12 @@ mixed_within among old new has mixes =
           subst (λ (r : PortRange). All (IsOneOf (Some r)) (coming new)) (sym mixes.range)
           (All-permutation (IsOneOf (Some old.range)) (coming old) (coming new) mixes.all has.each);
     }
+
+-- a port that is drawn from few of those that come, and used
+pub draws_few : (old new : PortOrder) (among port : ℕ) → (mixed : PortOrder) × Mixes among old mixed × UsesNext mixed new port →
+    among ≤ drawn_from old.range → DrawsNext old new port
+draws_few old new among port draws few =
+    record { among = among; few = few; mixed = draws.0; mixes = draws.1; uses = draws.2 }
 
 -- the same, whether or not a port comes
 abbrev MayUseNext : PortOrder → PortOrder → Option ℕ → Type 0

@@ -21,3 +21,4 @@ pub mod Hinted
 pub mod Reflected
 pub mod Leaving
 pub mod Told
+pub mod Longest

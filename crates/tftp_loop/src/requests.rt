@@ -4,7 +4,7 @@ ghost use Rattle.std.specs.Prelude.{◌≡◌, ◌≢◌, ◌<◌, ◌≤◌, �
 ghost use Rattle.std.specs.Prelude.{Some, IfOk, ◌&&◌, not};
 ghost use Rattle.std.specs.Prelude.{IfSome, is_some, vec_len, vec_capacity, map, take, length};
 ghost use Rattle.std.specs.Prelude.{◌+◌, ◌*◌, if◌then◌else◌};
-ghost use Rattle.tftp_server.specs.Port.{asks_store};
+ghost use Rattle.tftp_server.specs.Port.{asks_store, granted_size};
 ghost use Rattle.tftp_server.specs.Request.{Admits};
 ghost use Rattle.tftp_server.specs.State.{at};
 ghost use Rattle.tftp_sockets.specs.declared.address.TheConstants.{DATAGRAM_BUFFER};
@@ -17,6 +17,7 @@ ghost use Rattle.tftp_loop.specs.PortPool.{IsOfPool, most_of};
 ghost use Rattle.tftp_loop.specs.Steps.{IsSet, answering_port, has_most, interval_at, started};
 ghost use Rattle.tftp_loop.specs.Steps.{with_timer};
 ghost use Rattle.tftp_loop.specs.OnlyRequests.{IsHandledBy, begins_as_request};
+ghost use Rattle.tftp_loop.specs.Longest.{longest_in};
 ghost use Rattle.tftp_loop.specs.LoopStates.{HasAnswered, HasRoom, IsAdmission, WorksRound, timer_of};
 ghost use Rattle.tftp_loop.specs.MayWait.{AnswersPending, HandlesReceived, HasTriedRequests};
 ghost use Rattle.tftp_loop.specs.MayWait.{HasFew, IsSettled, reads_of, timers_of};
@@ -582,8 +583,10 @@ fn set_store<S: ServedStore<Reason> + Drop>(
     ensures same { S.meaning.stored server.new.store ≡ S.meaning.stored server.old.store }
     ensures behind { IsSet S.meaning server.old.store server.new.store }
     ensures set { S.meaning.is_set_to server.new.store tid }
+    ensures longest { S.is_bounded server.new.store
+        (longest_in (granted_size server.old.config.limits admission.now.ask)) }
 {
-    let longest = server.block_size(admission).map_or(0, longest_text);
+    let longest = longest_in(server.block_size(admission));
     let store = server.store_mut();
     store.set_port(tid);
     store.set_longest(longest);
@@ -611,11 +614,14 @@ fn file_work_limit<S: Store>(server: &Server<S>, tid: u16) -> usize {
     }
 }
 
-/// The longest length that can be sent in blocks of this size, in bytes: 65,535 blocks, the last
-/// one byte short (RFC 1350, section 6).
-fn longest_text(block_size: u16) -> u64
-    ensures fits { 1 ≤ block_size → result < 65535 * block_size }
-    ensures longest { 65535 * block_size ≤ result + 1 }
+/// The longest length that can be sent in blocks of this size, if there is one, in bytes: 65,535
+/// blocks, the last one byte short (RFC 1350, section 6).
+fn longest_in(block_size: Option<u16>) -> u64
+    ensures value { result ≡ longest_in block_size }
+    ensures fits { IfSome block_size (λ size. 1 ≤ size → result < 65535 * size) }
 {
-    (u64::from(block_size) * 65_535).saturating_sub(1)
+    match block_size {
+        Some(size) => (u64::from(size) * 65_535).saturating_sub(1),
+        None => 0,
+    }
 }

@@ -20,7 +20,7 @@ use tftp_store::ServedStore;
 pub struct LoopConfig {
     /// The endpoint of the request port.
     pub listen: Endpoint,
-    /// The ports that transfers use, each once before any again; `None` if the system chooses.
+    /// The ports that transfers use, each drawn at random; `None` if the system chooses.
     pub ports: Option<PortRange>,
     /// When the loop ends.
     pub ending: Ending,

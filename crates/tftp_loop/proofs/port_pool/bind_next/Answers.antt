@@ -3,9 +3,9 @@ use Rattle.std.proofs.lemmas.List.Sorted.{IsPermutation-refl}
 use Rattle.tftp_loop.specs.Run.Run.{Start}
 use Rattle.tftp_loop.specs.PortOrder.{IsOneOf, coming, drawn_from}
 use Rattle.tftp_loop.specs.PortPool.{after_bind}
-use Rattle.tftp_loop.specs.PortsInTurn.{DrawsNext, Unused, Uses}
+use Rattle.tftp_loop.specs.PortsInTurn.{Unused, Uses}
 use Rattle.tftp_loop.specs.declared.port_order.PortRange.{PortRange}
-use Rattle.tftp_loop.proofs.PoolLemmas.{all_missed, in_vain, missed_more, tried_more}
+use Rattle.tftp_loop.proofs.PoolLemmas.{all_missed, draws_few, in_vain, missed_more, tried_more}
 use Rattle.tftp_loop.proofs.PortUses.{drawn_last, long, nothing_after, rest_long}
 use Rattle.tftp_loop.proofs.port_pool.bind_next.Goals as goal
 
@@ -50,13 +50,8 @@ loop-port-preserved g c =
       ports = c.draw_port.ensures.ports;
       turns = (
         before.turns.0 ++ port ∷ [],
-        Uses before.turns.1 (record {
-          among = c.min.result;
-          few = omega (arith, c.min.ensures, half, same);
-          mixed = draws.0;
-          mixes = draws.1;
-          uses = draws.2;
-        }),
+        Uses before.turns.1 (draws_few c.loop-port.order c.draw_port.new.order c.min.result port draws
+            (omega (arith, c.min.ensures, half, same))),
         omega (arith, more, test, many),
         missed_more port (g.N.Udp.log c.loop-port.net) _ noted before.turns.0 before.turns.3,
         drawn_last (coming c.args.order.now) before.turns.0 c.loop-port.order draws.0 c.draw_port.new.order c.min.result port
@@ -84,13 +79,8 @@ returns-in-Some-clause-turns g c =
       middle = c.loop-port.order;
       port = port;
       earlier = before.turns.1;
-      last = record {
-        among = c.min.result;
-        few = omega (arith, c.min.ensures, half, same);
-        mixed = draws.0;
-        mixes = draws.1;
-        uses = draws.2;
-      };
+      last = draws_few c.loop-port.order c.draw_port.new.order c.min.result port draws
+          (omega (arith, c.min.ensures, half, same));
       bound = c.in-Some.ensures.bound;
     }
 
@@ -106,13 +96,8 @@ returns-then-left-le1-clause-turns g c =
       middle = c.loop-port.order;
       port = port;
       earlier = before.turns.1;
-      last = record {
-        among = c.min.result;
-        few = omega (arith, c.min.ensures, half, same);
-        mixed = draws.0;
-        mixes = draws.1;
-        uses = draws.2;
-      };
+      last = draws_few c.loop-port.order c.draw_port.new.order c.min.result port draws
+          (omega (arith, c.min.ensures, half, same));
       bound = tt;
     }
 
