@@ -143,7 +143,8 @@ def test_requests_elsewhere_leave_a_put(scene) -> None:
     words = ["--ports", f"{port}:{port}", "--transfers", "1000", "--log"]
     scene.make_folder("served")
     one = scene.serve(*words, root="served")
-    other = scene.serve(*words, root="served", listen="127.0.0.1")
+    # (another address than that of the test above, which runs beside)
+    other = scene.serve(*words, root="served", listen="127.0.0.2")
     first = writing(scene, one, "n")
     for number in range(50):
         second = writing(scene, other, f"m{number}")
