@@ -310,8 +310,10 @@ def test_a_supervisor_waits_for_a_server_whose_log_is_not_read(scene) -> None:
     scene.make("a", b"ABC")
     words = [".", "--listen", f"{scene.address}:{free_ports(1)}", "--servers", "2", "--forever", "--log"]
     server = served(scene.start("tftpd", words), 2)
-    for _ in range(2_000):
-        scene.port().send(rrq("none"), server.address)
+    port = scene.port()
+    for number in range(4_000):
+        port.send(rrq("none"), server.address)
+        time.sleep(0.005 * (number % 50 == 0))
     time.sleep(0.5)
     reader = threading.Timer(3, server.process.stderr.read)
     reader.start()

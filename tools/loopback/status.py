@@ -9,7 +9,7 @@ from itertools import product
 from pathlib import Path
 from typing import Optional
 
-from datagrams import PATIENCE, PATIENT, expect, rrq, wrq
+from datagrams import PATIENCE, PATIENT, ack, data, expect, rrq, wrq
 from scene import Server
 from servers import children_of, unmarked, wait_for_servers, wait_until
 from several_servers import ended, served
@@ -21,6 +21,8 @@ ROOT, DRAIN, STATUS = "served", "drain.now", "tftpd.prom"
 CLOSED = re.compile(r"closed .*, (\d+) bytes, \d+ ms, (\d+) sent again, (\w+)")
 # how old the text of a server gets at most, in seconds, with a second for its wait and more on a busy host
 LONGEST_AGE = 90
+# how many files a server has open at most, as docs/OPERATING.md says: with 64 puts, one of which is synced or --status written
+OPEN_FILES = 134
 OUTCOMES = {"Complete": "complete", "TimedOut": "timed_out", "PeerError": "peer_error"}
 
 
@@ -267,6 +269,25 @@ def test_a_datagram_that_the_system_refuses_is_not_sent(scene) -> None:
     wait_until(lambda: value(read(place), "tftpd_datagrams_total", way="received") == 1, "the request")
     expect(value(read(place), "tftpd_datagrams_total", way="sent"), 0, "the datagrams that were sent")
     server.process.kill()
+
+
+def test_open_files_of_64_puts(scene) -> None:
+    """They are enough for each put, its sync and the file of --status."""
+    scene.make_folder(ROOT)
+    server = scene.serve("--forever", "--log", "--cap", "64", "--drain", DRAIN, "--status", STATUS, root=ROOT,
+                         limit=f"-n {OPEN_FILES}")
+    puts = [(scene.port(), number) for number in range(64)]
+    for port, number in puts:
+        port.send(wrq(f"f{number}", **PATIENT), server.address)
+    transfers = [port.receive()[1] for port, _ in puts]
+    wanted = {"direction": "write"}
+    wait_until(lambda: value(read(scene.folder / STATUS), "tftpd_transfers_open", **wanted) == 64, "64 puts")
+    for (port, _), transfer in zip(puts, transfers):
+        port.send(data(1, b"ABC"), transfer)
+    expect([port.receive()[0] for port, _ in puts], [ack(1)] * 64, "the last answers")
+    log = drained(scene, server)
+    expect([line for line in log if "too many" in line], [], "what is said of open files")
+    has_counted(read(scene.folder / STATUS), log)
 
 
 def test_words_of_a_status_file(scene) -> None:
