@@ -32,9 +32,10 @@
  *   last, which a timeout sends again, and, if it sends a file or receives netascii, one for the block
  *   at hand. So tftp_get asks for memory twice and tftp_put three times, whatever the options are, and
  *   no later call of that end does, but a get in netascii at its first block, once. A server's end
- *   that sends asks at its first block, too, where it grows to what was agreed, and at none later. A
- *   server has a block, a table that grows with its transfers, and for each of these its path, its
- *   request and the blocks of an end but the first. tftp_abort asks once, for its ERROR.
+ *   that sends asks at its first block, too, where it grows to what was agreed, and at none later; an
+ *   opening that leaves a timeout out of its answer asks for the other options. A server has a block, a
+ *   table that grows with its transfers, and for each of these its path, its request and the blocks of an
+ *   end but the first. tftp_abort asks once, for its ERROR.
  * - No call is made from a signal handler, or from the child of a fork of a process with threads: malloc may
  *   not be.
  *
@@ -193,7 +194,8 @@ struct tftp_options {
 };
 
 /* No option, no limit, and a datagram is sent five times more. */
-#define TFTP_OPTIONS_INIT {sizeof(struct tftp_options), UINT64_MAX, 0, 0, 5, false, false, {0, 0}, false, 0, {0, 0, 0, 0, 0, 0}}
+#define TFTP_OPTIONS_INIT \
+    {sizeof(struct tftp_options), UINT64_MAX, 0, 0, 5, false, false, {0, 0}, false, 0, {0, 0, 0, 0, 0, 0}}
 
 /* What a call did, and the state of the end after it. After a fault it is unchanged. */
 struct tftp_event {
