@@ -18,7 +18,7 @@ use Rattle.tftp_promises.specs.Order.{Noted, Programs, CanCome, IsHonest, IsStra
 use Rattle.tftp_promises.specs.Others.{TakesOwn}
 use Rattle.tftp_promises.specs.Programs.{endpoint, client_at}
 use Rattle.tftp_promises.specs.Several.{Several, AreHonest, AreInOrder, number_of}
-use Rattle.tftp_promises.specs.Witness.{HasExchanged, SomeAreJoined, SomeAreServed, client_ip, exchange, late_exchange}
+use Rattle.tftp_promises.specs.Witness.{HasExchanged, SomeAreServed, client_ip, exchange, late_exchange}
 use Rattle.tftp_promises.specs.Witness.{latecomer, other_ip, requests, read_request, server_ip, stranger}
 use Rattle.tftp_promises.specs.Witness.{agreed, read_file}
 use Rattle.tftp_promises.proofs.ExchangeAlone.{Client, Server, client_away, comes_to, fresh_of_two, last_bytes, only_one}
@@ -80,33 +80,33 @@ module _ (more : List Client) (before : List Noted) where
       (tt, (tt, honest_4)),
     )
 
-    honest_10 : Honest 10
-    honest_10 = (
+    honest_15 : Honest 15
+    honest_15 = (
       delivered 1 0 client_ip server_ip refl refl 5000 1024 (ack_bytes 0) _ (0, omega arith, refl),
-      (tt, (tt, honest_7)),
-    )
-
-    honest_13 : Honest 13
-    honest_13 = (
-      delivered 0 1 server_ip client_ip refl refl 1024 5000 (data_bytes 1 read_file) _ (1, omega arith, refl),
-      (tt, (tt, honest_10)),
+      (tt, (tt, (tt, (tt, (tt, (tt, (tt, honest_7))))))),
     )
 
     honest_18 : Honest 18
     honest_18 = (
+      delivered 0 1 server_ip client_ip refl refl 1024 5000 (data_bytes 1 read_file) _ (1, omega arith, refl),
+      (tt, (tt, honest_15)),
+    )
+
+    honest_23 : Honest 23
+    honest_23 = (
       tt,
       (
         delivered 1 0 client_ip server_ip refl refl 5000 1024 (ack_bytes 1) _ (1, omega arith, refl),
-        (tt, (tt, (tt, honest_13))),
+        (tt, (tt, (tt, honest_18))),
       ),
     )
 
-    honest_22 : Honest 22
-    honest_22 = (tt, (tt, (tt, (tt, honest_18))))
+    honest_27 : Honest 27
+    honest_27 = (tt, (tt, (tt, (tt, honest_23))))
 
     -- all of them, if the latecomer's request is
-    pub honest_all : Comes 0 (Received 69 latecomer read_request) (reverse (take 22 exchange) ++ before) → Honest 24
-    honest_all comes = (tt, (comes, honest_22))
+    pub honest_all : Comes 0 (Received 69 latecomer read_request) (reverse (take 27 exchange) ++ before) → Honest 29
+    honest_all comes = (tt, (comes, honest_27))
 
 -- ---- a client alone with the server
 module _ (c : Client) where
@@ -154,7 +154,7 @@ joined = record {
   own = each (λ k c. TakesOwn server_ip [] c.runs) (takes_none server_ip reading.runs);
 }
 
-exchanged : HasExchanged programs
+abbrev pub exchanged : HasExchanged programs
 exchanged = record {
   joined = joined;
   reads = reading;
@@ -169,9 +169,6 @@ exchanged = record {
   ended = refl;
   opened = all_opened;
 }
-
-pub some_joined : SomeAreJoined
-some_joined = (programs, exchanged)
 
 -- ---- the latecomer is a client
 abbrev two : Several memory_meaning memory_source memory_source memory_sink
@@ -197,7 +194,7 @@ strange_still = record {
 honest_late : AreHonest two late_exchange
 honest_late =
     honest_all (asking ∷ []) asked strange_still (tt, tt)
-    (delivered (asking ∷ []) asked 2 0 other_ip server_ip refl refl 7001 69 read_request _ (22, omega arith, refl))
+    (delivered (asking ∷ []) asked 2 0 other_ip server_ip refl refl 7001 69 read_request _ (27, omega arith, refl))
 
 -- what holds of the server holds of each
 one_server : (P : ℕ → Server → Type 0) → P 0 server → (i : ℕ) (s : Server) → slice_get two.servers i ≡ Some s → P i s

@@ -45,7 +45,7 @@ abbrev done : Done
 done = tt
 
 abbrev receiving : EndState
-receiving = serving_write [] writer Octet 1
+receiving = serving_write [] writer Octet 3
 
 abbrev stores : Turn
 stores = committed_turn (default_terms writer) 1 writer receiving (Ok done)

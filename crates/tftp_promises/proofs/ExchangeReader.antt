@@ -15,18 +15,20 @@ use Rattle.tftp_ends.specs.declared.action.Response.TheVariants.{Accept}
 use Rattle.tftp_ends.specs.declared.phase.Terms.{Terms}
 use Rattle.tftp_ends.specs.End.{EndState}
 use Rattle.tftp_ends.specs.Opening.{getting, oack_bytes}
-use Rattle.tftp_ends.specs.Step.{DatagramStep, Done, Turn, after_turn, ack_bytes, committed_turn, data_bytes}
+use Rattle.tftp_ends.specs.Step.{timeout_turn, DatagramStep, Done, Turn, after_turn, ack_bytes, committed_turn, data_bytes}
 use Rattle.tftp_ends.specs.Step.{response_turn}
 use Rattle.tftp_ends.specs.Waiting.{agreed_terms}
 use Rattle.tftp_lines.specs.ClientOutcome.{end_text}
 use Rattle.tftp_lines.specs.declared.client_outcome.ClientOutcome.TheVariants as ends
-use Rattle.tftp_sockets.specs.Trace.SocketEvent.{Received, Sent, Watched, Printed, Quiet}
-use Rattle.tftp_sockets.specs.Trace.QuietEvent.{Slept}
+use Rattle.tftp_sockets.specs.Trace.SocketEvent.{Received, Sent, Watched, Elapsed, Printed, Quiet}
+use Rattle.tftp_sockets.specs.Trace.QuietEvent.{Empty, Slept}
 use Rattle.tftp_client.specs.Converses.{State}
 use Rattle.tftp_client.specs.Converses.HandlesReceived.{Answers}
 use Rattle.tftp_ends.specs.declared.backoff.Backoff.TheVariants.{Constant}
+use Rattle.tftp_client.specs.Converses.MayElapse.{Elapses}
 use Rattle.tftp_client.specs.Runs.{begun}
-use Rattle.tftp_promises.specs.ClientRuns.{ClientDoes, Starts, Goes_on, Receives_one, Prints_line}
+use Rattle.tftp_promises.specs.ClientRuns.{ClientDoes, Starts, Goes_on, Receives_one, Waits_until, Times_out}
+use Rattle.tftp_promises.specs.ClientRuns.{Prints_line}
 use Rattle.tftp_promises.specs.Others.{TakesOwn}
 use Rattle.tftp_promises.specs.Programs.{ClientOpens, ClientProgram, To_read}
 use Rattle.tftp_promises.specs.Witness.{agreed, blocks_of_8, client_ip, other_ip, read_file, read_name, read_port}
@@ -34,7 +36,7 @@ use Rattle.tftp_promises.specs.Witness.{read_at, requests, server_ip}
 use Rattle.tftp_promises.proofs.ExchangeParts.{block_spelled, may_read, oack_spelled, read_8, takes_all}
 
 abbrev at_first : EndState
-at_first = getting requests read_name Octet blocks_of_8 10 1
+at_first = getting requests read_name Octet blocks_of_8 10 3
 
 abbrev terms : Terms
 terms = agreed_terms read_port agreed
@@ -63,13 +65,17 @@ receiving = after_turn at_first accepts
 abbrev done : Done
 done = tt
 
+-- the ACK 0 is sent again
+abbrev retrying : EndState
+retrying = after_turn receiving (timeout_turn receiving)
+
 abbrev stores : Turn
-stores = committed_turn terms 1 read_port receiving (Ok done)
+stores = committed_turn terms 1 read_port retrying (Ok done)
 
-abbrev dallying : EndState
-dallying = after_turn receiving stores
+abbrev pub dallying : EndState
+dallying = after_turn retrying stores
 
-accepts_so : Step at_first empty (oack_bytes agreed) accepts empty
+pub accepts_so : Step at_first empty (oack_bytes agreed) accepts empty
 unfolding occurrences_of name_of taken_option
 accepts_so =
     record {
@@ -79,7 +85,7 @@ accepts_so =
       again = rw read_8 tt;
     }
 
-stores_so : Step receiving empty (data_bytes 1 read_file) stores (Sink stored)
+pub stores_so : Step retrying empty (data_bytes 1 read_file) stores (Sink stored)
 stores_so = record {
   decoded = Some (Data 1 read_file);
   says = block_spelled 65;
@@ -126,16 +132,34 @@ s1 = record {
       (Slept 1000) ∷ s0.events;
 }
 
+-- after a wait in which nothing came, and its timeout
+abbrev waited_once : State
+waited_once = record s1 {
+  now = 1000;
+  reading = 1000;
+  events = Watched (read_at 1000) ∷ Quiet (Empty 5000) ∷ Quiet (Slept 990) ∷ s1.events;
+}
+
+abbrev timed_once : State
+timed_once = record {
+  end = retrying;
+  now = 1000;
+  reading = 1000;
+  deadline = 2000;
+  backoff = Constant;
+  events = Sent 5000 read_port (ack_bytes 0) ∷ Elapsed 5000 1000 ∷ waited_once.events;
+}
+
 abbrev s2 : State
 s2 = record {
   end = dallying;
-  now = 20;
-  reading = 20;
-  deadline = 1000;
+  now = 1010;
+  reading = 1010;
+  deadline = 2000;
   backoff = Constant;
   events =
-      Sent 5000 read_port (ack_bytes 1) ∷ Watched (read_at 20) ∷ Received 5000 read_port (data_bytes 1 read_file) ∷ Quiet
-      (Slept 990) ∷ s1.events;
+      Sent 5000 read_port (ack_bytes 1) ∷ Watched (read_at 1010) ∷ Received 5000 read_port (data_bytes 1 read_file)
+      ∷ Quiet (Slept 1000) ∷ timed_once.events;
 }
 
 abbrev s3 : State
@@ -144,14 +168,23 @@ s3 = record s2 { events = Printed (end_text (ends.Complete 1)) ∷ s2.events }
 abbrev ClientSteps : State → Files (List ℕ) MemSinkState → State → Files (List ℕ) MemSinkState → Type 0
 ClientSteps s files s' files' = ClientDoes memory_source memory_sink 5000 s files s' files'
 
-pub accepts_does : ClientSteps s0 empty s1 empty
+unfoldable pub accepts_does : ClientSteps s0 empty s1 empty
 accepts_does =
     Receives_one {watch = read_at 10} (record { not_closed = λ o. absurd (true≢false (sym o)); due = λ late. absurd (omega (arith, late)) })
     (record { time = refl; forward = omega arith }) (Answers (λ o. absurd (true≢false (sym o))) accepts_so)
 
-pub stores_does : ClientSteps s1 empty s2 (Sink stored)
+unfoldable pub waits_does : ClientSteps s1 empty waited_once empty
+waits_does =
+    Waits_until {event = Empty 5000} {watch = read_at 1000}
+    (record { not_closed = λ o. absurd (true≢false (sym o)); due = λ late. absurd (omega (arith, late)) }) (inl refl)
+    (record { time = refl; forward = omega arith })
+
+unfoldable pub times_does : ClientSteps waited_once empty timed_once empty
+times_does = Times_out (Elapses (omega arith) (λ o. absurd (true≢false (sym o))))
+
+unfoldable pub stores_does : ClientSteps timed_once empty s2 (Sink stored)
 stores_does =
-    Receives_one {watch = read_at 20} (record { not_closed = λ o. absurd (true≢false (sym o)); due = λ late. absurd (omega (arith, late)) })
+    Receives_one {watch = read_at 1010} (record { not_closed = λ o. absurd (true≢false (sym o)); due = λ late. absurd (omega (arith, late)) })
     (record { time = refl; forward = omega arith }) (Answers (λ o. absurd (true≢false (sym o))) stores_so)
 
 abbrev its_request : ClientOpens memory_source memory_sink requests at_first empty
@@ -160,7 +193,7 @@ its_request = To_read (record {
   mode = Octet;
   asked = blocks_of_8;
   limit = 10;
-  retries = 1;
+  retries = 3;
   may = may_read;
   is = refl;
   sink = new_mem_sink 10 false;
@@ -196,7 +229,9 @@ reading = record {
   last = s3;
   files = Sink stored;
   file = empty;
-  runs = Goes_on (Goes_on (Goes_on Starts accepts_does) stores_does) (Prints_line (end_text (ends.Complete 1)));
+  runs =
+      Goes_on (Goes_on (Goes_on (Goes_on (Goes_on Starts accepts_does) waits_does) times_does) stores_does)
+      (Prints_line (end_text (ends.Complete 1)));
   opens = its_request;
   noted = s3.events;
   is_noted = refl;
@@ -204,5 +239,5 @@ reading = record {
 
 -- it takes the answer of the server at this port, if no other is there
 pub takes_first : (others : List ℕ) → (Contains others 1024 → ⊥) → TakesOwn server_ip others reading.runs
-unfolding accepts_does stores_does
-takes_first others own = (((tt, λ no_peer h. own h.other), λ no_peer h. own h.other), tt)
+unfolding accepts_does waits_does times_does stores_does
+takes_first others own = (((((tt, λ no_peer h. own h.other), tt), tt), λ no_peer h. own h.other), tt)

@@ -118,10 +118,10 @@ module _ (old : Loop) (index : ℕ) (timer : Timer) (transfer : Held) (from : En
   })
 
 -- the file is opened for a client that reads it
-reads_file : (peer : Endpoint) →
+pub reads_file : (peer : Endpoint) →
     AsksToRead memory_meaning memory_source (serving []) peer read_request read_name Octet
     (request_of read_name Octet blocks_of_8).options
-    (A_transfer (read_by (serving_read agreed peer Octet 1 1 []) read_file) store)
+    (A_transfer (read_by (serving_read agreed peer Octet 1 3 []) read_file) store)
 unfolding occurrences_of name_of answered_option
 reads_file peer = record {
   file = Ok (record { source = read_file; length = 1 });
@@ -134,17 +134,17 @@ reads_file peer = record {
   goes_on =
       rw read_8 (inl (record {
         rest = read_file;
-        end = serving_read agreed peer Octet 1 1 [];
+        end = serving_read agreed peer Octet 1 3 [];
         serves = (refl, refl);
         opens = refl;
       }));
 }
 
-pub asks_to_read : Step s0 s1
+unfoldable pub asks_to_read : Step s0 s1
 asks_to_read = Request_received
     (record { from = reader; bytes = read_request; none = refl; goes_on = refl; first = refl; is = refl })
 
-pub opens_read : Step s1 s2
+unfoldable pub opens_read : Step s1 s2
 unfolding occurrences_of name_of answered_option
 opens_read = Request_answered (record {
   from = reader;
@@ -198,19 +198,19 @@ opens_second = Request_answered (record {
 })
 
 -- a stranger's datagram is answered, and the transfer goes on
-refuses_wrong_peer : StepIn memory_meaning memory_source stranger (ack_bytes 0) reading_0 (Source read_file) at_stranger
+pub refuses_wrong_peer : StepIn memory_meaning memory_source stranger (ack_bytes 0) reading_0 (Source read_file) at_stranger
     (Source read_file)
 refuses_wrong_peer =
     record { decoded = Some (Ack 0); says = ack_spelled 0 (omega arith); acts = (refl, refl); again = tt }
 
-pub answers_wrong_peer : Step s2 s3
+unfoldable pub answers_wrong_peer : Step s2 s3
 answers_wrong_peer =
     handles s2 0 (timed reader false 500 0) (read_by reading_0 read_file) stranger (ack_bytes 0) at_stranger
     (Error UnknownTransferId) store (Source read_file) (omega arith) (omega arith) (omega arith) refl refl refl refuses_wrong_peer refl refl
     tt
 
 -- the block is read and sent
-reads_block : StepIn memory_meaning memory_source reader (ack_bytes 0) reading_0 (Source read_file) sends (Source [])
+pub reads_block : StepIn memory_meaning memory_source reader (ack_bytes 0) reading_0 (Source read_file) sends (Source [])
 reads_block = record {
   decoded = Some (Ack 0);
   says = ack_spelled 0 (omega arith);
@@ -230,16 +230,16 @@ reads_block = record {
   again = tt;
 }
 
-pub sends_block : Step s3 s4
+unfoldable pub sends_block : Step s3 s4
 sends_block =
     handles s3 0 (timed reader true 1000 1) (read_by reading_0 read_file) reader (ack_bytes 0) sends LastSent store
     (Source []) (omega arith) (omega arith) (omega arith) refl refl refl reads_block refl refl tt
 
 -- it is acknowledged, and the transfer closes
-is_acknowledged : StepIn memory_meaning memory_source reader (ack_bytes 1) reading_1 (Source []) completes (Source [])
+pub is_acknowledged : StepIn memory_meaning memory_source reader (ack_bytes 1) reading_1 (Source []) completes (Source [])
 is_acknowledged = record { decoded = Some (Ack 1); says = ack_spelled 1 (omega arith); acts = (refl, refl); again = tt }
 
-pub completes_read : Step s4 s5
+unfoldable pub completes_read : Step s4 s5
 completes_read =
     handles s4 0 (timed reader false 500 2) (read_by reading_1 []) reader (ack_bytes 1) completes Nothing store (Source [])
     (omega arith) (omega arith) (omega arith) refl refl refl is_acknowledged refl refl tt

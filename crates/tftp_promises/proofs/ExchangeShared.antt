@@ -91,7 +91,7 @@ second_hears = (
     program = 2;
     port = 5000;
     is_at = (client_ip, refl, refl);
-    sent = still_in (reverse exchange) 1 (Sent 5000 requests read_request) (23, omega arith, refl);
+    sent = still_in (reverse exchange) 1 (Sent 5000 requests read_request) (28, omega arith, refl);
   }),
 )
 

@@ -36,7 +36,7 @@ Loop = LoopState Stored (List ℕ) Drafted
 
 -- ---- the server at its start
 abbrev pub config : Config
-config = record { limits = record { max_block = 512; max_file = 10 }; retries = 1; cap = 2; overwrite = false }
+config = record { limits = record { max_block = 512; max_file = 10 }; retries = 3; cap = 2; overwrite = false }
 
 abbrev pub service : LoopConfig
 service = record {
@@ -63,7 +63,7 @@ abbrev pub terms : Terms
 terms = agreed_terms reader agreed
 
 abbrev pub reading_0 : EndState
-reading_0 = serving_read agreed reader Octet 1 1 []
+reading_0 = serving_read agreed reader Octet 1 3 []
 
 abbrev pub at_stranger : Turn
 at_stranger = response_turn WrongPeer stranger reading_0
@@ -81,7 +81,7 @@ abbrev pub reading_2 : EndState
 reading_2 = after_turn reading_1 completes
 
 abbrev pub late : EndState
-late = serving_read agreed latecomer Octet 1 1 []
+late = serving_read agreed latecomer Octet 1 3 []
 
 -- ---- the transfers
 abbrev pub read_by : EndState → List ℕ → Held

@@ -85,3 +85,4 @@ pub mod Outlasting
 pub mod Fated
 pub mod Failing
 pub mod Explaining
+pub mod ExchangeLossy

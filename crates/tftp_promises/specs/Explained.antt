@@ -26,7 +26,8 @@ module _ {S F D G K : Type 0} {stores : StoreMeaning S D} {sources : SourceMeani
   -- a copy, then it has answered or lost that, or is yet to
   pub record RequestWasLost (client : ClientOf programs) : Type 0 where
     pub unheard : GaveUpUnheard programs client
-    pub settled : WasReceived (client_at client) client.last.end.position.last_sent programs.server.run →
+    pub settled :
+        WasReceived (client_at client) client.last.end.position.last_sent programs.server.run →
         (programs.server.last.pending ≡ Some (client_at client, client.last.end.position.last_sent))
         ⊎ WasSettled (client_at client) client.last.end.position.last_sent programs.server.run
 

@@ -17,8 +17,8 @@ use Rattle.tftp_promises.specs.Programs.{ServerProgram}
 
 module _ {S F D : Type 0} {stores : StoreMeaning S D} {sources : SourceMeaning F} where
   -- a step received this at the request port
-  abbrev pub ReceivesIt : Endpoint → List ℕ → {old new : LoopState S F D} → LoopStep stores sources old new
-      → Type 0
+  abbrev pub ReceivesIt : Endpoint → List ℕ → {old new : LoopState S F D}
+      → LoopStep stores sources old new → Type 0
   ReceivesIt from bytes (Request_received d) = (d.from ≡ from) × (d.bytes ≡ bytes)
   ReceivesIt from bytes does = ⊥
 
@@ -41,8 +41,8 @@ module _ {S F D : Type 0} {stores : StoreMeaning S D} {sources : SourceMeaning F
         → (has_error_opcode d.bytes ≡ true) ⊎ (d.steps.repeated ≡ true) → IsAnswered d
 
   -- a step settles this: it answers, or it loses it for the reason that it states
-  abbrev pub Settles : Endpoint → List ℕ → {old new : LoopState S F D} → LoopStep stores sources old new
-      → Type 0
+  abbrev pub Settles : Endpoint → List ℕ → {old new : LoopState S F D}
+      → LoopStep stores sources old new → Type 0
   Settles from bytes (Request_answered d) = (d.from ≡ from) × (d.bytes ≡ bytes) × IsAnswered d
   Settles from bytes (Request_lost d) = (d.from ≡ from) × (d.bytes ≡ bytes)
   Settles from bytes does = ⊥

@@ -112,11 +112,11 @@ module _ {S F D G K : Type 0} (stores : StoreMeaning S D) (sources : SourceMeani
   -- and each transfer of a client that timed out is unanswered by its client
   abbrev pub TransfersGiveUpUnanswered : Type 0
   TransfersGiveUpUnanswered =
-      (programs : Programs stores sources inputs outputs) (client : ClientOf programs) (p : Endpoint)
-      (serves : ServesClient programs p client) (was : WasHeld programs serves.port serves.transfer)
+      (programs : Programs stores sources inputs outputs) (client : ClientOf programs)
+      (p : Endpoint) (serves : ServesClient programs p client) (was : WasHeld programs serves.port serves.transfer)
       (living : IsLiving stores sources (acts_at serves.port was.run) serves.transfer)
       → peer_of (client_end programs client) ≡ Some p
       → outcome_of serves.transfer.end.position.phase ≡ Some outcomes.TimedOut
       → is_complete serves.transfer.end.position.phase ≡ false
-      → IsUnanswered p (client_at client) serves.transfer.end (acts_at serves.port was.run) client.last.end
-      (acts_in client.runs)
+      → IsUnanswered p (client_at client) serves.transfer.end (acts_at serves.port was.run)
+      client.last.end (acts_in client.runs)

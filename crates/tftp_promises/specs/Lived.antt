@@ -23,20 +23,22 @@ use Rattle.tftp_loop.specs.Steps.LoopStep.{At_port, Request_answered}
 use Rattle.tftp_client.specs.Converses.{State, HandlesReceived, MayElapse}
 use Rattle.tftp_client.specs.Converses.HandlesReceived.{Answers, Loses}
 use Rattle.tftp_client.specs.Converses.MayElapse.{Stays, Elapses}
-use Rattle.tftp_promises.specs.ClientRuns.{ClientDoes, Receives_one, Times_out, ClientRun, Starts, Goes_on}
+use Rattle.tftp_promises.specs.ClientRuns.{ClientDoes, Receives_one, Times_out, ClientRun}
+use Rattle.tftp_promises.specs.ClientRuns.{Starts, Goes_on}
 use Rattle.tftp_promises.specs.Moved.{came_if}
 
 -- ---- a client
 -- what it has done after a timeout, if one was due
 abbrev pub elapsing_acts : {port : ℕ} {s next : State} → MayElapse port s next → List Act → List Act
 elapsing_acts (Stays why) acts = acts
-elapsing_acts {s = s} (Elapses due still) acts = with_reply (timeout_turn s.end).reply (Timed ∷ acts)
+elapsing_acts {s = s} (Elapses due still) acts =
+    with_reply (timeout_turn s.end).reply (Timed ∷ acts)
 
 module _ {G K : Type 0} {inputs : SourceMeaning G} {outputs : SinkMeaning K} {port : ℕ} where
   -- and after a datagram, which it loses if there is no memory to handle it
   abbrev pub handling_acts : {from : Endpoint} {bytes : List ℕ} {s next : State}
-      {files files' : Files G K} → HandlesReceived inputs outputs port from bytes s files next files'
-      → List Act → List Act
+      {files files' : Files G K}
+      → HandlesReceived inputs outputs port from bytes s files next files' → List Act → List Act
   handling_acts {from = from} {bytes = bytes} (Answers {turn} still step) acts =
       with_reply turn.reply (Took from bytes ∷ acts)
   handling_acts {from = from} {bytes = bytes} (Loses lost keeps) acts = Lost from bytes ∷ acts
@@ -94,9 +96,11 @@ pub data Tells (port : ℕ) : List SocketEvent → List Act → Type 0 where
   Passes : {events : List SocketEvent} {acts : List Act} (event : SocketEvent)
       → Tells port events acts → Tells port (event ∷ events) acts
   Receives : {events : List SocketEvent} {acts : List Act} (from : Endpoint) (bytes : List ℕ)
-      → Tells port events acts → Tells port (Received port from bytes ∷ events) (Took from bytes ∷ acts)
+      → Tells port events acts
+      → Tells port (Received port from bytes ∷ events) (Took from bytes ∷ acts)
   Misses : {events : List SocketEvent} {acts : List Act} (from : Endpoint) (bytes : List ℕ)
-      → Tells port events acts → Tells port (Received port from bytes ∷ events) (Lost from bytes ∷ acts)
+      → Tells port events acts
+      → Tells port (Received port from bytes ∷ events) (Lost from bytes ∷ acts)
   Sends : {events : List SocketEvent} {acts : List Act} (to : Endpoint) (bytes : List ℕ)
       → Tells port events acts → Tells port (Sent port to bytes ∷ events) (Said to bytes ∷ acts)
   Elapses_then : {events : List SocketEvent} {acts : List Act} (time : ℕ)

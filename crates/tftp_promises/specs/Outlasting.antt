@@ -57,7 +57,8 @@ module _ {S F D G K : Type 0} {stores : StoreMeaning S D} {sources : SourceMeani
       (acts : List OneAct) (limit slack : ℕ) : Type 0 where
     pub client_acts : acts_of true acts ≡ acts_in client.runs
     pub server_acts : acts_of false acts ≡ acts_at serves.port was.run
-    pub bounded : IsLossBounded acts limit slack (client_at client) p client.last.end serves.transfer.end
+    pub bounded : IsLossBounded acts limit slack (client_at client) p client.last.end
+        serves.transfer.end
 
   -- what bounded loss comes to between a client and the transfer that serves it, in an order of
   -- their acts
@@ -65,18 +66,22 @@ module _ {S F D G K : Type 0} {stores : StoreMeaning S D} {sources : SourceMeani
       (serves : ServesClient programs p client) (was : WasHeld programs serves.port serves.transfer)
       : Type 0 where
     -- there is such an order, that of the events
-    pub shown : (acts : List OneAct) × AreShown k client.port serves.port order (acts_in client.runs)
-        (acts_at serves.port was.run) acts
+    pub shown : (acts : List OneAct)
+        × AreShown k client.port serves.port order (acts_in client.runs) (acts_at serves.port was.run) acts
     -- none of the two gave up, but if the other is over
-    pub outlasts : (acts : List OneAct) (limit slack : ℕ) → AreBounded client p serves was acts limit slack
-        → (GaveUp client.last.end → IsOver serves.transfer.end) × (GaveUp serves.transfer.end → IsOver client.last.end)
+    pub outlasts : (acts : List OneAct) (limit slack : ℕ)
+        → AreBounded client p serves was acts limit slack
+        → (GaveUp client.last.end → IsOver serves.transfer.end)
+        × (GaveUp serves.transfer.end → IsOver client.last.end)
     -- so a get that has ended is complete, if none of the two failed
-    pub get : (acts : List OneAct) (limit slack : ℕ) → AreBounded client p serves was acts limit slack
+    pub get : (acts : List OneAct) (limit slack : ℕ)
+        → AreBounded client p serves was acts limit slack
         → is_sender client.last.end.role.side ≡ false → (HasFailed client.last.end → ⊥)
         → (HasFailed serves.transfer.end → ⊥) → (IsOpen client.last.end → ⊥)
         → is_complete client.last.end.position.phase ≡ true
     -- and the transfer of a put, once it has ended
-    pub put : (acts : List OneAct) (limit slack : ℕ) → AreBounded client p serves was acts limit slack
+    pub put : (acts : List OneAct) (limit slack : ℕ)
+        → AreBounded client p serves was acts limit slack
         → is_sender client.last.end.role.side ≡ true → (HasFailed client.last.end → ⊥)
         → (HasFailed serves.transfer.end → ⊥) → (IsOpen serves.transfer.end → ⊥)
         → is_complete serves.transfer.end.position.phase ≡ true

@@ -1,8 +1,9 @@
 -- Exchanges of programs over files in memory that the premises of the laws admit. In one a client
 -- reads a file in blocks of 8 bytes, by an OACK, and a stranger sends a datagram to the port of its
 -- transfer; once that has closed, another program reads the file at the same port, which may be a
--- stranger or a client. In another a client writes a file (RFC 1350, sections 2, 4 and 6; RFC 2347).
-use Rattle.std.specs.Prelude.{ℕ, ◌≡◌, zero, suc, true, List, [], ◌∷◌, map, reverse, slice_get, Some}
+-- stranger or a client. In another a client writes a file (RFC 1350, sections 2, 4 and 6; RFC
+-- 2347).
+use Rattle.std.specs.Prelude.{ℕ, ◌≡◌, zero, suc, true, false, List, [], ◌∷◌, map, reverse, slice_get, Some}
 use Rattle.std.specs.Prelude.{None}
 use Rattle.tftp_wire.specs.Spelling.{canonical}
 use Rattle.tftp_wire.specs.declared.mode.Mode.TheVariants.{Octet}
@@ -27,10 +28,15 @@ use Rattle.tftp_lines.specs.declared.printed.Printed.TheVariants.{Closed}
 use Rattle.tftp_rules.specs.Machine.{Endpoint}
 use Rattle.tftp_server.specs.State.{TransferState}
 use Rattle.tftp_sockets.specs.declared.watch.Watch.{Watch}
-use Rattle.tftp_sockets.specs.Trace.SocketEvent.{Received, Sent, Watched, Printed, Quiet}
-use Rattle.tftp_sockets.specs.Trace.QuietEvent.{Slept, Woke}
+use Rattle.tftp_lives.specs.Lives.{Said, Timed, Took}
+use Rattle.tftp_lives.specs.Outlasting.{OneAct}
+use Rattle.tftp_sockets.specs.Trace.SocketEvent.{Received, Sent, Watched, Elapsed, Printed, Quiet}
+use Rattle.tftp_sockets.specs.Trace.QuietEvent.{Empty, Slept, Woke}
 use Rattle.tftp_promises.specs.Alone.{IsPassedOver, IsServed, alone}
+use Rattle.tftp_promises.specs.AnyFiles.{ServesClient, client_end, peer_of}
+use Rattle.tftp_promises.specs.GivesUp.{WasHeld}
 use Rattle.tftp_promises.specs.Joined.{AreJoined}
+use Rattle.tftp_promises.specs.Outlasting.{AreBounded}
 use Rattle.tftp_promises.specs.Openings.{HasClosed, our_ports}
 use Rattle.tftp_promises.specs.Order.{Noted, Programs, requests_at}
 use Rattle.tftp_promises.specs.Ports.{opened_ports}
@@ -95,10 +101,13 @@ exchange =
     ∷ (0, Sent 1024 stranger (error_bytes UnknownTransferId))
     ∷ (1, Quiet (Slept 1000)) ∷ (1, Received 5000 read_port (oack_bytes agreed)) ∷ (1, Watched (read_at 10))
     ∷ (1, Sent 5000 read_port (ack_bytes 0))
+    -- this ACK 0 is lost, and sent again at a timeout
+    ∷ (1, Quiet (Slept 990)) ∷ (1, Quiet (Empty 5000)) ∷ (1, Watched (read_at 1000))
+    ∷ (1, Elapsed 5000 1000) ∷ (1, Sent 5000 read_port (ack_bytes 0))
     -- the file has one block
     ∷ (0, Received 1024 reader (ack_bytes 0)) ∷ (0, Sent 1024 reader (data_bytes 1 read_file))
-    ∷ (1, Quiet (Slept 990)) ∷ (1, Received 5000 read_port (data_bytes 1 read_file))
-    ∷ (1, Watched (read_at 20)) ∷ (1, Sent 5000 read_port (ack_bytes 1))
+    ∷ (1, Quiet (Slept 1000)) ∷ (1, Received 5000 read_port (data_bytes 1 read_file))
+    ∷ (1, Watched (read_at 1010)) ∷ (1, Sent 5000 read_port (ack_bytes 1))
     ∷ (1, Printed (end_text (ends.Complete 1)))
     ∷ (0, Received 1024 reader (ack_bytes 1))
     ∷ (0, Printed (line_text (Closed 1024 5000 outcomes.Complete)))
@@ -123,6 +132,27 @@ pub record HasExchanged
   pub has_closed : HasClosed programs programs.server.run 1024 transfer read_port
   pub ended : is_complete transfer.end.position.phase ≡ true
   pub opened : opened_ports programs.server.run ≡ 1024 ∷ 1024 ∷ []
+
+-- the acts of the client and of the transfer that serves it, the newest first: the ACK 0 is sent
+-- twice, and received once
+abbrev pub lossy_acts : List OneAct
+lossy_acts =
+    (false, Took reader (ack_bytes 1))
+    ∷ (true, Said read_port (ack_bytes 1)) ∷ (true, Took read_port (data_bytes 1 read_file))
+    ∷ (false, Said reader (data_bytes 1 read_file)) ∷ (false, Took reader (ack_bytes 0))
+    ∷ (true, Said read_port (ack_bytes 0)) ∷ (true, Timed) ∷ (true, Said read_port (ack_bytes 0))
+    ∷ (true, Took read_port (oack_bytes agreed))
+    ∷ (false, Said stranger (error_bytes UnknownTransferId)) ∷ (false, Took stranger (ack_bytes 0))
+    ∷ (false, Said reader (oack_bytes agreed)) ∷ (true, Said requests read_request) ∷ []
+
+-- they meet the premises of `a_client_outlasts_loss`, with a limit and a slack of one timeout
+pub record HasOutlasted
+    (programs : Programs memory_meaning memory_source memory_source memory_sink) : Type 0 where
+  pub exchanged : HasExchanged programs
+  pub peer : peer_of (client_end programs exchanged.reads) ≡ Some read_port
+  pub serves : ServesClient programs read_port exchanged.reads
+  pub was : WasHeld programs serves.port serves.transfer
+  pub bounded : AreBounded programs exchanged.reads read_port serves was lossy_acts 1 1
 
 -- ---- a put: a client writes a file of one block, without options
 abbrev pub writer : Endpoint
@@ -222,7 +252,7 @@ pub record HasShared
 abbrev pub SomeAreJoined : Type 0
 SomeAreJoined =
     (programs : Programs memory_meaning memory_source memory_source memory_sink)
-    × HasExchanged programs
+    × HasOutlasted programs
 
 abbrev pub SomeHaveWritten : Type 0
 SomeHaveWritten =

@@ -114,14 +114,16 @@ pub fn a_client_takes_one_answer<G: Source, K: Sink>()
     ensures { ClientsTakeOne G.meaning K.meaning }
 {}
 
-/// The premises of the laws over both ends can be met, by two exchanges. In one a client reads a file
-/// of one block by an OACK, and both ends are complete; a stranger sends a datagram between. At the
-/// end another program reads at the port that the first client's transfer had: a stranger, and for
-/// the law over each client apart a client. And two servers share an address: both open a transfer
-/// for the first client's request, which takes one, and passes over the other. In the other exchange
-/// a client writes a file of one block, without options: both ends are complete, and the server's
-/// store has the file. All files are in memory: of the premises on arguments and disks this says
-/// nothing (RFC 1350, sections 2, 4 and 6).
+/// The premises of the laws over both ends can be met, by two exchanges. In one a client reads a
+/// file of one block by an OACK, and both ends are complete. The ACK 0 that it sends first is lost,
+/// within a bound of one timeout, so the premises of [`a_client_outlasts_loss`] are met where
+/// something is lost. A stranger sends a datagram between. At the end another program reads at the
+/// port that the first client's transfer had: a stranger, and for the law over each client apart a
+/// client. And two servers share an address: both open a transfer for the first client's request,
+/// which takes one, and passes over the other. In the other exchange a client writes a file of one
+/// block, without options: both ends are complete, and the server's store has the file. All files
+/// are in memory: of the premises on arguments and disks this says nothing (RFC 1350, sections 2, 4
+/// and 6).
 pub fn some_programs_are_joined()
     ensures joined { SomeAreJoined }
     ensures written { SomeHaveWritten }

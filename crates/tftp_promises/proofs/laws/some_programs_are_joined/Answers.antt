@@ -1,5 +1,6 @@
 -- The lemmas that are the law.
-use Rattle.tftp_promises.proofs.Exchange.{some_joined, some_served}
+use Rattle.tftp_promises.proofs.Exchange.{some_served}
+use Rattle.tftp_promises.proofs.ExchangeLossy.{some_joined}
 use Rattle.tftp_promises.proofs.ExchangePut.{some_written}
 use Rattle.tftp_promises.proofs.ExchangeShared.{some_shared}
 use Rattle.tftp_promises.proofs.laws.some_programs_are_joined.Goals as goal

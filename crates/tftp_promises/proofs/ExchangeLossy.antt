@@ -1,0 +1,119 @@
+-- The exchange meets the premises of bounded loss, though a datagram was lost.
+use Rattle.std.proofs.Common.{◌≡◌, ℕ, ◌+◌, ◌<◌, ◌≤◌, Bool, true, false, List, [], ◌∷◌, ◌++◌, Some, refl, ap, ◌∙◌, arith, inl}
+use Rattle.std.proofs.Common.{inr}
+use Rattle.tftp_ends.specs.Opening.{oack_bytes}
+use Rattle.tftp_ends.specs.Step.{ack_bytes, data_bytes, error_bytes}
+use Rattle.tftp_ends.specs.declared.error_reply.ErrorReply.TheVariants.{UnknownTransferId}
+use Rattle.tftp_file.specs.Memory.{memory_sink, memory_source}
+use Rattle.tftp_store.specs.Memory.{memory_meaning}
+use Rattle.tftp_lives.specs.Lives.{Took, Said}
+use Rattle.tftp_lives.specs.Outlasting.{OneAct, ArriveInTime, AnswersPromptly, acts_of, timeouts}
+use Rattle.tftp_lives.proofs.OneOrder.{timeouts_append}
+use Rattle.tftp_ends.specs.End.{EndState}
+use Rattle.tftp_ends.specs.declared.outcome.Outcome.TheVariants as outcomes
+use Rattle.tftp_lines.specs.Printed.{line_text}
+use Rattle.tftp_lines.specs.declared.printed.Printed.TheVariants.{Closed}
+use Rattle.tftp_rules.specs.Machine.{Endpoint}
+use Rattle.tftp_sockets.specs.Trace.{SocketEvent}
+use Rattle.tftp_sockets.specs.Trace.SocketEvent.{Received, Sent, Watched, Printed, Quiet}
+use Rattle.tftp_sockets.specs.Trace.QuietEvent.{Slept, Woke}
+use Rattle.tftp_loop.specs.Run.{Run}
+use Rattle.tftp_loop.specs.Run.Run.{Start, Then}
+use Rattle.tftp_loop.specs.Steps.{LoopStep}
+use Rattle.tftp_promises.specs.AnyFiles.{ServesClient, client_end, peer_of}
+use Rattle.tftp_promises.specs.GivesUp.{WasHeld}
+use Rattle.tftp_promises.specs.Lived.{acts_at, acts_in}
+use Rattle.tftp_promises.specs.Outlasting.{AreBounded}
+use Rattle.tftp_promises.specs.Witness.{HasOutlasted, SomeAreJoined, lossy_acts, agreed, read_file, read_port, read_request, reader}
+use Rattle.tftp_promises.specs.Witness.{latecomer, read_at, requests, stranger}
+use Rattle.tftp_promises.proofs.Exchange.{exchanged, programs}
+use Rattle.tftp_promises.proofs.ExchangeParts.{read_spelled}
+use Rattle.tftp_promises.proofs.ExchangeReader.{accepts_does, dallying, reading, stores_does, times_does, waits_does}
+use Rattle.tftp_promises.proofs.ExchangeServer.{answers_wrong_peer, asks_to_read, closed_there, completes_read, handles, opens_read}
+use Rattle.tftp_promises.proofs.ExchangeServer.{sends_block, server}
+use Rattle.tftp_promises.proofs.ExchangeStates.{read_by, reading_2, s0, s5}
+
+-- ---- loss
+-- there is one timeout
+few : (later rest : List OneAct) → lossy_acts ≡ later ++ rest → timeouts later ≤ 1
+few later rest e =
+    let one : timeouts lossy_acts ≡ 1 = refl in
+    let all : timeouts lossy_acts ≡ timeouts later + timeouts rest = ap timeouts e ∙ timeouts_append later rest in
+    omega (arith, one, all)
+
+arrive : (x y : Bool) (a b : Endpoint) (e : EndState) → ArriveInTime lossy_acts 1 x y a b e
+arrive x y a b e later earlier bytes is long =
+    let some = few later ((x, Said b bytes) ∷ earlier) is in absurd (omega (arith, some, long))
+
+promptly : (y : Bool) (a : Endpoint) → AnswersPromptly lossy_acts 1 y a
+promptly y a later between earlier answer bytes is none =
+    let rest = (y, Said a answer) ∷ (between ++ (y, Took a bytes) ∷ earlier) in
+    let one : timeouts lossy_acts ≡ 1 = refl in
+    let all : timeouts lossy_acts ≡ timeouts later + timeouts rest = ap timeouts is ∙ timeouts_append later rest in
+    let said = said_none y (between ++ (y, Took a bytes) ∷ earlier) in
+    let parts = timeouts_append between ((y, Took a bytes) ∷ earlier) in
+    omega (arith, one, all, said, parts)
+  where
+    said_none : (who : Bool) (order : List OneAct) → timeouts ((who, Said a answer) ∷ order) ≡ timeouts order
+    said_none who order = refl
+
+-- ---- the transfer, until it is complete
+abbrev before_close : Run (LoopStep memory_meaning memory_source) s0 s5
+before_close = Then (Then (Then (Then (Then Start asks_to_read) opens_read) answers_wrong_peer) sends_block) completes_read
+
+abbrev serves : ServesClient programs read_port reading
+serves = record {
+  port = 1024;
+  transfer = read_by reading_2 [];
+  opened = inr (closed_there programs refl);
+  server = refl;
+  peer = refl;
+  other = refl;
+  asked = read_spelled;
+  path = refl;
+}
+
+abbrev since : List SocketEvent
+since =
+    Sent 1024 latecomer (oack_bytes agreed)
+    ∷ Received 69 latecomer read_request ∷ Watched (read_at 0) ∷ Quiet (Woke (69 ∷ [])) ∷ Quiet (Slept 0)
+    ∷ Watched (read_at 0) ∷ Printed (line_text (Closed 1024 5000 outcomes.Complete)) ∷ []
+
+abbrev was : WasHeld programs 1024 (read_by reading_2 [])
+was = record { state = s5; run = before_close; held = refl; since = since; is_since = refl }
+
+client_did : acts_of true lossy_acts ≡ acts_in reading.runs
+unfolding accepts_does waits_does times_does stores_does
+client_did = refl
+
+server_did : acts_of false lossy_acts ≡ acts_at 1024 before_close
+unfolding handles asks_to_read opens_read answers_wrong_peer sends_block completes_read
+server_did = refl
+
+bounded : AreBounded programs reading read_port serves was lossy_acts 1 1
+bounded = record {
+  client_acts = client_did;
+  server_acts = server_did;
+  bounded = record {
+    to_y = arrive true false reader read_port (read_by reading_2 []).end;
+    to_x = arrive false true read_port reader dallying;
+    x_handles = (tt, (tt, (tt, (tt, (tt, (tt, (tt, tt)))))));
+    y_handles = (tt, (tt, (tt, (tt, (tt, (tt, tt))))));
+    x_prompt = promptly true read_port;
+    y_prompt = promptly false reader;
+    x_retries = omega arith;
+    y_retries = omega arith;
+  };
+}
+
+pub some_joined : SomeAreJoined
+some_joined = (
+  programs,
+  record {
+    exchanged = exchanged;
+    peer = refl;
+    serves = serves;
+    was = was;
+    bounded = bounded;
+  },
+)
