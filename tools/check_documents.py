@@ -196,13 +196,13 @@ def misnamed(document, options) -> list[str]:
     """What is not there of the names in the commands of a document that no check runs."""
     text, found = document.read_text(), []
     commands = [line for language, piece in re.findall(r"(?ms)^```(\w*)\n(.*?)^```$", text)
-                if not language and not WRITTEN.match(piece) and not re.search(r"(?m)^\$ |^table ", piece)
+                if not language and shown_names.is_shell(piece) and not re.search(r"(?m)^\$ |^table ", piece)
                 for line in piece.replace("\\\n", " ").splitlines()]
     sentences = " ".join(re.sub(r"(?ms)^```.*?^```$", "", text).split())
     commands += [command for command in re.findall("`([^`]+)`", sentences) if COMMAND.match(command)]
     for command in commands:
         found += [f"{document.relative_to(TOP)}: {command}: {what}"
-                  for what in shown_names.of_command(command, document.parent, options)]
+                  for what in shown_names.of_line(command, document.parent, options)]
     return found
 
 
