@@ -120,8 +120,8 @@ def status_of(name, command, lines) -> int:
 
 def toured(folder, text, address) -> list[list[str]]:
     """What the tour prints in this folder, and what it is said to print, each in order of lines; ports are left out."""
-    lines = [line for block in re.findall(r"(?ms)^```\n(.*?)^```$", text) if "bin/tftpd " in block
-             for line in block.replace(ADDRESS, address).splitlines()]
+    blocks = [block for language, block in re.findall(r"(?ms)^```(\w*)\n(.*?)^```$", text) if not language]
+    lines = [line for block in blocks if "$ bin/tftpd " in block for line in block.replace(ADDRESS, address).splitlines()]
     commands = "\n".join(line[2:] for line in lines if line.startswith("$ "))
     environment = {"PATH": os.environ["PATH"], "LC_ALL": "C", "TMPDIR": folder}
     # (in a session of its own: what still runs at the end is ended)
