@@ -120,8 +120,8 @@ def status_of(name, command, lines) -> int:
 
 def toured(folder, text, address) -> list[list[str]]:
     """What the tour prints in this folder, and what it is said to print, each in order of lines; ports are left out."""
-    lines = [line for block in re.findall(r"(?ms)^```\n(.*?)^```$", text) if "bin/tftpd " in block
-             for line in block.replace(ADDRESS, address).splitlines()]
+    blocks = [block for language, block in re.findall(r"(?ms)^```(\w*)\n(.*?)^```$", text) if not language]
+    lines = [line for block in blocks if "$ bin/tftpd " in block for line in block.replace(ADDRESS, address).splitlines()]
     commands = "\n".join(line[2:] for line in lines if line.startswith("$ "))
     environment = {"PATH": os.environ["PATH"], "LC_ALL": "C", "TMPDIR": folder}
     # (in a session of its own: what still runs at the end is ended)
@@ -196,13 +196,13 @@ def misnamed(document, options) -> list[str]:
     """What is not there of the names in the commands of a document that no check runs."""
     text, found = document.read_text(), []
     commands = [line for language, piece in re.findall(r"(?ms)^```(\w*)\n(.*?)^```$", text)
-                if not language and not WRITTEN.match(piece) and not re.search(r"(?m)^\$ |^table ", piece)
+                if not language and shown_names.is_shell(piece) and not re.search(r"(?m)^\$ |^table ", piece)
                 for line in piece.replace("\\\n", " ").splitlines()]
     sentences = " ".join(re.sub(r"(?ms)^```.*?^```$", "", text).split())
     commands += [command for command in re.findall("`([^`]+)`", sentences) if COMMAND.match(command)]
     for command in commands:
         found += [f"{document.relative_to(TOP)}: {command}: {what}"
-                  for what in shown_names.of_command(command, document.parent, options)]
+                  for what in shown_names.of_line(command, document.parent, options)]
     return found
 
 

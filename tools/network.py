@@ -45,7 +45,7 @@ def expect(found, expected, what) -> None:
 
 def block_of(part) -> str:
     """The one piece of code of the page that has this part."""
-    blocks = [it for it in re.findall(r"(?ms)^```\n(.*?)^```$", PAGE.read_text()) if part in it]
+    blocks = [it for _, it in re.findall(r"(?ms)^```(\w*)\n(.*?)^```$", PAGE.read_text()) if part in it]
     expect(len(blocks), 1, f"how many pieces of code of the page have {part!r}")
     return blocks[0]
 

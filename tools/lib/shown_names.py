@@ -12,6 +12,10 @@ from lib.units import settings_of
 # commands of other systems and of a reader's own, which a host of the gate may lack
 OTHERS = {"apt", "apt-get", "cd", "cp", "docker", "dpkg", "exec", "find", "journalctl", "mkdir", "nft", "python3", "setcap",
           "systemctl", "tcpdump", "tshark", "tftp", "tftpd", "tftp-show", "tftp-play"}
+# the units of other servers, which an operator ends
+FOREIGN = {"atftpd", "dnsmasq", "inetd", "tftpd-hpa"}
+# what parts two commands of a line
+BETWEEN = re.compile(r" *(?:&&|\|\||[;|]) *")
 # what stands for a name of the reader's
 ANY_NAME = re.compile(r"^[A-Z][A-Z_:.]*$|\bNAME\b|\.\.|[*{}<>\[\]()$]")
 FOLDERS = ("bench", "bin", "completions", "crates", "debian", "docs", "examples", "include", "man", "packaging", "tools")
@@ -23,15 +27,16 @@ def version() -> str:
 
 
 def targets() -> set[str]:
-    """The targets of the Makefile."""
-    heads = re.findall(r"(?m)^([\w./ -]+?)(?: &)?:(?!=)", (TOP / "Makefile").read_text())
+    """The targets of the Makefile, and of that of the archive of assembly."""
+    text = "\n".join((TOP / place / "Makefile").read_text() for place in (".", "ports/assembly"))
+    heads = re.findall(r"(?m)^([\w./ -]+?)(?: &)?:(?!=)", text)
     return {name for head in heads for name in head.split()}
 
 
 def packages() -> set[str]:
     """The packages for Debian, by the names of their files."""
     names = [path.suffix.lstrip(".") or "fanjuvery" for path in (TOP / "debian").glob("control*")]
-    return {f"{name}_{version()}_amd64.deb" for name in names}
+    return {f"{name}_{version()}_{kind}.deb" for name in names for kind in ("amd64", "arm64")}
 
 
 def is_unit(word: str) -> bool:
@@ -51,8 +56,8 @@ def of_make(words: list[str]) -> list[str]:
 def of_units(words: list[str]) -> list[str]:
     verbs = {"enable", "disable", "start", "stop", "restart", "reload", "status", "edit", "daemon-reload"}
     named = [word for at, word in enumerate(words) if not word.startswith("-") and word not in verbs
-             and words[at - 1] not in ("-p", "-n", "--since")]
-    return [f"no unit {word}" for word in named if not is_unit(word) and not word.startswith("@")]
+             and words[at - 1] not in ("-p", "-n", "-o", "--since")]
+    return [f"no unit {word}" for word in named if not is_unit(word) and not word.startswith("@") and word not in FOREIGN]
 
 
 def of_packages(words: list[str]) -> list[str]:
@@ -85,8 +90,22 @@ def of_paths(words: list[str], folder: Path) -> list[str]:
             and not any((place / word).exists() for place in [TOP, folder, folder / "any"])]
 
 
+def is_shell(piece: str) -> bool:
+    """Whether a piece of code is of commands, since one of its lines begins by a known one."""
+    heads = {line.split()[0] for line in piece.splitlines() if line.strip()}
+    return bool(heads & (OTHERS | {*LOOKS}))
+
+
+def of_line(line: str, folder: Path, options: Mapping[str, set[str]]) -> list[str]:
+    """What is not there of the names in the commands of a line that a document of this folder shows. `options` are those of our
+    programs."""
+    bare = re.sub(r"(?:^| )#.*", "", line)
+    commands = [bare] if re.search("['\"]", bare) else BETWEEN.split(bare)
+    return [what for command in commands for what in of_command(command, folder, options)]
+
+
 def of_command(command: str, folder: Path, options: Mapping[str, set[str]]) -> list[str]:
-    """What is not there of the names in a command that a document of this folder shows. `options` are those of our programs."""
+    """What is not there of the names in one command."""
     try:
         words = shlex.split(command, comments=True)
     except ValueError:

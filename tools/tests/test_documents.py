@@ -12,7 +12,7 @@ OPTIONS = {"tftpd": {"--listen", "--forever", "--read-only"}, "tftp": {"--blksiz
 
 class ShownNames(unittest.TestCase):
     def said_of(self, command: str, folder: Path = TOP) -> list[str]:
-        return shown_names.of_command(command, folder, OPTIONS)
+        return shown_names.of_line(command, folder, OPTIONS)
 
     def test_what_is_there(self) -> None:
         for command in ["make test      # all proofs", "make quick CRATE=tftp_wire", "make deb dist", "systemctl enable --now tftpd",
@@ -20,7 +20,8 @@ class ShownNames(unittest.TestCase):
                         f"apt install ./fanjuvery_{shown_names.version()}_amd64.deb", "mkdir -p /srv/tftp",
                         "nft -f /usr/local/share/doc/fanjuvery/tftpd.nft", "tftpd /srv/tftp --listen 192.0.2.1:69 --forever",
                         "tools/library_abi.py --write", "ATFTPD=$PWD/a/atftpd bench/udp/together.py bin/tftpd 3",
-                        "tftp get ADDR:PORT NAME", "rt must-fail tftp_ends", "./install.sh install"]:
+                        "tftp get ADDR:PORT NAME", "rt must-fail tftp_ends", "./install.sh install", "make && sudo make install",
+                        "systemctl disable --now tftpd-hpa", "journalctl -u tftpd -o short-iso-precise"]:
             self.assertEqual(self.said_of(command), [], command)
 
     def test_what_is_not(self) -> None:
@@ -31,8 +32,12 @@ class ShownNames(unittest.TestCase):
                 "mkdir -p /srv/boot": "no folder /srv/boot of the units", "cp pxelinux.0 /srv/tftpboot": "no folder /srv/tftpboot of the units",
                 "nft -f /usr/local/share/doc/fanjuvery/tftp.nft": "no file /usr/local/share/doc/fanjuvery/tftp.nft",
                 "tftpd /srv/tftp --readonly": "tftpd has no option --readonly", "tools/library-abi.py": "no file tools/library-abi.py",
-                "aptt install x": "no command aptt"}.items():
+                "aptt install x": "no command aptt", "make && sudo make installs": "no target installs"}.items():
             self.assertEqual(self.said_of(command), [said], command)
+
+    def test_which_code_is_of_commands(self) -> None:
+        self.assertTrue(shown_names.is_shell("mkdir -p /srv/tftp\naptt install x\n"))
+        self.assertFalse(shown_names.is_shell('else { filename "pxelinux.0"; }\n'))
 
 
 if __name__ == "__main__":
