@@ -6,7 +6,8 @@
 #   nothing may be skipped. The last line is `N passed, N failed`
 # make quick CRATE=NAME: what a change of one crate is tried by in minutes; make quick: one of tools and documents
 # make manifest: writes tools/manifest.txt, what the gate consists of by name: crates, checks and their rows, wrong bodies, and
-#   each public clause and definition with its hash. The gate fails where it is not as committed
+#   each public clause and definition with its hash; and tools/slips.txt, a line for each slip. The gate fails where it is not
+#   as committed
 # make docs: writes docs/STATEMENT.md and the pictures of docs/ from the sources, and out/DEFINITIONS.md
 # make slips CRATES="NAME ..": tries the wrong bodies in crates/NAME/slips/, of all crates without words; with STALE=1 only
 #   such as changed since they were last refused, or whose crate did; with FEW=5 five of all, by the seed of the commit, as
@@ -141,6 +142,7 @@ quick:
 	@tools/quick.sh '$(CRATE)'
 
 manifest:
+	@tools/slips.py --lines
 	@tools/manifest.py --write
 
 docs:

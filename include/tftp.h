@@ -1,7 +1,8 @@
-/* TFTP for C99 and later: the ends of a transfer and the packets (RFC 1350; RFC 2347 to 2349), without IO. The
- * objects need the ABI of C on Linux, and call malloc, realloc, free, memcpy, memmove, memset and memcmp
- * alone: those of glibc, of musl, or of a program that is linked with -nostdlib, as
- * examples/c/alone_machine.c.
+/* TFTP for C99 and later: the ends of a transfer and the packets (RFC 1350; RFC 2347 to 2349), without IO. For
+ * x86-64 and ARM64, and tested on RISC-V of 64 bits; on Linux, and by libtftp-bare.a on machines without a
+ * system. The objects need the ABI of C of Linux there, and call tftp_alloc, tftp_realloc, tftp_free, memcpy,
+ * memmove, memset and memcmp alone: those of glibc, of musl, or of a program that is linked with -nostdlib, as
+ * examples/c/alone_machine.c. The first three are over malloc, unless the program has its own.
  *
  * The caller owns the socket, the clock and the file. It passes each datagram and each timeout in,
  * sends what a call writes to its buffer, and stores or reads the bytes of the file.
@@ -23,11 +24,11 @@
  * - One call at a time uses an end, by one thread at a time: two would change it at once. The next call may
  *   be another thread's.
  * - tftp_close ends each use: without it the memory of the end is lost. Closing twice is allowed.
- * - malloc, realloc and free are of one allocator, for all threads that use an end: one frees what another
- *   gave, and the library uses no other. They align to 16: the fields of an end would be at addresses that
- *   no such field has. A null from malloc or realloc is reported as TFTP_FAULT_MEMORY, and nothing has changed,
- *   in no struct and no buffer, except that an opening closes what its end held before; a call that
- *   returns a length returns 0. An end has a block of 144 bytes, one for the datagram that it sent
+ * - tftp_alloc, tftp_realloc and tftp_free are of one allocator, for all threads that use an end: one frees
+ *   what another gave, and the library uses no other. They align as they are asked: the fields of an end would
+ *   be at addresses that no such field has. A null from them is reported as TFTP_FAULT_MEMORY, and nothing has
+ *   changed, in no struct and no buffer, except that an opening closes what its end held before; a call that
+ *   returns a length returns 0. An end has a block of 152 bytes, one for the datagram that it sent
  *   last, which a timeout sends again, and, if it sends a file or receives netascii, one for the block
  *   at hand. So tftp_get asks for memory twice and tftp_put three times, whatever the options are, and
  *   no later call of that end does, but a get in netascii at its first block, once. A server's end

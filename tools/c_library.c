@@ -1,6 +1,6 @@
-/* Holds tftp.h to the types of the library: each field of each struct has the value that the library gives the field of
- * that name, or the offset that it reads it from, each struct its size, and each number its value, which a call returns.
- * Builds packets and reads options. Tries the request port of a server and its table, transfers that are aborted, buffers
+/* Holds tftp.h to the types of the library: each field of each struct has the value that a call gives the field of that
+ * name, each of them another, or the offset that it is read from; nothing is written behind a struct; and each number has
+ * the value that a call returns. Builds packets and reads options. Tries the request port of a server and its table, transfers that are aborted, buffers
  * that are too short, waits that grow, and NULL. Counts the requests for memory
  * of transfers. Then refuses each of an opening, of a get, and of a served write, in turn: the call reports it, changes
  * nothing, and does its work when it is made again. It is linked with --wrap for malloc and realloc. */
@@ -24,13 +24,6 @@ void *__wrap_malloc(size_t len) {
 void *__wrap_realloc(void *bytes, size_t len) {
     return ++asked == refused ? NULL : __real_realloc(bytes, len);
 }
-
-/* Of the static library, for this test alone: the size of each struct, and a different number in each field. */
-struct tftp_sizes {
-    uint8_t endpoint, options, event, packet, end, question, server, info;
-};
-void tftp_samples(struct tftp_endpoint *endpoint, struct tftp_event *event, struct tftp_packet *packet,
-                  struct tftp_question *question, struct tftp_info *info, struct tftp_sizes *sizes);
 
 /* Options with these fields, and zeros. */
 #define OPTIONS(...) {.size = sizeof(struct tftp_options), __VA_ARGS__}
@@ -1039,22 +1032,81 @@ static int lacking_server(int number) {
     return asked >= number;
 }
 
-int main(void) {
-    struct { struct tftp_endpoint it, behind; } endpoint;
-    struct { struct tftp_event it, behind; } event;
-    struct { struct tftp_packet it, behind; } packet;
-    memset(&endpoint, 0, sizeof endpoint);
-    memset(&event, 0, sizeof event);
-    memset(&packet, 0, sizeof packet);
-    struct { struct tftp_question it, behind; } question;
-    memset(&question, 0, sizeof question);
-    struct { struct tftp_info it, behind; } info;
-    memset(&info, 0, sizeof info);
-    struct tftp_sizes sizes = {0};
-    tftp_samples(&endpoint.it, &event.it, &packet.it, &question.it, &info.it, &sizes);
+/* Each struct that a call writes, with another value in each field, and what is behind it as it was. */
+static void layout(void) {
+    static const struct tftp_endpoint server = {{10, 0, 0, 1}, 69}, peer = {{10, 0, 0, 1}, 0x1234};
+    struct { struct tftp_event it; uint8_t behind[64]; } event;
+    struct { struct tftp_packet it; uint8_t behind[64]; } packet;
+    struct { struct tftp_question it; uint8_t behind[64]; } question;
+    struct { struct tftp_info it; uint8_t behind[64]; } info;
+    struct { struct tftp_end it; uint8_t behind[64]; } end;
+    struct { struct tftp_server it; uint8_t behind[64]; } held;
+    uint8_t untouched[64], reply[TFTP_MIN_REPLY], file[600], name[TFTP_MAX_PATH];
+    struct tftp_options options = OPTIONS(.max_file = 1 << 20, .blksize = 600, .timeout = 200, .retries = 5, .asks_tsize = true,
+                                          .backoff = true);
+    memset(untouched, 0xEE, sizeof untouched);
+    memset(&event, 0xEE, sizeof event), memset(&packet, 0xEE, sizeof packet), memset(&question, 0xEE, sizeof question);
+    memset(&info, 0xEE, sizeof info), memset(&end, 0xEE, sizeof end), memset(&held, 0xEE, sizeof held);
+    memset(&event.it, 0, sizeof event.it), memset(&end.it, 0, sizeof end.it), memset(&held.it, 0, sizeof held.it);
+    info.it = (struct tftp_info)TFTP_INFO_INIT;
 
-    for (int i = 0; i < 4; i++) expect("ip", endpoint.it.ip[i], (unsigned)i + 1);
-    FIELD(endpoint.it, port, 5);
+    /* an event of a get of two blocks, the second of 300 bytes; its peer then sends an ERROR */
+    uint8_t data[4 + 600] = {0, 3, 0, 1};
+    expect("a get", tftp_get(&end.it, &server, TEXT("a"), &options, reply, sizeof reply, &event.it), TFTP_OK);
+    FIELD(event.it, interval, 1);
+    FIELD(event.it, block_size, 512);
+    expect("an OACK", tftp_receive(&end.it, &peer, TEXT("\0\6tsize\00070000\0blksize\000599\0timeout\000200\0"), file, sizeof file,
+                                   reply, sizeof reply, &event.it), TFTP_OK);
+    expect("a DATA", tftp_receive(&end.it, &peer, data, 4 + 599, file, sizeof file, reply, sizeof reply, &event.it), TFTP_OK);
+    FIELD(event.it, send_len, 4);
+    FIELD(event.it, file_len, 599);
+    for (int i = 0; i < 4; i++) expect("ip", event.it.to.ip[i], peer.ip[i]);
+    FIELD(event.it.to, port, 0x1234);
+    FIELD(event.it, peer_code, 0);
+    FIELD(event.it, number, 1);
+    FIELD(event.it, block_size, 599);
+    FIELD(event.it, interval, 200);
+    FIELD(event.it, outcome, 0);
+    FIELD(event.it, progress, 1);
+    FIELD(event.it, complete, 0);
+    FIELD(event.it, no_room, 0);
+    expect("a timeout", tftp_timeout(&end.it, reply, 3, &event.it), TFTP_OK);
+    FIELD(event.it, send_len, 0);
+    FIELD(event.it, progress, 0);
+    FIELD(event.it, interval, 400);
+    FIELD(event.it, no_room, 1);
+    expect("an info", tftp_end_info(&end.it, &info.it), TFTP_OK);
+    FIELD(info.it, length, 70000);
+    FIELD(info.it, timeout, 200);
+    FIELD(info.it, has_length, 1);
+    FIELD(info.it, block_size, 599);
+    data[3] = 2;
+    expect("the last DATA", tftp_receive(&end.it, &peer, data, 4 + 3, file, sizeof file, reply, sizeof reply, &event.it), TFTP_OK);
+    FIELD(event.it, complete, 1);
+    expect("a get", tftp_get(&end.it, &server, TEXT("a"), &options, reply, sizeof reply, &event.it), TFTP_OK);
+    expect("an ERROR", tftp_receive(&end.it, &peer, TEXT("\0\5\2\7no\0"), file, sizeof file, reply, sizeof reply, &event.it),
+           TFTP_OK);
+    FIELD(event.it, peer_code, 519);
+    FIELD(event.it, outcome, TFTP_OUTCOME_PEER_ERROR);
+    tftp_close(&end.it);
+
+    expect("a packet", tftp_decode(TEXT("\0\1abc\0netascii\0o\0v\0"), &packet.it), 0);
+    struct tftp_packet read = {.name_len = 3, .body_at = 15, .body_len = 4, .opcode = 1, .mode = 2};
+    expect("its fields", memcmp(&packet.it, &read, sizeof read), 0);
+    expect("a server", tftp_server_open(&held.it, &options, 1), TFTP_OK);
+    expect("a question", tftp_server_request(&held.it, &peer, TEXT("\0\1abc\0netascii\0"), name, sizeof name, reply,
+                                             sizeof reply, &question.it), TFTP_OK);
+    FIELD(question.it, send_len, 0);
+    FIELD(question.it, name_len, 3);
+    FIELD(question.it, wants, TFTP_WANTS_OPEN);
+    FIELD(question.it, mode, TFTP_MODE_NETASCII);
+    tftp_server_close(&held.it);
+    expect("behind the event", memcmp(event.behind, untouched, 64), 0);
+    expect("behind the packet", memcmp(packet.behind, untouched, 64), 0);
+    expect("behind the question", memcmp(question.behind, untouched, 64), 0);
+    expect("behind the info", memcmp(info.behind, untouched, 64), 0);
+    expect("behind the end", memcmp(end.behind, untouched, 64), 0);
+    expect("behind the server", memcmp(held.behind, untouched, 64), 0);
     expect("max_file", offsetof(struct tftp_options, max_file), 8);
     expect("blksize", offsetof(struct tftp_options, blksize), 16);
     expect("timeout", offsetof(struct tftp_options, timeout), 18);
@@ -1063,52 +1115,20 @@ int main(void) {
     expect("is_netascii", offsetof(struct tftp_options, is_netascii), 21);
     expect("backoff", offsetof(struct tftp_options, backoff), 24);
     expect("max_timeout", offsetof(struct tftp_options, max_timeout), 25);
-    FIELD(event.it, send_len, 10);
-    FIELD(event.it, file_len, 11);
-    expect("event.to", memcmp(&event.it.to, &endpoint.it, sizeof endpoint.it), 0);
-    FIELD(event.it, peer_code, 12);
-    FIELD(event.it, number, 13);
-    FIELD(event.it, block_size, 14);
-    FIELD(event.it, outcome, 15);
-    FIELD(event.it, interval, 16);
-    FIELD(event.it, progress, 0);
-    FIELD(event.it, complete, 1);
-    FIELD(event.it, no_room, 0);
-    FIELD(packet.it, fault_at, 17);
-    FIELD(packet.it, name_len, 18);
-    FIELD(packet.it, body_at, 19);
-    FIELD(packet.it, body_len, 20);
-    FIELD(packet.it, opcode, 21);
-    FIELD(packet.it, number, 22);
-    FIELD(packet.it, mode, 23);
-    FIELD(packet.it, fault, 24);
-    FIELD(question.it, send_len, 25);
-    FIELD(question.it, name_len, 26);
-    FIELD(question.it, wants, 27);
-    FIELD(question.it, mode, 31);
-    FIELD(info.it, length, 29);
-    FIELD(info.it, timeout, 30);
-    FIELD(info.it, has_length, 1);
-    FIELD(info.it, size, 32);
-    FIELD(info.it, block_size, 33);
+    /* and the sizes, which the library has by a proof */
+    expect("sizeof endpoint", sizeof(struct tftp_endpoint), 6);
+    expect("sizeof options", sizeof(struct tftp_options), 32);
+    expect("sizeof event", sizeof(struct tftp_event), 40);
+    expect("sizeof packet", sizeof(struct tftp_packet), 40);
+    expect("sizeof question", sizeof(struct tftp_question), 24);
+    expect("sizeof info", sizeof(struct tftp_info), 24);
+    expect("sizeof end", sizeof(struct tftp_end), 16);
+    expect("sizeof server", sizeof(struct tftp_server), 16);
+}
 
-    expect("sizeof endpoint", sizeof(struct tftp_endpoint), sizes.endpoint);
-    expect("sizeof options", sizeof(struct tftp_options), sizes.options);
-    expect("sizeof event", sizeof(struct tftp_event), sizes.event);
-    expect("sizeof packet", sizeof(struct tftp_packet), sizes.packet);
-    expect("sizeof end", sizeof(struct tftp_end), sizes.end);
-    expect("sizeof question", sizeof(struct tftp_question), sizes.question);
-    expect("sizeof server", sizeof(struct tftp_server), sizes.server);
-    expect("sizeof info", sizeof(struct tftp_info), sizes.info);
-
-    /* what is behind each struct is as it was */
-    static const unsigned char zeros[64];
-    expect("behind endpoint", memcmp(&endpoint.behind, zeros, sizeof endpoint.behind), 0);
-    expect("behind event", memcmp(&event.behind, zeros, sizeof event.behind), 0);
-    expect("behind packet", memcmp(&packet.behind, zeros, sizeof packet.behind), 0);
-    expect("behind question", memcmp(&question.behind, zeros, sizeof question.behind), 0);
-    expect("behind info", memcmp(&info.behind, zeros, sizeof info.behind), 0);
-
+int main(void) {
+    struct { struct tftp_endpoint it; } endpoint = {{{10, 0, 0, 1}, 69}};
+    struct { struct tftp_event it; } event = {{0}};
     /* the numbers of faults: of a closed handle, of a request that is none, of the longest request and one more */
     struct tftp_end end = {0};
     uint8_t name[TFTP_MAX_REQUEST], bytes[TFTP_MAX_REQUEST], ack[4] = {0, 4, 0, 0};
@@ -1134,6 +1154,7 @@ int main(void) {
     tftp_close(&end);
 
     expect("the version", tftp_version(), TFTP_VERSION);
+    layout();
     packets();
     faults_of_packets();
     stated();

@@ -24,8 +24,9 @@ from lib import rows
 from lib.addresses import own_address
 from lib.programs import TOP, programs
 
-# The trusted files, and what a function in them looks like that makes a call
-TRUSTED = {"system_disk.rt": r"^    fn (?!view\b)(\w+)", "disk_file/calls.rt": r"^    (?:pub fn|fn) (\w+)"}
+# The trusted files, and what a function in them looks like that makes a call of its own: `make_locked` is a `make` and then a
+# `try_lock`, `lock` a `try_to_write` and a `try_lock`, and `seconds` asks the clock
+TRUSTED = {"system_disk.rt": r"^    fn (?!(?:view|make_locked|lock|seconds)\b)(\w+)", "disk_file/calls.rt": r"^    (?:pub fn|fn) (\w+)"}
 HOST = own_address()
 PATIENCE = 60
 # A file of several blocks, and a text of as many bytes
@@ -42,6 +43,7 @@ CALLS = {
     "open_folder": ("openat", f"O_RDONLY|{ASKS}, of a folder"),
     "try_to_write": ("openat", f"O_WRONLY|{ASKS}"),
     "make": ("openat", f"O_WRONLY|O_CREAT|O_EXCL|{ASKS}, 0666"),
+    "try_lock": ("flock", ""),
     "read": ("read", ""),
     "write": ("write", ""),
     "seek": ("lseek", ""),
@@ -89,13 +91,16 @@ MEASURED = """
 read ROOT/a: all
 seek ROOT/a: ok
 """
-# A new name is free in its folder, and a draft is made in place of one that another server may have left
+# A new name is free in its folder, and so is the first path of a draft: that is made and locked, and still there after that
 BEGUN = """
 look ROOT/sub: folder
 look ROOT/sub/new: ENOENT
 look ROOT: folder
-remove DRAFT: ENOENT
+look DRAFT: ENOENT
 make DRAFT: ok
+try_lock DRAFT: ok
+examine DRAFT: file
+look DRAFT: file
 """
 # Each byte is written, and synced, before the draft is named; it is still the draft
 FINISHED = """
@@ -104,18 +109,19 @@ sync_all DRAFT: ok
 examine DRAFT: file
 look DRAFT: file
 """
-# The folder is still the one that was seen, and no link; the name is of the draft's file, and then the folder is synced
+# The folder is still the one that was seen, and no link; the name is of the draft's file, then the folder is synced, and the
+# draft's own path goes last
 NAMED = """
 look ROOT/sub: folder
 look ROOT/sub: folder
 open_folder ROOT/sub: ok
 link DRAFT ROOT/sub/new: ok
-remove DRAFT: ok
 look ROOT/sub: folder
 look ROOT/sub: folder
 examine DRAFT: file
 look ROOT/sub/new: file
 sync_folder ROOT/sub: ok
+remove DRAFT: ok
 """
 # What is to be replaced may be written, at the request and at the end, and the draft has its mode
 BEGUN_OVER = """
@@ -123,8 +129,11 @@ look ROOT/old: file
 try_to_write ROOT/old: ok
 look ROOT: folder
 look ROOT: folder
-remove DRAFT: ENOENT
+look DRAFT: ENOENT
 make DRAFT: ok
+try_lock DRAFT: ok
+examine DRAFT: file
+look DRAFT: file
 examine DRAFT: file
 set_mode DRAFT: ok
 """

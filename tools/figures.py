@@ -19,7 +19,7 @@ from lib import rows
 from lib.programs import TOP
 
 # how a text says a small number
-NUMBERS = "no one two three four five six seven eight nine ten eleven twelve".split()
+NUMBERS = "no one two three four five six seven eight nine ten eleven twelve thirteen fourteen fifteen".split()
 # What docs/TESTING.md says of the lines that are not empty: the beginning of a row, and the files
 SIZES = {
     "definitions that clauses cite": "crates/*/specs/**/*.antt",

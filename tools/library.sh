@@ -15,7 +15,7 @@ command -v "${cc%% *}" > /dev/null || {
     echo "library.sh: no $cc: no library for C" >&2
     exit 0
 }
-ar=$($cc -print-prog-name=ar)
+ar=$($cc -print-prog-name=ar) ld=$($cc -print-prog-name=ld) objcopy=$($cc -print-prog-name=objcopy)
 mkdir -p "$folder"
 room=$(mktemp -d)
 trap 'rm -rf "$room"' EXIT
@@ -26,6 +26,16 @@ archive=$(realpath "$built")
 for source in heap malloc; do
     $cc -O2 -fPIC -fno-stack-protector -I include -c "ports/$source.c" -o "$room/$source.o"
 done
+# the names by which the library asks for its heap are its own, and none of the archive's: one object has both
+(
+    cd "$room"
+    mv malloc.o malloc
+    "$ld" -r -o joined ./*.o
+    rm ./*.o
+    "$objcopy" --wildcard --localize-symbol='rattle_*' joined libtftp.o
+    rm joined
+    mv malloc malloc.o
+)
 rm -f "$folder/libtftp.a"
 # the same bytes from the same objects
 (cd "$room" && "$ar" rcsD libtftp.a ./*.o) && mv "$room/libtftp.a" "$folder/libtftp.a"

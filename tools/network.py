@@ -104,6 +104,11 @@ class Scene:
         self.content = os.urandom(12 * BLOCK + 7)
         (self.root / "a").write_bytes(self.content)
 
+    def has_no_rules(self) -> None:
+        """What a trial filtered or translated is over with it."""
+        for host in [self.client, self.router, self.server]:
+            host.run("nft flush ruleset")
+
     def serve(self, words) -> None:
         """Starts a server at the server's host, and waits until it listens."""
         log = tempfile.TemporaryFile("w+")
@@ -457,6 +462,7 @@ def run(tftp, tftpd, *names) -> int:
         scene = Scene(tftp, tftpd, stack)
         chosen = [trial for trial in TRIALS if not names or trial.__name__ in names]
         for trial in chosen:
+            scene.has_no_rules()
             try:
                 trial(scene)
             except (Fault, subprocess.SubprocessError, OSError) as fault:

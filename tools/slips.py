@@ -1,5 +1,5 @@
 #!/usr/bin/env python3
-"""Tries slips: slips.py [--jobs N] [--stale] [--together] [CRATE.. | CRATE/SLIP..], or slips.py --few [COUNT]
+"""Tries slips: slips.py [--jobs N] [--stale] [--together] [CRATE.. | CRATE/SLIP..], slips.py --few [COUNT], or slips.py --lines
 
 A slip is a wrong body in crates/NAME/slips/, in the form of an edit in must-fail/. The prover has to refuse it: a goal stays
 open at the function that it changes, or else in its crate. tools/slips.txt says of each by which commit and at which function
@@ -14,7 +14,7 @@ others alone.
 
 With --few, as in the gate, some are tried by the seed of the commit, five if COUNT is not given, over the libraries that are
 there. One that proves is a failure, whatever has changed since it was last refused: a slip is retired only where its file
-goes, which is a line of the diff of tools/manifest.txt.
+goes, which is a line of the diff of tools/manifest.txt. With --lines only tools/slips.txt is written anew: it gets a line for each slip that there is.
 """
 import os
 import random
@@ -106,7 +106,11 @@ def record(slip: str, function: str, crate: Any) -> None:
     if not head or git("status", "--porcelain", "--", *paths).stdout:
         print(f"slip {slip}: not recorded: its crates differ from the commit")
         return
-    known = {**recorded(), slip: Refusal(head, function)}
+    write({**recorded(), slip: Refusal(head, function)})
+
+
+def write(known: dict[str, Refusal]) -> None:
+    """Writes a line for each slip that there is."""
     lines = [" ".join([name, *known.get(name, Refusal())]).removesuffix(f" {UNKNOWN}") for name in all_slips()]
     RECORD.write_text("".join(f"{line} {UNKNOWN}\n" if " " not in line else f"{line}\n" for line in lines))
 
@@ -428,6 +432,9 @@ def main() -> int:
     words = sys.argv[1:]
     if words[:1] in (["-h"], ["--help"]):
         sys.exit(__doc__)
+    if words == ["--lines"]:
+        write(recorded())
+        return 0
     if words[:1] == ["--few"]:
         return few(int(words[1]) if words[1:] else FEW)
     jobs, words = (int(words[1]), words[2:]) if words[:1] == ["--jobs"] else (AT_ONCE, words)

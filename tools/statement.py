@@ -16,12 +16,14 @@ DOCUMENT = TOP / "docs" / "STATEMENT.md"
 
 HEAD = """# The theorem, word by word
 
-`make docs` makes this page from the definitions in `crates/*/specs`, which the prover checks as they stand there. Read it
-from the top. Two things that the theorem rests on are in docs/PROVED.md: that traces are true, and that no peer is blamed.
+`make docs` makes this page from the definitions in `crates/*/specs`, which the prover checks as they stand there. Read
+it from the top. Two things that the theorem rests on are in docs/PROVED.md: that traces are true, and that no peer is
+blamed.
 
 The page is about runs that have ended: `tftpd` and each `tftp` have returned, and `status` is what they returned. The
-theorem says nothing of a server that still runs, or that a signal has ended. `ip` is the address of the host of a run. It is no argument: the premise on the network says where datagrams can
-come from, and `AllAsk` says that the arguments of the clients name the server's address.
+theorem says nothing of a server that still runs, or that a signal has ended. `ip` is the address of the host of a run.
+It is no argument: the premise on the network says where datagrams can come from, and `AllAsk` says that the arguments
+of the clients name the server's address.
 
 ## Notation
 
@@ -45,11 +47,11 @@ come from, and `AllAsk` says that the arguments of the clients name the server's
 | `λ x. t`, `f x y` | the function that takes x to t; f of x and y |
 
 Orders and traces have the newest event first. A name that a definition does not bind is a parameter of its module:
-`programs`, or `stores`, `sources`, `inputs` and `outputs`, which are the models of the server's store and files and of the
-clients' files. A name without a definition on this page is in the list at its end.
+`programs`, or `stores`, `sources`, `inputs` and `outputs`, which are the models of the server's store and files and of
+the clients' files. A name without a definition on this page is in the list at its end.
 
-*Words* are the arguments of a command line. A *trace* is what a program asked of the system and what the system answered. A
-*stranger* is a third party. A *draft* is the temporary file of a put.
+*Words* are the arguments of a command line. A *trace* is what a program asked of the system and what the system
+answered. A *stranger* is a third party. A *draft* is the temporary file of a put.
 """
 
 
@@ -139,6 +141,34 @@ THEOREMS = [
         "`IsPassedOver`): clause `several` there.",
         "tftp_words.WordsKept.SeveralKeepAnyFiles",
         []),
+    Theorem(
+        "Why a command did not complete",
+        "Of each `tftp` that sent its request and ended otherwise than by `complete N`, under the same premises. What explains "
+        "it is in its trace and in that of the server. The law is `tftp_words::laws::a_command_ends_for_a_reason`; the same "
+        "holds of several servers.",
+        "tftp_words.Explained.EachCommandIsExplained",
+        [
+            Word("HaveStopped", "The end of each program of such a command is not complete, and has closed, unless the command "
+                 "has made all its waits (a part of `AreRan`).",
+                 ["tftp_words.Ran.AreRunsOf", "tftp_words.Ran.HaveStopped", "tftp_words.Ran.HasStopped"]),
+            Word("EachIsExplained", "Why an end is not complete. A refusal is of the first answer alone: once the peer is known, "
+                 "and is no third party, its datagrams are never refused (`no_command_is_blamed`).",
+                 ["tftp_promises.Explained.EachIsExplained", "tftp_promises.Explained.IsExplained",
+                  "tftp_promises.Failed.HasFailed", "tftp_promises.Failed.ClosedWith", "tftp_promises.Failed.IsFailure",
+                  "tftp_promises.Failed.IsRefusal"]),
+            Word("RequestWasLost", "The client has no peer: all copies of its request were lost, or all answers. What became of "
+                 "a copy that the server received is in the run of the server, by a step that answers it, or loses it and "
+                 "says why.",
+                 ["tftp_promises.Explained.RequestWasLost", "tftp_promises.GivesUp.GaveUpUnheard",
+                  "tftp_lives.Unanswered.IsUnheard", "tftp_lives.Unanswered.HasTried", "tftp_promises.Fates.WasReceived",
+                  "tftp_promises.Fates.WasSettled", "tftp_promises.Fates.Settles", "tftp_promises.Fates.IsAnswered"]),
+            Word("DatagramWasLost", "The client has a peer: all copies of its newest datagram were lost, or all answers. "
+                 "`Took` is a datagram that an end handled, and `Lost` one that it received and did not handle, since there "
+                 "was no memory, or the transfer was over age.",
+                 ["tftp_promises.Explained.DatagramWasLost", "tftp_promises.GivesUp.IsSeenUnanswered",
+                  "tftp_promises.GivesUp.GaveUpUnanswered", "tftp_lives.Unanswered.HasSaid", "tftp_lives.Unanswered.Awaits",
+                  "tftp_lives.Unanswered.IsOver", "tftp_lives.Lives.Act"]),
+        ]),
     Theorem(
         "A world",
         "The same in memory: one server, any clients and a network that loses, repeats and reorders datagrams, after every "

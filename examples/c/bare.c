@@ -15,7 +15,7 @@ void machine_boot(const uint8_t *image, size_t len, const struct tftp_event *eve
 
 /* The arena: blocks one after another, each with its length before it; the first free one that fits is
  * taken, and free neighbours are joined. An end takes one block, and one for each datagram that it
- * keeps: a get used 192 bytes, and with the longest request it would be 672. */
+ * keeps: a get used 224 bytes, and with the longest request it would be 704. */
 static union { uint8_t bytes[ARENA]; long double aligned; } arena;
 struct head { size_t len; size_t used; }; /* 16 bytes, so that what follows is aligned to 16 */
 size_t arena_most;                        /* how far the arena was used */

@@ -129,6 +129,7 @@ static size_t get(uint8_t *image, size_t room) {
     options.max_file = room; /* a longer file is refused at once, if its length is stated */
     options.blksize = BLOCK;
     options.asks_tsize = true;
+    options.backoff = true;
 
     uint8_t fault = tftp_get(&end, &server, (const uint8_t *)NAME, sizeof NAME - 1, &options, reply, sizeof reply, &event);
     if (!fault) send(&event.to, reply, event.send_len);

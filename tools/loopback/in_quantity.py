@@ -119,7 +119,7 @@ FASTER, SILENCES = 600, [70, 310, 3_700]
 def test_an_hour_of_silence(scene) -> None:
     """By a clock that runs fast: before and after each silence a get, a put and a refusal are answered."""
     scene.make("a", b"ABC")
-    env = preloaded(scene, "fast_clock.c", FASTER=FASTER)
+    env = preloaded(scene, "quick_time.c", QUICKER=FASTER)
     words = scene.server_words(".", scene.address, ["--forever", "--log"])
     server = scene.server_of(scene.start("tftpd", words, env=env))
     for number, silence in enumerate([0, *SILENCES]):

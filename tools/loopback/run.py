@@ -87,14 +87,24 @@ def fault_of(test, scene) -> Optional[str]:
     return None
 
 
+# how many tests have addresses in one network, below those of tests that are run again
+IN_ONE_NETWORK = 200
+
+
+def address_of(network, number) -> str:
+    """The address of a test: in this network, or in those behind it."""
+    first, second, third = map(int, network.split("."))
+    return f"{first}.{second}.{(third + number // IN_ONE_NETWORK) % 256}.{number % IN_ONE_NETWORK + 1}"
+
+
 class Run:
     """The tests that wait, run and have failed."""
 
     def __init__(self, programs, folder, tests) -> None:
         self.programs, self.folder, self.network, self.stalls = programs, folder, own_network(), Stalls()
         self.todo, self.running, self.ran, self.faults, self.again = queue.SimpleQueue(), {}, 0, {}, []
-        for host, item in enumerate(tests.items(), 1):
-            self.todo.put((f"{self.network}.{host}", item))
+        for number, item in enumerate(tests.items()):
+            self.todo.put((address_of(self.network, number), item))
         self.tests, self.began = tests, time.monotonic()
 
     def run(self, name, test, address, folder) -> tuple[Optional[str], float]:

@@ -81,6 +81,8 @@ def test_a_text_is_measured_once(scene) -> None:
     scene.make("b", b"")
     os.truncate(scene.folder / "b", 65_535 * 512)
     server, disk = serve(scene)
+    # (the length of what was changed within two seconds is not kept)
+    time.sleep(3)
     for size, is_read in [(17, True), (18, False), (8, False)]:
         disk.forget()
         is_refused(scene, server, rrq("a", "netascii", blksize=size), TOO_LARGE)
@@ -93,6 +95,31 @@ def test_a_text_is_measured_once(scene) -> None:
     is_refused(scene, server, rrq("b", "netascii"), TOO_LARGE)
     expect(disk.calls(), "o", "the calls for a file that is too long")
     server.kill()
+
+
+def test_a_text_that_just_changed_is_measured_again(scene) -> None:
+    """A change of the same length may leave the time of the change before, if both are within a tick of the file system's
+    clock: what was changed within two seconds is read for its length at each request."""
+    scene.make("a", b"\n" * 1_000_000)
+    server, disk = serve(scene)
+    for size in [17, 18]:
+        disk.forget()
+        is_refused(scene, server, rrq("a", "netascii", blksize=size), TOO_LARGE)
+        expect("r" in disk.calls(), True, f"whether the text is read for blocks of {size} in {disk.calls()}")
+    server.kill()
+
+
+def test_a_text_that_grows_is_a_changed_file(scene) -> None:
+    """What has more text than was measured ends with an ERROR, and no part of it is complete."""
+    scene.make("a", b"x" * 20_000)
+    server, _ = serve(scene, "--log")
+    end = opened(scene, server, rrq("a", "netascii", **PATIENT), oack(**PATIENT))
+    end.is_answered(ack(0), data(1, b"x" * 512))
+    with open(scene.folder / "a", "ab") as file:
+        file.write(b"more")
+    for number in range(1, 39):
+        end.is_answered(ack(number), data(number + 1, b"x" * 512))
+    end.is_answered(ack(39), error(0, "file changed"))
 
 
 def test_two_servers_share_a_folder(scene) -> None:

@@ -52,6 +52,8 @@ def test_a_text_is_read_once(scene) -> None:
     """A text whose lines are too many for ten block sizes, though its bytes are not, is read once for all of them."""
     scene.make("a", b"\n" * 1_000_000)
     server = scene.serve()
+    # (the length of what was changed within two seconds is not kept)
+    time.sleep(3)
     before = read_by(server)
     for size in range(17, 27):
         is_refused(scene, server, rrq("a", "netascii", blksize=size), TOO_LARGE)

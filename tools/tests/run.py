@@ -1,6 +1,6 @@
 #!/usr/bin/env python3
-"""Runs the tests of the tools: run.py [TEST..], as test_gate or test_gate.Gate.test_all_is_well; those of the checks themselves
-(test_checks.py) are none of the gate, which runs the checks. The last line counts them, and the status is 1 where one fails."""
+"""Runs the tests of the tools: run.py [TEST..], as test_gate or test_gate.Gate.test_all_is_well. The last line counts them, and
+the status is 1 where one fails."""
 import sys
 import unittest
 from pathlib import Path
@@ -11,8 +11,6 @@ sys.path[:0] = [str(HERE), str(HERE.parent)]
 
 from lib import rows
 
-LEFT_OUT = "test_checks"
-
 
 def each(suite: unittest.TestSuite) -> Iterator[unittest.TestCase]:
     for test in suite:
@@ -20,7 +18,7 @@ def each(suite: unittest.TestSuite) -> Iterator[unittest.TestCase]:
 
 
 def main() -> int:
-    modules = sorted(path.stem for path in HERE.glob("test_*.py") if path.stem != LEFT_OUT)
+    modules = sorted(path.stem for path in HERE.glob("test_*.py"))
     words = [] if sys.argv[1:] == [rows.LIST] else sys.argv[1:]
     suite = unittest.defaultTestLoader.loadTestsFromNames(words or modules)
     rows.listed(test.id() for test in each(suite))

@@ -12,7 +12,6 @@ pub mod Options
 pub mod Opens
 pub mod Owned
 pub mod Reports
-pub mod Samples
 pub mod HeldServer
 pub mod ServerOpens
 pub mod Shown

@@ -159,3 +159,12 @@ pub struct TftpQuestion {
     pub mode: u8,
     pub reserved: [u8; 6],
 }
+
+// The sizes that `tftp.h` has.
+const _: () = prove!(size_of::<TftpEndpoint>() == 6);
+
+const _: () = prove!(size_of::<TftpEvent>() == 40);
+
+const _: () = prove!(size_of::<TftpQuestion>() == 24);
+
+const _: () = prove!(size_of::<TftpInfo>() == INFO_SIZE);

@@ -17,6 +17,8 @@ pub struct TftpEnd {
     ghost agrees: { is_open ≡ is_some slot.value },
 }
 
+const _: () = prove!(size_of::<TftpEnd>() == 16);
+
 impl TftpEnd {
     fn closed() -> TftpEnd
         ensures { result.slot.value ≡ None }

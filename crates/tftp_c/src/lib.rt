@@ -23,7 +23,6 @@ mod opening;
 mod options;
 mod packet;
 mod report;
-mod samples;
 mod server;
 mod server_handle;
 mod server_slot;
@@ -61,10 +60,9 @@ ghost use Rattle.tftp_c.specs.Stated.{KnowsFirst, LearnsFrom, States, StatesNone
 ghost use Rattle.tftp_c.specs.Waits.{backoff_of, Waits};
 
 use crate::error::write_error;
-use crate::event::{TftpEndpoint, TftpEvent, TftpInfo, TftpQuestion};
+use crate::event::{TftpEndpoint, TftpEvent, TftpInfo};
 use crate::handle::TftpEnd;
 use crate::packet::{TftpPacket, decode};
-use crate::samples::TftpSizes;
 use std::alloc::Global;
 
 /// 0.1.0, as `TFTP_VERSION` of `tftp.h`.
@@ -479,23 +477,4 @@ pub extern "C" fn tftp_to_wire(alloc: Global, text: &[u8], wire: &mut [u8]) -> u
     ensures written { (result ≡ 0 → ⊥) → take result wire.new ≡ netascii_text text.now }
 {
     wire_text::to_wire(alloc, text, wire)
-}
-
-/// Writes a different number to each field of each struct, and the size of each, for a test of
-/// `tftp.h`.
-#[unsafe(no_mangle)]
-pub extern "C" fn tftp_samples(
-    endpoint: &mut TftpEndpoint,
-    event: &mut TftpEvent,
-    packet: &mut TftpPacket,
-    question: &mut TftpQuestion,
-    info: &mut TftpInfo,
-    sizes: &mut TftpSizes,
-) {
-    *endpoint = samples::endpoint();
-    *event = samples::event(samples::endpoint());
-    *packet = samples::packet();
-    *question = samples::question();
-    *info = samples::info();
-    *sizes = samples::sizes();
 }

@@ -9,7 +9,7 @@ ghost use Rattle.tftp_c.specs.Waits.{Waits};
 ghost use Rattle.tftp_ends.specs.Step.{lent};
 
 use crate::event::{TftpEndpoint, TftpEvent};
-use crate::slice_sink::copy_to;
+use crate::slice_sink::copy_datagram;
 use tftp_ends::{Backoff, End, Endpoint, Outcome, Outgoing, Record, Step};
 
 pub(crate) fn endpoint(at: &TftpEndpoint) -> Endpoint
@@ -54,7 +54,7 @@ pub(crate) fn write(datagram: &[u8], reply: &mut [u8]) -> Written
             is_lost: true,
         };
     }
-    copy_to(reply, datagram);
+    copy_datagram(reply, datagram);
     Written {
         len,
         is_lost: false,

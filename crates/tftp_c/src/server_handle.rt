@@ -17,6 +17,8 @@ pub struct TftpServer {
     ghost agrees: { is_open ≡ is_some slot.value },
 }
 
+const _: () = prove!(size_of::<TftpServer>() == 16);
+
 impl TftpServer {
     fn closed() -> TftpServer
         ensures { result.slot.value ≡ None }

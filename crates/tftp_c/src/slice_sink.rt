@@ -4,6 +4,7 @@ ghost use Rattle.std.specs.Prelude.{◌≡◌, ◌≤◌, ◌<◌, ◌+◌, ◌+
 ghost use Rattle.std.specs.Prelude.{min};
 
 use tftp_file::{Sink, StoreFault};
+use tftp_wire::HEADER;
 
 /// Copies the bytes to the start of a buffer.
 // Inlined, the loop of each call would be of some 300 bytes.
@@ -13,6 +14,19 @@ pub(crate) fn copy_to(room: &mut [u8], bytes: &[u8])
     ensures { room.new ≡ bytes.now ++ drop (length bytes.now) room.old }
 {
     room[..bytes.len()].copy_from_slice(bytes);
+}
+
+/// As [`copy_to`], of a datagram: an ACK is four bytes, which takes no call.
+#[inline(always)]
+pub(crate) fn copy_datagram(room: &mut [u8], bytes: &[u8])
+    requires { length bytes.now ≤ length room.old }
+    ensures { room.new ≡ bytes.now ++ drop (length bytes.now) room.old }
+{
+    if bytes.len() == HEADER {
+        room[..bytes.len()].copy_from_slice(bytes);
+    } else {
+        copy_to(room, bytes);
+    }
 }
 
 /// Writes the bytes at an offset of a buffer, and returns where they end, or `None` if they do not

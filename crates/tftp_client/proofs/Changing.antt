@@ -1,21 +1,20 @@
--- The calls on a fetched file are of no other, and what was named stays named.
+-- The calls on a fetched file are of no other.
 use Rattle.std.proofs.Common.{◌≡◌, List, ◌∷◌, Option, Some, None, Result, Ok, Err, OnOk, OnErr, inl, inr, refl, sym, ◌∙◌, subst}
 use Rattle.std.specs.declared.io.Error.{Error}
-use Rattle.std.proofs.Common.{ℕ}
-use Rattle.std.proofs.Math.Logic.{∥∥₁_map}
+use Rattle.std.proofs.Common.{ℕ, Bool, false}
+use Rattle.std.proofs.lemmas.Bool.{true≢false}
 use Rattle.tftp_disk.specs.DiskTrace.{DiskEvent, FileState, folder_at}
 use Rattle.tftp_disk.specs.DiskTrace.DiskEvent.{Folder_synced, Linked, Looked, Removed}
 use Rattle.tftp_disk.specs.NamedFolder.{SyncsFolder}
 use Rattle.tftp_disk.specs.declared.found.Found.{Found}
 use Rattle.tftp_disk.specs.declared.disk_file.DiskFolder.{DiskFolder}
-use Rattle.tftp_client.specs.Fetched.{AreOwn, FindsNothing, IsAbsent, IsBarred, IsNamed, IsOwnCall, Keeps, KeepsOne, LosesName}
+use Rattle.tftp_client.specs.Fetched.{AreOwn, FindsNothing, IsAbsent, IsBarred, IsOwnCall, Keeps, KeepsOne, LosesName}
 use Rattle.tftp_client.specs.Fetched.{KeepsPlace, MayRename, Paths, WasUnlinked}
 
 pub same_changes : (paths : Paths) (before after : List DiskEvent) → after ≡ before → Keeps paths before after
 same_changes paths before after same =
     record {
       own = λ own. subst (λ (events : List DiskEvent). AreOwn paths events) (sym same) own;
-      named = λ bytes named. subst (λ (events : List DiskEvent). IsNamed paths bytes events) (sym same) named;
       barred = λ barred. subst (λ (events : List DiskEvent). IsBarred paths.local events) (sym same) barred;
     }
 
@@ -24,8 +23,6 @@ pub own_change : (paths : Paths) (event : DiskEvent) (before after : List DiskEv
 own_change paths event before after is same =
     record {
       own = λ own. subst (λ (events : List DiskEvent). AreOwn paths events) (sym same) (is, own);
-      named =
-          λ bytes named. subst (λ (events : List DiskEvent). IsNamed paths bytes events) (sym same) (inr named);
       barred = λ barred. subst (λ (events : List DiskEvent). IsBarred paths.local events) (sym same) (inr barred);
     }
 
@@ -34,30 +31,35 @@ pub and_then : (paths : Paths) (before middle after : List DiskEvent) → Keeps 
 and_then paths before middle after first rest =
     record {
       own = λ own. rest.own (first.own own);
-      named = λ bytes named. rest.named bytes (first.named bytes named);
       barred = λ barred. rest.barred (first.barred barred);
     }
 
 -- the same, of a file whose names are the same
-pub still_named : (paths same : Paths) (bytes : List ℕ) (before after : List DiskEvent) → KeepsPlace paths same before after
-    → ∥ IsNamed paths bytes before ∥₁ → ∥ IsNamed same bytes after ∥₁
-still_named paths same bytes before after keeps named =
-    ∥∥₁_map named
-    (λ named. subst (λ (p : Paths). IsNamed p bytes after) (sym keeps.same) (keeps.keeps.named bytes named))
+pub keeps_as : (a b c : Paths) (t u v : Bool) (before middle after : List DiskEvent) → KeepsPlace a b t u before middle
+    → c ≡ b → v ≡ u → after ≡ middle → KeepsPlace a c t v before after
+keeps_as a b c t u v before middle after place names tried log =
+    record {
+      same = names ∙ place.same;
+      keeps = subst (λ (l : List DiskEvent). Keeps a before l) (sym log) place.keeps;
+      rests = λ was. let rest = place.rests was in (tried ∙ rest.0, log ∙ rest.1);
+    }
 
-pub keeps_as : (a b c : Paths) (before middle after : List DiskEvent) → b ≡ a → c ≡ b → after ≡ middle
-    → Keeps a before middle → KeepsPlace a c before after
-keeps_as a b c before middle after names names' log keeps =
-    record { same = names' ∙ names; keeps = subst (λ (l : List DiskEvent). Keeps a before l) (sym log) keeps }
+-- of one whose name was not tried before
+pub untried_place : (a b : Paths) (t u : Bool) (before after : List DiskEvent) → b ≡ a → t ≡ false → Keeps a before after
+    → KeepsPlace a b t u before after
+untried_place a b t u before after names untried keeps =
+    record { same = names; keeps = keeps; rests = λ tried. absurd (true≢false (sym tried ∙ untried)) }
 
-pub then_keeps : (a b c : Paths) (before middle after : List DiskEvent) → KeepsPlace a b before middle
-    → KeepsPlace b c middle after → KeepsPlace a c before after
-then_keeps a b c before middle after first rest =
+pub then_keeps : (a b c : Paths) (t u v : Bool) (before middle after : List DiskEvent) → KeepsPlace a b t u before middle
+    → KeepsPlace b c u v middle after → KeepsPlace a c t v before after
+then_keeps a b c t u v before middle after first rest =
     record {
       same = rest.same ∙ first.same;
       keeps =
           and_then a before middle after first.keeps
           (subst (λ (p : Paths). Keeps p middle after) first.same rest.keeps);
+      rests =
+          λ tried. let one = first.rests tried in let two = rest.rests one.0 in (two.0, two.1 ∙ one.1);
     }
 
 synced_keeps : {F : Type 0} (folder : Option (DiskFolder F)) (paths : Paths) (before after : List DiskEvent)

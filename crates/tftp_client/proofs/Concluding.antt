@@ -28,7 +28,7 @@ use Rattle.tftp_client.specs.Stored.{HasDisk, count_of}
 use Rattle.tftp_client.specs.Written.{held_of}
 use Rattle.tftp_client.proofs.Counting.{runs_as}
 use Rattle.tftp_client.proofs.HeldBytes.{run_whole}
-use Rattle.tftp_client.proofs.NamedOnDisk.{kept, log_in, of_file, paths_in, still_for}
+use Rattle.tftp_client.proofs.NamedOnDisk.{kept, log_in, of_file, paths_in, still_for, tried_in}
 use Rattle.tftp_client.proofs.ReadFile.{for_plain as begins_plain}
 use Rattle.tftp_client.proofs.SameKind.{converses}
 
@@ -168,7 +168,7 @@ module _ {D F V G : Type 0} {logs : looks.Ghosts D} {writes : write.Ghosts F} {v
       concluded job kind sent length (most + waits before) before after file files may new side octet at.0 at.1
 
   pub stores : ((before after : Local) (committed : Bool) → sinks.becomes before after committed
-      → KeepsPlace (paths_in before) (paths_in after) (log_in before) (log_in after))
+      → KeepsPlace (paths_in before) (paths_in after) (tried_in before) (tried_in after) (log_in before) (log_in after))
       → {status : ℕ} (job : Job) (kind : Kind) (sent length most : ℕ) (before after : List SocketEvent) (disk : D) {port reading : ℕ}
       {first : State} (file files : Files (DiskSource G) Local) → MayOpen kind job length
       → first ≡ begun port reading (opens kind job length) before → IsNew sources sinks file → IsFileOf sources sinks kind file

@@ -27,6 +27,7 @@ use Rattle.tftp_ends.specs.Action.{datagram_action}
 use Rattle.tftp_ends.specs.End.{EndState, outcome_of}
 use Rattle.tftp_ends.specs.Files.{KeepsFiles, KeepsHolding}
 use Rattle.tftp_ends.specs.Step.{Acts, Appended, Done, GoesOn, Turn}
+use Rattle.tftp_disk.specs.DiskTrace.{DiskEvent}
 use Rattle.tftp_disk.specs.declared.disk.Looks as looks
 use Rattle.tftp_lines.specs.ClientOutcome.{status_of}
 use Rattle.tftp_lines.specs.declared.client_outcome.ClientOutcome.{ClientOutcome}
@@ -43,10 +44,11 @@ use Rattle.tftp_client.specs.Converses.MayElapse.{Stays, Elapses}
 use Rattle.tftp_client.specs.Fetched.{KeepsPlace, Paths}
 use Rattle.tftp_client.specs.Moved.{Moved, acts_move, handling_moves, nothing_moved, run_moves}
 use Rattle.tftp_client.specs.OnDisk.{IsFor, IsLeft, IsOut, LeavesBy, LeavesEnd, LeavesTransfer, StopsOut, WritesOut, job_paths}
-use Rattle.tftp_client.specs.Runs.{IsFileOf, IsNew, MayOpen, Refused, StopsBy, begun, opens, plain}
-use Rattle.tftp_client.specs.Written.{HasNoRest, IsWrittenAt, bytes_in, held_of, place_in}
+use Rattle.tftp_client.specs.Runs.{IsFileOf, IsNew, MayFallBack, MayOpen, Refused, StopsBy, begun, opens, plain}
+use Rattle.tftp_client.specs.Written.{HasNoRest, IsLeftIn, IsWrittenAt, bytes_in, held_of, place_in}
 use Rattle.tftp_client.proofs.HeldBytes.{AllHeld, Holds, appends, begins, goes}
-use Rattle.tftp_client.proofs.NamedOnDisk.{kept, log_in, paths_in, still_for}
+use Rattle.tftp_client.proofs.NamedOnDisk.{HasCalls, kept, log_in, paths_in, still_for, tried_in}
+use Rattle.tftp_client.proofs.Uncommitted.{NoneCommitted, uncommitted}
 
 -- a refused append: a beginning of the piece is in the file
 refused : (armed : Bool) (before : Holding) (after : Option Holding) (piece : List ℕ) (fault : StoreFault)
@@ -227,45 +229,58 @@ module _ {S : Type 0} {D F V G : Type 0} {logs : looks.Ghosts D} {writes : write
 
   -- nothing was opened, and nothing was sent
   pub leaves_none : (most : ℕ) (end : ClientOutcome) (kind : Kind) (job : Job) (length : ℕ) (before after : List SocketEvent)
-      → status_of end ≡ 2 → after ≡ before → LeavesEnd sources sinks most kind job length before after end
-  leaves_none most (ends.Complete count) kind job length before after two same = (same, tt)
-  leaves_none most (ends.Failed outcome) kind job length before after two same = absurd (cc)
-  leaves_none most ends.FileFault kind job length before after two same = (same, tt)
-  leaves_none most ends.SocketFault kind job length before after two same = (same, tt)
-  leaves_none most (ends.NotOpened fault) kind job length before after two same = (same, tt)
-  leaves_none most ends.Memory kind job length before after two same = (same, tt)
+      (calls : List DiskEvent)
+      → status_of end ≡ 2 → after ≡ before → LeavesEnd sources sinks most kind job length before after calls end
+  leaves_none most (ends.Complete count) kind job length before after calls two same = (same, tt)
+  leaves_none most (ends.Failed outcome) kind job length before after calls two same = absurd (cc)
+  leaves_none most ends.FileFault kind job length before after calls two same = (same, tt)
+  leaves_none most ends.SocketFault kind job length before after calls two same = (same, tt)
+  leaves_none most (ends.NotOpened fault) kind job length before after calls two same = (same, tt)
+  leaves_none most ends.Memory kind job length before after calls two same = (same, tt)
 
   -- a job of this kind failed
-  pub leaves_job : (most : ℕ) (job : Job) {kind : Kind} (length : ℕ) (before after : List SocketEvent) (end : ClientOutcome)
-      → job.kind ≡ kind → LeavesEnd sources sinks most kind job length before after end
-      → LeavesBy sources sinks most job before after end
-  leaves_job most job {kind} length before after end is leaves =
-      let Of : Kind → Type 0 = λ k. LeavesEnd sources sinks most k job length before after end in
+  pub leaves_job : (most : ℕ) (job : Job) {kind : Kind} (length : ℕ) (before after : List SocketEvent) (calls : List DiskEvent)
+      (end : ClientOutcome)
+      → job.kind ≡ kind → LeavesEnd sources sinks most kind job length before after calls end
+      → LeavesBy sources sinks most job before after calls end
+  leaves_job most job {kind} length before after calls end is leaves =
+      let Of : Kind → Type 0 = λ k. LeavesEnd sources sinks most k job length before after calls end in
       let left = subst Of (sym is) leaves in
       ((length, left.0), left.1)
 
   -- at once
-  pub leaves_first : (most : ℕ) (job : Job) (before after : List SocketEvent) (end : ClientOutcome)
-      → LeavesBy sources sinks most job before after end → LeavesTransfer sources sinks most job before after end
-  leaves_first most job before after end leaves = (inl leaves.0, leaves.1)
+  pub leaves_first : (most : ℕ) (job : Job) (before after : List SocketEvent) (calls : List DiskEvent) (end : ClientOutcome)
+      → (MayFallBack job end → ⊥) → LeavesBy sources sinks most job before after calls end
+      → LeavesTransfer sources sinks most job before after calls end
+  leaves_first most job before after calls end never leaves = (inl (leaves.0, never), leaves.1)
 
   -- without the options that were refused
-  pub leaves_again : {most most' : ℕ} (job other : Job) (before middle after : List SocketEvent) (end : ClientOutcome)
+  pub leaves_again : {most most' : ℕ} (job other : Job) (before middle after : List SocketEvent) (calls : List DiskEvent)
+      (end : ClientOutcome)
       → Refused sources sinks most job before middle → other ≡ plain job → most' ≡ most
-      → LeavesBy sources sinks most' other middle after end → LeavesTransfer sources sinks most job before after end
-  leaves_again {most} job other before middle after end no_options is same leaves =
-      let Of : Job → Type 0 = λ j. LeavesBy sources sinks most j middle after end in
-      let Within : ℕ → Type 0 = λ m. LeavesBy sources sinks m other middle after end in
+      → LeavesBy sources sinks most' other middle after calls end
+      → LeavesTransfer sources sinks most job before after calls end
+  leaves_again {most} job other before middle after calls end no_options is same leaves =
+      let Of : Job → Type 0 = λ j. LeavesBy sources sinks most j middle after calls end in
+      let Within : ℕ → Type 0 = λ m. LeavesBy sources sinks m other middle after calls end in
       let left = subst Of is (subst Within same leaves) in
       (inr (middle, no_options, left.0), left.1)
 
   module _ (known : (local : Local) → sinks.held local ≡ Some (held_of local.part.written local.committed))
       (becomes : (before after : Local) (committed : Bool) → sinks.becomes before after committed
-      → KeepsPlace (paths_in before) (paths_in after) (log_in before) (log_in after)) where
-    left : (job : Job) (phase : Phase) (files : Files S Local) (bytes : List ℕ) → IsFor job files → IsOut files
-        → TookOf sources sinks phase files bytes → IsLeft job phase files bytes
-    left job phase (Source source) bytes is out took = tt
-    left job phase (Sink local) bytes is out took =
+      → KeepsPlace (paths_in before) (paths_in after) (tried_in before) (tried_in after) (log_in before) (log_in after)) where
+    -- a file that is not committed has the name that it had
+    not_committed : (local : Local) → NoneCommitted sources sinks (Sink local) → local.committed ≡ false
+    not_committed local none =
+        ap (λ (h : Holding). h.committed)
+        (sym (same_Some none.0 (held_of local.part.written local.committed) (sym none.1 ∙ known local)))
+        ∙ none.2
+
+    left : (job : Job) (phase : Phase) (files : Files S Local) (bytes : List ℕ) (calls : List DiskEvent) → IsFor job files
+        → IsOut files → HasCalls files calls → NoneCommitted sources sinks files
+        → TookOf sources sinks phase files bytes → IsLeft job phase files bytes calls
+    left job phase (Source source) bytes calls is out has none took = tt
+    left job phase (Sink local) bytes calls is out has none took =
         let holding = held_of local.part.written local.committed in
         let same : took.0 ≡ holding = same_Some took.0 holding (sym took.1 ∙ known local) in
         record {
@@ -274,24 +289,33 @@ module _ {S : Type 0} {D F V G : Type 0} {logs : looks.Ghosts D} {writes : write
           all = took.4;
           written = written_at (string_bytes local.part.names.part) (job_paths job).part (bytes_in local.part.written)
               local.part.written (ap (λ (p : Paths). p.part) is) local.part.placed refl out;
+          place =
+              subst (λ (l : List DiskEvent). ∥ IsLeftIn (job_paths job) local.part.written l ∥₁) (sym has)
+              (subst (λ (p : Paths). ∥ IsLeftIn p local.part.written (log_in local) ∥₁) is
+              (local.left (not_committed local none)));
         }
 
     -- a run that began by its request, with a new file of the job, stopped; a request is no wait
     pub leaves : (most : ℕ) (end : ClientOutcome) (kind : Kind) (job : Job) (length : ℕ) (before after : List SocketEvent)
-        {port reading : ℕ} {first : State} (file : Files S Local)
+        (calls : List DiskEvent) {port reading : ℕ} {first : State} (file files' : Files S Local)
         → MayOpen kind job length → first ≡ begun port reading (opens kind job length) before
-        → StopsOut sources sinks (most + waits first.events) port first file after end
-        → IsFileOf sources sinks kind file → IsNew sources sinks file → IsFor job file
-        → LeavesEnd sources sinks (most + waits before) kind job length before after end
-    leaves most end kind job length before after {port} {reading} {first} file may is stopped side new for =
+        → StopsOut sources sinks (most + waits first.events) port first file after files' end
+        → IsFileOf sources sinks kind file → IsNew sources sinks file → IsFor job file → HasCalls files' calls
+        → LeavesEnd sources sinks (most + waits before) kind job length before after calls end
+    leaves most end kind job length before after calls {port} {reading} {first} file files' may is stopped side new for has =
         let outcome = stopped.0 in
         let From : State → Type 0 =
-        λ s. (stops : StopsBy sources sinks (most + waits s.events) port s file after outcome) × IsOut stops.files in
-        let s = subst From is (stopped.2, stopped.3) in
+        λ s. (stops : StopsBy sources sinks (most + waits s.events) port s file after outcome)
+        × (stops.files ≡ files') × IsOut stops.files in
+        let s = subst From is (stopped.2, stopped.3, stopped.4) in
         let At : ClientOutcome → Type 0 =
-        λ e. LeavesEnd sources sinks (most + waits before) kind job length before after e in
+        λ e. LeavesEnd sources sinks (most + waits before) kind job length before after calls e in
+        let calls_are = subst (λ (f : Files S Local). HasCalls f calls) (sym s.1) has in
+        let none =
+        uncommitted sources sinks s.0.converses new s.0.incomplete in
         subst At (sym stopped.1) (
           record { may = may; fails = record { port = port; reading = reading; file = file; stops = s.0 }; side = side },
-          left job s.0.last.end.position.phase s.0.files (run_moves s.0.converses nothing_moved).bytes
-              (still_for job file s.0.files (kept sources sinks becomes file s.0.files s.0.converses) for) s.1 (took_from sources sinks s.0.converses new),
+          left job s.0.last.end.position.phase s.0.files (run_moves s.0.converses nothing_moved).bytes calls
+              (still_for job file s.0.files (kept sources sinks becomes file s.0.files s.0.converses) for) s.2 calls_are none
+              (took_from sources sinks s.0.converses new),
         )

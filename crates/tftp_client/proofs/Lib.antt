@@ -21,4 +21,6 @@ pub mod SentLength
 pub mod Silent
 pub mod StaysComplete
 pub mod StillThere
+pub mod TriedOnce
+pub mod Uncommitted
 pub mod Witness

@@ -1,15 +1,15 @@
 -- A fetched file got its name, and the folder of that was synced.
 use Rattle.std.proofs.Common.{◌≡◌, ℕ, Bool, true, false, List, ◌∷◌, Option, Some, None, Result, Ok, Err, OnOk}
-use Rattle.std.proofs.Common.{[], length, arith, inl, inr, sym, ap, ◌∙◌, subst}
+use Rattle.std.proofs.Common.{length, arith, inl, inr, sym, ap, ◌∙◌, subst}
 use Rattle.std.proofs.Math.Logic.{∥∥₁_map}
 use Rattle.std.specs.declared.io.Error.{Error}
 use Rattle.tftp_disk.specs.Changes.{changes}
 use Rattle.tftp_disk.specs.DiskTrace.{DiskEvent, Done, FileState, folder_at}
-use Rattle.tftp_disk.specs.DiskTrace.DiskEvent.{Folder_synced, Linked, Removed, Renamed}
+use Rattle.tftp_disk.specs.DiskTrace.DiskEvent.{Folder_synced, Linked}
 use Rattle.tftp_disk.specs.NamedFolder.{SyncsAlone, SyncsFolder, path_in}
 use Rattle.tftp_disk.specs.Still.{IsStillAt}
 use Rattle.tftp_disk.specs.declared.disk_file.DiskFolder.{DiskFolder}
-use Rattle.tftp_client.specs.Fetched.{IsNamed, IsWholeAt, Keeps, KeepsOne, NamesBytes, NamesFile, Paths, SyncsIn, WasNamed}
+use Rattle.tftp_client.specs.Fetched.{IsWholeAt, Keeps, KeepsOne, NamesBytes, NamesFile, Paths, SyncsIn, WasNamed}
 use Rattle.tftp_client.specs.Written.{IsFolderIn}
 
 -- for a last call whose result is returned as it is
@@ -97,20 +97,3 @@ pub linked_named : (Syncs : List DiskEvent → List DiskEvent → Type 0) (paths
     × NamesFile Syncs false paths f b after
 linked_named Syncs paths bytes file before mid after whole still is kept =
     (file, before, whole, still, inl (subst (λ (m : List DiskEvent). KeepsOne Syncs paths m after) is kept))
-
-syncs_in_some : (path : List ℕ) (all : List DiskEvent) (event : DiskEvent) (before : List DiskEvent)
-    → SyncsIn path all (event ∷ before) [] → ⊥
-syncs_in_some path all event before (inl (at, answer, folder, synced, is)) = let never : ◌≡◌ {A = List DiskEvent} [] (Folder_synced (Some at) answer ∷ event ∷ before) = is in cc
-syncs_in_some path all event before (inr (barred, is)) = let never : ◌≡◌ {A = List DiskEvent} [] (event ∷ before) = is in cc
-
-names_some : (replaces : Bool) (paths : Paths) (all : List DiskEvent) (file : FileState) (before : List DiskEvent)
-    → NamesFile (SyncsIn paths.local all) replaces paths file before [] → ⊥
-names_some true paths all file before named = syncs_in_some paths.local all (Renamed file paths.part paths.local (Ok tt)) before named
-names_some false paths all file before (inl links) = let never : ◌≡◌ {A = List DiskEvent} [] (Removed paths.part links.1 ∷ links.0) = links.3 in cc
-names_some false paths all file before (inr renames) = syncs_in_some paths.local all (Renamed file paths.part paths.local (Ok tt)) renames.0 renames.2
-
--- what was named just now is named
-pub is_named : (paths : Paths) (bytes : List ℕ) (after : List DiskEvent) → WasNamed paths bytes after
-    → IsNamed paths bytes after
-is_named paths bytes [] named = absurd (names_some paths.replaces paths [] named.0 named.1 named.4)
-is_named paths bytes (event ∷ events) named = inl named

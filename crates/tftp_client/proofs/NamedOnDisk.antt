@@ -21,7 +21,7 @@ use Rattle.tftp_client.specs.declared.local.LocalFile.{LocalFile}
 use Rattle.tftp_client.specs.declared.transfer.Job.{Job}
 use Rattle.tftp_client.specs.CommandLine.{IfExit, IfRun}
 use Rattle.tftp_client.specs.Converses.{Converses, State}
-use Rattle.tftp_client.specs.Fetched.{IsNamed, Keeps, KeepsPlace, Paths}
+use Rattle.tftp_client.specs.Fetched.{Keeps, KeepsPlace, Paths, WasNamed}
 use Rattle.tftp_client.specs.OnDisk.{IsFor, IsOnDisk, KeepsFile, job_paths}
 use Rattle.tftp_client.specs.Runs.{IsWhole}
 use Rattle.tftp_client.specs.Sent.{DoesOrder, DoesWords}
@@ -40,6 +40,9 @@ module _ {D F V G : Type 0} {logs : looks.Ghosts D} {writes : write.Ghosts F} {v
   abbrev pub log_in : LocalFile D F V G logs writes views reads seeks → List DiskEvent
   log_in local = logs.log local.part.disk
 
+  abbrev pub tried_in : LocalFile D F V G logs writes views reads seeks → Bool
+  tried_in local = local.part.is_tried
+
 module _ {S : Type 0} {D F V G : Type 0} {logs : looks.Ghosts D} {writes : write.Ghosts F} {views : looks.Ghosts V}
     {reads : read.Ghosts G} {seeks : seek.Ghosts G} where
   -- the file of a job stays that
@@ -56,7 +59,8 @@ module _ {S : Type 0} {D F V G : Type 0} {logs : looks.Ghosts D} {writes : write
   kept_then (Sink a) (Source b) c p q = absurd p
   kept_then (Sink a) (Sink b) (Source c) p q = absurd q
   kept_then (Sink a) (Sink b) (Sink c) p q =
-      then_keeps (paths_in a) (paths_in b) (paths_in c) (log_in a) (log_in b) (log_in c) p q
+      then_keeps (paths_in a) (paths_in b) (paths_in c) (tried_in a) (tried_in b) (tried_in c) (log_in a) (log_in b)
+      (log_in c) p q
 
   pub received : (local : LocalFile D F V G logs writes views reads seeks) (files : Files S (LocalFile D F V G logs writes views reads seeks)) → KeepsFile (Sink local) files → IsReceived files
   received local (Source b) keeps = absurd keeps
@@ -70,6 +74,20 @@ module _ {S : Type 0} {D F V G : Type 0} {logs : looks.Ghosts D} {writes : write
       subst (λ (d : D). Keeps paths (log_in local) (logs.log d)) (sym has)
       (subst (λ (p : Paths). Keeps p (log_in local) (log_in b)) is keeps.keeps)
 
+  -- the disk of a received file has these calls
+  abbrev pub HasCalls : Files S (LocalFile D F V G logs writes views reads seeks) → List DiskEvent → Type 0
+  HasCalls (Source source) calls = Unit {0}
+  HasCalls (Sink local) calls = calls ≡ log_in local
+
+  pub has_calls : (files : Files S (LocalFile D F V G logs writes views reads seeks)) (disk : D) → HasDisk files disk → HasCalls files (logs.log disk)
+  has_calls (Source source) disk has = absurd has
+  has_calls (Sink local) disk has = ap (λ (d : D). logs.log d) has
+
+  pub sends_calls : (source : S) (files : Files S (LocalFile D F V G logs writes views reads seeks)) (calls : List DiskEvent) → KeepsFile (Source source) files
+      → HasCalls files calls
+  sends_calls source (Source other) calls keeps = tt
+  sends_calls source (Sink local) calls keeps = absurd keeps
+
 module _ {S : Type 0} {D F V G : Type 0} {logs : looks.Ghosts D} {writes : write.Ghosts F} {views : looks.Ghosts V}
     {reads : read.Ghosts G} {seeks : seek.Ghosts G}
     (sources : SourceMeaning S) (sinks : SinkMeaning (LocalFile D F V G logs writes views reads seeks)) where
@@ -77,7 +95,8 @@ module _ {S : Type 0} {D F V G : Type 0} {logs : looks.Ghosts D} {writes : write
   TheLocal = LocalFile D F V G logs writes views reads seeks
 
   module _ (becomes : (before after : TheLocal) (committed : Bool) → sinks.becomes before after committed
-      → KeepsPlace (paths_in before) (paths_in after) (log_in before) (log_in after)) where
+      → KeepsPlace (paths_in before) (paths_in after) (tried_in before) (tried_in after) (log_in before)
+      (log_in after)) where
     -- a run asks the disk of its file for no other name
     pub kept : (file files : Files S TheLocal) {port : ℕ} {first : State} {s : State}
         → Converses sources sinks port first file s files → KeepsFile file files
@@ -86,17 +105,18 @@ module _ {S : Type 0} {D F V G : Type 0} {logs : looks.Ghosts D} {writes : write
     kept (Sink a) (Source b) run = absurd (converses sources sinks kinds.Read run tt)
     kept (Sink a) (Sink b) run =
         run_stays sources sinks
-        (λ (x : TheLocal). KeepsPlace (paths_in a) (paths_in x) (log_in a) (log_in x))
+        (λ (x : TheLocal). KeepsPlace (paths_in a) (paths_in x) (tried_in a) (tried_in x) (log_in a) (log_in x))
         (λ before after committed same until.
-        then_keeps (paths_in a) (paths_in before) (paths_in after) (log_in a)
-        (log_in before) (log_in after) until (becomes before after committed same))
+        then_keeps (paths_in a) (paths_in before) (paths_in after) (tried_in a) (tried_in before) (tried_in after)
+        (log_in a) (log_in before) (log_in after) until (becomes before after committed same))
         run
         (record {
           same = refl;
-          keeps = record { own = λ own. own; named = λ bytes named. named; barred = λ barred. barred };
+          keeps = record { own = λ own. own; barred = λ barred. barred };
+          rests = λ tried. (tried, refl);
         })
 
-  -- what a complete file holds has the name, and still has it when its disk is handed back
+  -- what a complete file holds has the name, and nothing is asked of its disk until that is handed back
   pub of_file : ((local : TheLocal) → sinks.held local ≡ Some (held_of local.part.written local.committed))
       → (job : Job) (files files' : Files S TheLocal) (count : ℕ) (bytes : List ℕ) (disk : D) → IsFor job files
       → IsWhole sources sinks files count bytes → KeepsFile files files' → HasDisk files' disk
@@ -108,11 +128,12 @@ module _ {S : Type 0} {D F V G : Type 0} {logs : looks.Ghosts D} {writes : write
       let same : whole.0 ≡ holding = same_Some whole.0 holding (sym whole.1 ∙ known local) in
       let held : bytes_in local.part.written ≡ bytes = ap (λ (h : Holding). h.bytes) (sym same) ∙ whole.3 in
       let done : local.committed ≡ true = ap (λ (h : Holding). h.committed) (sym same) ∙ whole.2 in
-      ∥∥₁_map (local.named done) (λ named.
-      subst (λ (d : D). IsNamed (job_paths job) bytes (logs.log d)) (sym has)
-      (subst (λ (p : Paths). IsNamed p bytes (logs.log last.part.disk)) is
-      (keeps.keeps.named bytes
-      (subst (λ (b : List ℕ). IsNamed (paths_in local) b (log_in local)) held named))))
+      let tried = local.named done in
+      ∥∥₁_map tried.1 (λ named.
+      subst (λ (d : D). WasNamed (job_paths job) bytes (logs.log d)) (sym has)
+      (subst (λ (p : Paths). WasNamed p bytes (logs.log last.part.disk)) is
+      (subst (λ (l : List DiskEvent). WasNamed (paths_in local) bytes l) (sym (keeps.rests tried.0).1)
+      (subst (λ (b : List ℕ). WasNamed (paths_in local) b (log_in local)) held named))))
 
 module _ {D F V G : Type 0} {logs : looks.Ghosts D} {writes : write.Ghosts F} {views : looks.Ghosts V}
     {reads : read.Ghosts G} {seeks : seek.Ghosts G}

@@ -84,7 +84,7 @@ at_timeout retries (Dallying terms number Waited) = tt
 at_timeout retries (Closed terms number complete outcome) =
     if_either BeginsNone (retries == 0) (Close outcomes.TimedOut) Retransmit tt tt
 
-abbrev IsDone : EndState → Type 0
+abbrev pub IsDone : EndState → Type 0
 IsDone e = is_complete e.position.phase ≡ true
 
 after_response : (response : Response) (from : Endpoint) (e : EndState) → BeginsNone response → IsDone e
@@ -111,7 +111,7 @@ module _ {S K : Type 0} (sources : SourceMeaning S) (sinks : SinkMeaning K) wher
   acts (Send terms number) from bytes e files turn files' moved only done a = absurd only
   acts (Store terms number) from bytes e files turn files' moved only done a = absurd only
 
-  handles : {port : ℕ} {from : Endpoint} {bytes : List ℕ} {s : State} {files : Files S K} {next : State}
+  pub handles : {port : ℕ} {from : Endpoint} {bytes : List ℕ} {s : State} {files : Files S K} {next : State}
       {files' : Files S K} (moved : Moved) (h : HandlesReceived sources sinks port from bytes s files next files')
       → IsDone s.end → IsDone next.end × (handling_moves h moved ≡ moved)
   handles {from = from} {bytes = bytes} {s = s} {files = files} moved (Answers {turn} {files'} is_open step) done =
@@ -119,7 +119,7 @@ module _ {S K : Type 0} (sources : SourceMeaning S) (sinks : SinkMeaning K) wher
       (at_datagram s.end from bytes step.decoded done) done step.acts
   handles moved (Loses lost keeps) done = (done, refl)
 
-  elapses : {port : ℕ} {s next : State} → MayElapse port s next → IsDone s.end → IsDone next.end
+  pub elapses : {port : ℕ} {s next : State} → MayElapse port s next → IsDone s.end → IsDone next.end
   elapses (Stays why) done = done
   elapses {s = s} (Elapses due is_open) done =
       after_response (timeout_response s.end.position.retries_left s.end.position.phase) s.end.position.last_sent_to

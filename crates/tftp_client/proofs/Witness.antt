@@ -24,7 +24,8 @@ use Rattle.tftp_ends.specs.Step.{DatagramStep, Done, Turn, ack_bytes, after_turn
 use Rattle.tftp_ends.specs.Step.{reported, response_turn}
 use Rattle.tftp_ends.specs.Waiting.{default_terms}
 use Rattle.tftp_file.specs.declared.length.TheConstants.{MAX_WIRE}
-use Rattle.tftp_disk.specs.DiskTrace.{state_of, sync_failed}
+use Rattle.std.specs.List.{AllByRecursion}
+use Rattle.tftp_disk.specs.DiskTrace.{modes_asked, state_of, sync_failed}
 use Rattle.tftp_disk.specs.DiskTrace.DiskEvent.{Written as Written_bytes, Created, Examined, Given, Opened, Synced, Made, Removed, Linked, Folder_opened, Folder_synced}
 use Rattle.tftp_disk.specs.DiskWriter.{calls_of}
 use Rattle.tftp_disk.specs.Folder.IsFolderOf.{Here}
@@ -34,8 +35,9 @@ use Rattle.tftp_disk.specs.declared.found.Found.{Found}
 use Rattle.tftp_disk.specs.declared.found.Kind.TheVariants.{Regular}
 use Rattle.tftp_sockets.specs.declared.watch.Watch.{Watch}
 use Rattle.tftp_disk.specs.Still.{IsStillAt}
-use Rattle.tftp_client.specs.Fetched.{IsNamed, KeepsPlace}
+use Rattle.tftp_client.specs.Fetched.{ArePermissions, KeepsPlace, WasNamed}
 use Rattle.tftp_client.specs.Written.{paths_for, paths_of}
+use Rattle.tftp_client.specs.declared.local_names.LocalNames.{LocalNames}
 use Rattle.tftp_client.specs.declared.written.Written.{Written}
 use Rattle.tftp_client.specs.declared.transfer.Job.{Job}
 use Rattle.tftp_client.specs.declared.transfer.conversation.Progress.TheVariants.{Hidden}
@@ -210,12 +212,19 @@ local_text = text name (omega arith) valid_name
 abbrev pub part_text : String Global
 part_text = text part (omega arith) valid_part
 
+-- they have other lengths
+pub apart : part ≡ name → ⊥
+apart same = absurd (omega (arith, ap length same))
+
+abbrev pub the_names : LocalNames
+the_names = record { local = local_text; part = part_text; apart = apart }
+
 abbrev pub new_local : Local
 new_local = record {
   part = record {
     disk = opened;
     alloc = record { memory = record { seal = tt } };
-    names = record { local = local_text; part = part_text };
+    names = the_names;
     existing = Refused;
     folder = record { folder = Some (record { file = tt; trace = record { events = opened } }) };
     written = None;
@@ -229,6 +238,7 @@ new_local = record {
   error = None;
   counts = refl;
   named = λ e. absurd (true≢false (sym e));
+  left = λ e. ∣ tt ∣₁;
 }
 
 -- ---- the run
@@ -260,8 +270,9 @@ block_spelled byte =
 abbrev pub appended : Calls
 appended = Made part (Ok tt) ∷ opened
 
-abbrev pub written_of : (calls : Calls) (buffered : List ℕ) → length buffered < 1000 → sync_failed calls ≡ false → Written (Unit {0})
-written_of calls buffered short sound = record {
+abbrev pub written_of : (calls : Calls) (buffered : List ℕ) → length buffered < 1000 → sync_failed calls ≡ false
+    → AllByRecursion ArePermissions (modes_asked calls) → Written (Unit {0})
+written_of calls buffered short sound plain = record {
   writer = record {
     file = record { file = tt; trace = record { events = calls } };
     buffer = record {
@@ -277,13 +288,14 @@ written_of calls buffered short sound = record {
   unsynced = 0;
   sync_error = None;
   sound = λ none. sound;
+  plain = ∣ plain ∣₁;
 }
 
 abbrev pub buffered : Written (Unit {0})
-buffered = written_of (Created part 1 ∷ []) (65 ∷ []) (omega arith) refl
+buffered = written_of (Created part 1 ∷ []) (65 ∷ []) (omega arith) refl tt
 
 abbrev pub whole : Written (Unit {0})
-whole = written_of (Synced (Ok tt) ∷ Written_bytes (65 ∷ []) ∷ Created part 1 ∷ []) [] (omega arith) refl
+whole = written_of (Synced (Ok tt) ∷ Written_bytes (65 ∷ []) ∷ Created part 1 ∷ []) [] (omega arith) refl tt
 
 pub still_appended : IsStillAt part (Some 1) appended
 still_appended = record { since = []; before = opened; made = refl; when = refl; left = tt }
@@ -293,7 +305,7 @@ local_with_block = record new_local {
   part = record {
     disk = appended;
     alloc = record { memory = record { seal = tt } };
-    names = record { local = local_text; part = part_text };
+    names = the_names;
     existing = Refused;
     folder = record { folder = Some (record { file = tt; trace = record { events = opened } }) };
     written = Some buffered;
@@ -305,6 +317,7 @@ local_with_block = record new_local {
   count = 1;
   counts = refl;
   named = λ e. absurd (true≢false (sym e));
+  left = λ e. ∣ inl still_appended ∣₁;
 }
 
 abbrev pub given : Calls
@@ -312,11 +325,11 @@ given =
     Removed part (Ok tt) ∷ Folder_synced (Some (codes ".")) (Ok tt) ∷ Linked (state_of (calls_of whole.writer)) part name (Ok tt)
     ∷ appended
 
-pub got_name : IsNamed (paths_for name Refused) (65 ∷ []) given
-got_name = inl (
+pub got_name : WasNamed (paths_for name Refused) (65 ∷ []) given
+got_name = (
   state_of (calls_of whole.writer),
   appended,
-  record { place = refl; content = refl; synced = refl; sound = refl },
+  record { place = refl; content = refl; synced = refl; sound = refl; modes = ∣ tt ∣₁ },
   ∣ still_appended ∣₁,
   inl (
     Folder_synced (Some (codes ".")) (Ok tt) ∷ Linked (state_of (calls_of whole.writer)) part name (Ok tt) ∷ appended,
@@ -331,7 +344,7 @@ stored_local = record {
   part = record {
     disk = given;
     alloc = record { memory = record { seal = tt } };
-    names = record { local = local_text; part = part_text };
+    names = the_names;
     existing = Refused;
     folder = record { folder = Some (record { file = tt; trace = record { events = opened } }) };
     written = Some whole;
@@ -344,23 +357,27 @@ stored_local = record {
   committed = true;
   error = None;
   counts = refl;
-  named = λ e. ∣ got_name ∣₁;
+  named = λ e. (refl, ∣ got_name ∣₁);
+  left = λ e. absurd (true≢false e);
 }
 
-pub keeps_block : KeepsPlace (paths_of new_local.part.names Refused) (paths_of local_with_block.part.names Refused) opened appended
+pub keeps_block : KeepsPlace (paths_of new_local.part.names Refused) (paths_of local_with_block.part.names Refused)
+    false false opened appended
 keeps_block = record {
   same = refl;
-  keeps = record { own = λ own. (refl, own); named = λ bytes named. inr named; barred = λ barred. inr barred };
+  keeps = record { own = λ own. (refl, own); barred = λ barred. inr barred };
+  rests = λ e. absurd (true≢false (sym e));
 }
 
-pub keeps_name : KeepsPlace (paths_of local_with_block.part.names Refused) (paths_of stored_local.part.names Refused) appended given
+pub keeps_name : KeepsPlace (paths_of local_with_block.part.names Refused) (paths_of stored_local.part.names Refused)
+    false true appended given
 keeps_name = record {
   same = refl;
   keeps = record {
     own = λ own. (inl refl, (tt, ((refl, refl), own)));
-    named = λ bytes named. inr (inr (inr named));
     barred = λ barred. inr (inr (inr barred));
   };
+  rests = λ e. absurd (true≢false (sym e));
 }
 
 unfoldable pub stores_so : DatagramStep local_source local_sink answers_from (data_bytes 1 (65 ∷ [])) at_first (Sink new_local) stores

@@ -1,5 +1,6 @@
 -- The calls by which a client writes a fetched file and gives it its name (own).
-use Rattle.std.specs.Prelude.{ℕ, ◌≡◌, ◌⊎◌, ⊤, Bool, true, false, List, [], ◌∷◌, Option, Some}
+use Rattle.std.specs.List.{AllByRecursion}
+use Rattle.std.specs.Prelude.{ℕ, ◌≡◌, ◌≤◌, ◌⊎◌, ⊤, Bool, true, false, List, [], ◌∷◌, Option, Some}
 use Rattle.std.specs.Prelude.{Result, Ok, Err}
 use Rattle.std.specs.IoError.{error_kind}
 use Rattle.std.specs.declared.io.Error.{Error}
@@ -19,13 +20,19 @@ pub record Paths : Type 0 where
   pub part : List ℕ
   pub replaces : Bool
 
+-- who may read, write and run a file: no bit of its mode that is above these
+abbrev pub ArePermissions : ℕ → Type 0
+ArePermissions mode = mode ≤ 511
+
 -- a file was made at this path, and these bytes were written to it, in order and each once; a sync
--- succeeded after the last write, and none failed
+-- succeeded after the last write, and none failed; and each mode that it was to have is permissions
+-- alone
 pub record IsWholeAt (part bytes : List ℕ) (file : FileState) : Type 0 where
   pub place : file.made_at ≡ Some part
   pub content : file.written ≡ bytes
   pub synced : file.is_synced ≡ true
   pub sound : file.sync_failed ≡ false
+  pub modes : ∥ AllByRecursion ArePermissions file.modes ∥₁
 
 -- ---- its folder
 -- the call was to open the folder of the path, and was refused since the user may not read it
@@ -110,15 +117,10 @@ module _ (Syncs : List DiskEvent → List DiskEvent → Type 0) where
       × ∥ IsStillAt paths.part file.made_when before ∥₁
       × NamesFile paths.replaces paths file before after
 
--- the same; the folder of the name was synced then
+-- the same; the folder of the name was synced then, and these are the last of all the calls: nothing
+-- was asked of the disk after them
 abbrev pub WasNamed : Paths → List ℕ → List DiskEvent → Type 0
 WasNamed paths bytes after = NamesBytes (SyncsIn paths.local after) paths bytes after
-
--- these calls did, and there may be others after them
-abbrev pub IsNamed : Paths → List ℕ → List DiskEvent → Type 0
-IsNamed paths bytes [] = ⊥
-IsNamed paths bytes (event ∷ events) =
-    WasNamed paths bytes (event ∷ events) ⊎ IsNamed paths bytes events
 
 -- the folder could not be synced, and the name was removed again
 abbrev pub LosesName : Paths → List DiskEvent → List DiskEvent → Type 0
@@ -158,15 +160,27 @@ abbrev pub AreOwn : Paths → List DiskEvent → Type 0
 AreOwn paths [] = ⊤
 AreOwn paths (event ∷ events) = IsOwnCall paths event events × AreOwn paths events
 
+-- ---- what a failed one leaves
+-- the file, whole, was renamed to its name, over what had it, and then the folder could not be
+-- synced: it has the name
+abbrev pub MovesUnsynced : Paths → List ℕ → List DiskEvent → Type 0
+MovesUnsynced paths bytes after =
+    (file : FileState) × (before : List DiskEvent) × (folder : Option (List ℕ)) × (error : Error)
+    × IsWholeAt paths.part bytes file × ∥ IsStillAt paths.part file.made_when before ∥₁
+    × (after ≡ Folder_synced folder (Err error)
+    ∷ Renamed file paths.part paths.local (Ok tt) ∷ before)
+
 -- ---- what stays
--- the calls from the one list to the other are of no other file, what was named stays named, and a
--- folder that may not be read stays so
+-- the calls from the one list to the other are of no other file, and a folder that may not be read
+-- stays so
 pub record Keeps (paths : Paths) (before after : List DiskEvent) : Type 0 where
   pub own : AreOwn paths before → AreOwn paths after
-  pub named : (bytes : List ℕ) → IsNamed paths bytes before → IsNamed paths bytes after
   pub barred : IsBarred paths.local before → IsBarred paths.local after
 
--- the same, of a file whose names stay the same
-pub record KeepsPlace (paths paths' : Paths) (before after : List DiskEvent) : Type 0 where
+-- the same, of a file whose names stay the same; once it was to get its name, which is tried once,
+-- its disk is asked for nothing more
+pub record KeepsPlace (paths paths' : Paths) (tried tried' : Bool) (before after : List DiskEvent)
+    : Type 0 where
   pub same : paths' ≡ paths
   pub keeps : Keeps paths before after
+  pub rests : tried ≡ true → (tried' ≡ true) × (after ≡ before)

@@ -10,6 +10,7 @@ pub mod Moved
 pub mod OnDisk
 pub mod Ordered
 pub mod Outbound
+pub mod Place
 pub mod Runs
 pub mod Seconds
 pub mod Sent

@@ -23,23 +23,24 @@ use Rattle.tftp_sockets.specs.Trace.{SocketEvent}
 use Rattle.tftp_client.specs.declared.local.LocalFile.{LocalFile}
 use Rattle.tftp_client.specs.declared.transfer.Job.{Job}
 use Rattle.tftp_client.specs.Converses.{Converses, State, WorksOnFile, most_waits}
-use Rattle.tftp_client.specs.Fetched.{AreOwn, IsNamed, KeepsPlace, Paths}
+use Rattle.tftp_client.specs.Fetched.{AreOwn, KeepsPlace, Paths, WasNamed}
 use Rattle.tftp_client.specs.Moved.{nothing_moved, run_moves}
 use Rattle.tftp_client.specs.Ordered.{RunsOrder, RunsWords}
 use Rattle.tftp_client.specs.Runs.{DalliesTo, FailsBy, FailsEnd, FailsTransfer, StopsBy}
 use Rattle.tftp_client.specs.Runs.{line_by, moved_by, plain, printed}
 use Rattle.tftp_client.specs.Stored.{count_of}
-use Rattle.tftp_client.specs.Written.{HasNoRest, IsWrittenAt, bytes_in, paths_for, paths_of}
+use Rattle.tftp_client.specs.Written.{HasNoRest, IsLeftIn, IsWrittenAt, bytes_in, paths_for}
+use Rattle.tftp_client.specs.Written.{paths_of}
 
 -- the names of the file of a job
 abbrev pub job_paths : Job → Paths
 job_paths job = paths_for job.local.now job.existing
 
 -- a file of just these bytes was made under the other name of the job, written, synced and then
--- named, while it was still what had that other name; its folder was synced after that: by these
--- calls of the disk, and there may be others after them
+-- named, while it was still what had that other name; its folder was synced after that. These were
+-- the last calls of the disk, so that LOCAL has these bytes when the command ends
 abbrev pub IsStored : Job → List ℕ → List DiskEvent → Type 0
-IsStored job bytes calls = ∥ IsNamed (job_paths job) bytes calls ∥₁
+IsStored job bytes calls = ∥ WasNamed (job_paths job) bytes calls ∥₁
 
 -- between these calls of the disk no other name was changed than those of the job's file, and
 -- nothing was asked if the file is sent
@@ -55,16 +56,19 @@ IsOnDisk job (Sink sink) bytes calls = IsStored job bytes calls
 
 module _ {D F V G : Type 0} {logs : looks.Ghosts D} {writes : write.Ghosts F}
     {views : looks.Ghosts V} {reads : read.Ghosts G} {seeks : seek.Ghosts G} where
-  -- a received file was handed these bytes, and its end came to that phase. Those that its appends
-  -- took are in the file that was made under the other name of the job, in order and each once,
-  -- except those behind a write that was refused. An append took each of them, unless the end
-  -- closed since the file refused its newest block
+  -- a received file was handed these bytes, its end came to that phase, and its disk has these calls.
+  -- Those that its appends took are in the file that was made under the other name of the job, in
+  -- order and each once, except those behind a write that was refused. An append took each of them,
+  -- unless the end closed since the file refused its newest block. The file is still what has that
+  -- other name, or else LOCAL, if it was whole and its folder could not be synced
   pub record IsLeftOf (job : Job) (phase : Phase)
-      (local : LocalFile D F V G logs writes views reads seeks) (bytes : List ℕ) : Type 0 where
+      (local : LocalFile D F V G logs writes views reads seeks) (bytes : List ℕ)
+      (calls : List DiskEvent) : Type 0 where
     pub rest : List ℕ
     pub taken : bytes ≡ bytes_in local.part.written ++ rest
     pub all : (rest ≡ []) ⊎ (outcome_of phase ≡ Some StoreFault)
     pub written : IsWrittenAt (job_paths job).part (bytes_in local.part.written) local.part.written
+    pub place : ∥ IsLeftIn (job_paths job) local.part.written calls ∥₁
 
 module _ {S : Type 0} {D F V G : Type 0} {logs : looks.Ghosts D} {writes : write.Ghosts F}
     {views : looks.Ghosts V} {reads : read.Ghosts G} {seeks : seek.Ghosts G} where
@@ -75,9 +79,9 @@ module _ {S : Type 0} {D F V G : Type 0} {logs : looks.Ghosts D} {writes : write
 
   -- these bytes moved in a run of a job that is not complete: those of a received file are left
   abbrev pub IsLeft : Job → Phase → Files S (LocalFile D F V G logs writes views reads seeks)
-      → List ℕ → Type 0
-  IsLeft job phase (Source source) bytes = Unit {0}
-  IsLeft job phase (Sink local) bytes = IsLeftOf job phase local bytes
+      → List ℕ → List DiskEvent → Type 0
+  IsLeft job phase (Source source) bytes calls = Unit {0}
+  IsLeft job phase (Sink local) bytes calls = IsLeftOf job phase local bytes calls
 
   -- nothing of a received file is still in its buffer, unless a write was refused
   abbrev pub IsOut : Files S (LocalFile D F V G logs writes views reads seeks) → Type 0
@@ -90,7 +94,8 @@ module _ {S : Type 0} {D F V G : Type 0} {logs : looks.Ghosts D} {writes : write
   KeepsFile (Source old) (Source new) = Unit {0}
   KeepsFile (Sink old) (Sink new) =
       KeepsPlace (paths_of old.part.names old.part.existing)
-      (paths_of new.part.names new.part.existing) (logs.log old.part.disk) (logs.log new.part.disk)
+      (paths_of new.part.names new.part.existing) old.part.is_tried new.part.is_tried
+      (logs.log old.part.disk) (logs.log new.part.disk)
   KeepsFile (Source old) (Sink new) = ⊥
   KeepsFile (Sink old) (Source new) = ⊥
 
@@ -104,13 +109,15 @@ module _ {S : Type 0} {D F V G : Type 0} {logs : looks.Ghosts D} {writes : write
   WritesOut (Source old) new = new ≡ Source old
   WritesOut (Sink old) new = WorksOnFile sources sinks (Sink old) new
 
-  -- the run of an end from that state stopped, and is not complete; nothing of a received file is
-  -- still in its buffer
+  -- the run of an end from that state stopped, went to that file, and is not complete; nothing of a
+  -- received file is still in its buffer
   abbrev pub StopsOut : ℕ → ℕ → State → Files S (LocalFile D F V G logs writes views reads seeks)
-      → List SocketEvent → ClientOutcome → Type 0
-  StopsOut most port first file after end =
+      → List SocketEvent → Files S (LocalFile D F V G logs writes views reads seeks)
+      → ClientOutcome → Type 0
+  StopsOut most port first file after files' end =
       (outcome : Outcome) × (end ≡ ends.Failed outcome)
-      × (stops : StopsBy sources sinks most port first file after outcome) × IsOut stops.files
+      × (stops : StopsBy sources sinks most port first file after outcome)
+      × (stops.files ≡ files') × IsOut stops.files
 
   -- the run of an end from that state on is complete; then its line was printed, with N of the
   -- file, or refused, as the status says, and it went on to that file
@@ -126,43 +133,45 @@ module _ {S : Type 0} {D F V G : Type 0} {logs : looks.Ghosts D} {writes : write
         (printed (line_by status (count_of sent files)) last) files after files'
     pub kept : KeepsFile files files'
 
-  -- what moved in the run of a failed end is left
+  -- what moved in the run of a failed end is left, and the disk has these calls
   abbrev pub EndLeaves : (most : ℕ) (kind : Kind) (job : Job) (length : ℕ)
-      (before after : List SocketEvent) (end : ClientOutcome)
+      (before after : List SocketEvent) (calls : List DiskEvent) (end : ClientOutcome)
       → FailsEnd sources sinks most kind job length before after end → Type 0
-  EndLeaves most kind job length before after (ends.Failed outcome) failed =
+  EndLeaves most kind job length before after calls (ends.Failed outcome) failed =
       let stops = failed.fails.stops in
       IsLeft job stops.last.end.position.phase stops.files
-      (run_moves stops.converses nothing_moved).bytes
-  EndLeaves most kind job length before after _ failed = Unit {0}
+      (run_moves stops.converses nothing_moved).bytes calls
+  EndLeaves most kind job length before after calls _ failed = Unit {0}
 
   -- the run of an end of this kind stopped, or was not opened, and what moved is left
-  abbrev pub LeavesEnd : ℕ → Kind → Job → ℕ → List SocketEvent → List SocketEvent → ClientOutcome
-      → Type 0
-  LeavesEnd most kind job length before after end =
+  abbrev pub LeavesEnd : ℕ → Kind → Job → ℕ → List SocketEvent → List SocketEvent
+      → List DiskEvent → ClientOutcome → Type 0
+  LeavesEnd most kind job length before after calls end =
       (failed : FailsEnd sources sinks most kind job length before after end)
-      × EndLeaves most kind job length before after end failed
+      × EndLeaves most kind job length before after calls end failed
 
   -- the same of a job
-  abbrev pub LeavesBy : ℕ → Job → List SocketEvent → List SocketEvent → ClientOutcome → Type 0
-  LeavesBy most job before after end =
+  abbrev pub LeavesBy : ℕ → Job → List SocketEvent → List SocketEvent → List DiskEvent
+      → ClientOutcome → Type 0
+  LeavesBy most job before after calls end =
       (failed : FailsBy sources sinks most job before after end)
-      × EndLeaves most job.kind job failed.0 before after end failed.1
+      × EndLeaves most job.kind job failed.0 before after calls end failed.1
 
   -- what moved in the last run of a failed job is left
   abbrev pub TransferLeaves : (most : ℕ) (job : Job) (before after : List SocketEvent)
-      (end : ClientOutcome) → FailsTransfer sources sinks most job before after end → Type 0
-  TransferLeaves most job before after end (inl failed) =
-      EndLeaves most job.kind job failed.0 before after end failed.1
-  TransferLeaves most job before after end (inr again) =
-      EndLeaves most job.kind (plain job) again.2.0 again.0 after end again.2.1
+      (calls : List DiskEvent) (end : ClientOutcome)
+      → FailsTransfer sources sinks most job before after end → Type 0
+  TransferLeaves most job before after calls end (inl failed) =
+      EndLeaves most job.kind job failed.0.0 before after calls end failed.0.1
+  TransferLeaves most job before after calls end (inr again) =
+      EndLeaves most job.kind (plain job) again.2.0 again.0 after calls end again.2.1
 
   -- a job failed, and what moved in its last run is left
-  abbrev pub LeavesTransfer : ℕ → Job → List SocketEvent → List SocketEvent → ClientOutcome
-      → Type 0
-  LeavesTransfer most job before after end =
+  abbrev pub LeavesTransfer : ℕ → Job → List SocketEvent → List SocketEvent → List DiskEvent
+      → ClientOutcome → Type 0
+  LeavesTransfer most job before after calls end =
       (failed : FailsTransfer sources sinks most job before after end)
-      × TransferLeaves most job before after end failed
+      × TransferLeaves most job before after calls end failed
 
   -- what moved in the run of a complete job is on the disk, and what moved in one that failed is
   -- left
@@ -171,7 +180,7 @@ module _ {S : Type 0} {D F V G : Type 0} {logs : looks.Ghosts D} {writes : write
   OrderOnDisk job status before after calls (inl done) =
       IsOnDisk job done.1.files (moved_by sources sinks done.1.transfers).bytes calls
   OrderOnDisk job status before after calls (inr failed) =
-      TransferLeaves (most_waits before) job before after failed.1 failed.3
+      TransferLeaves (most_waits before) job before after calls failed.1 failed.3
 
   -- the same of the job that words name, between these calls of the disk; without a job nothing was
   -- asked

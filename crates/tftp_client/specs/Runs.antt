@@ -194,11 +194,11 @@ module _ {S K : Type 0} (sources : SourceMeaning S) (sinks : SinkMeaning K) wher
   moved_by (inl run) = run_moves run.runs.converses nothing_moved
   moved_by (inr again) = run_moves again.2.runs.converses nothing_moved
 
-  -- a job failed, at once or without its options, once these were refused: both runs make so many
-  -- waits at most
+  -- a job failed, at once, if it may not be tried without its options, or without them, once these
+  -- were refused: both runs make so many waits at most
   abbrev pub FailsTransfer : ℕ → Job → List SocketEvent → List SocketEvent → ClientOutcome → Type 0
   FailsTransfer most job before after end =
-      FailsBy most job before after end
+      (FailsBy most job before after end × (MayFallBack job end → ⊥))
       ⊎ ((middle : List SocketEvent) × Refused most job before middle
       × FailsBy most (plain job) middle after end)
 

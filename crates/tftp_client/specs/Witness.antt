@@ -1,6 +1,6 @@
 -- The files of a client over a disk that is the list of its calls: with them what is proved of a
 -- complete get and of a complete put can be met (own).
-use Rattle.std.specs.Prelude.{ℕ, ◌≡◌, ⊤, List, [], ◌∷◌, Option, Some, None, IsSome, codes}
+use Rattle.std.specs.Prelude.{ℕ, ⊤, List, [], ◌∷◌, Some, None, IsSome, codes}
 use Rattle.std.specs.declared.io.traits.Read as read
 use Rattle.std.specs.declared.io.traits.Write as write
 use Rattle.std.specs.declared.io.traits.Seek as seek
@@ -43,8 +43,8 @@ local_sink = record {
   may_refuse_append = λ _ _ _. ⊤;
   may_refuse_commit = λ _ _. ⊤;
   becomes = λ old new _. KeepsPlace (paths_of old.part.names old.part.existing)
-      (paths_of new.part.names new.part.existing) (its_calls.log old.part.disk)
-      (its_calls.log new.part.disk);
+      (paths_of new.part.names new.part.existing) old.part.is_tried new.part.is_tried
+      (its_calls.log old.part.disk) (its_calls.log new.part.disk);
   after_append = λ _ _ _ _. ⊤;
   after_commit = λ _ _ _. ⊤;
 }

@@ -1,16 +1,18 @@
 -- The file of a fetch that is being written, by the calls on it (own).
-use Rattle.std.specs.Prelude.{ℕ, ◌≡◌, ◌⊎◌, ⊤, Bool, false, List, [], ◌++◌, codes, Option, Some}
+use Rattle.std.specs.Prelude.{ℕ, ◌≡◌, ◌⊎◌, ⊤, Bool, false, List, [], ◌∷◌, ◌++◌, codes, Option, Some}
 use Rattle.std.specs.Prelude.{None}
 use Rattle.std.specs.String.{string_bytes}
 use Rattle.tftp_file.specs.Sink.{Holding}
 use Rattle.tftp_disk.specs.declared.existing.Existing.{Existing}
 use Rattle.tftp_disk.specs.DiskFault.{is_replaced}
-use Rattle.tftp_disk.specs.DiskTrace.{DiskEvent, folder_at, made_at, made_when, state_of}
+use Rattle.std.specs.Int.Bits.{bit_and}
+use Rattle.tftp_disk.specs.declared.found.Found.{Found}
+use Rattle.tftp_disk.specs.DiskTrace.{DiskEvent, FileState, folder_at, made_at, made_when, state_of}
 use Rattle.tftp_disk.specs.DiskWriter.{calls_of, handed, IsRefused}
 use Rattle.tftp_disk.specs.Folder.{IsFolderOf}
 use Rattle.tftp_disk.specs.Still.{IsStillAt}
 use Rattle.tftp_disk.specs.declared.disk_file.DiskFolder.{DiskFolder}
-use Rattle.tftp_client.specs.Fetched.{IsBarred, IsWholeAt, Paths}
+use Rattle.tftp_client.specs.Fetched.{IsBarred, IsWholeAt, MovesUnsynced, Paths}
 use Rattle.tftp_client.specs.declared.local_names.LocalNames.{LocalNames}
 use Rattle.tftp_client.specs.declared.written.Written.{Written}
 
@@ -27,6 +29,24 @@ paths_of names existing =
       part = string_bytes names.part;
       replaces = is_replaced existing;
     }
+
+-- the calls between these left all of the file but its permissions
+pub record LeavesContent (before after : FileState) : Type 0 where
+  pub place : after.made_at ≡ before.made_at
+  pub making : after.made_when ≡ before.made_when
+  pub content : after.written ≡ before.written
+  pub synced : after.is_synced ≡ before.is_synced
+  pub sound : after.sync_failed ≡ before.sync_failed
+
+-- the permissions of a file that was found
+abbrev pub permissions_of : Found → ℕ
+permissions_of found = bit_and found.mode 511
+
+-- a file was to have no mode between these, or, where it replaces that file, the permissions of that
+abbrev pub TakesMode : Option Found → List ℕ → List ℕ → Type 0
+TakesMode None before after = after ≡ before
+TakesMode (Some replaced) before after =
+    (after ≡ before) ⊎ (after ≡ permissions_of replaced ∷ before)
 
 module _ {F : Type 0} where
   -- the bytes that the file was handed, if it is made
@@ -49,11 +69,29 @@ module _ {F : Type 0} where
   IsStillIn part None log = ⊤
   IsStillIn part (Some written) log = IsStillAt part (made_when (calls_of written.writer)) log
 
+  -- a file that was made is still what has its first name; or it has its own, which was given to it
+  -- whole by a rename, after which the folder could not be synced
+  abbrev pub IsLeftAs : Paths → Written F → List DiskEvent → Type 0
+  IsLeftAs paths written log =
+      IsStillAt paths.part (made_when (calls_of written.writer)) log
+      ⊎ MovesUnsynced paths (handed written.writer) log
+
+  -- the same, once it is made
+  abbrev pub IsLeftIn : Paths → Option (Written F) → List DiskEvent → Type 0
+  IsLeftIn paths None log = ⊤
+  IsLeftIn paths (Some written) log = IsLeftAs paths written log
+
   -- it was handed what it was before, and is what was made where and when it was
   pub record SameFile (before after : Written F) : Type 0 where
     pub content : handed after.writer ≡ handed before.writer
     pub place : made_at (calls_of after.writer) ≡ made_at (calls_of before.writer)
     pub making : made_when (calls_of after.writer) ≡ made_when (calls_of before.writer)
+
+  -- the same, if it is made
+  abbrev pub SameIn : Option (Written F) → Option (Written F) → Type 0
+  SameIn None after = after ≡ None
+  SameIn (Some before) None = ⊥
+  SameIn (Some before) (Some after) = SameFile before after
 
   -- nothing that it was handed is still in its buffer, unless the newest call on it is a write that
   -- was refused

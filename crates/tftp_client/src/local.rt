@@ -6,8 +6,9 @@
 
 ghost use Rattle.std.specs.Prelude.{◌≡◌, ◌≢◌, true, false, length};
 ghost use Rattle.tftp_file.specs.declared.fault.StoreFault.TheVariants.{Memory};
-ghost use Rattle.tftp_client.specs.Fetched.{IsNamed, KeepsPlace};
+ghost use Rattle.tftp_client.specs.Fetched.{KeepsPlace, WasNamed};
 ghost use Rattle.tftp_client.specs.Written.{bytes_in, held_of, paths_of, HasNoRest, IsFolderIn};
+ghost use Rattle.tftp_client.specs.Written.{IsLeftIn};
 
 use crate::local_error::LocalError;
 use crate::part_file::{PartFile, Place};
@@ -35,18 +36,21 @@ pub(crate) fn read_error<F: Drop>(source: &LocalSource<F>) -> Option<LocalError>
 /// megabytes, so that the commit has little left to sync.
 ///
 /// Its model is the bytes of the appends that succeeded, and whether a commit succeeded after them:
-/// the file that was made then has just these bytes and the name. No other name was changed.
+/// the file that was made then has just these bytes and the name, and neither changes after that. No
+/// other name was changed. Without a commit that succeeded the file keeps the name `LOCAL.part`.
 #[derive(Drop)]
 pub struct LocalFile<D: Disk> {
     part: PartFile<D>,
     count: u64,
-    /// Whether a commit succeeded after the last append.
+    /// Whether the commit succeeded.
     committed: bool,
     error: Option<LocalError>,
     ghost counts: { count ≡ length (bytes_in part.written) },
-    ghost named: { committed ≡ true
-        → ∥ IsNamed (paths_of part.names part.existing) (bytes_in part.written)
+    ghost named: { committed ≡ true → (part.is_tried ≡ true)
+        × ∥ WasNamed (paths_of part.names part.existing) (bytes_in part.written)
         (D.log part.disk) ∥₁ },
+    ghost left: { committed ≡ false
+        → ∥ IsLeftIn (paths_of part.names part.existing) part.written (D.log part.disk) ∥₁ },
 }
 
 impl<D: Disk> LocalFile<D> {
@@ -122,7 +126,8 @@ impl<D: Disk> Sink for LocalFile<D> {
       may_refuse_append = λ _ _ _. ⊤;
       may_refuse_commit = λ _ _. ⊤;
       becomes = λ old new _. KeepsPlace (paths_of old.part.names old.part.existing)
-          (paths_of new.part.names new.part.existing) (D.log old.part.disk) (D.log new.part.disk);
+          (paths_of new.part.names new.part.existing) old.part.is_tried new.part.is_tried
+          (D.log old.part.disk) (D.log new.part.disk);
       after_append = λ _ _ _ _. ⊤;
       after_commit = λ _ _ _. ⊤;
     } };
@@ -135,7 +140,8 @@ impl<D: Disk> Sink for LocalFile<D> {
 
     ghost unmoved = { λ _. record {
       same = refl;
-      keeps = record { own = λ own. own; named = λ _ named. named; barred = λ barred. barred };
+      keeps = record { own = λ own. own; barred = λ barred. barred };
+      rests = λ tried. (tried, refl);
     } };
 
     /// It accepts at most 2^64 - 1 bytes, as many as it can count.

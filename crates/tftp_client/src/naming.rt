@@ -4,13 +4,14 @@ ghost use Rattle.std.specs.Prelude.{◌≡◌, ◌∷◌, Err, List, IfErr, OnOk
 ghost use Rattle.std.specs.String.{string_bytes};
 ghost use Rattle.tftp_disk.specs.declared.existing.Existing.TheVariants.{Refused, Replaced};
 ghost use Rattle.tftp_disk.specs.DiskTrace.{DiskEvent, Done, made_when, state_of};
-ghost use Rattle.tftp_disk.specs.DiskTrace.DiskEvent.{Folder_synced, Linked, Removed};
+ghost use Rattle.tftp_disk.specs.DiskTrace.DiskEvent.{Folder_synced, Linked, Removed, Renamed};
 ghost use Rattle.tftp_disk.specs.DiskWriter.{calls_of, handed};
 ghost use Rattle.tftp_disk.specs.NamedFolder.{SyncsFolder, path_in};
 ghost use Rattle.tftp_disk.specs.Still.{IsStillAt};
 ghost use Rattle.tftp_client.specs.Fetched.{FindsNothing, IsAbsent, Keeps, KeepsOne, LosesName};
 ghost use Rattle.tftp_client.specs.Fetched.{MayRename, NamesBytes, Renames, WasNamed, WasUnlinked};
-ghost use Rattle.tftp_client.specs.Written.{IsDone, IsFolderIn, SameFile, paths_of};
+ghost use Rattle.tftp_client.specs.Place.{IsReplacedBy, ReplacesAt};
+ghost use Rattle.tftp_client.specs.Written.{IsDone, IsFolderIn, IsLeftAs, SameFile, paths_of};
 
 use crate::local_error::LocalError;
 use crate::local_names::LocalNames;
@@ -38,6 +39,8 @@ pub(crate) fn give_name<D: Disk>(
     ensures keeps { Keeps (paths_of names.now existing) (D.log disk.old) (D.log disk.new) }
     ensures ok { OnOk result ∥ WasNamed (paths_of names.now existing)
         (handed written.old.writer) (D.log disk.new) ∥₁ }
+    ensures err { OnErr result ∥ IsLeftAs (paths_of names.now existing)
+        written.new (D.log disk.new) ∥₁ }
 {
     let opened = written.examine()?;
     let found = disk.look(names.part.as_str())?;
@@ -62,6 +65,8 @@ fn put_name<D: Disk>(
     ensures keeps { Keeps (paths_of names.now existing) (D.log disk.old) (D.log disk.new) }
     ensures ok { OnOk result (NamesBytes (SyncsFolder folder.now.folder)
         (paths_of names.now existing) (handed written.old.writer) (D.log disk.new)) }
+    ensures err { OnErr result ∥ IsLeftAs (paths_of names.now existing)
+        written.new (D.log disk.new) ∥₁ }
 {
     match existing {
         Existing::Refused => name_new(disk, names, folder, written),
@@ -83,6 +88,8 @@ fn name_new<D: Disk>(
     ensures keeps { Keeps (paths_of names.now Refused) (D.log disk.old) (D.log disk.new) }
     ensures ok { OnOk result (NamesBytes (SyncsFolder folder.now.folder)
         (paths_of names.now Refused) (handed written.now.writer) (D.log disk.new)) }
+    ensures err { OnErr result ∥ IsLeftAs (paths_of names.now Refused)
+        written.now (D.log disk.new) ∥₁ }
 {
     match link(disk, names, written) {
         Ok(()) => keep_one(disk, names, folder),
@@ -153,12 +160,17 @@ fn rename_new<D: Disk>(
     folder: &NamedFolder<D::File>,
     written: &Written<D::File>,
 ) -> Result<(), LocalError>
+    requires whole { IsDone (string_bytes names.now.part) (handed written.now.writer) written.now }
+    requires still { ∥ IsStillAt (string_bytes names.now.part)
+        (made_when (calls_of written.now.writer)) (D.log disk.old) ∥₁ }
     ensures keeps { WasUnlinked (paths_of names.now Refused) (D.log disk.old)
         → Keeps (paths_of names.now Refused) (D.log disk.old) (D.log disk.new) }
     ensures ok { OnOk result ((found : List DiskEvent)
         × FindsNothing (string_bytes names.now.local) (D.log disk.old) found
         × Renames (SyncsFolder folder.now.folder) (paths_of names.now Refused)
         (state_of (calls_of written.now.writer)) found (D.log disk.new)) }
+    ensures err { OnErr result ∥ IsLeftAs (paths_of names.now Refused)
+        written.now (D.log disk.new) ∥₁ }
 {
     let found = disk.look(names.local.as_str());
     match replaced_of(found, Existing::Refused) {
@@ -182,6 +194,8 @@ fn replace<D: Disk>(
     ensures keeps { Keeps (paths_of names.now Replaced) (D.log disk.old) (D.log disk.new) }
     ensures ok { OnOk result (NamesBytes (SyncsFolder folder.now.folder)
         (paths_of names.now Replaced) (handed written.old.writer) (D.log disk.new)) }
+    ensures err { OnErr result ∥ IsLeftAs (paths_of names.now Replaced)
+        written.new (D.log disk.new) ∥₁ }
 {
     let found = disk.look(names.local.as_str());
     let replaced = replaced_of(found, Existing::Replaced)?;
@@ -197,20 +211,34 @@ fn rename<D: Disk>(
     folder: &NamedFolder<D::File>,
     written: &Written<D::File>,
 ) -> Result<(), LocalError>
+    requires whole { IsDone (string_bytes names.now.part) (handed written.now.writer) written.now }
+    requires still { ∥ IsStillAt (string_bytes names.now.part)
+        (made_when (calls_of written.now.writer)) (D.log disk.old) ∥₁ }
     ensures keeps { MayRename (paths_of names.now existing) (D.log disk.old)
         → Keeps (paths_of names.now existing) (D.log disk.old) (D.log disk.new) }
     ensures ok { OnOk result (Renames (SyncsFolder folder.now.folder)
         (paths_of names.now existing) (state_of (calls_of written.now.writer))
         (D.log disk.old) (D.log disk.new)) }
+    ensures err { OnErr result ∥ IsLeftAs (paths_of names.now existing)
+        written.now (D.log disk.new) ∥₁ }
 {
-    let (part, local) = (names.part.as_str(), names.local.as_str());
-    if let Err(error) = disk.rename(written.file(), part, local) {
-        return Err(LocalError::System(error));
-    }
-    match sync_folder(disk, folder) {
-        Ok(()) => Ok(()),
+    match exchange(disk, names, written) {
+        Ok(()) => match sync_folder(disk, folder) {
+            Ok(()) => Ok(()),
+            Err(error) => Err(LocalError::System(error)),
+        },
         Err(error) => Err(LocalError::System(error)),
     }
+}
+
+/// Exchanges the first name of the file for its own, over any file that has that.
+fn exchange<D: Disk>(disk: &mut D, names: &LocalNames, written: &Written<D::File>) -> io::Result<()>
+    ensures { D.log disk.new ≡ Renamed (state_of (calls_of written.now.writer))
+        (string_bytes names.now.part) (string_bytes names.now.local) result
+        ∷ D.log disk.old }
+{
+    let (part, local) = (names.part.as_str(), names.local.as_str());
+    disk.rename(written.file(), part, local)
 }
 
 /// The regular file that was found at the name and is to be replaced, or `None` if nothing was. It
@@ -219,7 +247,8 @@ pub(crate) fn replaced_of(
     found: io::Result<Found>,
     existing: Existing,
 ) -> Result<Option<Found>, LocalError>
-    ensures { existing ≡ Refused → OnOk result (IsAbsent found) }
+    ensures looks { ReplacesAt existing found result }
+    ensures absent { existing ≡ Refused → OnOk result (IsAbsent found) }
 {
     match found {
         Ok(found) => replaced_if(existing, found),
@@ -235,11 +264,14 @@ pub(crate) fn replaced_of(
 
 /// What was found at the name, if it is a regular file and to be replaced.
 fn replaced_if(existing: Existing, found: Found) -> Result<Option<Found>, LocalError>
-    ensures { OnOk result (existing ≡ Replaced) }
+    ensures looks { IsReplacedBy existing found result }
+    ensures replaces { OnOk result (existing ≡ Replaced) }
 {
-    match (found.kind, existing) {
-        (Kind::Regular, Existing::Replaced) => Ok(Some(found)),
-        (Kind::Regular, Existing::Refused) => Err(LocalError::Exists),
-        _ => Err(LocalError::NotAFile),
+    if found.kind != Kind::Regular {
+        return Err(LocalError::NotAFile);
+    }
+    match existing {
+        Existing::Replaced => Ok(Some(found)),
+        Existing::Refused => Err(LocalError::Exists),
     }
 }

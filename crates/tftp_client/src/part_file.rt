@@ -1,14 +1,15 @@
 //! `LOCAL.part`, the file that a fetch writes until it gets the name `LOCAL`.
 
-ghost use Rattle.std.specs.Prelude.{◌≡◌, ◌≢◌, ◌++◌, [], false, Some, IsSome, IfOk, OnOk, OnErr};
-ghost use Rattle.std.specs.Prelude.{codes};
+ghost use Rattle.std.specs.Prelude.{◌≡◌, ◌≢◌, ◌++◌, [], false, true, Some, IsSome};
+ghost use Rattle.std.specs.Prelude.{codes, IfErr, IfOk, OnErr, OnOk};
 ghost use Rattle.std.specs.String.{string_bytes};
 ghost use Rattle.tftp_disk.specs.DiskTrace.{made_at, made_when};
 ghost use Rattle.tftp_disk.specs.DiskWriter.{calls_of, handed};
 ghost use Rattle.tftp_disk.specs.Still.{IsStillAt};
-ghost use Rattle.tftp_client.specs.Fetched.{Keeps, WasNamed};
+ghost use Rattle.tftp_client.specs.Fetched.{Keeps, KeepsPlace, WasNamed};
+ghost use Rattle.tftp_client.specs.Place.{FindsNone, FindsPlace, IsPartFree};
 ghost use Rattle.tftp_client.specs.Written.{bytes_in, place_in, paths_for, paths_of, HasNoRest};
-ghost use Rattle.tftp_client.specs.Written.{IsFolderIn, IsStillIn};
+ghost use Rattle.tftp_client.specs.Written.{IsFolderIn, IsLeftIn, IsStillIn, SameIn};
 
 use crate::local_error::LocalError;
 use crate::local_names::LocalNames;
@@ -43,23 +44,51 @@ impl<F> Place<F> {
             ≡ paths_for local.now existing) }
         ensures folder { IfOk result (λ place. ∥ IsFolderIn (string_bytes place.names.local)
             place.folder.folder (D.log disk.new) ∥₁) }
+        ensures free { OnOk result (FindsPlace (paths_for local.now existing) existing
+            (D.log disk.old) (D.log disk.new)) }
+        ensures refused { IfErr result (λ error. FindsNone (paths_for local.now existing) existing
+            (D.log disk.old) error (D.log disk.new)) }
         ensures keeps { Keeps (paths_for local.now existing) (D.log disk.old) (D.log disk.new) }
     {
         if local.is_empty() {
             return Err(LocalError::EmptyPath);
         }
-        let names = LocalNames {
-            local: String::from_str(alloc, local)?,
-            part: format!(in alloc; "{local}.part")?,
-        };
-        replaced_of(disk.look(local), existing)?;
-        check_part(disk.look(names.part.as_str()))?;
-        let folder = NamedFolder::of(disk, names.local.as_str())?;
-        Ok(Place {
-            names,
-            existing,
-            folder,
-        })
+        match LocalNames::of(alloc, local) {
+            Ok(names) => Place::at(disk, names, existing),
+            Err(error) => Err(LocalError::from(error)),
+        }
+    }
+
+    /// The place of a file with these names, if both are free.
+    fn at<D: Disk<File = F>>(
+        disk: &mut D,
+        names: LocalNames,
+        existing: Existing,
+    ) -> Result<Place<F>, LocalError>
+        ensures names { IfOk result (λ place. place.names ≡ names) }
+        ensures existing { IfOk result (λ place. place.existing ≡ existing) }
+        ensures folder { IfOk result (λ place. ∥ IsFolderIn (string_bytes names.local)
+            place.folder.folder (D.log disk.new) ∥₁) }
+        ensures free { OnOk result (FindsPlace (paths_of names existing) existing
+            (D.log disk.old) (D.log disk.new)) }
+        ensures refused { IfErr result (λ error. FindsNone (paths_of names existing) existing
+            (D.log disk.old) error (D.log disk.new)) }
+        ensures keeps { Keeps (paths_of names existing) (D.log disk.old) (D.log disk.new) }
+    {
+        match replaced_of(disk.look(names.local.as_str()), existing) {
+            Ok(_) => match check_part(disk.look(names.part.as_str())) {
+                Ok(()) => match NamedFolder::of(disk, names.local.as_str()) {
+                    Ok(folder) => Ok(Place {
+                        names,
+                        existing,
+                        folder,
+                    }),
+                    Err(error) => Err(LocalError::System(error)),
+                },
+                Err(error) => Err(error),
+            },
+            Err(error) => Err(error),
+        }
     }
 }
 
@@ -94,6 +123,7 @@ impl<D: Disk> PartFile<D> {
         ensures names { result.names ≡ place.names }
         ensures existing { result.existing ≡ place.existing }
         ensures empty { bytes_in result.written ≡ [] }
+        ensures untried { result.is_tried ≡ false }
     {
         let Place {
             names,
@@ -141,16 +171,21 @@ impl<D: Disk> PartFile<D> {
         }
     }
 
-    /// Appends a block, which is buffered.
+    /// Appends a block, which is buffered. Once its name was tried, the file takes nothing more.
     pub(crate) fn append(&mut self, bytes: &[u8]) -> Result<(), LocalError>
-        ensures names { self.new.names ≡ self.old.names }
-        ensures existing { self.new.existing ≡ self.old.existing }
         ensures ok { OnOk result (bytes_in self.new.written
             ≡ bytes_in self.old.written ++ bytes.now) }
         ensures err { OnErr result (bytes_in self.new.written ≡ bytes_in self.old.written) }
-        ensures keeps { Keeps (paths_of self.old.names self.old.existing)
+        ensures place { KeepsPlace (paths_of self.old.names self.old.existing)
+            (paths_of self.new.names self.new.existing) self.old.is_tried self.new.is_tried
             (D.log self.old.disk) (D.log self.new.disk) }
+        ensures tried { self.new.is_tried ≡ self.old.is_tried }
+        ensures untried { OnOk result (self.old.is_tried ≡ false) }
+        ensures same { self.old.is_tried ≡ true → self.new ≡ self.old }
     {
+        if self.is_tried {
+            return Err(LocalError::PartReplaced);
+        }
         self.create_once()?;
         match &mut self.written {
             Some(written) => Ok(written.append(bytes)?),
@@ -164,6 +199,8 @@ impl<D: Disk> PartFile<D> {
         ensures existing { self.new.existing ≡ self.old.existing }
         ensures bytes { bytes_in self.new.written ≡ bytes_in self.old.written }
         ensures disk { self.new.disk ≡ self.old.disk }
+        ensures tried { self.new.is_tried ≡ self.old.is_tried }
+        ensures same { SameIn self.old.written self.new.written }
     {
         if let Some(written) = &mut self.written {
             written.write_behind();
@@ -176,6 +213,8 @@ impl<D: Disk> PartFile<D> {
         ensures existing { self.new.existing ≡ self.old.existing }
         ensures bytes { bytes_in self.new.written ≡ bytes_in self.old.written }
         ensures disk { self.new.disk ≡ self.old.disk }
+        ensures tried { self.new.is_tried ≡ self.old.is_tried }
+        ensures same { SameIn self.old.written self.new.written }
         ensures written { HasNoRest self.new.written }
     {
         if let Some(written) = &mut self.written {
@@ -185,13 +224,17 @@ impl<D: Disk> PartFile<D> {
 
     /// Writes and syncs the file, gives it its name, and syncs the folder. Its name is tried once.
     pub(crate) fn commit(&mut self) -> Result<(), LocalError>
-        ensures names { self.new.names ≡ self.old.names }
-        ensures existing { self.new.existing ≡ self.old.existing }
         ensures bytes { bytes_in self.new.written ≡ bytes_in self.old.written }
-        ensures keeps { Keeps (paths_of self.old.names self.old.existing)
+        ensures place { KeepsPlace (paths_of self.old.names self.old.existing)
+            (paths_of self.new.names self.new.existing) self.old.is_tried self.new.is_tried
             (D.log self.old.disk) (D.log self.new.disk) }
         ensures named { OnOk result ∥ WasNamed (paths_of self.old.names self.old.existing)
             (bytes_in self.old.written) (D.log self.new.disk) ∥₁ }
+        ensures tried { OnOk result (self.new.is_tried ≡ true) }
+        ensures left { OnErr result (self.old.is_tried ≡ false
+            → ∥ IsLeftIn (paths_of self.new.names self.new.existing) self.new.written
+            (D.log self.new.disk) ∥₁) }
+        ensures same { self.old.is_tried ≡ true → self.new ≡ self.old }
     {
         if self.is_tried {
             return Err(LocalError::PartReplaced);
@@ -235,7 +278,10 @@ fn make_part<D: Disk>(
 }
 
 /// Fails if `LOCAL.part` was found to be a folder, which cannot be removed, or cannot be a name.
-fn check_part(found: io::Result<Found>) -> Result<(), LocalError> {
+fn check_part(found: io::Result<Found>) -> Result<(), LocalError>
+    ensures free { OnOk result (IsPartFree found) }
+    ensures taken { OnErr result (IsPartFree found → ⊥) }
+{
     match found {
         Ok(found) => {
             if found.kind == Kind::Folder {

@@ -6,9 +6,10 @@ mod conversation;
 mod failure;
 mod notes;
 
-ghost use Rattle.std.specs.Prelude.{ℕ, ◌≡◌, ◌≤◌, ◌+◌, ◌⊎◌, IfOk, IfErr, IsTrue, false};
+ghost use Rattle.std.specs.Prelude.{ℕ, ◌≡◌, ◌≤◌, ◌+◌, ◌⊎◌, ◌↔◌, IfOk, IfErr, IsTrue, List, false};
 ghost use Rattle.tftp_negotiate.specs.declared.known.Kind.TheVariants.{Read, Write};
 ghost use Rattle.tftp_disk.specs.DiskSource.{source_calls};
+ghost use Rattle.tftp_disk.specs.DiskTrace.{DiskEvent};
 ghost use Rattle.tftp_ends.specs.End.{is_complete};
 ghost use Rattle.tftp_ends.specs.Files.{AreFilesOf};
 ghost use Rattle.tftp_lines.specs.declared.client_outcome.ClientOutcome.TheVariants as ends;
@@ -105,7 +106,7 @@ pub(crate) fn transfer<E: Eprint, N: ClientUdp, D: Disk>(
     ensures err { IfErr result.0 (λ failure. LeavesTransfer
         ⟦<SourceOf<D> as Source>⟧.meaning ⟦<LocalFile<D> as Sink>⟧.meaning
         (waits.old + waits_in (N.log net.old)) job.now (N.log net.old) (N.log net.new)
-        failure.end) }
+        (D.log result.1) failure.end) }
     ensures keeps { KeepsDisk job.now (D.log disk) (D.log result.1) }
     ensures within { waits_in (N.log net.new) ≤ waits.old + waits_in (N.log net.old) }
 {
@@ -122,7 +123,7 @@ pub(crate) fn transfer<E: Eprint, N: ClientUdp, D: Disk>(
 
 /// Whether to try a job with this outcome again without options.
 fn falls_back(job: &Job<'_>, end: ClientOutcome) -> bool
-    ensures { IsTrue result → MayFallBack job.now end }
+    ensures { IsTrue result ↔ MayFallBack job.now end }
 {
     match end {
         ClientOutcome::Failed(outcome) => job.falls_back && fallback(outcome, &job.asked),
@@ -161,7 +162,7 @@ fn transfer_once<E: Eprint, N: ClientUdp, D: Disk>(
     ensures err { IfErr result.0 (λ failure. LeavesBy
         ⟦<SourceOf<D> as Source>⟧.meaning ⟦<LocalFile<D> as Sink>⟧.meaning
         (waits.old + waits_in (N.log net.old)) job.now (N.log net.old) (N.log net.new)
-        failure.end) }
+        (D.log result.1) failure.end) }
     ensures keeps { KeepsDisk job.now (D.log disk) (D.log result.1) }
     ensures counted { IfErr result.0 (λ _. waits.new + waits_in (N.log net.new)
         ≡ waits.old + waits_in (N.log net.old)) }
@@ -193,7 +194,7 @@ fn get<E: Eprint, N: ClientUdp, D: Disk>(
     ensures err { IfErr result.0 (λ failure. LeavesEnd
         ⟦<SourceOf<D> as Source>⟧.meaning ⟦<LocalFile<D> as Sink>⟧.meaning
         (waits.old + waits_in (N.log net.old)) Read job.now 0 (N.log net.old) (N.log net.new)
-        failure.end) }
+        (D.log result.1) failure.end) }
     ensures keeps { Keeps (job_paths job.now) (D.log disk) (D.log result.1) }
     ensures counted { IfErr result.0 (λ _. waits.new + waits_in (N.log net.new)
         ≡ waits.old + waits_in (N.log net.old)) }
@@ -227,7 +228,7 @@ fn get_into<E: Eprint, N: ClientUdp, D: Disk>(
     ensures err { IfErr result.0 (λ failure. LeavesEnd
         ⟦<SourceOf<D> as Source>⟧.meaning ⟦<LocalFile<D> as Sink>⟧.meaning
         (waits.old + waits_in (N.log net.old)) Read job.now 0 (N.log net.old) (N.log net.new)
-        failure.end) }
+        (D.log result.1) failure.end) }
     ensures keeps { Keeps (job_paths job.now) (D.log local.part.disk) (D.log result.1) }
     ensures counted { IfErr result.0 (λ _. waits.new + waits_in (N.log net.new)
         ≡ waits.old + waits_in (N.log net.old)) }
@@ -270,7 +271,7 @@ fn put<E: Eprint, N: ClientUdp, D: Disk>(
     ensures err { IfErr result (λ failure. (length : ℕ) × LeavesEnd
         ⟦<SourceOf<D> as Source>⟧.meaning ⟦<LocalFile<D> as Sink>⟧.meaning
         (waits.old + waits_in (N.log net.old)) Write job.now length
-        (N.log net.old) (N.log net.new) failure.end) }
+        (N.log net.old) (N.log net.new) (D.log disk.now) failure.end) }
     ensures counted { IfErr result (λ _. waits.new + waits_in (N.log net.new)
         ≡ waits.old + waits_in (N.log net.old)) }
     ensures within { waits_in (N.log net.new) ≤ waits.old + waits_in (N.log net.old) }
@@ -298,10 +299,10 @@ fn put_from<E: Eprint, N: ClientUdp, D: Disk>(
         ⟦<SourceOf<D> as Source>⟧.meaning ⟦<LocalFile<D> as Sink>⟧.meaning status
         (waits.old + waits_in (N.log net.old)) Write job.now
         (N.log net.old) (N.log net.new)) }
-    ensures err { IfErr result (λ failure. LeavesEnd
+    ensures err { IfErr result (λ failure. (calls : List DiskEvent) → LeavesEnd
         ⟦<SourceOf<D> as Source>⟧.meaning ⟦<LocalFile<D> as Sink>⟧.meaning
         (waits.old + waits_in (N.log net.old)) Write job.now outbound.length.wire_bytes
-        (N.log net.old) (N.log net.new) failure.end) }
+        (N.log net.old) (N.log net.new) calls failure.end) }
     ensures counted { IfErr result (λ _. waits.new + waits_in (N.log net.new)
         ≡ waits.old + waits_in (N.log net.old)) }
     ensures within { waits_in (N.log net.new) ≤ waits.old + waits_in (N.log net.old) }
@@ -339,7 +340,7 @@ fn converse<E: Eprint, N: ClientUdp, D: Disk>(
     ensures err { IfErr result (λ failure. StopsOut
         ⟦<SourceOf<D> as Source>⟧.meaning ⟦<LocalFile<D> as Sink>⟧.meaning
         (waits.old + waits_in (N.log net.old)) conversation.socket.port
-        (state_of conversation (N.log net.old)) files.old (N.log net.new) failure.end) }
+        (state_of conversation (N.log net.old)) files.old (N.log net.new) files.new failure.end) }
     ensures keeps { KeepsFile files.old files.new }
     ensures counted { IfErr result (λ _. waits.new + waits_in (N.log net.new)
         ≡ waits.old + waits_in (N.log net.old)) }

@@ -2,8 +2,10 @@
 
 ghost use Rattle.std.specs.Prelude.{◌≡◌, ◌++◌, [], None, true, false, OnOk, OnErr};
 ghost use Rattle.tftp_disk.specs.DiskTrace.{made_at, made_when, written, is_synced, sync_failed};
-ghost use Rattle.tftp_disk.specs.DiskTrace.{state_of};
+ghost use Rattle.tftp_disk.specs.DiskTrace.{modes_asked, state_of};
 ghost use Rattle.tftp_disk.specs.DiskWriter.{calls_of, handed, IsRefused};
+ghost use Rattle.std.specs.List.{AllByRecursion};
+ghost use Rattle.tftp_client.specs.Fetched.{ArePermissions};
 
 use std::fs::OpenFile;
 use std::io::{self, Write};
@@ -28,6 +30,7 @@ pub(crate) struct Written<F> {
     /// The error of a sync, after which no commit succeeds: the system reports it once.
     sync_error: Option<io::Error>,
     ghost sound: { sync_error ≡ None → sync_failed writer.file.trace.events ≡ false },
+    ghost plain: { ∥ AllByRecursion ArePermissions (modes_asked writer.file.trace.events) ∥₁ },
 }
 
 impl<F: Write> Written<F> {
@@ -36,6 +39,7 @@ impl<F: Write> Written<F> {
     /// A file with nothing written. The buffer's bytes are lost.
     pub(crate) fn new(file: DiskFile<F>, buffer: Vec<u8>) -> Written<F>
         requires sound { sync_failed file.trace.events ≡ false }
+        requires plain { modes_asked file.trace.events ≡ [] }
         ensures file { result.writer.file ≡ file }
         ensures empty { result.writer.buffer.items ≡ [] }
     {
@@ -83,7 +87,7 @@ impl<F: Write> Written<F> {
 }
 
 impl<F: Write + OpenFile> Written<F> {
-    ghost use Rattle.tftp_client.specs.Written.{SameFile};
+    ghost use Rattle.tftp_client.specs.Written.{LeavesContent, SameFile, TakesMode};
 
     /// Writes the buffer if it is due, and syncs the file every few megabytes. After a failed write
     /// the bytes stay in the buffer, and a later call tries again.
@@ -139,7 +143,10 @@ impl<F: Write + OpenFile> Written<F> {
     /// Gives the file the permissions of the one that it replaces, if it replaces one, unless it
     /// has these.
     pub(crate) fn keep_permissions(&mut self, replaced: Option<Found>) -> io::Result<()>
-        ensures state { state_of (calls_of self.new.writer) ≡ state_of (calls_of self.old.writer) }
+        ensures content { LeavesContent (state_of (calls_of self.old.writer))
+            (state_of (calls_of self.new.writer)) }
+        ensures modes { TakesMode replaced (modes_asked (calls_of self.old.writer))
+            (modes_asked (calls_of self.new.writer)) }
         ensures buffer { self.new.writer.buffer ≡ self.old.writer.buffer }
     {
         let Some(replaced) = replaced else {

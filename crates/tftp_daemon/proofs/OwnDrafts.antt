@@ -75,19 +75,19 @@ decimal_none n =
 -- what is before the first dash of a text
 same_front : (xs ys one other : List ℕ) → HasNoDash xs → HasNoDash ys → IsRest one → IsRest other
     → xs ++ one ≡ ys ++ other → xs ≡ ys
-same_front [] [] one other no none rest rests same = refl
-same_front [] (y ∷ ys) [] other no none rest rests same =
+same_front [] [] one other mine none rest rests same = refl
+same_front [] (y ∷ ys) [] other mine none rest rests same =
     absurd (let f : ◌≡◌ {A = List ℕ} [] (y ∷ (ys ++ other)) = same in cc)
-same_front [] (y ∷ ys) (byte ∷ one) other no none rest rests same =
+same_front [] (y ∷ ys) (byte ∷ one) other mine none rest rests same =
     absurd (none.0 (let f : byte ∷ one ≡ y ∷ (ys ++ other) = same in cc))
-same_front (x ∷ xs) [] one [] no none rest rests same =
+same_front (x ∷ xs) [] one [] mine none rest rests same =
     absurd (let f : ◌≡◌ {A = List ℕ} (x ∷ (xs ++ one)) [] = same in cc)
-same_front (x ∷ xs) [] one (byte ∷ other) no none rest rests same =
-    absurd (no.0 (let f : x ∷ (xs ++ one) ≡ byte ∷ other = same in cc))
-same_front (x ∷ xs) (y ∷ ys) one other no none rest rests same =
+same_front (x ∷ xs) [] one (byte ∷ other) mine none rest rests same =
+    absurd (mine.0 (let f : x ∷ (xs ++ one) ≡ byte ∷ other = same in cc))
+same_front (x ∷ xs) (y ∷ ys) one other mine none rest rests same =
     let f : x ∷ (xs ++ one) ≡ y ∷ (ys ++ other) = same in
     let heads : x ≡ y = cc in
-    let tails : xs ≡ ys = same_front xs ys one other no.1 none.1 rest rests (cc) in
+    let tails : xs ≡ ys = same_front xs ys one other mine.1 none.1 rest rests (cc) in
     cc
 
 -- the path, from the digits of the port on

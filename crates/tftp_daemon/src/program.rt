@@ -36,10 +36,7 @@ use tftp_status::Counted;
 /// See [`tftpd_words`].
 pub fn tftpd_command<
     R: Runtime + LockFiles + AllocGlobal + Net + RandomSource + ErrorLines + Supervise,
->(
-    rt: &R,
-    input: Input,
-) -> u8
+>(rt: &R, input: Input) -> u8
     ensures { result ≤ 2 }
 {
     match own_words(rt) {

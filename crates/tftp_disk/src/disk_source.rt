@@ -172,8 +172,8 @@ impl<F: Read> DiskSource<F> {
                 self.error = Some(io::Error::from(ErrorKind::InvalidData));
                 false
             }
-            Err(error) => {
-                self.error = Some(error);
+            Err(failure) => {
+                self.error = Some(failure);
                 false
             }
         }

@@ -40,8 +40,10 @@ pub(crate) fn peer_error(code: u16) -> Action
 pub(crate) fn acknowledges(bytes: &[u8], block: u16) -> bool
     ensures { result ≡ true → Spells (Ack block) bytes.now }
 {
-    let [high, low] = block.to_be_bytes();
-    bytes == [0, 4, high, low].as_slice()
+    match bytes {
+        [0, 4, high, low] => u16::from_be_bytes([*high, *low]) == block,
+        _ => false,
+    }
 }
 
 /// An ACK of the newest block requests the next one, or ends the transfer. An older ACK is ignored:

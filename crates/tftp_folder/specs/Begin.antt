@@ -55,8 +55,8 @@ pub record MakesDraft (folder : List ℕ) (port : ℕ) (path : List ℕ) (before
   pub tries : TriesDraft folder port before cleared
   pub made : after ≡ Made path (Ok tt) ∷ cleared
 
--- calls that try to make a draft of the transfer at this port, and nothing else: its paths are looked
--- at, and the file at one is removed only just after it was locked, and found there
+-- calls that try to make a draft of the transfer at this port, and nothing else: its paths are
+-- looked at, and the file at one is removed only just after it was locked, and found there
 pub data DraftCalls (folder : List ℕ) (port : ℕ) (before : List DiskEvent) : List DiskEvent → Type 0
   where
     None_yet : DraftCalls folder port before before

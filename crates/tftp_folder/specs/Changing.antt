@@ -68,8 +68,8 @@ pub record HoldsLock (path : List ℕ) (calls : List DiskEvent) : Type 0 where
   pub made : calls ≡ since ++ Made path (Ok tt) ∷ before
   pub left : AllLeave path since
 
--- who asked these calls may remove the draft at this path: the newest locked the file there, which no
--- other program has locked since; or gave it its name, by a link, and synced the folder, or not
+-- who asked these calls may remove the draft at this path: the newest locked the file there, which
+-- no other program has locked since; or gave it its name, by a link, and synced the folder, or not
 pub data MayGo (path : List ℕ) : List DiskEvent → Type 0 where
   Is_locked : {calls : List DiskEvent} → MayGo path (Locked path (Ok tt) ∷ calls)
   Is_linked : {file : FileState} {to : List ℕ} {calls : List DiskEvent}
@@ -83,10 +83,11 @@ pub record Admits (limits : Limits) (Change : Type 0) : Type 0 where
   pub admitted : limits.read_only ≡ false
   pub change : Change
 
--- a call after these others, the newest first, that changes something: a draft is made, or is given a
--- name that a client can spell; it is removed once it has that, or was locked; a name that was asked
--- for is removed, and the lock of one is made, and removed by the store that made it; no other file is
--- made, locked, removed or renamed. Folders are opened and synced for such a name alone
+-- a call after these others, the newest first, that changes something: a draft is made, or is given
+-- a name that a client can spell; it is removed once it has that, or was locked; a name that was
+-- asked for is removed, and the lock of one is made, and removed by the store that made it; no
+-- other file is made, locked, removed or renamed. Folders are opened and synced for such a name
+-- alone
 abbrev pub IsChange : Limits → DiskEvent → List DiskEvent → Type 0
 IsChange limits (Made path answer) before =
     Admits limits (IsDraftIn limits.drafts path ⊎ IsLock limits path)

@@ -40,10 +40,10 @@ module _ {F : Type 0} where
 module _ {D G H K F : Type 0} (log : D → List DiskEvent) where
   -- a draft of the path was begun, or refused: the settings stay, a store that refuses all writes
   -- has refused it, and changed nothing; it was begun only for a path that a client can name, below
-  -- the folder of uploads, if there is one. It was made at a path of the port that was set last, for
-  -- that place of the root, and is empty; if it was refused, nothing else changed. Its file is at its
-  -- path, and what was still at the path of no draft of that port is there. No path outside the root was passed to the system, if the folder of the drafts
-  -- is inside it
+  -- the folder of uploads, if there is one. It was made at a path of the port that was set last,
+  -- for that place of the root, and is empty; if it was refused, nothing else changed. Its file is
+  -- at its path, and what was still at the path of no draft of that port is there. No path outside
+  -- the root was passed to the system, if the folder of the drafts is inside it
   pub record HasBegun (path : List ℕ) (before after : FolderStore D G H K)
       (result : Result (FolderDraft F) StoreFault) : Type 0 where
     pub settings : SameSettings before after

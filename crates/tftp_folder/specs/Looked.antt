@@ -27,8 +27,8 @@ abbrev pub RemovesIf : Bool → List ℕ → List DiskEvent → List DiskEvent �
 RemovesIf true path before after = (removal : Done) × (after ≡ Removed path removal ∷ before)
 RemovesIf false path before after = after ≡ before
 
--- it was looked whether a path is that of an open file, and the next call removed it if it is; else it
--- is left
+-- it was looked whether a path is that of an open file, and the next call removed it if it is; else
+-- it is left
 pub record RemovesOwn (path : List ℕ) (calls calls' before after : List DiskEvent) : Type 0 where
   pub looked : List DiskEvent
   pub finds : Bool

@@ -1,12 +1,13 @@
 -- The permissions of files (ours).
-use Rattle.std.specs.Prelude.{ℕ, ◌≡◌, ⊤, Bool, true, false, ◌&&◌, nat_le, bit_and, List, [], ◌∷◌, Result, Ok, Err}
+use Rattle.std.specs.Prelude.{ℕ, ◌≡◌, ⊤, Bool, true, false, ◌&&◌, nat_le, bit_and, List, []}
+use Rattle.std.specs.Prelude.{◌∷◌, Result, Ok, Err}
 use Rattle.std.specs.declared.io.Error.{Error}
 use Rattle.tftp_disk.specs.DiskTrace.{DiskEvent}
 use Rattle.tftp_disk.specs.DiskTrace.DiskEvent.{Examined, Mode_set}
 use Rattle.tftp_disk.specs.declared.found.Found.{Found}
 
--- the permissions in a mode: its lowest nine bits, by which its user, its group and others may read,
--- write and run the file
+-- the permissions in a mode: its lowest nine bits, by which its user, its group and others may
+-- read, write and run the file
 abbrev pub permissions : ℕ → ℕ
 permissions mode = bit_and mode 511
 

@@ -35,7 +35,8 @@ NamesThere events = AreNamedThere (placed events)
 abbrev pub StaysThere : List DiskEvent → List DiskEvent → Type 0
 StaysThere before after = NamesThere before → NamesThere after
 
--- calls after which a file that was still at another path than those of the draft of this port is so
+-- calls after which a file that was still at another path than those of the draft of this port is
+-- so
 abbrev pub LeavesOthers : List ℕ → ℕ → List DiskEvent → List DiskEvent → Type 0
 LeavesOthers folder port before after =
     (path : List ℕ) (when : Option ℕ) → ¬ IsDraftOf folder port path → IsStillAt path when before

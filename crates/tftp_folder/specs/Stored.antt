@@ -17,8 +17,8 @@ use Rattle.tftp_folder.specs.declared.folder_draft.FolderDraft.{FolderDraft}
 use Rattle.tftp_folder.specs.declared.folder_store.FolderStore.{FolderStore}
 
 -- these changes gave the file of a draft its name: its folder was opened before, and synced after
--- that, unless its file system syncs none or the user may not read it. A draft that got its name by a
--- link lost its own path only then
+-- that, unless its file system syncs none or the user may not read it. A draft that got its name by
+-- a link lost its own path only then
 pub record IsNamedBy (file : FileState) (draft target : List ℕ) (before : List DiskEvent)
     (replaces : Bool) (after : List DiskEvent) : Type 0 where
   pub folder : List ℕ
@@ -31,11 +31,10 @@ pub record IsNamedBy (file : FileState) (draft target : List ℕ) (before : List
   pub cleared : ClearsDraft (is_linked named) draft last after
 
 -- a file was made at a path of the drafts, and just these bytes were written to it, in order and
--- each once; a sync succeeded after the last write, and none failed; it was given no other mode than
--- the permissions of a file; then it got the name of this
--- path in the root, by a call that replaces no file, unless it may, and then just after a look at
--- that file. If it was still at the path of the draft before, it was when it got the name. `before`
--- and `after` are the store's calls
+-- each once; a sync succeeded after the last write, and none failed; it was given no other mode
+-- than the permissions of a file; then it got the name of this path in the root, by a call that
+-- replaces no file, unless it may, and then just after a look at that file. If it was still at the
+-- path of the draft before, it was when it got the name. `before` and `after` are the store's calls
 pub record IsStoredAt (limits : Limits) (path bytes : List ℕ) (replaces : Bool)
     (before after : List DiskEvent) : Type 0 where
   pub draft : List ℕ

@@ -312,7 +312,11 @@ fn folder_below<L: Looks>(
 }
 
 impl<D: Disk> ServedStore<Reason> for FolderStore<D> {
+    ghost use Rattle.std.specs.Prelude.{◌≡◌};
+
     ghost written_out = { IsWrittenOut };
+
+    ghost is_bounded = { λ store bytes. store.lengths.longest ≡ bytes };
 
     fn set_port(&mut self, port: u16)
         ensures settings { AsksNothing D.log self.old self.new }

@@ -2,6 +2,7 @@
 
 ghost use Rattle.std.specs.Prelude.{ℕ, ◌≡◌, List, ◌∷◌, true, false, Ok, IfOk, OnOk, OnErr, IfSome};
 ghost use Rattle.tftp_disk.specs.Changes.{changes, renames};
+ghost use Rattle.tftp_disk.specs.DiskTrace.{DiskEvent};
 ghost use Rattle.tftp_disk.specs.DiskTrace.DiskEvent.{Looked};
 ghost use Rattle.tftp_disk.specs.declared.found.Found.{Found};
 ghost use Rattle.tftp_folder.specs.Opened.{AreFolders, follows};
@@ -294,6 +295,8 @@ fn look_again<D: Disk>(
 
 /// Whether a path leads to this folder, through no link below the root.
 fn leads_to<L: Looks>(looks: &mut L, root: &str, folder: &str, id: FileId) -> bool
+    ensures folders { result ≡ true → (before : List DiskEvent)
+        × AreFolders root.now folder.now before (L.log looks.new) }
     ensures looks { changes (L.log looks.new) ≡ changes (L.log looks.old) }
     ensures renames { renames (L.log looks.new) ≡ renames (L.log looks.old) }
     ensures placed { placed (L.log looks.new) ≡ placed (L.log looks.old) }
@@ -303,7 +306,10 @@ fn leads_to<L: Looks>(looks: &mut L, root: &str, folder: &str, id: FileId) -> bo
 {
     match looks.look(folder) {
         Ok(found) => {
-            found.kind == Kind::Folder && id.is(found.id) && has_no_link(looks, root, folder)
+            if found.kind != Kind::Folder || !id.is(found.id) {
+                return false;
+            }
+            has_no_link(looks, root, folder)
         }
         Err(_) => false,
     }

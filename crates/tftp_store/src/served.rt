@@ -12,6 +12,9 @@ pub trait ServedStore<Reason>: Store {
     /// All that a draft took is where it is kept, unless a call on that failed.
     ghost written_out: { Self.Draft → Type 0 };
 
+    /// The longest length on the wire that can be sent is so many bytes.
+    ghost is_bounded: { Self → ℕ → Type 0 };
+
     /// Sets the port of the next transfer, which names its draft. It leaves of the store what
     /// `write_behind` leaves.
     fn set_port(&mut self, port: u16)
@@ -22,6 +25,7 @@ pub trait ServedStore<Reason>: Store {
     /// Sets the longest length on the wire that can be sent, in bytes. A file with more bytes is
     /// not read to measure it. It leaves of the store what `write_behind` leaves.
     fn set_longest(&mut self, bytes: u64)
+        ensures longest { is_bounded self.new bytes }
         ensures set { (port : ℕ) → Self.meaning.is_set_to self.old port
             → Self.meaning.is_set_to self.new port }
         ensures same { Self.meaning.stored self.new ≡ Self.meaning.stored self.old }
@@ -51,6 +55,9 @@ impl<Reason> ServedStore<Reason> for MemStore {
     ghost use Rattle.std.specs.Prelude.{⊤};
 
     ghost written_out = { λ _. ⊤ };
+
+    /// Always true: what is in memory is not bounded.
+    ghost is_bounded = { λ _ _. ⊤ };
 
     fn set_port(&mut self, _port: u16) {}
 

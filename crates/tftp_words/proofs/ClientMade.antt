@@ -285,7 +285,7 @@ module _ {G K : Type 0} {inputs : SourceMeaning G} {outputs : SinkMeaning K}
     made_failed : (most : ℕ) (before after : List SocketEvent) (end : ClientOutcome) →
         FailsTransfer inputs outputs most job before after end → Made most None before after
     made_failed most before after end h = elim h [
-      | inl failed ↦ itself_stopped most before after end failed
+      | inl failed ↦ itself_stopped most before after end failed.0
       | inr again ↦
           made_both (itself_stopped most before again.0 again.1.end again.1.fails)
           (made_stopped (plain job) refl refl refl there most again.0 after end again.2)

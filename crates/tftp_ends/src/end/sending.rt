@@ -45,6 +45,7 @@ pub(crate) enum BlockRead {
 
 /// Reserves capacity for a datagram of `length` bytes in both buffers, so that they grow only for
 /// one that is longer than the last datagram sent.
+#[inline(always)]
 fn reserve_datagram(
     last_sent: &mut Vec<u8>,
     spare: &mut Vec<u8>,
@@ -68,6 +69,7 @@ fn reserve_datagram(
 
 /// Replaces the buffer's bytes by DATA of this number, with a block of `want` bytes from the
 /// source. If the source does not give the whole block, the buffer is left empty.
+#[inline(always)]
 pub(crate) fn read_data<S: Source>(
     source: &mut S,
     number: u16,
@@ -111,6 +113,8 @@ pub(crate) fn read_data<S: Source>(
 impl End {
     /// A sender carries out an action. Returns the destination and the datagram to send: DATA, or an
     /// ERROR if the source does not give the block.
+    // A block's step is one function: no action is copied between calls.
+    #[inline(always)]
     pub(crate) fn act_as_sender<S: Source>(
         &mut self,
         action: Action,

@@ -10,19 +10,14 @@ use Rattle.tftp_client.specs.Fetched.{Keeps, NamesBytes}
 use Rattle.tftp_client.specs.Written.{paths_of}
 use Rattle.tftp_client.proofs.Changing.{and_then, own_change}
 use Rattle.tftp_client.proofs.NamedFile.{folder_later, on_ok, was_named}
-use Rattle.tftp_client.proofs.StillThere.{left_there, same_there}
+use Rattle.tftp_client.proofs.StillThere.{call_leaves, err_so, left_as, same_there}
 use Rattle.tftp_client.proofs.naming.give_name.Goals as goal
 
 pub put_name-requires-clause-still : goal.put_name-requires-clause-still
 put_name-requires-clause-still g c =
-    let part = string_bytes c.args.names.now.part in
-    let found = g.D.Looks.log c.look.new.self in
-    let old = state_of (calls_of c.args.written.now.writer) in
-    let new = state_of (calls_of c.examine.new.self.writer) in
-    same_there part old.made_when new.made_when found
-    (ap (λ (file : FileState). file.made_when) (sym c.examine.ensures.state))
-    (left_there part old.made_when (Looked c.as_str.result.now c.look.result) (g.D.Looks.log c.args.disk.now) found tt
-    c.look.ensures c.requires.still)
+    call_leaves (string_bytes c.args.names.now.part) c.args.written.now c.examine.new.self
+    (Looked c.as_str.result.now c.look.result) (g.D.Looks.log c.args.disk.now) (g.D.Looks.log c.look.new.self) tt
+    (ap (λ (file : FileState). file.made_when) c.examine.ensures.state) c.look.ensures c.requires.still
 
 pub returns-clause-keeps : goal.returns-clause-keeps
 returns-clause-keeps g c =
@@ -50,3 +45,31 @@ returns-clause-ok g c =
     (λ fits. was_named c.args.folder.now.folder paths (handed c.args.written.now.writer) after fits
     (subst (λ (bytes : List ℕ). NamesBytes (SyncsFolder c.args.folder.now.folder) paths bytes after) same named)))
     c.put_name.ensures.ok
+
+pub returns-in_err-opened-clause-err : goal.returns-in_err-opened-clause-err
+returns-in_err-opened-clause-err g c =
+    let part = string_bytes c.args.names.now.part in
+    let before = g.D.Looks.log c.args.disk.now in
+    let old = state_of (calls_of c.args.written.now.writer) in
+    let new = state_of (calls_of c.examine.new.self.writer) in
+    err_so c.from_residual.result
+    (left_as (paths_of c.args.names.now c.args.existing) c.examine.new.self before
+    (same_there part old.made_when new.made_when before
+    (ap (λ (file : FileState). file.made_when) (sym c.examine.ensures.state)) c.requires.still))
+
+pub returns-in_err-found-clause-err : goal.returns-in_err-found-clause-err
+returns-in_err-found-clause-err g c =
+    let found = g.D.Looks.log c.look.new.self in
+    err_so c.from_residual-in_err-found.result
+    (left_as (paths_of c.args.names.now c.args.existing) c.examine.new.self found
+    (call_leaves (string_bytes c.args.names.now.part) c.args.written.now c.examine.new.self
+    (Looked c.as_str.result.now c.look.result) (g.D.Looks.log c.args.disk.now) found tt
+    (ap (λ (file : FileState). file.made_when) c.examine.ensures.state) c.look.ensures c.requires.still))
+
+pub returns-then-not-is-clause-err : goal.returns-then-not-is-clause-err
+returns-then-not-is-clause-err g c =
+    let found = g.D.Looks.log c.look.new.self in
+    left_as (paths_of c.args.names.now c.args.existing) c.examine.new.self found
+    (call_leaves (string_bytes c.args.names.now.part) c.args.written.now c.examine.new.self
+    (Looked c.as_str.result.now c.look.result) (g.D.Looks.log c.args.disk.now) found tt
+    (ap (λ (file : FileState). file.made_when) c.examine.ensures.state) c.look.ensures c.requires.still)

@@ -1,12 +1,15 @@
 -- The file got its name by a link, or by a rename where the system made none.
-use Rattle.std.proofs.Common.{inr}
-use Rattle.tftp_disk.specs.DiskTrace.{state_of}
+use Rattle.std.proofs.Common.{Err, inr}
+use Rattle.std.specs.String.{string_bytes}
+use Rattle.tftp_disk.specs.DiskTrace.{made_when, state_of}
+use Rattle.tftp_disk.specs.DiskTrace.DiskEvent.{Linked}
 use Rattle.tftp_disk.specs.DiskWriter.{calls_of, handed}
 use Rattle.tftp_disk.specs.NamedFolder.{SyncsFolder}
 use Rattle.tftp_disk.specs.declared.existing.Existing.TheVariants.{Refused}
 use Rattle.tftp_client.specs.Written.{paths_of}
 use Rattle.tftp_client.proofs.Changing.{link_keeps, unlinked_keeps}
 use Rattle.tftp_client.proofs.NamedFile.{linked_named, on_ok}
+use Rattle.tftp_client.proofs.StillThere.{left_as, left_there, lost_there, on_err}
 use Rattle.tftp_client.proofs.naming.name_new.Goals as goal
 
 pub returns-in-Ok-clause-keeps : goal.returns-in-Ok-clause-keeps
@@ -42,3 +45,32 @@ returns-else-eq-clause-ok g c =
       inr (renames.0, (g.D.Looks.log c.link.new.disk, (c.in-Err.error, c.in-Err.ensures), renames.1), renames.2),
     ))
     c.rename_new.ensures.ok
+
+pub returns-in-Ok-clause-err : goal.returns-in-Ok-clause-err
+returns-in-Ok-clause-err g c =
+    let paths = paths_of c.args.names.now Refused in
+    let written = c.args.written.now in
+    let after = g.D.Looks.log c.keep_one.new.disk in
+    on_err c.keep_one.result
+    (λ lost. left_as paths written after
+    (lost_there paths (made_when (calls_of written.writer)) (state_of (calls_of written.writer))
+    (g.D.Looks.log c.args.disk.now) (g.D.Looks.log c.link.new.disk) after c.args.names.now.apart c.in-Ok.ensures lost
+    c.requires.still))
+    c.keep_one.ensures.err
+
+pub rename_new-requires-clause-still : goal.rename_new-requires-clause-still
+rename_new-requires-clause-still g c =
+    let names = c.args.names.now in
+    let written = c.args.written.now in
+    left_there (string_bytes names.part) (made_when (calls_of written.writer))
+    (Linked (state_of (calls_of written.writer)) (string_bytes names.part) (string_bytes names.local) (Err c.in-Err.error))
+    (g.D.Looks.log c.args.disk.now) (g.D.Looks.log c.link.new.disk) tt c.in-Err.ensures c.requires.still
+
+pub returns-then-eq-clause-err : goal.returns-then-eq-clause-err
+returns-then-eq-clause-err g c =
+    let names = c.args.names.now in
+    let written = c.args.written.now in
+    left_as (paths_of names Refused) written (g.D.Looks.log c.link.new.disk)
+    (left_there (string_bytes names.part) (made_when (calls_of written.writer))
+    (Linked (state_of (calls_of written.writer)) (string_bytes names.part) (string_bytes names.local) (Err c.in-Err.error))
+    (g.D.Looks.log c.args.disk.now) (g.D.Looks.log c.link.new.disk) tt c.in-Err.ensures c.requires.still)

@@ -1,7 +1,7 @@
 -- Nothing has its path but it.
 use Rattle.std.proofs.Common.{ℕ, List, ◌∷◌, Ok, ap, ◌∙◌}
 use Rattle.std.specs.String.{string_bytes}
-use Rattle.tftp_disk.specs.DiskTrace.{FileState, made_when}
+use Rattle.tftp_disk.specs.DiskTrace.{made_when}
 use Rattle.tftp_disk.specs.DiskTrace.DiskEvent.{Made}
 use Rattle.tftp_disk.specs.DiskWriter.{calls_of}
 use Rattle.tftp_client.proofs.StillThere.{just_made}
@@ -13,5 +13,5 @@ returns-clause-still g c =
     ∣ just_made (string_bytes c.args.names.now.part) (made_when (calls_of c.keep_permissions.new.self.writer)) before
     (g.D.Looks.log c.make.new.self)
     (c.in_ok-file.ensures.noted ∙ ap (λ (path : List ℕ). Made path (Ok tt) ∷ before) c.as_str-3.ensures.value)
-    (ap (λ (file : FileState). file.made_when) c.keep_permissions.ensures.state
+    (c.keep_permissions.ensures.content.making
     ∙ ((λ k. made_when ((c.new-written.ensures.file k).trace.events)) ∙ ap made_when c.in_ok-file.ensures.file)) ∣₁

@@ -49,6 +49,7 @@ returns-in-Err-clause-err g c = (
     incomplete = c.in-Err.ensures.incomplete;
     ends = c.in-Err.ensures.failed;
   },
+  refl,
   c.write_out.ensures.out,
 )
 

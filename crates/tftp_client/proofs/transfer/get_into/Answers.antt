@@ -7,7 +7,7 @@ use Rattle.tftp_client.specs.Converses.{State}
 use Rattle.tftp_client.specs.OnDisk.{job_paths}
 use Rattle.tftp_client.proofs.Concluding.{stores}
 use Rattle.tftp_client.proofs.LeftBytes.{leaves, leaves_none}
-use Rattle.tftp_client.proofs.NamedOnDisk.{keeps_disk, received}
+use Rattle.tftp_client.proofs.NamedOnDisk.{has_calls, keeps_disk, received}
 use Rattle.tftp_client.proofs.Running.{if_err}
 use Rattle.tftp_client.proofs.transfer.get_into.Goals as goal
 
@@ -23,8 +23,9 @@ pub returns-clause-err : goal.returns-clause-err
 returns-clause-err g c =
     if_err c.converse-ended.result _ _
     (λ failure stopped. leaves _ _ (λ local. refl) (λ before after committed same. same)
-    c.args.waits.now failure.end Read c.args.job.now 0 _ _ _ c.in-Ok.ensures.may c.in-Ok.ensures.begins stopped tt
-    (ap Some c.requires.empty) c.requires.paths)
+    c.args.waits.now failure.end Read c.args.job.now 0 _ _ (g.D.Looks.log c.disk_of.result) _
+    c.converse-ended.new.files c.in-Ok.ensures.may c.in-Ok.ensures.begins stopped tt (ap Some c.requires.empty)
+    c.requires.paths (has_calls c.converse-ended.new.files c.disk_of.result c.disk_of.ensures))
     c.converse-ended.ensures.err
 
 pub returns-clause-keeps : goal.returns-clause-keeps
@@ -47,4 +48,4 @@ disk_of-requires g c = received c.args.local c.converse-ended.new.files c.conver
 
 pub returns-in-Err-clause-err : goal.returns-in-Err-clause-err
 returns-in-Err-clause-err g c =
-    leaves_none _ _ _ c.in-Err.failure.end Read c.args.job.now 0 _ _ c.in-Err.ensures.err.0 c.in-Err.ensures.err.1
+    leaves_none _ _ _ c.in-Err.failure.end Read c.args.job.now 0 _ _ _ c.in-Err.ensures.err.0 c.in-Err.ensures.err.1

@@ -9,6 +9,7 @@ use Rattle.tftp_client.specs.Runs.{opens}
 use Rattle.tftp_client.proofs.Concluding.{concludes, sends_so}
 use Rattle.tftp_client.proofs.Conversing.{begun_open, begun_ready, opens_open}
 use Rattle.tftp_client.proofs.LeftBytes.{leaves, leaves_none}
+use Rattle.tftp_client.proofs.NamedOnDisk.{sends_calls}
 use Rattle.tftp_client.proofs.Running.{if_err}
 use Rattle.tftp_client.proofs.SentFile.{octet_length}
 use Rattle.tftp_client.proofs.transfer.put_from.Goals as goal
@@ -27,9 +28,11 @@ returns-in-Ok-clause-ok g c =
 
 pub returns-in-Ok-clause-err : goal.returns-in-Ok-clause-err
 returns-in-Ok-clause-err g c =
-    if_err c.converse.result _ _ (λ failure stopped. leaves _ _ (λ local. refl) (λ before after committed same. same)
-    c.args.waits.now failure.end Write c.args.job.now c.args.outbound.length.wire_bytes _ _ _ c.in-Ok.ensures.may
-    c.in-Ok.ensures.begins stopped tt tt tt)
+    if_err c.converse.result _ _
+    (λ failure stopped calls. leaves _ _ (λ local. refl) (λ before after committed same. same) c.args.waits.now
+    failure.end Write c.args.job.now c.args.outbound.length.wire_bytes _ _ calls _ c.converse.new.files
+    c.in-Ok.ensures.may c.in-Ok.ensures.begins stopped tt tt tt
+    (sends_calls c.args.outbound.source c.converse.new.files calls c.converse.ensures.keeps))
     c.converse.ensures.err
 
 pub returns-in-Ok-clause-within : goal.returns-in-Ok-clause-within
@@ -43,8 +46,8 @@ returns-in-Ok-clause-counted g c =
     c.converse.ensures.counted
 
 pub returns-in-Err-clause-err : goal.returns-in-Err-clause-err
-returns-in-Err-clause-err g c =
-    leaves_none _ _ _ c.in-Err.failure.end Write c.args.job.now c.args.outbound.length.wire_bytes _ _
+returns-in-Err-clause-err g c calls =
+    leaves_none _ _ _ c.in-Err.failure.end Write c.args.job.now c.args.outbound.length.wire_bytes _ _ calls
     c.in-Err.ensures.err.0 c.in-Err.ensures.err.1
 
 pub converse-requires-clause-not_closed : goal.converse-requires-clause-not_closed

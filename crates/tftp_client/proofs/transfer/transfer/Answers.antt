@@ -1,4 +1,6 @@
 -- Without options, once these were refused.
+use Rattle.std.proofs.Common.{sym, ◌∙◌}
+use Rattle.std.proofs.lemmas.Bool.{true≢false}
 use Rattle.std.proofs.lemmas.Result.{IfOk-weaker}
 use Rattle.tftp_client.proofs.Concluding.{again_stores, first_stores}
 use Rattle.tftp_client.proofs.LeftBytes.{leaves_again, leaves_first}
@@ -13,7 +15,8 @@ returns-in-Ok-clause-ok g c =
 pub returns-then-not-falls_back-clause-err : goal.returns-then-not-falls_back-clause-err
 returns-then-not-falls_back-clause-err g c =
     let left = rw c.in-Err.is at c.transfer_once-ended.ensures.err in
-    leaves_first _ _ _ c.args.job.now _ _ c.in-Err.failure.end left
+    leaves_first _ _ _ c.args.job.now _ _ _ c.in-Err.failure.end
+    (λ may. absurd (true≢false (sym (c.falls_back.ensures.1 may) ∙ c.if-not-falls_back.true))) left
 
 pub returns-clause-ok : goal.returns-clause-ok
 returns-clause-ok g c =
@@ -24,7 +27,7 @@ returns-clause-ok g c =
     (record {
       end = c.in-Err.failure.end;
       fails = left.0;
-      allowed = c.falls_back.ensures c.if-not-falls_back.false;
+      allowed = c.falls_back.ensures.0 c.if-not-falls_back.false;
     })
     c.plain.ensures counted ended)
     c.transfer_once.ensures.ok
@@ -34,11 +37,11 @@ returns-clause-err g c =
     let left = rw c.in-Err.is at c.transfer_once-ended.ensures.err in
     let counted = rw c.in-Err.is at c.transfer_once-ended.ensures.counted in
     if_err c.transfer_once.result.0 _ _
-    (λ failure again. leaves_again _ _ c.args.job.now c.plain.result _ _ _ failure.end
+    (λ failure again. leaves_again _ _ c.args.job.now c.plain.result _ _ _ _ failure.end
     (record {
       end = c.in-Err.failure.end;
       fails = left.0;
-      allowed = c.falls_back.ensures c.if-not-falls_back.false;
+      allowed = c.falls_back.ensures.0 c.if-not-falls_back.false;
     })
     c.plain.ensures counted again)
     c.transfer_once.ensures.err

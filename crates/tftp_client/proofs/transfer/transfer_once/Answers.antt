@@ -12,7 +12,7 @@ returns-in-Read-clause-ok g c = IfOk-weaker c.get.result.0 _ _ (λ status ends.
 
 pub returns-in-Read-clause-err : goal.returns-in-Read-clause-err
 returns-in-Read-clause-err g c =
-    if_err c.get.result.0 _ _ (λ failure left. leaves_job _ _ _ c.args.job.now 0 _ _ failure.end c.in-Read.is left)
+    if_err c.get.result.0 _ _ (λ failure left. leaves_job _ _ _ c.args.job.now 0 _ _ _ failure.end c.in-Read.is left)
     c.get.ensures.err
 
 pub returns-in-Read-clause-keeps : goal.returns-in-Read-clause-keeps
@@ -25,7 +25,7 @@ returns-in-Write-clause-ok g c =
 
 pub returns-in-Write-clause-err : goal.returns-in-Write-clause-err
 returns-in-Write-clause-err g c =
-    if_err c.put-ended.result _ _ (λ failure left. leaves_job _ _ _ c.args.job.now left.0 _ _ failure.end c.in-Write.is
+    if_err c.put-ended.result _ _ (λ failure left. leaves_job _ _ _ c.args.job.now left.0 _ _ _ failure.end c.in-Write.is
     left.1) c.put-ended.ensures.err
 
 pub returns-in-Write-clause-keeps : goal.returns-in-Write-clause-keeps

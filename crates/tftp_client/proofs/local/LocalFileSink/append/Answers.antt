@@ -1,11 +1,11 @@
--- An append leaves the name, and a file with another content is not committed.
-use Rattle.std.proofs.Common.{◌≡◌, ◌≢◌, ℕ, false, List, [], append-nil, Option, Some, Err, refl, sym, ap, ◌∙◌, subst, length}
+-- An append leaves the name, and is refused once that was tried.
+use Rattle.std.proofs.Common.{◌≡◌, ◌≢◌, ℕ, false, List, [], append-nil, Option, Some, Err, refl, sym, ap, ◌∙◌, length}
 use Rattle.tftp_file.specs.Sink.{AppendsFreely, Holding, KeptPrefix}
 use Rattle.tftp_file.specs.declared.fault.StoreFault.{StoreFault}
 use Rattle.tftp_file.specs.declared.fault.StoreFault.TheVariants.{Missing, Exists, Full, Io, Memory}
-use Rattle.tftp_client.specs.Fetched.{IsNamed}
 use Rattle.tftp_client.specs.Written.{bytes_in, held_of, paths_of}
-use Rattle.tftp_client.proofs.Changing.{keeps_as, still_named}
+use Rattle.tftp_client.proofs.Changing.{keeps_as}
+use Rattle.tftp_client.proofs.TriedOnce.{append_left, given_still, untried_left}
 use Rattle.tftp_client.proofs.local.LocalFileSink.append.Goals as goal
 
 -- a file that holds what it held has kept no byte of the piece
@@ -65,27 +65,22 @@ returns-in-Err-clause-leaves g c =
     let mid = c.append.new.self in
     let same = c.record_error-in-Err.ensures.part in
     keeps_as (paths_of old.names old.existing) (paths_of mid.names mid.existing)
-    (paths_of c.record_error-in-Err.new.self.part.names c.record_error-in-Err.new.self.part.existing)
-    (g.D.Looks.log old.disk) (g.D.Looks.log mid.disk) (g.D.Looks.log c.record_error-in-Err.new.self.part.disk)
-    (λ k. paths_of (c.append.ensures.names k) (c.append.ensures.existing k))
-    (λ k. paths_of (same k).names (same k).existing) (λ k. g.D.Looks.log (same k).disk)
-    c.append.ensures.keeps
+    (paths_of c.record_error-in-Err.new.self.part.names c.record_error-in-Err.new.self.part.existing) old.is_tried
+    mid.is_tried c.record_error-in-Err.new.self.part.is_tried (g.D.Looks.log old.disk) (g.D.Looks.log mid.disk)
+    (g.D.Looks.log c.record_error-in-Err.new.self.part.disk) c.append.ensures.place
+    (λ k. paths_of (same k).names (same k).existing) (λ k. (same k).is_tried) (λ k. g.D.Looks.log (same k).disk)
+
+pub invariant_of-self-clause-left : goal.invariant_of-self-clause-left
+invariant_of-self-clause-left g c open_file =
+    untried_left c.append.new.self (c.append.ensures.tried ∙ c.in-Ok.ensures.untried)
 
 pub invariant_of-self-in-Err-1 : goal.invariant_of-self-in-Err-1
 invariant_of-self-in-Err-1 g c =
     let old = c.args.self.now.part in
     let new = c.append.new.self in
-    let bytes = c.in-Err.ensures.err in
     record {
-      counts = c.args.self.now.counts ∙ sym (ap length bytes);
-      named = λ committed.
-          subst (λ (bytes : List ℕ). ∥ IsNamed (paths_of new.names new.existing) bytes (g.D.Looks.log new.disk) ∥₁)
-          (sym bytes)
-          (still_named (paths_of old.names old.existing) (paths_of new.names new.existing) (bytes_in old.written)
-          (g.D.Looks.log old.disk) (g.D.Looks.log new.disk)
-          (record {
-            same = λ k. paths_of (c.append.ensures.names k) (c.append.ensures.existing k);
-            keeps = c.append.ensures.keeps;
-          })
-          (c.args.self.now.named committed));
+      counts = c.args.self.now.counts ∙ sym (ap length c.in-Err.ensures.err);
+      named = λ committed. given_still old new c.append.ensures.same (c.args.self.now.named committed);
+      left = λ open_file.
+          append_left old new c.append.ensures.same c.append.ensures.tried (c.args.self.now.left open_file);
     }

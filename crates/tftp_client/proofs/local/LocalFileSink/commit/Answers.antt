@@ -1,23 +1,33 @@
--- What was named has what was appended, and stays named.
-use Rattle.std.proofs.Common.{◌≡◌, ℕ, List, sym, ap, subst, ◌∙◌, length}
+-- What was named has what was appended, and stays so; what was not is left.
+use Rattle.std.proofs.Common.{ℕ, List, sym, ap, subst, ◌∙◌, length}
 use Rattle.std.proofs.Math.Logic.{∥∥₁_map}
-use Rattle.tftp_client.specs.Fetched.{IsNamed, Paths}
+use Rattle.tftp_client.specs.Fetched.{Paths, WasNamed}
 use Rattle.tftp_client.specs.Written.{bytes_in, paths_of}
-use Rattle.tftp_client.proofs.Changing.{still_named}
-use Rattle.tftp_client.proofs.NamedFile.{is_named}
+use Rattle.tftp_client.proofs.Changing.{keeps_as}
+use Rattle.tftp_client.proofs.TriedOnce.{given_still, left_still}
 use Rattle.tftp_client.proofs.local.LocalFileSink.commit.Goals as goal
 
 pub invariant_of-self-clause-named : goal.invariant_of-self-clause-named
 invariant_of-self-clause-named g c committed =
     let old = c.args.self.now.part in
     let new = c.commit.new.self in
-    let after = g.D.Looks.log new.disk in
-    let is : paths_of new.names new.existing ≡ paths_of old.names old.existing =
-    λ k. paths_of (c.commit.ensures.names k) (c.commit.ensures.existing k) in
-    ∥∥₁_map c.in-Ok.ensures.named (λ named.
-    subst (λ (bytes : List ℕ). IsNamed (paths_of new.names new.existing) bytes after) (sym c.commit.ensures.bytes)
-    (subst (λ (paths : Paths). IsNamed paths (bytes_in old.written) after) (sym is)
-    (is_named (paths_of old.names old.existing) (bytes_in old.written) after named)))
+    let after = g.D.Looks.log new.disk in (
+      c.in-Ok.ensures.tried,
+      ∥∥₁_map c.in-Ok.ensures.named (λ named.
+          subst (λ (bytes : List ℕ). WasNamed (paths_of new.names new.existing) bytes after) (sym c.commit.ensures.bytes)
+          (subst (λ (paths : Paths). WasNamed paths (bytes_in old.written) after) (sym c.commit.ensures.place.same) named)),
+    )
+
+pub returns-in-Err-clause-leaves : goal.returns-in-Err-clause-leaves
+returns-in-Err-clause-leaves g c =
+    let old = c.args.self.now.part in
+    let mid = c.commit.new.self in
+    let same = c.record_error.ensures.part in
+    keeps_as (paths_of old.names old.existing) (paths_of mid.names mid.existing)
+    (paths_of c.record_error.new.self.part.names c.record_error.new.self.part.existing) old.is_tried
+    mid.is_tried c.record_error.new.self.part.is_tried (g.D.Looks.log old.disk) (g.D.Looks.log mid.disk)
+    (g.D.Looks.log c.record_error.new.self.part.disk) c.commit.ensures.place
+    (λ k. paths_of (same k).names (same k).existing) (λ k. (same k).is_tried) (λ k. g.D.Looks.log (same k).disk)
 
 pub invariant_of-self-in-Err-1 : goal.invariant_of-self-in-Err-1
 invariant_of-self-in-Err-1 g c =
@@ -25,14 +35,7 @@ invariant_of-self-in-Err-1 g c =
     let new = c.commit.new.self in
     record {
       counts = c.args.self.now.counts ∙ sym (ap length c.commit.ensures.bytes);
-      named = λ committed.
-          subst (λ (bytes : List ℕ). ∥ IsNamed (paths_of new.names new.existing) bytes (g.D.Looks.log new.disk) ∥₁)
-          (sym c.commit.ensures.bytes)
-          (still_named (paths_of old.names old.existing) (paths_of new.names new.existing) (bytes_in old.written)
-          (g.D.Looks.log old.disk) (g.D.Looks.log new.disk)
-          (record {
-            same = λ k. paths_of (c.commit.ensures.names k) (c.commit.ensures.existing k);
-            keeps = c.commit.ensures.keeps;
-          })
-          (c.args.self.now.named committed));
+      named = λ committed. given_still old new c.commit.ensures.same (c.args.self.now.named committed);
+      left = λ open_file.
+          left_still old new c.commit.ensures.same c.in-Err.ensures.left (c.args.self.now.left open_file);
     }

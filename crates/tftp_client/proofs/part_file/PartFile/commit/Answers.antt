@@ -1,11 +1,15 @@
 -- What was handed to the file is in it when it gets its name.
-use Rattle.std.proofs.Common.{rules, ◌≡◌, List, ℕ, subst}
+use Rattle.std.proofs.Common.{rules, ◌≡◌, List, ℕ, true, sym, ◌∙◌, subst}
+use Rattle.std.specs.String.{string_bytes}
 use Rattle.std.proofs.Math.Logic.{∥∥₁_map}
 use Rattle.std.proofs.lemmas.Bool.{true≢false}
-use Rattle.tftp_disk.specs.DiskWriter.{handed}
+use Rattle.tftp_disk.specs.DiskTrace.{made_when}
+use Rattle.tftp_disk.specs.DiskWriter.{calls_of, handed}
 use Rattle.tftp_client.specs.Fetched.{Keeps, Paths, WasNamed}
 use Rattle.tftp_client.specs.Written.{bytes_in, paths_of}
-use Rattle.tftp_client.proofs.Changing.{and_then}
+use Rattle.tftp_client.proofs.Changing.{and_then, untried_place}
+use Rattle.tftp_client.proofs.StillThere.{err_so, left_as, on_err, same_there, still_some}
+use Rattle.tftp_client.proofs.TriedOnce.{untried_left}
 use Rattle.tftp_client.proofs.NamedFile.{folder_later, on_ok}
 use Rattle.tftp_client.proofs.part_file.PartFile.commit.Goals as goal
 
@@ -18,16 +22,36 @@ invariant_of-self-2-clause-folder_fits g c =
 pub invariant_of-self-2-clause-still : goal.invariant_of-self-2-clause-still
 invariant_of-self-2-clause-still g c off = absurd (true≢false off)
 
-pub returns-clause-keeps : goal.returns-clause-keeps
-returns-clause-keeps g c =
+pub returns-clause-place : goal.returns-clause-place
+returns-clause-place g c =
     let old = c.args.self.now in
     let made = c.create_once.new.self in
     let after = g.D.Looks.log c.give_name.new.disk in
     let is : paths_of made.names made.existing ≡ paths_of old.names old.existing =
     λ k. paths_of (c.create_once.ensures.names k) (c.create_once.ensures.existing k) in
-    and_then (paths_of old.names old.existing) (g.D.Looks.log old.disk) (g.D.Looks.log made.disk) after
+    untried_place (paths_of old.names old.existing) (paths_of made.names made.existing) old.is_tried true
+    (g.D.Looks.log old.disk) after is c.if-self.false
+    (and_then (paths_of old.names old.existing) (g.D.Looks.log old.disk) (g.D.Looks.log made.disk) after
     c.create_once.ensures.keeps
-    (subst (λ (paths : Paths). Keeps paths (g.D.Looks.log made.disk) after) is c.give_name.ensures.keeps)
+    (subst (λ (paths : Paths). Keeps paths (g.D.Looks.log made.disk) after) is c.give_name.ensures.keeps))
+
+pub returns-clause-left : goal.returns-clause-left
+returns-clause-left g c = on_err c.give_name.result (λ left untried. ∥∥₁_map left (λ at. at)) c.give_name.ensures.err
+
+pub returns-in_err-create_once-clause-left : goal.returns-in_err-create_once-clause-left
+returns-in_err-create_once-clause-left g c =
+    err_so c.from_residual.result
+    (λ untried. untried_left c.create_once.new.self (c.create_once.ensures.tried ∙ untried))
+
+pub returns-in_err-finish-clause-left : goal.returns-in_err-finish-clause-left
+returns-in_err-finish-clause-left g c =
+    let made = c.create_once.new.self in
+    err_so c.from_residual-in_err-finish.result
+    (λ untried. left_as (paths_of made.names made.existing) c.finish.new.self (g.D.Looks.log made.disk)
+    (same_there (string_bytes made.names.part) (made_when (calls_of c.in-Some.written.writer))
+    (made_when (calls_of c.finish.new.self.writer)) (g.D.Looks.log made.disk) (sym c.finish.ensures.same.making)
+    (still_some (string_bytes made.names.part) made.written c.in-Some.written (g.D.Looks.log made.disk) c.in-Some.is
+    (made.still (c.create_once.ensures.tried ∙ untried)))))
 
 pub returns-clause-named : goal.returns-clause-named
 returns-clause-named g c =

@@ -1,0 +1,30 @@
+-- The file has one name or the other.
+use Rattle.std.proofs.Common.{List, ◌∷◌, Err, ap, ◌∙◌}
+use Rattle.std.specs.String.{string_bytes}
+use Rattle.tftp_disk.specs.DiskTrace.{DiskEvent, made_when, state_of}
+use Rattle.tftp_disk.specs.DiskTrace.DiskEvent.{Folder_synced, Renamed}
+use Rattle.tftp_disk.specs.DiskWriter.{calls_of}
+use Rattle.tftp_disk.specs.NamedFolder.{path_in}
+use Rattle.tftp_client.specs.Written.{paths_of}
+use Rattle.tftp_client.proofs.StillThere.{left_as, left_there, moved_as}
+use Rattle.tftp_client.proofs.naming.rename.Goals as goal
+
+pub returns-in-Err-clause-err : goal.returns-in-Err-clause-err
+returns-in-Err-clause-err g c =
+    let names = c.args.names.now in
+    let written = c.args.written.now in
+    let after = g.D.Looks.log c.exchange.new.disk in
+    left_as (paths_of names c.args.existing) written after
+    (left_there (string_bytes names.part) (made_when (calls_of written.writer))
+    (Renamed (state_of (calls_of written.writer)) (string_bytes names.part) (string_bytes names.local) (Err c.in-Err.error))
+    (g.D.Looks.log c.args.disk.now) after tt c.in-Err.ensures c.requires.still)
+
+pub returns-in-Err-sync_folder-clause-err : goal.returns-in-Err-sync_folder-clause-err
+returns-in-Err-sync_folder-clause-err g c =
+    let paths = paths_of c.args.names.now c.args.existing in
+    let folder = path_in c.args.folder.now.folder in
+    let error = c.in-Err-sync_folder.error in
+    moved_as paths c.args.written.now (g.D.Looks.log c.args.disk.now) (g.D.Looks.log c.sync_folder.new.disk) folder error
+    c.requires.whole c.requires.still
+    (c.in-Err-sync_folder.ensures.err
+    ∙ ap (λ (events : List DiskEvent). Folder_synced folder (Err error) ∷ events) c.in-Ok.ensures)
