@@ -21,6 +21,7 @@ from contextlib import ExitStack
 from dataclasses import dataclass
 from pathlib import Path
 
+from lib import rows
 from network import Fault, Host
 
 TOP = Path(__file__).resolve().parent.parent
@@ -29,8 +30,8 @@ SERVER, CLIENT = "192.0.2.1", "192.0.2.2"
 LENGTH = 4_096
 # Transfers of a pair at once, at losses of so many datagrams of a hundred; how long they have, and all, in seconds
 TRANSFERS, LOSSES, TIME, LIMIT = 60, [5, 10, 20], 150, 2_400
-# The same of the short run: how many of its transfers are to complete, since a few may lose too much
-FEW, SHORT_LOSS, SHORT_TIME, LEAST = 12, 10, 45, 10
+# The same of the short run, whose file has three blocks and an empty one: a few of its transfers may lose too much
+FEW, SHORT_LOSS, SHORT_TIME, SHORT_LENGTH, LEAST = 12, 10, 50, 1_536, 10
 # The processes at once
 MOST = 700
 
@@ -161,9 +162,9 @@ def lose(hosts, share) -> None:
         host.rules(f"table inet lossy {{\n chain input {{\n type filter hook input priority 0;\n {rule}\n }}\n}}")
 
 
-def try_pairs(pairs, programs, share, count, limit, hosts) -> None:
-    """Makes the transfers of these pairs at once."""
-    content = os.urandom(LENGTH)
+def try_pairs(pairs, programs, share, count, length, limit, hosts) -> None:
+    """Makes so many transfers of each of these pairs, of a file of this length, all at once."""
+    content = os.urandom(length)
     with ExitStack() as stack:
         lose(hosts, 0)
         trials = [Transfers(pair, programs, 7_000 + i, count, content, hosts, stack) for i, pair in enumerate(pairs)]
@@ -196,7 +197,7 @@ def hosts_of(stack) -> list[Host]:
 def run_short(pairs, programs, hosts) -> int:
     """Tries the pairs that --backoff is for. Returns a status."""
     failed = 0
-    try_pairs(pairs, programs, SHORT_LOSS, FEW, SHORT_TIME, hosts)
+    try_pairs(pairs, programs, SHORT_LOSS, FEW, SHORT_LENGTH, SHORT_TIME, hosts)
     for pair in pairs:
         if pair.complete < LEAST:
             print(f"lossy: {pair}: {pair.complete} of {FEW} complete, at least {LEAST} expected")
@@ -214,7 +215,7 @@ def run_all(pairs, programs, hosts) -> int:
         rows: dict[int, list[str]] = {}
         for share in LOSSES:
             some = [Pair(it.client, it.server, it.is_put) for it in pairs[at:at + step]]
-            try_pairs(some, programs, share, TRANSFERS, TIME, hosts)
+            try_pairs(some, programs, share, TRANSFERS, LENGTH, TIME, hosts)
             for i, pair in enumerate(some):
                 rows.setdefault(i, [str(pair)]).append(f"{pair.complete} ({pair.slowest:.0f} s)")
         for row in rows.values():
@@ -236,6 +237,7 @@ def run(mode, *programs) -> int:
             status = run_short(pairs, programs, hosts) if mode == "short" else run_all(pairs, programs, hosts)
         except (Fault, subprocess.SubprocessError, OSError) as fault:
             print(f"lossy: {fault}")
+    rows.ended(len(pairs), len(wanted) - len(pairs))
     return status
 
 
@@ -257,6 +259,7 @@ def main() -> None:
     if sys.argv[1:2] == ["--in"]:
         signal.pthread_sigmask(signal.SIG_SETMASK, [])
         sys.exit(run(*sys.argv[2:]))
+    rows.listed(str(pair) for pair in short_pairs())
     words = sys.argv[1:]
     mode = "short" if words[:1] == ["--short"] else "all"
     if mode == "short":
@@ -271,6 +274,7 @@ def main() -> None:
     reason = missing()
     if reason:
         print(f"lossy: skipped: {reason}")
+        rows.ended(0, len(short_pairs() if mode == "short" else all_pairs()))
         return
     limit = LIMIT if mode == "all" else 60 + SHORT_TIME
     try:
