@@ -1,8 +1,8 @@
 /* TFTP for C99 and later: the ends of a transfer and the packets (RFC 1350; RFC 2347 to 2349), without IO. For
- * x86-64 and ARM64, and tested on RISC-V of 64 bits; on Linux, and by libtftp-bare.a on machines without a
- * system. The objects need the ABI of C of Linux there, and call tftp_alloc, tftp_realloc, tftp_free, memcpy,
- * memmove, memset and memcmp alone: those of glibc, of musl, or of a program that is linked with -nostdlib, as
- * examples/c/alone_machine.c. The first three are over malloc, unless the program has its own.
+ * x86-64 and ARM64, on Linux, and by libtftp-bare.a on machines without a system. The objects need the ABI of C
+ * of Linux there, and call tftp_alloc, tftp_realloc, tftp_free, memcpy, memmove, memset and memcmp alone: those of
+ * glibc, of musl, or of a program that is linked with -nostdlib, as examples/c/alone_machine.c. The first three
+ * are over malloc, unless the program has its own.
  *
  * The caller owns the socket, the clock and the file. It passes each datagram and each timeout in,
  * sends what a call writes to its buffer, and stores or reads the bytes of the file.
@@ -65,9 +65,8 @@
 /* What the library is built for: C99 or later, or C++, and processors of 64 bits that are little-endian. */
 #if !defined(__cplusplus) && (!defined(__STDC_VERSION__) || __STDC_VERSION__ < 199901L)
 #error "tftp.h needs C99 or later: compile with -std=c99, -std=gnu99 or a later standard"
-#elif !(defined(__x86_64__) && !defined(__ILP32__)) && !(defined(__AARCH64EL__) && !defined(__ILP32__)) \
-    && !(defined(__riscv) && __riscv_xlen == 64)
-#error "libtftp is built for x86-64, ARM64 and RISC-V of 64 bits, little-endian, and for no other processor"
+#elif defined(__ILP32__) || !(defined(__x86_64__) || defined(__AARCH64EL__))
+#error "libtftp is built for x86-64 and for little-endian ARM64, with pointers of 64 bits, and for no other processor"
 #else
 #include <stdbool.h>
 #include <stddef.h>

@@ -94,8 +94,9 @@ def refused(*words: Union[str, Path]) -> str:
 
 def is_for_this() -> None:
     """A standard before C99, and a processor that the library is not built for, are refused by a line that says so."""
+    others = [["gcc", "-m32"], ["gcc", "-mx32"], *[[it] for it in ["riscv64-linux-gnu-gcc"] if shutil.which(it)]]
     for words, said in [(["gcc", "-std=c89"], "needs C99"), (["gcc", "-std=gnu90"], "needs C99"),
-                        (["gcc", "-m32"], "no other processor"), (["gcc", "-mx32"], "no other processor")]:
+                        *[(words, "no other processor") for words in others]]:
         if said not in refused(*words):
             raise AssertionError(f"{' '.join(words)}: {refused(*words)}")
 

@@ -1,5 +1,6 @@
 -- Which fault an opening returns, and when.
-use Rattle.std.specs.Prelude.{ℕ, ◌≡◌, ◌+◌, ◌*◌, ◌<◌, ◌≤◌, ◌⊎◌, List, [], length, Option, None, Result, Ok, Err}
+use Rattle.std.specs.Prelude.{ℕ, ◌≡◌, ◌+◌, ◌*◌, ◌<◌, ◌≤◌, ◌⊎◌, List, [], length, Option, None}
+use Rattle.std.specs.Prelude.{Result, Ok, Err}
 use Rattle.std.specs.Prelude.{IsSome}
 use Rattle.tftp_wire.specs.Spelling.{Spells, canonical}
 use Rattle.tftp_wire.specs.declared.limits.TheConstants.{HEADER}

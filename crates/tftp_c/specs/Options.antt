@@ -1,5 +1,6 @@
 -- The options that C gives: the bytes of its struct, of which it states how many there are.
-use Rattle.std.specs.Prelude.{ℕ, ◌≡◌, ◌≤◌, ◌<◌, ◌+◌, ◌*◌, ◌⊎◌, Bool, not, ◌==◌, List, [], ◌∷◌, get_or, length}
+use Rattle.std.specs.Prelude.{ℕ, ◌≡◌, ◌≤◌, ◌<◌, ◌+◌, ◌*◌, ◌⊎◌, Bool, not, ◌==◌, List, [], ◌∷◌}
+use Rattle.std.specs.Prelude.{get_or, length}
 use Rattle.std.specs.Int.{w64, from_le_bytes}
 use Rattle.tftp_c.specs.declared.event.TftpOptions.{TftpOptions}
 

@@ -4,7 +4,8 @@ ghost use Rattle.std.specs.Prelude.{◌≡◌, ◌≤◌, IfOk, IfErr, OnOk, len
 ghost use Rattle.tftp_ends.specs.Files.{AreFilesOf};
 ghost use Rattle.tftp_server.specs.Config.{IsConfig};
 ghost use Rattle.tftp_c.specs.Faults.{GetFails, PutFails, ReturnsHeld, StartRefused};
-ghost use Rattle.tftp_c.specs.HeldServer.{config_of, table_fault, OpensAt, OpensGet, OpensPut, Starts};
+ghost use Rattle.tftp_c.specs.HeldServer.{config_of, table_fault, OpensAt, OpensGet, OpensPut};
+ghost use Rattle.tftp_c.specs.HeldServer.{Starts};
 ghost use Rattle.tftp_c.specs.Elsewhere.{stated_in_files};
 ghost use Rattle.tftp_c.specs.Options.{HasSize, options_in};
 ghost use Rattle.tftp_c.specs.Reports.{endpoint_of};

@@ -1,6 +1,7 @@
 //! How a client opens for C.
 
-ghost use Rattle.std.specs.Prelude.{◌≡◌, ◌↔◌, ◌⊎◌, ◌≤◌, IfOk, IfErr, IsTrue, None, OnOk, OnErr, Some};
+ghost use Rattle.std.specs.Prelude.{◌≡◌, ◌↔◌, ◌⊎◌, ◌≤◌, IfOk, IfErr, IsTrue, None, OnOk, OnErr};
+ghost use Rattle.std.specs.Prelude.{Some};
 ghost use Rattle.std.specs.Prelude.{false, length as list_length};
 ghost use Rattle.tftp_ends.specs.Opening.{MayGet, MayPut, getting, putting};
 ghost use Rattle.tftp_ends.specs.End.{record_of, seconds_of};

@@ -1,7 +1,8 @@
 //! How a server's end opens for C: by a request that the caller has read, and looked up.
 
 ghost use Rattle.std.specs.Prelude.{◌≡◌, ◌-◌, ◌*◌, ◌<◌, ◌≤◌, List, ℕ, Some, None, length};
-ghost use Rattle.std.specs.Prelude.{IfOk, IfErr, IfSome, OnOk, OnErr, length as list_length, max, min};
+ghost use Rattle.std.specs.Prelude.{IfOk, IfErr, IfSome, OnOk, OnErr, length as list_length, max};
+ghost use Rattle.std.specs.Prelude.{min};
 ghost use Rattle.tftp_negotiate.specs.Ranges.{IsBlockSize};
 ghost use Rattle.tftp_wire.specs.Borrowed.{owned_request};
 ghost use Rattle.tftp_wire.specs.Spelling.{Spells};
@@ -14,7 +15,8 @@ ghost use Rattle.tftp_c.specs.Faults.{ServeGetFault, ServePutFault};
 ghost use Rattle.tftp_c.specs.Options.{HasSize, options_in};
 ghost use Rattle.tftp_c.specs.Waits.{backoff_of};
 ghost use Rattle.tftp_c.specs.Reports.{endpoint_of};
-ghost use Rattle.tftp_c.specs.ServerOpens.{limits_of, read_limits, AnswersGet, AnswersPut, FirstSent};
+ghost use Rattle.tftp_c.specs.ServerOpens.{limits_of, read_limits, AnswersGet, AnswersPut};
+ghost use Rattle.tftp_c.specs.ServerOpens.{FirstSent};
 ghost use Rattle.tftp_c.specs.ServerOpens.{LimitsBlocks, ServesGet, ServesPut};
 ghost use Rattle.tftp_c.specs.Stated.{KnowsFirst};
 

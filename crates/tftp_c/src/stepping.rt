@@ -1,9 +1,11 @@
 //! The steps of an end for C.
 
 ghost use Rattle.std.specs.Prelude.{◌≡◌, ◌≤◌, true, false, length, IfOk, OnErr};
-ghost use Rattle.tftp_ends.specs.End.{is_sender};
+ghost use Rattle.tftp_ends.specs.End.{is_sender, record_of};
 ghost use Rattle.tftp_c.specs.Handled.{Received, Sent, Stored, Taken, TimedOut};
-ghost use Rattle.tftp_c.specs.Stated.{LearnsFrom};
+ghost use Rattle.tftp_c.specs.Reports.{Reports, Sends};
+ghost use Rattle.tftp_c.specs.Stated.{Learns, LearnsFrom};
+ghost use Rattle.tftp_ends.specs.Step.{lent};
 ghost use Rattle.tftp_c.specs.Waits.{Waits};
 
 use crate::client::Client;
@@ -70,6 +72,38 @@ fn take(
     }
 }
 
+/// Reports the step that an end has made, with the number of bytes that it moved, and notes what its
+/// peer stated by it.
+#[inline(always)]
+fn conclude(
+    client: &mut Client,
+    known: Option<Endpoint>,
+    datagram: &[u8],
+    made: (Step, Outgoing, usize),
+    reply: &mut [u8],
+    event: &mut TftpEvent,
+)
+    ensures end { client.new.end ≡ client.old.end }
+    ensures backoff { client.new.backoff ≡ client.old.backoff }
+    ensures learns { Learns known (record_of client.old.end).peer datagram.now client.old.stated
+        client.new.stated }
+    ensures sends { Sends made.0.to (lent made.1 client.old.end) reply.new event.new }
+    ensures fits { event.new.send_len ≤ length reply.old }
+    ensures file { event.new.file_len ≡ made.2 }
+    ensures progress { event.new.progress ≡ made.0.progress }
+    ensures waits { Waits client.old.backoff client.old.end event.new }
+    ensures reports { Reports client.old.end event.new }
+{
+    let (step, outgoing, count) = made;
+    let state = client.end.record();
+    if known.is_none() {
+        client.stated = stated_after(known, state.peer, datagram, client.stated);
+    }
+    let wait = wait_of(&client.end, client.backoff);
+    let answer = client.end.bytes_of(outgoing);
+    report_record(&state, wait, step, answer, reply, count, event);
+}
+
 /// Handles a datagram at a receiver.
 // A block's step is one function, down to the copy: no phase and no action is copied between calls.
 #[inline(always)]
@@ -94,20 +128,8 @@ pub(crate) fn receive(
         return event::WRONG_SIDE;
     }
     match store(&mut client.end, endpoint(from), datagram, file) {
-        Ok((step, outgoing, count)) => {
-            let after = client.end.record();
-            if before.peer.is_none() {
-                client.stated = stated_after(before.peer, after.peer, datagram, client.stated);
-            }
-            report_record(
-                &after,
-                wait_of(&client.end, client.backoff),
-                step,
-                client.end.bytes_of(outgoing),
-                reply,
-                count,
-                event,
-            );
+        Ok(made) => {
+            conclude(client, before.peer, datagram, made, reply, event);
             0
         }
         Err(fault) => number(fault),
@@ -138,20 +160,8 @@ pub(crate) fn send(
         return event::WRONG_SIDE;
     }
     match take(&mut client.end, endpoint(from), datagram, next) {
-        Ok((step, outgoing, count)) => {
-            let after = client.end.record();
-            if before.peer.is_none() {
-                client.stated = stated_after(before.peer, after.peer, datagram, client.stated);
-            }
-            report_record(
-                &after,
-                wait_of(&client.end, client.backoff),
-                step,
-                client.end.bytes_of(outgoing),
-                reply,
-                count,
-                event,
-            );
+        Ok(made) => {
+            conclude(client, before.peer, datagram, made, reply, event);
             0
         }
         Err(fault) => number(fault),
