@@ -108,7 +108,8 @@ def text_of(test: Any) -> str:
         function = left.pop()
         text = found[function] = inspect.getsource(function)
         named = [vars(inspect.getmodule(function)).get(word) for word in {*re.findall(r"\w+", text)}]
-        left += [it for it in named if inspect.isfunction(it) and it not in found and Path(inspect.getfile(it)).parent == folder]
+        left += [it for it in named
+                 if inspect.isfunction(it) and it not in found and Path(inspect.getfile(it)).parent == folder]
     return "\n".join(found.values())
 
 
@@ -258,7 +259,7 @@ def main() -> None:
             faults += statuses(programs)
         for words in checks:
             done = subprocess.run([*map(str, words)], cwd=TOP, env=env, stdin=subprocess.DEVNULL, check=False)
-            faults += [f"{Path(words[0]).name} {' '.join(map(str, words[1:3]))}: status {done.returncode}"] * bool(done.returncode)
+            faults += [f"{' '.join(map(str, words[:3]))}: status {done.returncode}"] * bool(done.returncode)
         for why, count in out.items():
             print(f"arm64: {count} tests of tools/loopback are left out: {why}")
         count = 0

@@ -50,7 +50,8 @@ class Firmware:
         flash = "if=pflash,format=raw"
         return [*self.words, "-display", "none", "-serial", "stdio", "-monitor", "none", "-no-reboot",
                 "-drive", f"{flash},readonly=on,file={self.code}", "-drive", f"{flash},file={room}/variables",
-                "-drive", f"if=none,id=disk,format=raw,file=fat:rw:{folder}", "-device", "virtio-blk-pci,drive=disk,bootindex=0",
+                "-drive", f"if=none,id=disk,format=raw,file=fat:rw:{folder}",
+                "-device", "virtio-blk-pci,drive=disk,bootindex=0",
                 "-netdev", "user,id=net", "-device", "virtio-net-pci,netdev=net,romfile="]
 
 
@@ -100,7 +101,8 @@ def tried(room: Path, found: list[Firmware], skipped: list[str]) -> list[str]:
     with Scene({}, room / "scene", "127.0.0.1") as scene:
         scene.make("image", content)
         (room / "served/image").write_bytes(content)
-        with Server(programs(["tftpd"])["tftpd"], "127.0.0.1", room, ["--forever", "--read-only"], 900, root="served") as server:
+        tftpd, words = programs(["tftpd"])["tftpd"], ["--forever", "--read-only"]
+        with Server(tftpd, "127.0.0.1", room, words, 900, root="served") as server:
             servers = {"tftpd": server.address[1]}
             if other:
                 room.chmod(0o755)

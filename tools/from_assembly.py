@@ -77,7 +77,8 @@ def says(top: Path) -> list[str]:
     """What is wrong with what the archive says of itself."""
     text, faults = (top / "BUILT-FROM").read_text(), []
     commit = run("git", "rev-parse", "HEAD").strip()
-    for wanted in [f"commit {commit}", "logic ", *(f"{arch}/{name}.s logic=proved " for arch in PROCESSORS for name in [*NAMES, "libtftp"])]:
+    verdicts = [f"{arch}/{name}.s logic=proved " for arch in PROCESSORS for name in [*NAMES, "libtftp"]]
+    for wanted in [f"commit {commit}", "logic ", *verdicts]:
         if wanted not in text:
             faults.append(f"BUILT-FROM does not say `{wanted}`")
     lines = len((top / "Makefile").read_text().splitlines())
@@ -135,7 +136,8 @@ ROWS = ["the archive", "gcc", "musl-gcc", COMPILER]
 
 def main() -> None:
     rows.listed(ROWS)
-    skipped, tried = [it for it in ["xz", "git", "gcc", "musl-gcc", COMPILER, EMULATOR] if not shutil.which(it)], ["the archive"]
+    skipped = [it for it in ["xz", "git", "gcc", "musl-gcc", COMPILER, EMULATOR] if not shutil.which(it)]
+    tried = ["the archive"]
     if {"xz", "git", "gcc"} & {*skipped}:
         print(f"from assembly: skipped: no {', no '.join(skipped)}")
         rows.ended(0, len(ROWS))

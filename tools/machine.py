@@ -121,7 +121,8 @@ def tried(parts: Path, room: Path) -> list[str]:
             first = lines_until(machine, "serves")
             is_served(built["tftp"], room, f"{to[0]}:{to[1]}", expected)
             last = lines_until(machine, "left behind")
-    faults = [f"{line}: expected {expected}" for line in [*first, *last] if re.match("got|has", line) and not line.endswith(expected)]
+    faults = [f"{line}: expected {expected}" for line in [*first, *last]
+              if re.match("got|has", line) and not line.endswith(expected)]
     if not re.match("is aarch64, tftpd ", first[0]) or len([it for it in first if it.startswith("got")]) != 3:
         faults.append(f"what the machine printed first: {first}")
     if hashlib.sha256((served / "from-the-machine").read_bytes()).hexdigest() != expected:

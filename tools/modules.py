@@ -167,8 +167,8 @@ def for_bare_machines(arch: str, room: Path) -> None:
     text = text_of(module_in(place_of(arch, LIBRARY)))
     if bad := re.findall(r"(?m)^define (?!.* #\d+ (?:.* )?\{$).*$|^attributes .*target-features.*$", text):
         sys.exit(f"modules: functions whose attributes are not as they were known to be: {bad[:3]}")
-    exchanged, module = re.sub(r"(?m)^(attributes #\d+ = \{.*) \}$", rf"\1 {BARE_ATTRIBUTES[arch]} }}", text), room / "module.ll"
-    module.write_text(exchanged)
+    module = room / "module.ll"
+    module.write_text(re.sub(r"(?m)^(attributes #\d+ = \{.*) \}$", rf"\1 {BARE_ATTRIBUTES[arch]} }}", text))
     shutil.copy2(place_of(arch, LIBRARY) / "words", room / "words")
     assembled(room, BARE, exchanged=BARE_WORDS[arch])
 

@@ -3,8 +3,8 @@
 
 `make` builds tftp, tftpd and the library for C for every processor of x86-64 (tools/build.sh), and `rt ci` all programs
 for x86-64-v2. So these three are compiled here once more, over the libraries that `rt ci` left, by the prover, which
-proves the functions of their own crates again, and none below (tools/modules.py, which keeps their modules); tftp-show and tftp-play are those of `rt ci`. What comes
-out is the same, byte for byte, as what `make` builds. Where checks of this checkout have left libraries of their own,
+proves the functions of their own crates again, and none below (tools/modules.py, which keeps their modules); tftp-show and
+tftp-play are those of `rt ci`. What comes out is the same, byte for byte, as what `make` builds. Where checks of this checkout have left libraries of their own,
 of the same text, those are used; and where of another, `rt` proves them again.
 """
 import shutil
