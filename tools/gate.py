@@ -34,10 +34,10 @@ LIMITS = {"tools/soak/run.py": 2_400, "tools/shipped.py": 3_600, "tools/loopback
 # (each line is shown as it comes)
 UNBUFFERED = {**os.environ, "PYTHONUNBUFFERED": "1"}
 # What checks need that a host may lack, by the words of .ci/packages. A check that is not here may skip nothing
-CLIENTS = "busybox curl tftp"
+CLIENTS = "curl tftp"
 NEEDS = {
     "tools/same_options.py": "mandoc systemd-analyze", "tools/check_documents.py": "gcc cargo",
-    "tools/check_install.py": "mount dpkg-deb lintian fakeroot dpkg-shlibdeps cc cargo cmake pkg-config zsh fish",
+    "tools/check_install.py": "mount dpkg-deb lintian dpkg-shlibdeps cc cargo cmake pkg-config zsh fish",
     "tools/disk_trace.py": "strace trace", "tools/power_cuts.py": "strace trace",
     "tools/lint.py": "mypy pyflakes3 shellcheck", "tools/processors.py": "qemu-x86_64 cc",
     "tools/captures.py": f"root tcpdump tshark capture {CLIENTS}",

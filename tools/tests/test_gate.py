@@ -2,6 +2,7 @@
 and where anything is gone or weaker than tools/manifest.txt has it; and it ends with one line that counts all. A stand-in takes
 the place of `rt`, and of the repository one of a crate and two checks."""
 import os
+import re
 import shutil
 import subprocess
 import sys
@@ -10,6 +11,9 @@ import unittest
 from pathlib import Path
 
 TOP = Path(__file__).resolve().parent.parent.parent
+sys.path[:0] = [str(TOP / "tools")]
+import gate
+
 # A kit says how many edits were refused in a count at the end, or in a line for each edit
 SAID = "rt: ok; handles allowed: Net; must-fail edits: {} refused; every proof and must-fail edit was done in this run"
 REFUSED = "rt: must-fail a/{}.edit: refused, as it must be: src/lib.rt:3:5: error: the goal is open"
@@ -77,6 +81,22 @@ class Stand(unittest.TestCase):
         done = self.run_gate(said, checks, **more)
         self.assertEqual((done.returncode, done.stdout.splitlines()[-1]), (status, last), done.stdout + done.stderr)
         return done.stdout
+
+
+class Needs(unittest.TestCase):
+    """What a check needs is said by the words of .ci/packages, and of checks that the gate has."""
+
+    def test_the_words(self) -> None:
+        packages = (TOP / ".ci/packages").read_text()
+        lists = re.findall(r"(?ms)^(?:NEEDS|SERVERS|FILES)='(.*?)'$", packages)
+        known = {word for text in lists for line in text.splitlines() for word in line.split()}
+        known |= set(re.findall(r"(?m)^ *may (\w+) ", packages)) | set(re.findall(r"(?:words\+=\(|\|\| echo )([\w-]+)", packages))
+        for check, words in gate.NEEDS.items():
+            self.assertEqual(set(words.split()) - known, set(), check)
+
+    def test_the_checks(self) -> None:
+        names = {gate.manifest.name_of(check) for check in gate.manifest.checks_of_makefile()}
+        self.assertEqual(set(gate.NEEDS) - names, set())
 
 
 class Gate(Stand):
