@@ -59,10 +59,15 @@ bare)
     object heap -ffreestanding -fno-stack-protector $plain
     # shellcheck disable=SC2086
     $CC -c "$modules/libtftp-bare/libtftp-bare.s" -o "$room/libtftp-bare.o"
-    rm -f "$folder/libtftp-bare.a"
-    # the same bytes from the same objects
-    ar=$($CC -print-prog-name=ar)
-    (cd "$room" && "$ar" rcsD libtftp-bare.a libtftp-bare.o heap.o)
+    # one object, in which the names that the toolchain gives the heap are local
+    ar=$($CC -print-prog-name=ar) ld=$($CC -print-prog-name=ld) objcopy=$($CC -print-prog-name=objcopy)
+    (
+        cd "$room"
+        "$ld" -r -o joined libtftp-bare.o heap.o
+        "$objcopy" --wildcard --localize-symbol='rattle_*' joined libtftp-bare.o
+        # the same bytes from the same objects
+        "$ar" rcsD libtftp-bare.a libtftp-bare.o
+    )
     mv "$room/libtftp-bare.a" "$folder/libtftp-bare.a"
     ;;
 libtftp) CC=$CC tools/library.sh "$folder" "$modules/libtftp/archive.a" ;;
