@@ -37,7 +37,7 @@ BESIDE = {
     "systemctl enable --now tftpd@": "it needs root and systemd; by hand tools/units.py; the rules: tools/network.py",
     "tftpd /srv/tftp --listen 192.0.2.1:69 ": "it needs port 69; tools/network.py runs the units' lines, with these options",
     "tar -xf fanjuvery-": "it needs the archive, which the gate builds and installs",
-    "tftp get 192.0.2.1 pxelinux.0 ": "it names a server of a network; tools/loopback/ gets files by both programs",
+    "tftp get 192.0.2.1:69 pxelinux.0 ": "it names a server of a network; tools/loopback/ gets files by both programs",
     "dhcp-": "`dnsmasq --test`, below",
     "option architecture code 93 ": "the syntax of ISC dhcpd; by hand `dhcpd -t`",
     "nft add table ip tftp\n": "tools/network.py",
