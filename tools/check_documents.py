@@ -52,9 +52,9 @@ BESIDE = {
 }
 # The same of commands within a sentence, by their beginnings
 WITHIN = {
-    r"rt (?:check|test|run|lib|must-fail|ci|fmt|tidy)\b": "`rt ci` does it of every crate",
+    r"rt (?:all check|check|test|run|lib|must-fail|ci|fmt|tidy)\b": "`rt ci` does it of every crate",
     r"rt (?:doc|lemma|new|plant|try)\b": "for who changes the code; no page shows what they print",
-    r"make (?:test|run|libtftp|tftp(?:-show)?|docs|install|manifest|deb dist|&& sudo make install)\b": "the gate, or a check of it",
+    r"make (?:test|run|libtftp|tftp(?:-show)?|docs|install|manifest|deb dist|ARCH=arm64 deb|&& sudo make install)\b": "the gate, or a check of it",
     r"make (?:bench|bench-udp|behaviours|coverage|mutated-inputs|plants|quick|slips|soak|walk|weights)\b": "by hand, since they take long; the gate tries a part",
     r"python3 -m unittest$": "the gate",
     r"tools/(?:library_abi|plants|version)\.py ": "by hand: they write, and search",
