@@ -37,7 +37,7 @@ BESIDE = {
     "systemctl enable --now tftpd@": "it needs root and systemd; by hand tools/units.py; the rules: tools/network.py",
     "tftpd /srv/tftp --listen 192.0.2.1:69 ": "it needs port 69; tools/network.py runs the units' lines, with these options",
     "tar -xf fanjuvery-": "it needs the archive, which the gate builds and installs",
-    "tftp get 192.0.2.1 pxelinux.0 ": "it names a server of a network; tools/loopback/ gets files by both programs",
+    "tftp get 192.0.2.1:69 pxelinux.0 ": "it names a server of a network; tools/loopback/ gets files by both programs",
     "dhcp-": "`dnsmasq --test`, below",
     "option architecture code 93 ": "the syntax of ISC dhcpd; by hand `dhcpd -t`",
     "nft add table ip tftp\n": "tools/network.py",
@@ -52,9 +52,9 @@ BESIDE = {
 }
 # The same of commands within a sentence, by their beginnings
 WITHIN = {
-    r"rt (?:check|test|run|lib|must-fail|ci|fmt|tidy)\b": "`rt ci` does it of every crate",
+    r"rt (?:all check|check|test|run|lib|must-fail|ci|fmt|tidy)\b": "`rt ci` does it of every crate",
     r"rt (?:doc|lemma|new|plant|try)\b": "for who changes the code; no page shows what they print",
-    r"make (?:test|run|libtftp|tftp(?:-show)?|docs|install|manifest|deb dist|&& sudo make install)\b": "the gate, or a check of it",
+    r"make (?:test|run|libtftp|tftp(?:-show)?|docs|install|manifest|deb dist|ARCH=arm64 deb|&& sudo make install)\b": "the gate, or a check of it",
     r"make (?:bench|bench-udp|behaviours|coverage|mutated-inputs|plants|quick|slips|soak|walk|weights)\b": "by hand, since they take long; the gate tries a part",
     r"python3 -m unittest$": "the gate",
     r"tools/(?:library_abi|plants|version)\.py ": "by hand: they write, and search",

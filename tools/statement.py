@@ -16,14 +16,14 @@ DOCUMENT = TOP / "docs" / "STATEMENT.md"
 
 HEAD = """# The theorem, word by word
 
-`make docs` makes this page from the definitions in `crates/*/specs`, which the prover checks as they stand there. Read
-it from the top. Two things that the theorem rests on are in docs/PROVED.md: that traces are true, and that no peer is
-blamed.
+`make docs` makes this page from the definitions in `crates/*/specs`, which the prover checks as they stand there. The
+page is to be read from the top. Two things that the theorem rests on are in [PROVED.md](PROVED.md): that traces are
+true, and that no peer is blamed.
 
 The page is about runs that have ended: `tftpd` and each `tftp` have returned, and `status` is what they returned. The
 theorem says nothing of a server that still runs, or that a signal has ended. `ip` is the address of the host of a run.
-It is no argument: the premise on the network says where datagrams can come from, and `AllAsk` says that the arguments
-of the clients name the server's address.
+This address is no argument of the program: the premise on the network says where datagrams can come from, and `AllAsk`
+says that the arguments of the clients name the server's address.
 
 ## Notation
 
