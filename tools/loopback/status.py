@@ -310,11 +310,11 @@ def test_words_of_a_status_file(scene) -> None:
                         ("same/../runs/a", f"{ROOT}/../runs/./a")]:
         said = f"tftpd: file fault\ntftpd: --status {file}: of this server it would be the file of --drain\n"
         expect(refused(scene, ["--status", file, "--drain", drain]), said, f"what is said of {file} and {drain}")
-    # (the first server may listen by then)
+    # (the first server may listen by then, and write its file)
     words = ["--status", "a.prom", "--drain", "a.2.prom", "--servers", "2", "--forever"]
     said = refused(scene, words, printed=r"(listening .*\n)?")
     expect("of this server it would be the file of --drain" in said, True, f"what is said of a server's file: {said}")
-    expect([name for name in scene.files() if name not in ("a.1.prom", "runs", "same")], [], "the files")
+    expect([name for name in scene.files() if name not in ("a.1.prom", "a.1.prom~", "runs", "same")], [], "the files")
 
 
 def refused(scene, words, printed="") -> str:
