@@ -59,7 +59,7 @@ CHECKS := tools/same_options.py tools/check_install.py tools/check_documents.py 
 	'$(MAKE) --no-print-directory sampled' tools/statuses.py tools/captures.py tools/memory_in_turn.py \
 	tools/lost_requests.py tools/out_of_memory.py tools/tests/run.py tools/mutated_inputs.py tools/c_library.py \
 	tools/library_abi.py tools/library_chroot.py tools/dashboard.py tools/loopback/run.py tools/behaviours.py \
-	'tools/network.py bin/tftp bin/tftpd' 'tools/lossy.py --short bin/tftp bin/tftpd' tools/soak/run.py 'tools/slips.py --few' \
+	'tools/network.py bin/tftp bin/tftpd' 'tools/lossy_trial.py --short bin/tftp bin/tftpd' tools/soak/run.py 'tools/slips.py --few' \
 	tools/arm64.py tools/from_assembly.py tools/bare.py tools/machine.py tools/efi.py
 
 .PHONY: build programs libtftp bare assembly run sample sampled manifest tftp-show tftp-play tftp tftpd test quick docs \

@@ -47,7 +47,7 @@ NEEDS = {
     "tools/dashboard.py": "prometheus promtool prometheus-node-exporter",
     "tools/loopback/run.py": "root valgrind strace trace mount ipv6 networks tftp", "tools/soak/run.py": "mount",
     "tools/behaviours.py": "strace trace", "tools/network.py": "ip nft unshare networks mount filter",
-    "tools/lossy.py": "root ip nft unshare networks filter busybox tftp in.tftpd",
+    "tools/lossy_trial.py": "root ip nft unshare networks filter busybox tftp in.tftpd",
     "tools/arm64.py": f"root aarch64-linux-gnu-gcc libc6-dev-arm64-cross qemu-aarch64 dpkg-deb in.tftpd atftpd dnsmasq {CLIENTS}",
     "tools/from_assembly.py": "root mount xz git gcc make musl-gcc aarch64-linux-gnu-gcc libc6-dev-arm64-cross qemu-aarch64",
     "tools/machine.py": "aarch64-linux-gnu-gcc libc6-dev-arm64-cross qemu-system-aarch64 cpio arm64-parts",

@@ -1,5 +1,5 @@
 #!/usr/bin/env python3
-"""Counts the transfers that complete while datagrams are lost: lossy.py [--short] [TFTP TFTPD]
+"""Counts the transfers that complete while datagrams are lost: lossy_trial.py [--short] [TFTP TFTPD]
 
 `tftp` and `tftpd`, with and without --backoff, transfer a file with Debian's clients and servers, both ways, between two
 hosts that each lose a share of the datagrams that arrive (nft). A pair makes all its transfers at once. Counted are the
