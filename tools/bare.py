@@ -3,7 +3,7 @@
 
 Makes libtftp-bare.a for amd64 and arm64, and reads what its objects have. In the disassembly no instruction names a register
 of SSE, MMX or x87, of floating point or SIMD, and none reads or writes below the stack pointer. All code is position
-independent. It calls memmove, memset and the heap of tftp.h alone. Nothing calls itself and no call is through a pointer, so
+independent. It calls memcpy, memmove, memset and the heap of tftp.h alone. Nothing calls itself and no call is through a pointer, so
 the most stack that each call takes is the longest way through the calls that it makes. No call takes more than the table in
 man/tftp.3 says, which --write makes anew, and all code is no larger. The client of examples/c is linked to it with
 ports/malloc.c, and gets a file of tftpd in blocks of 1428 bytes; that of ARM64 by qemu-aarch64.
@@ -26,7 +26,7 @@ from lib.process import Server
 from lib.programs import TOP, programs
 
 # what the archive may call
-CALLS = {"memmove", "memset", "tftp_alloc", "tftp_realloc", "tftp_free"}
+CALLS = {"memcpy", "memmove", "memset", "tftp_alloc", "tftp_realloc", "tftp_free"}
 MANUAL, MAP = TOP / "man/tftp.3", TOP / "packaging/libtftp.map"
 LENGTH = 1_000_003
 

@@ -2,10 +2,10 @@
 """Counts the transfers that complete while datagrams are lost: lossy.py [--short] [TFTP TFTPD]
 
 `tftp` and `tftpd`, with and without --backoff, transfer a file with Debian's clients and servers, both ways, between two
-hosts that each lose a share of the datagrams that arrive (nft). A pair makes all its transfers at once. A transfer is
-complete if the client says so in time and the file is whole where it was to come. The table of docs/PERFORMANCE.md is
-what this prints. `--short` makes few transfers of the pairs that --backoff is for, and fails if these are not complete;
-it takes less than a minute.
+hosts that each lose a share of the datagrams that arrive (nft). A pair makes all its transfers at once. Counted are the
+files that are whole where they were to come, and of these the transfers that the client reports as complete: the last
+acknowledgement of a put may be lost for good. The table of docs/PERFORMANCE.md is what this prints. `--short` makes few
+transfers of the pairs that --backoff is for, and fails if too few of their files come; it takes less than a minute.
 
 Without words it takes the programs that `rt ci` built. Hosts are network namespaces, of which nothing is left. A pair
 whose program is not installed is skipped, and all is without root or where no namespaces can be made; a line says so.
@@ -74,6 +74,7 @@ class Pair:
     client: str
     server: str
     is_put: bool
+    whole: int = 0
     complete: int = 0
     slowest: float = 0
 
@@ -147,12 +148,13 @@ class Transfers:
                 self.pair.slowest = time.monotonic() - self.began
 
     def end(self) -> None:
-        """Ends those that run still."""
+        """Ends those that run still, and counts the files."""
         for process, _ in self.running.values():
             process.kill()
         for process, _ in self.running.values():
             process.wait()
         self.running = {}
+        self.pair.whole = sum(self.has_copy(i) for i in range(self.count))
 
 
 def lose(hosts, share) -> None:
@@ -199,15 +201,15 @@ def run_short(pairs, programs, hosts) -> int:
     failed = 0
     try_pairs(pairs, programs, SHORT_LOSS, FEW, SHORT_LENGTH, SHORT_TIME, hosts)
     for pair in pairs:
-        if pair.complete < LEAST:
-            print(f"lossy: {pair}: {pair.complete} of {FEW} complete, at least {LEAST} expected")
+        if pair.whole < LEAST:
+            print(f"lossy: {pair}: {pair.whole} of {FEW} files are whole, at least {LEAST} expected")
             failed += 1
     print(f"lossy: {len(pairs)} pairs of {FEW} transfers, {SHORT_LOSS} % lost each way, {failed} failed")
     return min(failed, 1)
 
 
 def run_all(pairs, programs, hosts) -> int:
-    """Prints the table, with the time of the last that was complete."""
+    """Prints the table: the files, the transfers that clients report as complete, and the time of the last of these."""
     print(f"| {TRANSFERS} at once of {LENGTH:,} bytes | " + " | ".join(f"{share} % lost" for share in LOSSES) + " |")
     print("|---|" + "---|" * len(LOSSES))
     step = MOST // TRANSFERS
@@ -217,7 +219,7 @@ def run_all(pairs, programs, hosts) -> int:
             some = [Pair(it.client, it.server, it.is_put) for it in pairs[at:at + step]]
             try_pairs(some, programs, share, TRANSFERS, LENGTH, TIME, hosts)
             for i, pair in enumerate(some):
-                rows.setdefault(i, [str(pair)]).append(f"{pair.complete} ({pair.slowest:.0f} s)")
+                rows.setdefault(i, [str(pair)]).append(f"{pair.whole}; {pair.complete} ({pair.slowest:.0f} s)")
         for row in rows.values():
             print("| " + " | ".join(row) + " |", flush=True)
     return 0

@@ -39,7 +39,7 @@ void *tftp_realloc(void *block, size_t kept, size_t size, size_t align) {
 
 void tftp_free(void *block) { BS->FreePool(block); }
 
-/* what else the library calls, of <string.h> */
+/* what else the library calls, of <string.h>: gnu-efi has memcpy and memset */
 void *memmove(void *to, const void *from, size_t len) {
     BS->CopyMem(to, (void *)from, len);
     return to;

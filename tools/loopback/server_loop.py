@@ -196,13 +196,13 @@ def serve_quickly(scene, *words) -> Server:
 def waits_of(scene, *words) -> list[float]:
     """How long a server waits for each of its timeouts, in seconds of its own time, while a client that gets a file is silent;
     the last ends in the close."""
-    server, port, times = serve_quickly(scene, *words), scene.port(), []
+    server, port, times = serve_quickly(scene, *words), timed_port(scene), []
     port.send(rrq("a"), server.address)
     for _ in range(5):
-        expect(port.receive()[0], data(1, b"ABC"), "the block, and the same again")
-        times.append(time.monotonic())
+        # (the block, and the same again)
+        times.append(arrived(port, data(1, b"ABC"))[0])
     server.has_closed("TimedOut")
-    times.append(time.monotonic())
+    times.append(time.time())
     return [(later - earlier) * QUICKER for earlier, later in zip(times, times[1:])]
 
 

@@ -154,7 +154,7 @@ NOT_OF_SEVERAL = {
     "the range of ports is divided": [
         "test_ports_are_drawn_anew", "test_ports_in_use_are_passed_over",
         "test_a_port_that_refuses_a_write_comes_after_others",
-        "test_a_draft_of_a_failed_transfer", "test_two_servers_share_a_folder",
+        "test_a_draft_of_a_failed_transfer", "test_two_servers_share_a_folder", "test_requests_elsewhere_leave_a_put",
         "test_a_transfer_never_has_the_port_that_is_handed_over"],
     "each server measures a text for itself": ["test_a_text_is_read_once", "test_a_text_is_measured_once"],
     "what is refused is refused to the supervisor, too": ["test_few_open_files", "test_the_disk_fails"],

@@ -9,8 +9,9 @@ from itertools import product
 from pathlib import Path
 from typing import Optional
 
-from datagrams import PATIENCE, PATIENT, ack, data, expect, rrq, wrq
+from datagrams import PATIENCE, PATIENT, ack, data, expect, oack, rrq, wrq
 from scene import Server
+from server_alone import opened
 from servers import children_of, unmarked, wait_for_servers, wait_until
 from several_servers import ended, served
 from lib.metrics import Sample, metrics, promtool_says, value
@@ -276,15 +277,13 @@ def test_open_files_of_64_puts(scene) -> None:
     scene.make_folder(ROOT)
     server = scene.serve("--forever", "--log", "--cap", "64", "--drain", DRAIN, "--status", STATUS, root=ROOT,
                          limit=f"-n {OPEN_FILES}")
-    puts = [(scene.port(), number) for number in range(64)]
-    for port, number in puts:
-        port.send(wrq(f"f{number}", **PATIENT), server.address)
-    transfers = [port.receive()[1] for port, _ in puts]
+    # (a put dallies for two of these timeouts)
+    asked = {"timeout": 5}
+    puts = [opened(scene, server, wrq(f"f{number}", **asked), oack(**asked)) for number in range(64)]
     wanted = {"direction": "write"}
     wait_until(lambda: value(read(scene.folder / STATUS), "tftpd_transfers_open", **wanted) == 64, "64 puts")
-    for (port, _), transfer in zip(puts, transfers):
-        port.send(data(1, b"ABC"), transfer)
-    expect([port.receive()[0] for port, _ in puts], [ack(1)] * 64, "the last answers")
+    for put in puts:
+        put.is_answered(data(1, b"ABC"), ack(1))
     log = drained(scene, server)
     expect([line for line in log if "too many" in line], [], "what is said of open files")
     has_counted(read(scene.folder / STATUS), log)
