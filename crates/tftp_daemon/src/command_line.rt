@@ -18,8 +18,8 @@ use crate::error_output::ErrorOutput;
 use crate::listen::{Listen, has_apart};
 use crate::matched::{is_on, listen_words, server_count};
 use crate::options::{
-    BACKOFF, DRAIN, FOREVER, LISTEN, LOG, LOG_TIME, LONGEST, PER_CLIENT, PORTS, READ_ONLY, REQUESTS_ONLY,
-    ROOT, ROUNDS, SERVER, SERVERS, STATUS, TRANSFERS, Texts, UPLOADS, command,
+    BACKOFF, DRAIN, FOREVER, LISTEN, LOG, LOG_TIME, LONGEST, PER_CLIENT, PORTS, READ_ONLY,
+    REQUESTS_ONLY, ROOT, ROUNDS, SERVER, SERVERS, STATUS, TRANSFERS, Texts, UPLOADS, command,
 };
 use crate::ports::{NoPorts, port_range};
 use crate::refused::{

@@ -11,6 +11,6 @@ returns-in-Ok-clause-place g c =
     (λ _. (
       c.check_place.new.looks,
       subst (λ (before : List DiskEvent). LooksOutside c.args.config.now.root.now (folder_of c.args.file.now) before
-      (g.D.View.Looks.log c.check_place.new.looks)) c.view-looks.ensures c.in-Ok.ensures,
+          (g.D.View.Looks.log c.check_place.new.looks)) c.view-looks.ensures c.in-Ok.ensures,
     ))
     c.check_file_and_drain.ensures
