@@ -62,7 +62,7 @@ WITHIN = {
     r"\./install\.sh install$": "tools/check_install.py",
     r"find /srv/tftp ": "tools/network.py",
     r"(?:exec tftpd /srv/tftp|tftp dgram udp4) ": "tools/loopback/handed_over.py, in place of inetd",
-    r"(?:apt install|setcap|systemctl|journalctl|docker run) ": "they need root, systemd or a network",
+    r"(?:apt (?:install|remove)|setcap|systemctl|journalctl|docker run) ": "they need root, systemd or a network",
     r"(?:boot\.sh|tcpdump|tshark) ": "they need machines in QEMU, or a capture",
     r"(?:tftp|tftpd|tftp-show|tftp-play) (?:get|put|-)": "names of what is run elsewhere; the options: tools/same_options.py",
 }

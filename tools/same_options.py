@@ -209,12 +209,14 @@ class Comparison:
         return given
 
     def check_operating(self) -> None:
-        """The page for operators names each long option of tftpd, and none that no program of ours has."""
+        """The page for operators names each long option of tftpd but one that no operator gives, and none that no program of ours
+        has."""
         pieces = code_of((TOP / OPERATING).read_text())
         alone = {it for piece in pieces if piece.startswith("--") for it in long_ones(OPTION.findall(piece))}
         self.name_no_other(OPERATING, set().union(*self.known.values()), alone)
         named = alone | self.check_commands(OPERATING, pieces)
-        self.differ(OPERATING, long_ones(self.known["tftpd"]), named & self.known["tftpd"])
+        internal = set(re.findall(r"(?m)^ +(--[\w-]+).*  Internal: ", printed(self.paths["tftpd"], "--help")))
+        self.differ(OPERATING, long_ones(self.known["tftpd"]) - internal, (named & self.known["tftpd"]) - internal)
 
     def check_units(self) -> None:
         """The units start tftpd with options that it has, and systemd finds nothing in them."""

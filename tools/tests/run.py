@@ -21,6 +21,8 @@ def main() -> int:
     modules = sorted(path.stem for path in HERE.glob("test_*.py"))
     words = [] if sys.argv[1:] == [rows.LIST] else sys.argv[1:]
     suite = unittest.defaultTestLoader.loadTestsFromNames(words or modules)
+    if unittest.defaultTestLoader.errors:
+        sys.exit("\n".join(unittest.defaultTestLoader.errors))
     rows.listed(test.id() for test in each(suite))
     done = unittest.TextTestRunner(stream=sys.stdout).run(suite)
     for test, why in done.skipped:

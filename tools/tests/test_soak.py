@@ -10,7 +10,7 @@ from typing import Any
 from unittest import mock
 
 TOOLS = Path(__file__).resolve().parent.parent
-sys.path[:0] = [str(TOOLS), str(TOOLS / "soak")]
+sys.path[:0] = [str(TOOLS / "soak"), str(TOOLS)]
 
 import lossy
 import raw

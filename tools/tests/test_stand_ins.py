@@ -14,7 +14,7 @@ from unittest import mock
 
 TOOLS = Path(__file__).resolve().parent.parent
 STAND_INS = TOOLS / "tests/stand_ins"
-sys.path[:0] = [str(TOOLS), str(TOOLS / "soak")]
+sys.path[:0] = [str(TOOLS / "soak"), str(TOOLS)]
 
 import faults
 import hostile
