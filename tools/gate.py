@@ -36,7 +36,7 @@ UNBUFFERED = {**os.environ, "PYTHONUNBUFFERED": "1"}
 # What checks need that a host may lack, by the words of .ci/packages. A check that is not here may skip nothing
 CLIENTS = "curl tftp"
 NEEDS = {
-    "tools/same_options.py": "mandoc systemd-analyze", "tools/check_documents.py": "gcc cargo",
+    "tools/same_options.py": "mandoc systemd-analyze", "tools/check_documents.py": "gcc dnsmasq", "tools/figures.py": "dot",
     "tools/check_install.py": "mount dpkg-deb lintian dpkg-shlibdeps cc cargo cmake pkg-config zsh fish",
     "tools/disk_trace.py": "strace trace", "tools/power_cuts.py": "strace trace",
     "tools/lint.py": "mypy pyflakes3 shellcheck", "tools/processors.py": "qemu-x86_64 cc",
