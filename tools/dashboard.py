@@ -92,7 +92,7 @@ def wanted_of(trial: Trial) -> Mapping[str, Mapping[str, float]]:
         "Complete transfers": is_of["complete"], "Bytes of closed transfers": is_of["bytes"],
         "Failed transfers, by their outcome": {name: sums[name] for name in ["read timed_out", "read peer_error"]},
         "Complete": {"": sums["read complete"] + sums["write complete"]},
-        "Failed": {"": sums["read timed_out"] + sums["read peer_error"]},
+        "Failed": {"": sums["read timed_out"]},
         "Turned away": {"": sums["busy"] + sums["lost"]},
     }
 
