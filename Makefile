@@ -6,11 +6,11 @@
 #   nothing may be skipped. The last line is `N passed, N failed`
 # make quick CRATE=NAME: what a change of one crate is tried by in minutes; make quick: one of tools and documents
 # make manifest: writes tools/manifest.txt, what the gate consists of by name: crates, checks and their rows, wrong bodies, and
-#   each public clause and definition with its hash; and tools/slips.txt, a line for each slip. The gate fails where it is not
+#   each public clause and definition with its hash; and tools/wrong_bodies.txt, a line for each wrong body. The gate fails where it is not
 #   as committed
 # make docs: writes docs/STATEMENT.md and the pictures of docs/ from the sources, and out/DEFINITIONS.md
-# make slips CRATES="NAME ..": tries the wrong bodies in crates/NAME/slips/, of all crates without words; with STALE=1 only
-#   such as changed since they were last refused, or whose crate did; with FEW=5 five of all, by the seed of the commit, as
+# make wrong-bodies CRATES="NAME ..": tries the wrong bodies that not each gate tries, of all crates without words; with STALE=1
+#   only such as changed since they were last refused, or whose crate did; with FEW=5 five of all, by the seed of the commit, as
 #   the gate does
 # make ARCH=arm64 programs libtftp deb: the same for ARM64, proved with that target, into bin/arm64/, linked by CC
 #   (aarch64-linux-gnu-gcc); with STATIC=1 the programs have the C library in themselves, in bin/arm64-static/
@@ -27,11 +27,11 @@
 # make walk: the calls from a received ACK to the block that answers it; with FROM=Flow::add_seen those from any function
 # make weights: what each crate weighs in the gate; make plants CRATE=NAME: which wrong bodies of `rt plant` a crate's
 #   contracts let through
-# make mutated-inputs SECONDS=3600 SEED=2: mutated lines, captures, scripts and command lines for the programs of bin/
+# make mutated-inputs COUNT=100000 SEED=2: mutated lines, captures, scripts and command lines for the programs of bin/, as many of each
 # make bench: the benchmarks of bench/, which are no tests
 # make bench-udp: tftpd and tftp beside the other servers and clients that are installed
 
-# as --version prints it, which tools/same_options.py looks at
+# as --version prints it, which tests/documents looks at
 VERSION := 0.1.0
 PREFIX := /usr/local
 DESTDIR :=
@@ -52,18 +52,12 @@ SOURCES := $(shell find crates -path '*/out' -prune -o \( -name '*.rt' -o -name 
 # what is run behind `rt ci`, over bin/, which holds by then what `make` builds (tools/shipped.py). Each is run with a limit,
 # whatever the others come to, and ends with a count of its rows, which tools/manifest.txt has by name; one that fails is run
 # once more if the host stalled meanwhile. tools/gate.py says what was skipped, what repeated, and what failed
-CHECKS := tools/same_options.py tools/check_install.py tools/check_documents.py tools/cited.py tools/version.py \
-	tools/ratios.py tools/statement.py tools/definitions.py tools/figures.py tools/trusted.py tools/disk_trace.py tools/power_cuts.py \
-	tools/same_pictures.sh \
-	tools/lint.py tools/processors.py tools/walk.py \
-	'$(MAKE) --no-print-directory sampled' tools/statuses.py tools/captures.py tools/memory_in_turn.py \
-	tools/lost_requests.py tools/out_of_memory.py tools/tests/run.py tools/mutated_inputs.py tools/c_library.py \
-	tools/library_abi.py tools/library_chroot.py tools/dashboard.py tools/loopback/run.py tools/behaviours.py \
-	'tools/network.py bin/tftp bin/tftpd' 'tools/lossy_trial.py --short bin/tftp bin/tftpd' tools/soak/run.py 'tools/slips.py --few' \
-	tools/arm64.py tools/from_assembly.py tools/bare.py tools/machine.py tools/efi.py
+CHECKS := tests/documents tests/disk '$(MAKE) --no-print-directory sampled' tests/captures tests/memory \
+	tests/gate tests/mutated tests/library tests/dashboard tests/tftp tests/tftpd tests/tftp_show tests/tftp_play tools/behaviours.py \
+	tests/network tests/soak 'tools/wrong_bodies.py --few' tests/machines
 
 .PHONY: build programs libtftp bare assembly run sample sampled manifest tftp-show tftp-play tftp tftpd test quick docs \
-	slips install uninstall dist deb soak behaviours coverage walk weights plants mutated-inputs bench bench-udp clean
+	wrong-bodies install uninstall dist deb soak behaviours coverage walk weights plants mutated-inputs bench bench-udp clean
 # one after another: each crate is proved by as many processors as there are
 .NOTPARALLEL:
 
@@ -132,7 +126,7 @@ $(BARE): $(SOURCES) tools/modules.py tools/port.sh ports/heap.c
 bare: $(BARE)
 
 mutated-inputs: $(PROGRAMS)
-	tools/mutated_inputs.py $(SECONDS) $(SEED)
+	MUTATED_INPUTS=$(COUNT) MUTATED_SEED=$(SEED) pytest-3 -q -n 4 tests/mutated
 
 test:
 	$(NEEDS_RT)
@@ -142,16 +136,14 @@ quick:
 	@tools/quick.sh '$(CRATE)'
 
 manifest:
-	@tools/slips.py --lines
+	@tools/wrong_bodies.py --lines
 	@tools/manifest.py --write
 
 docs:
-	tools/definitions.py --write
-	tools/statement.py --write
-	tools/figures.py --write
+	docs/made/made.py --write
 
-slips:
-	@tools/slips.py $(if $(FEW),--few $(FEW),--together $(if $(STALE),--stale) $(CRATES))
+wrong-bodies:
+	@tools/wrong_bodies.py $(if $(FEW),--few $(FEW),--together $(if $(STALE),--stale) $(CRATES))
 
 install uninstall:
 	@BIN='$(BIN)' tools/install.sh $@ 'DESTDIR=$(DESTDIR)' 'PREFIX=$(PREFIX)' 'PROGRAM_PREFIX=$(PROGRAM_PREFIX)' \
@@ -170,28 +162,29 @@ deb: $(PROGRAMS) $(LIBRARY)
 	@BIN='$(BIN)' debian/pack.sh '$(VERSION)' '$(ARCH)'
 
 SECONDS := 60
+COUNT := 1000
 SEED := 1
 
 soak: bin/tftp bin/tftpd bin/tftp-show $(LIBRARY)
-	tools/soak/run.py $(SECONDS) $(SEED) bin/tftp bin/tftpd
-	tools/second_reader.py 100000 $(SEED)
-	tools/soak/fuzz.py 300 $(SEED)
+	SOAK_SECONDS=$(SECONDS) SOAK_SEED=$(SEED) pytest-3 -v -n 6 tests/soak
+	tools/by_hand/second_reader.py 100000 $(SEED)
+	tools/by_hand/fuzz.py 300 $(SEED)
 
 behaviours: bin/tftp bin/tftpd
 	tools/behaviours.py --all
 
 coverage: $(PROGRAMS)
-	tools/coverage.py
+	tools/by_hand/coverage.py
 
 walk:
-	@tools/walk.py $(FROM)
+	@tools/by_hand/walk.py $(FROM)
 
 weights:
-	@tools/weights.py
+	@tools/by_hand/weights.py
 
 plants:
 	$(NEEDS_RT)
-	@tools/plants.py '$(CRATE)'
+	@tools/by_hand/plants.py '$(CRATE)'
 
 bench: $(PROGRAMS)
 	bench/show/run.sh bin/tftp-show

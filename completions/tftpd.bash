@@ -4,8 +4,8 @@ _tftpd() {
     local options
     COMPREPLY=()
     options='--listen --requests-only --ports --max-block --max-file --retries --backoff --cap --per-client
-         --longest --overwrite --read-only --uploads --transfers --rounds --forever --drain --servers --server --log --log-time
-         --status --help -h --version -V'
+         --longest --length-memory --overwrite --read-only --uploads --transfers --rounds --forever --drain --servers --server
+         --log --log-time --status --help -h --version -V'
     case $3 in
     --listen)
         mapfile -t COMPREPLY < <(compgen -W stdin -- "$2")
@@ -20,8 +20,8 @@ _tftpd() {
         mapfile -t COMPREPLY < <(compgen -W auto -- "$2")
         return
         ;;
-    --ports | --max-block | --max-file | --retries | --cap | --per-client | --longest | --uploads | --transfers | \
-        --rounds | --server)
+    --ports | --max-block | --max-file | --retries | --cap | --per-client | --longest | --length-memory | --uploads | \
+        --transfers | --rounds | --server)
         return
         ;;
     esac

@@ -12,6 +12,7 @@ _arguments \
   '--cap=[transfers that are open at once]:transfers, 1 to 64:' \
   '--per-client=[transfers of one address that are open at once]:transfers, 1 to 64:' \
   '--longest=[age at which a transfer times out]:seconds:' \
+  '--length-memory=[memory for the lengths of netascii files]:bytes:' \
   '(--read-only)--overwrite[a write replaces a file that is there]' \
   '(--overwrite --uploads)--read-only[refuse every write]' \
   '(--read-only)--uploads=[folder of ROOT that takes all writes]:folder below ROOT:' \

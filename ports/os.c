@@ -1,7 +1,7 @@
 /* The system for the programs, in C: what compiled Rattle code calls by names of its own. The toolchain has objects of
  * them for x86-64 with glibc; this file is linked in their place for another processor or C library, from the assembly
  * too. It is trusted: no proof reads it. Above each function stands what the toolchain declares of it. Only calls that
- * these programs name are here, and tools/from_assembly.py checks that none is missing. Link it with -Wl,--wrap=main.
+ * these programs name are here, and tests/machines/test_from_assembly.py checks that none is missing. Link it with -Wl,--wrap=main.
  *
  * A slice is a pointer and a length. A name ends with a zero byte. -1 leaves the reason in errno. */
 #define _GNU_SOURCE

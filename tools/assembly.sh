@@ -57,6 +57,6 @@ mkdir -p out
 time=$(git log -1 --format=%ct)
 (cd "$room" && find "$name" -type f | LC_ALL=C sort) > "$room/names"
 tar -C "$room" -T "$room/names" -c -f - --format=ustar --mtime="@$time" --owner=0 --group=0 --numeric-owner |
-    xz -9 -T1 > "$room/archive"
+    xz -9 --threads=1 > "$room/archive"
 mv "$room/archive" "out/$name.tar.xz"
 echo "out/$name.tar.xz"

@@ -1,13 +1,14 @@
 #!/usr/bin/env python3
 """Wrong behaviours of the programs, each of which a test has to notice: behaviours.py [--all | BEHAVIOUR..] [TFTP TFTPD]
 
-A library that is loaded before a program (behaviours/shim.c) has it behave wrongly at calls of the C library, in a way that
+A library that is loaded before a program (tests/shims/wrong_behaviours.c) has it behave wrongly at calls of the C library, in a way that
 the proofs do not see: below them stand the trusted files, the toolchain and the disk. The test that stands beside a
 behaviour is run over that program, and fails. Without words five rows are tried, by the seed of the commit; with
 `--all`, as by `make behaviours`, each of them. The status is 1 if a test passes.
 """
 import os
 import random
+import re
 import subprocess
 import sys
 import tempfile
@@ -21,7 +22,7 @@ from lib.preload import compiled
 from lib.programs import TOP, programs
 from lib.seeds import commit_seed
 
-SHIM = TOP / "tools/behaviours/shim.c"
+SHIM = TOP / "tests/shims/wrong_behaviours.c"
 # how many are tried without words, how many at a time, and the longest time of one in seconds
 FEW, AT_ONCE, LIMIT = 5, 3, 420
 TWENTY, RETRIES = "test_twenty_megabytes_arrive", "test_retries_of_a_{}_to_their_end"
@@ -29,16 +30,16 @@ SYNCS, ONCE, MANY = "test_each_kind_of_sync_that_fails", "test_each_block_comes_
 ECHO, FOREIGN = "test_a_block_takes_little_longer_than_an_echo", "test_the_same_port_of_another_address_is_foreign"
 CLOSED, ORDER = "test_descriptors_close_on_exec", "test_ports_cannot_be_foretold"
 AT_ONCE_64, SILENT, ANY_SIZE = "test_sixty_four_at_once", "test_an_hour_of_silence", "test_blocks_of_any_size"
-MOST_512, MOST_1428 = "test_the_most_blocks_of_512", "test_the_most_blocks_of_1428"
+MOST_512, MOST_1428 = "test_the_most_blocks[512]", "test_the_most_blocks[1428]"
 CLIENTS, CALLS, CALLS_OF_CLIENT = ("test_client_ports_of_the_whole_range", "test_calls_of_a_server", "test_calls_of_a_client")
-SIGNALS, SAMPLES, ROWS_OF_JSON = "test_signals", "test_each_sample", "captures.py try_json"
+SIGNALS, SAMPLES, ROWS_OF_JSON = "test_signals", "test_each_sample", "captures/test_captures.py json"
 
 
-BOTH = ["tftp", "tftpd"]
+BOTH, PYTEST = ["tftp", "tftpd"], ["pytest-3", "-q", "-n0"]
 
 
 class Row(NamedTuple):
-    """A behaviour, the program that has it, and what notices it: a test of loopback/, or a tool of its own."""
+    """A behaviour, the program that has it, and what notices it: a test, or the tests of a file."""
     behaviour: str
     program: str
     test: str
@@ -62,11 +63,11 @@ ROWS = [
     Row("ignores_an_error_of_fsync", "tftp", "test_is_synced_and_then_named"),
     Row("ignores_an_error_of_a_folders_fsync", "tftp", "test_is_synced_and_then_named"),
     Row("syncs_nothing", "tftpd", "test_a_name_is_synced"),
-    Row("acks_before_the_folder_is_synced", "tftpd", "disk_trace.py"),
-    Row("acks_before_the_folder_is_synced", "tftpd", "power_cuts.py"),
-    Row("acks_before_the_folder_is_synced", "tftp", "power_cuts.py"),
-    Row("syncs_nothing", "tftp", "power_cuts.py"),
-    Row("renames_over_a_file", "tftpd", "disk_trace.py"),
+    Row("acks_before_the_folder_is_synced", "tftpd", "disk/test_disk_calls.py"),
+    Row("acks_before_the_folder_is_synced", "tftpd", "disk/test_power_cuts.py"),
+    Row("acks_before_the_folder_is_synced", "tftp", "disk/test_power_cuts.py"),
+    Row("syncs_nothing", "tftp", "disk/test_power_cuts.py"),
+    Row("renames_over_a_file", "tftpd", "disk/test_disk_calls.py"),
     # retransmissions
     Row("sends_no_more_than_three_times_again", "tftpd", RETRIES.format("server")),
     Row("sends_no_more_than_three_times_again", "tftp", RETRIES.format("client")),
@@ -78,7 +79,7 @@ ROWS = [
     Row("sends_again_with_a_byte_changed", "tftp", RETRIES.format("client")),
     Row("sends_data_twice_from_block_300", "tftpd", ONCE),
     Row("acknowledges_twice", "tftpd", ONCE),
-    Row("cuts_block_3", "tftpd", "test_blocks_of_512"),
+    Row("cuts_block_3", "tftpd", "test_blocks[one-512]"),
     # time
     Row("takes_a_millisecond_a_datagram", "tftpd", ECHO),
     Row("computes_while_it_waits", "tftpd", ECHO),
@@ -111,16 +112,16 @@ ROWS = [
     Row("is_deaf_after_a_minute_of_silence", "tftpd", SILENT),
     Row("ends_after_five_minutes", "tftpd", SILENT),
     # sizes of blocks and of files
-    *(Row(f"is_wrong_in_blocks_of_{size}", program, f"test_blocks_of_{size}") for size in [1432, 1456] for program in BOTH),
+    *(Row(f"is_wrong_in_blocks_of_{size}", program, f"test_blocks[one-{size}]") for size in [1432, 1456] for program in BOTH),
     *(Row("is_wrong_in_blocks_beyond_30000", program, ANY_SIZE) for program in BOTH),
     *(Row("is_wrong_from_block_40000", program, MOST_512) for program in BOTH),
     *(Row(f"{does}_a_byte_wrong_beyond_32_megabytes", program, MOST_512) for does in ["reads", "stores"] for program in BOTH),
     *(Row(f"{does}_a_byte_wrong_beyond_90_megabytes", program, MOST_1428) for does in ["reads", "stores"] for program in BOTH),
     *(Row("is_wrong_in_the_last_blocks_of_1428", program, MOST_1428) for program in BOTH),
     # networks
-    *(Row("sets_the_df_bit", program, "network.py try_large_blocks") for program in BOTH),
-    *(Row("reaches_two_routers", program, "network.py try_three_routers") for program in BOTH),
-    Row("is_deaf_to_172_16", "tftpd", "network.py try_private_addresses"),
+    *(Row("sets_the_df_bit", program, "test_large_blocks") for program in BOTH),
+    *(Row("reaches_two_routers", program, "test_three_routers") for program in BOTH),
+    Row("is_deaf_to_172_16", "tftpd", "test_private_addresses"),
     Row("is_deaf_to_low_ports", "tftpd", CLIENTS),
     Row("is_deaf_to_high_ports", "tftpd", CLIENTS),
     # beside the transfers: other calls, and what is left or late at the end
@@ -139,28 +140,42 @@ ROWS = [
 ]
 
 
-def wrapped(row: Row, paths: dict[str, str], shim: Path, room: Path) -> list[str]:
+def words_of(row: Row) -> list[str]:
+    """The command line of a row's test: over one server where it has several, or the tests of a file that have a word."""
+    file, _, word = row.test.partition(" ")
+    if file.endswith(".py"):
+        return [*PYTEST, f"tests/{file}", *(["-k", word] if word else [])]
+    name, _, case = row.test.rstrip("]").partition("[")
+    texts = {path: path.read_text() for path in sorted(TOP.glob("tests/*/test_*.py"))}
+    path = next(path for path, text in texts.items() if re.search(rf"\ndef {name}\((?:scene|network)", text))
+    is_alone = re.search(rf"one_server\([^\n]*\n(?:@[^\n]*\n)*def {name}\(", texts[path])
+    if not case and "\nOVER_SEVERAL = True" in texts[path] and not is_alone:
+        case = "one"
+    return [*PYTEST, f"{path}::{name}{f'[{case}]' * bool(case)}"]
+
+
+def wrapped(row: Row, paths: dict[str, str], shim: Path, room: Path) -> None:
     """The programs, one of which has the behaviour; behind its library stands what a test preloads itself."""
+    for name, path in paths.items():
+        if name != row.program:
+            (room / name).symlink_to(path)
     script = room / f"{row.program}"
     preload = f'LD_PRELOAD="{shim}${{LD_PRELOAD:+:$LD_PRELOAD}}"'
     script.write_text(f'#!/bin/sh\n{preload} BEHAVIOUR={row.behaviour} exec {paths[row.program]} "$@"\n')
     script.chmod(0o755)
-    # (a tool of another program has that alone)
-    return [str(script) if name == row.program else paths[name] for name in (BOTH if row.program in BOTH else [row.program])]
 
 
 def tried(row: Row, paths: dict[str, str], shim: Path, room: Path) -> tuple[bool, str, float]:
     """Whether the test notices the behaviour, and what it says."""
     room.mkdir()
-    begun, given = time.monotonic(), wrapped(row, paths, shim, room)
-    tool, *names = row.test.split() if ".py" in row.test else ("loopback/run.py", row.test)
-    words = [f"tools/{tool}", *given, *names]
-    env = {**os.environ, "LOOPBACK_ONCE": "1", "LOOPBACK_PATIENCE": "15", "ASAN_OPTIONS": "detect_leaks=0"}
+    begun = time.monotonic()
+    wrapped(row, paths, shim, room)
+    env = {**os.environ, "TESTS_ONCE": "1", "TESTS_PATIENCE": "15", "TFTP_PROGRAMS": str(room), "ASAN_OPTIONS": "detect_leaks=0"}
     try:
-        done = subprocess.run(words, cwd=TOP, stdin=subprocess.DEVNULL, capture_output=True, text=True, timeout=LIMIT, env=env)
+        done = subprocess.run(words_of(row), cwd=TOP, stdin=subprocess.DEVNULL, capture_output=True, text=True, timeout=LIMIT, env=env)
     except subprocess.TimeoutExpired:
         return False, f"no end after {LIMIT} s", LIMIT
-    said = next((line for line in done.stdout.splitlines() if line.strip()), done.stderr[-200:])
+    said = next((line for line in done.stdout.splitlines() if re.match(r"E  |\S+: ", line)), done.stdout[-200:] + done.stderr[-200:])
     return done.returncode == 1, said[:160], time.monotonic() - begun
 
 

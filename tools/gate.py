@@ -29,31 +29,28 @@ from lib.stalls import LIMIT as STALL, Stalls
 TOP = Path(__file__).resolve().parent.parent
 # The longest time of a check, in seconds, and of those that take longer; `rt ci` has as long as it takes
 LIMIT = 900
-LIMITS = {"tools/soak/run.py": 2_400, "tools/shipped.py": 3_600, "tools/loopback/run.py": 1_500, "tools/arm64.py": 1_800,
-          "tools/from_assembly.py": 1_800}
+LIMITS = {"tests/soak": 2_400, "tools/shipped.py": 3_600, "tests/tftpd": 1_500, "tests/machines": 5_400,
+          "tests/library": 1_800}
+# How many tests of a folder run at the same time
+AT_ONCE = {"tests/tftpd": 8, "tests/tftp": 4, "tests/gate": 4, "tests/documents": 4, "tests/disk": 4, "tests/library": 4,
+           "tests/machines": 1, "tests/network": 4, "tests/soak": 6}
 # (each line is shown as it comes)
 UNBUFFERED = {**os.environ, "PYTHONUNBUFFERED": "1"}
 # What checks need that a host may lack, by the words of .ci/packages. A check that is not here may skip nothing
 CLIENTS = "curl tftp"
 NEEDS = {
-    "tools/same_options.py": "mandoc systemd-analyze", "tools/check_documents.py": "gcc dnsmasq", "tools/figures.py": "dot",
-    "tools/check_install.py": "mount dpkg-deb lintian dpkg-shlibdeps cc cargo cmake pkg-config zsh fish",
-    "tools/disk_trace.py": "strace trace", "tools/power_cuts.py": "strace trace",
-    "tools/lint.py": "mypy pyflakes3 shellcheck", "tools/processors.py": "qemu-x86_64 cc",
-    "tools/captures.py": f"root tcpdump tshark capture {CLIENTS}",
-    "tools/c_library.py": "root gcc clang valgrind objcopy musl-gcc g++ clang++ cargo go in.tftpd atftpd dnsmasq sanitize "
-                          f"{CLIENTS}",
-    "tools/library_abi.py": "cc objcopy abidiff", "tools/library_chroot.py": "root mount dpkg-deb lintian gcc g++ go cargo valgrind",
-    "tools/dashboard.py": "prometheus promtool prometheus-node-exporter",
-    "tools/loopback/run.py": "root valgrind strace trace mount ipv6 networks tftp", "tools/soak/run.py": "mount",
-    "tools/behaviours.py": "strace trace", "tools/network.py": "ip nft unshare networks mount filter",
-    "tools/lossy_trial.py": "root ip nft unshare networks filter busybox tftp in.tftpd",
-    "tools/arm64.py": f"root aarch64-linux-gnu-gcc libc6-dev-arm64-cross qemu-aarch64 dpkg-deb in.tftpd atftpd dnsmasq {CLIENTS}",
-    "tools/from_assembly.py": "root mount xz git gcc make musl-gcc aarch64-linux-gnu-gcc libc6-dev-arm64-cross qemu-aarch64",
-    "tools/machine.py": "aarch64-linux-gnu-gcc libc6-dev-arm64-cross qemu-system-aarch64 cpio arm64-parts",
-    "tools/bare.py": "gcc objdump aarch64-linux-gnu-gcc libc6-dev-arm64-cross qemu-aarch64",
-    "tools/efi.py": "root make gcc gnu-efi ovmf qemu-efi-aarch64 qemu-system-x86_64 qemu-system-aarch64 aarch64-linux-gnu-gcc "
-                    "libc6-dev-arm64-cross arm64-parts in.tftpd atftpd",
+    "tests/documents": "mandoc systemd-analyze gcc dnsmasq dot mypy pyflakes3 shellcheck",
+    "tests/disk": "strace trace", "tests/captures": f"root tcpdump tshark capture {CLIENTS}",
+    "tests/library": "root mount gcc clang valgrind objcopy musl-gcc g++ clang++ cargo go in.tftpd atftpd dnsmasq sanitize abidiff "
+                     "dpkg-deb lintian dpkg-shlibdeps cmake pkg-config zsh fish busybox qemu-x86_64 "
+                     f"{CLIENTS}",
+    "tests/dashboard": "promtool",
+    "tests/tftpd": "root valgrind strace trace mount ipv6 networks tftp", "tests/soak": "mount",
+    "tools/behaviours.py": "strace trace",
+    "tests/network": "root ip nft unshare networks mount filter busybox tftp in.tftpd",
+    "tests/machines": "root mount xz git make gcc musl-gcc objdump aarch64-linux-gnu-gcc libc6-dev-arm64-cross qemu-aarch64 "
+                      "qemu-system-aarch64 qemu-system-x86_64 cpio arm64-parts gnu-efi ovmf qemu-efi-aarch64 dpkg-deb in.tftpd atftpd "
+                      f"dnsmasq {CLIENTS}",
 }
 ENDED = re.compile(r"(?P<run>\d+) run(?:, (?P<left>\d+) at other commits)?, (?P<skipped>\d+) skipped")
 
@@ -112,7 +109,8 @@ def faults_of(lines: Sequence[str], passed: int, wanted: Sequence[str]) -> list[
     """What `rt ci` has said and counts as no failure: edits that are bad, and fewer that were refused than the manifest has,
     or fewer crates and edits that passed."""
     found = [line for line in lines if "BAD EDIT" in line or "NOT TRIED" in line]
-    crates, edits = (sum(line.startswith(f"{kind} ") for line in wanted) for kind in ["crate", "edit"])
+    crates = sum(line.startswith("crate ") for line in wanted)
+    edits = sum(line.startswith("body ") and line.endswith(" gate") for line in wanted)
     count = refused_in(lines)
     if count < edits:
         found.append(f"rt ci: {count} of {edits} edits were refused")
@@ -130,7 +128,8 @@ def is_excused(check: str) -> bool:
 def skipped_by(name: str, lines: Sequence[str]) -> list[str]:
     """What a check says that it skipped, or did without."""
     said = [f"{name}: {line}" for line in lines
-            if re.search(r"\bskipped\b|; without [a-z]", line) and not ENDED.fullmatch(line)]
+            if re.search(r"\b(?:skipped|SKIPPED)\b|; without [a-z]", line) and not ENDED.fullmatch(line)
+            and not re.search(r"\d (?:passed|skipped).* in [\d.]+s", line)]
     count = ENDED.fullmatch(lines[-1]) if lines else None
     return said or ([f"{name}: {count['skipped']} skipped"] if count and int(count["skipped"]) else [])
 
@@ -140,11 +139,16 @@ def repeated_by(name: str, lines: Sequence[str]) -> list[str]:
     return [f"{name}: {line}" for line in lines if re.search(r"\bonce more\b", line)]
 
 
+def words_of(check: str) -> list[str]:
+    """The command line of a check: a folder of tests/ is run by pytest, some tests at a time."""
+    words = shlex.split(check)
+    return ["pytest-3", "-q", "-n", f"{AT_ONCE.get(words[0], 2)}", *words] if words[0].startswith("tests/") else words
+
+
 def tried(check: str) -> Run:
     """A check, run with its limit."""
     print(f"\n== {check}", flush=True)
-    words = shlex.split(check)
-    return Run(words, LIMITS.get(words[0], LIMIT))
+    return Run(words_of(check), LIMITS.get(shlex.split(check)[0], LIMIT))
 
 
 def fault_of(check: str, run: Run, wanted: Optional[int] = None) -> Optional[str]:
@@ -172,8 +176,19 @@ class Gate:
         self.passed, self.times = 0, list[str]()
         self.faults, self.skipped, self.required, self.repeated = (list[str]() for _ in range(4))
 
+    def is_left_out(self, check: str) -> bool:
+        """Whether a check is of tests that this host has no runner for, which counts as skipped."""
+        lacks = manifest.runner_lacks() if manifest.name_of(check).startswith("tests/") else []
+        if lacks:
+            line = f"{check}: skipped: this host has no {', '.join(lacks)}"
+            self.skipped.append(line)
+            self.required += [] if set(lacks) <= set(os.environ.get("LACKING", "").split()) else [line]
+        return bool(lacks)
+
     def check(self, check: str, wanted: Optional[int]) -> None:
         """Runs a check, and once more if it fails while the host stalls."""
+        if self.is_left_out(check):
+            return
         run = tried(check)
         if (fault := fault_of(check, run, wanted)) and run.stall > STALL:
             self.repeated.append(f"{fault}, while the host stalled for {run.stall:.1f} s; once more")

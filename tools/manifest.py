@@ -17,12 +17,17 @@ from typing import Sequence
 TOP = Path(__file__).resolve().parent.parent
 sys.path[:0] = [str(TOP / "tools")]
 
+import wrong_bodies
 from lib import rows, surface
 
 MANIFEST = TOP / "tools/manifest.txt"
 # the order of the kinds of lines, each with the words of its name
-KINDS = ["handles", "crate", "check", "row", "test", "edit", "slip", "function", "clause", "type", "ghost", "definition"]
-PATIENCE = 60
+KINDS = ["handles", "crate", "check", "row", "test", "body", "function", "clause", "type", "ghost", "definition"]
+PATIENCE = 300
+# What runs the tests of tests/, by the words of .ci/packages, and where it is
+PACKAGES = "/usr/lib/python3/dist-packages"
+RUNNER = {"pytest-3": "/usr/bin/pytest-3", "python3-pytest-xdist": f"{PACKAGES}/xdist/__init__.py",
+          "python3-pytest-timeout": f"{PACKAGES}/pytest_timeout.py", "python3-hypothesis": f"{PACKAGES}/hypothesis/__init__.py"}
 
 
 def crates() -> dict[str, str]:
@@ -46,12 +51,30 @@ def checks_of_makefile() -> list[str]:
 def name_of(check: str) -> str:
     """The short name of a check: its script, or its command without its options."""
     words = [word for word in shlex.split(check) if not word.startswith("-")]
-    script = next((word for word in words if word.startswith("tools/")), "")
+    script = next((word for word in words if word.startswith(("tools/", "tests/"))), "")
     return script or " ".join(re.sub(r".*/", "", word) for word in words)
+
+
+def runner_lacks() -> list[str]:
+    """What this host lacks of the runner of tests."""
+    return [word for word, path in RUNNER.items() if not Path(path).exists()]
+
+
+def rows_of_tests(path: str) -> list[str]:
+    """The tests of a folder, by their files and names. Where nothing can collect them, they are those that are committed."""
+    if runner_lacks():
+        return [line.partition(": ")[2] for line in committed() if line.startswith(f"row {path}: ")]
+    done = subprocess.run(["pytest-3", "--collect-only", "-q", path], cwd=TOP, stdin=subprocess.DEVNULL, capture_output=True,
+                          text=True, timeout=PATIENCE)
+    if done.returncode:
+        sys.exit(f"manifest: {path}: the tests are not collected: {done.stdout[-500:]}{done.stderr[-500:]}")
+    return [line.partition("/")[2] for line in done.stdout.splitlines() if "::" in line]
 
 
 def rows_of(check: str) -> list[str]:
     """The names of a check's rows. One that lists none is a row of its own."""
+    if name_of(check).startswith("tests/"):
+        return rows_of_tests(name_of(check))
     script = TOP / name_of(check)
     if not script.is_file() or not re.search(rf"rows\.listed\(|{rows.LIST}", script.read_text()):
         return [name_of(check)]
@@ -68,15 +91,18 @@ def tests_of(crate: str) -> list[str]:
     return [name for text in texts for name in re.findall(r"#\[test\][^{]*?fn (\w+)", text)]
 
 
-def wrong_bodies(kind: str, folder: str, crate: str) -> list[str]:
-    paths = sorted((TOP / "crates" / crate / folder).glob("*.edit"))
-    return [f"{kind} {crate}/{path.stem} {surface.digest_of(path.read_text())}" for path in paths]
+def bodies_of(crate: str) -> list[str]:
+    """The wrong bodies of a crate, with a mark on those that each gate tries."""
+    found = [(body, wrong_bodies.path_of(body)) for body in wrong_bodies.bodies_in(wrong_bodies.GATE, wrong_bodies.OTHERS)
+             if wrong_bodies.crate_of(body) == crate]
+    return [f"body {body} {surface.digest_of(path.read_text())}{' gate' if path.parent.name == wrong_bodies.GATE else ''}"
+            for body, path in found]
 
 
 def of_crate(crate: str) -> list[str]:
     """The lines of a crate, without the one that names it."""
-    return [*(f"test {crate}/{name}" for name in tests_of(crate)), *wrong_bodies("edit", "must-fail", crate),
-            *wrong_bodies("slip", "slips", crate), *map(str, surface.of_crate(crate, TOP / "crates" / crate))]
+    return [*(f"test {crate}/{name}" for name in tests_of(crate)), *bodies_of(crate),
+            *map(str, surface.of_crate(crate, TOP / "crates" / crate))]
 
 
 def made(checks: Sequence[str]) -> list[str]:
@@ -107,8 +133,8 @@ def committed() -> list[str]:
 
 def counts(lines: Sequence[str]) -> dict[str, int]:
     """How many rows each check has, by the manifest."""
-    # (five of the slips are tried)
-    found = {"tools/slips.py": sum(line.startswith("slip ") for line in lines)}
+    # (five of the wrong bodies that `rt ci` does not try are tried)
+    found = {"tools/wrong_bodies.py": sum(line.startswith("body ") and not line.endswith(" gate") for line in lines)}
     for line in lines:
         if line.startswith("row "):
             name = line[len("row "):].partition(": ")[0]

@@ -1,8 +1,8 @@
 #!/usr/bin/env bash
 # What a change of one crate is tried by in minutes: quick.sh CRATE; or without a word, one of tools and documents.
 # A crate: its layout, what is made from it, its proof over what earlier checks kept, the tests in Rattle of its layer before
-# their proof (`rt try`), and for what the loops of tftp and tftpd are made of the tests of loopback/ that concern it, over the
-# programs that are built anew of what is kept. A tool: the manifest, the linters and the tests of tools.
+# their proof (`rt try`), and for what the loops of tftp and tftpd are made of the tests of tests/ that concern it, over the
+# programs that are built anew of what is kept. A tool: the manifest, the linters and the tests of the gate.
 set -eu
 cd "$(dirname "$0")/.."
 crate=${1-}
@@ -24,16 +24,16 @@ tests() {
     done
 }
 
-# the files of loopback/ that try it, and the programs that they need
-loopback() {
+# the tests of programs as processes that try it, below tests/
+processes() {
     case $1 in
-    tftp_loop | tftp_server | tftp_store) echo server_loop server_alone in_quantity ;;
-    tftp_sockets | tftp_lines) echo server_loop server_alone client_alone ;;
-    tftp_client) echo client_alone both_programs options ;;
-    tftp_daemon) echo options command_lines server_alone served_folder ;;
-    tftp_service) echo several_servers handed_over draining ;;
-    tftp_status) echo status ;;
-    tftp_folder | tftp_disk) echo served_folder served_disk client_alone ;;
+    tftp_loop | tftp_server | tftp_store) echo tftpd/test_server_loop.py tftpd/test_server_alone.py tftpd/test_in_quantity.py ;;
+    tftp_sockets | tftp_lines) echo tftpd/test_server_loop.py tftpd/test_server_alone.py tftp ;;
+    tftp_client) echo tftp tftpd/test_both_programs.py ;;
+    tftp_daemon) echo tftpd/test_options.py tftpd/test_command_lines.py tftpd/test_server_alone.py tftpd/test_served_folder.py ;;
+    tftp_service) echo tftpd/test_several_servers.py tftpd/test_handed_over.py tftpd/test_draining.py ;;
+    tftp_status) echo tftpd/test_status.py ;;
+    tftp_folder | tftp_disk) echo tftpd/test_served_folder.py tftpd/test_served_disk.py tftp ;;
     esac
 }
 
@@ -59,24 +59,23 @@ of_crate() {
     step in_crate "$crate" rt fmt
     git --no-pager diff --stat -- "crates/$crate"
     step manifest
-    step tools/definitions.py
-    step tools/statement.py
+    step pytest-3 -q tests/documents/test_made.py -k 'STATEMENT or contracts'
     step in_crate "$crate" rt check
     for name in $(tests "$crate"); do
         step in_crate "$name" rt try --test --seconds "$SECONDS_OF_TEST" < /dev/null
     done
-    read -r -a files <<< "$(loopback "$crate")" || true
+    read -r -a files <<< "$(processes "$crate")" || true
     if test "${#files[@]}" != 0 && test -z "$failed"; then
         step make --no-print-directory tftp
         step make --no-print-directory tftpd
-        test -n "$failed" || step tools/loopback/run.py bin/tftp bin/tftpd "${files[@]}"
+        test -n "$failed" || step pytest-3 -q -n 8 "${files[@]/#/tests/}"
     fi
 }
 
 of_tools() {
     step manifest
-    step tools/lint.py
-    step tools/tests/run.py
+    step pytest-3 -q tests/documents/test_lint.py
+    step pytest-3 -q -n 4 tests/gate
 }
 
 if test -n "$crate"; then of_crate; else of_tools; fi

@@ -1,37 +1,45 @@
 """The examples over the library for C, built for each checker that this host has: AddressSanitizer with
-UndefinedBehaviorSanitizer, or valgrind."""
-import os
+UndefinedBehaviorSanitizer, or valgrind; on this host, or in a chroot with the packages (lib/chroot.py)."""
+import re
 import shutil
 import subprocess
 import sys
 from functools import partial
 from pathlib import Path
-from typing import Any, Callable, Sequence, Union
+from typing import Any, Callable, NamedTuple, Union
 
-TOP = Path(__file__).resolve().parent.parent.parent
-EXAMPLES = TOP / "examples"
+from lib.programs import TOP
+
+EXAMPLES, LAYOUT = TOP / "examples", TOP / "tests/library/layout.c"
 # The longest time of a command, in seconds
 PATIENCE = 600
 WARNINGS = ["-std=c11", "-Wall", "-Wextra", "-Wpedantic", "-Werror"]
-SANITIZED = ["-g", "-O1", "-fsanitize=address,undefined", "-fno-sanitize-recover=all"]
-PLAIN = ["-g", "-O2"]
-# a program that takes all of its C library, or none, into itself
-STATIC = [*PLAIN, "-static"]
+FLAGS = {
+    "sanitized": ["-g", "-O1", "-fsanitize=address,undefined", "-fno-sanitize-recover=all"],
+    "valgrind": ["-g", "-O2"],
+    # a program that takes all of its C library into itself
+    "static": ["-g", "-O2", "-static"],
+}
+# and one without a C library
 ALONE = ["-O2", "-static", "-nostdlib", "-ffreestanding", "-fno-builtin", "-fno-stack-protector",
          "-fno-tree-loop-distribute-patterns"]
 # what the archive calls and does not have: a program without a C library has these, or a heap in place of the first three
 OF_C = {"malloc", "realloc", "free", "memcpy", "memmove", "memset", "memcmp"}
 VALGRIND = ["valgrind", "-q", "--error-exitcode=99"]
-LEAKS = ["--leak-check=full", "--errors-for-leak-kinds=all"]
+LEAKS = [*VALGRIND, "--leak-check=full", "--errors-for-leak-kinds=all"]
 # (the runtime of Rust still reaches a block of its own when it ends)
-LOST = ["--leak-check=full", "--errors-for-leak-kinds=definite,indirect,possible"]
+LOST = [*VALGRIND, "--leak-check=full", "--errors-for-leak-kinds=definite,indirect,possible"]
 # (an interpreter's own code may jump by a table that valgrind takes for uninitialised; what the library does still counts)
 INTERPRETER = "".join(f"{{\nits own\nMemcheck:{kind}\nobj:*/{name}*\n}}\n"
                       for kind in ["Cond", "Value8", "Addr4", "Addr8"] for name in ["libpython3", "python3"])
 RUST_TARGET = "x86_64-unknown-linux-gnu"
+# the programs in C by their sources
+IN_C = {**{name: [f"{name}.c"] for name in ["get", "put", "serve", "shards"]}, "bare": ["host_machine.c", "bare.c"]}
+
+Word = Union[str, int, Path]
 
 
-def run(*command: Union[str, int, Path], status: int = 0, **how: Any) -> str:
+def run(*command: Word, status: int = 0, **how: Any) -> str:
     """Runs a command to its end, and returns what it printed."""
     words = [str(word) for word in command]
     done = subprocess.run(words, stdin=subprocess.DEVNULL, capture_output=True, text=True, timeout=PATIENCE, **how)
@@ -41,78 +49,55 @@ def run(*command: Union[str, int, Path], status: int = 0, **how: Any) -> str:
 
 
 class Built:
-    """Examples beside a checker: the words before those of each example, by its name, and their environment."""
+    """Examples beside a checker: the words before those of each example, by its name."""
 
-    def __init__(self, name: str, is_slow: bool, **env: str) -> None:
-        self.name, self.is_slow, self.env = name, is_slow, {**os.environ, **env}
-        self.words: dict[str, list[str]] = {}
+    def __init__(self, name: str, is_slow: bool = False) -> None:
+        self.name, self.is_slow, self.words = name, is_slow, dict[str, list[str]]()
 
     def has(self, example: str) -> bool:
         return example in self.words
 
-    def command(self, example: str, *words: Union[str, int]) -> list[str]:
+    def command(self, example: str, *words: Word) -> list[str]:
         return [*self.words[example], *map(str, words)]
 
 
-def linked(words: Sequence[str], program: Path, *sources: Union[str, Path]) -> str:
-    """Compiles and links sources, objects and archives to a program."""
-    run(*words, "-I", TOP / "include", *sources, "-o", program)
-    return str(program)
+class Host:
+    """This host as a place in which commands run, with libtftp.a and libtftp.so.1 in a folder."""
+
+    examples, is_host, emulator = EXAMPLES, True, list[str]()
+
+    def __init__(self, room: Path, archive: Path) -> None:
+        self.room, self.archive = room, archive
+        self.go = {"CGO_CFLAGS": f"-I{TOP / 'include'}", "CGO_LDFLAGS": f"-L{archive.parent}", "LD_LIBRARY_PATH": str(archive.parent)}
+        self.rust, self.python = {"TFTP_LIB": str(archive.parent)}, {"TFTP_LIBRARY": str(archive.with_name("libtftp.so.1"))}
+
+    def path(self, name: str) -> str:
+        """A path of its room, as a command has it."""
+        return str(self.room / name)
+
+    def outside(self, name: str) -> Path:
+        """The same, as this host has it."""
+        return self.room / name
+
+    def words(self, *words: Word, **env: str) -> list[str]:
+        """A command with this environment."""
+        pairs = [f"{name}={value}" for name, value in env.items()]
+        return [*(["env", *pairs] if pairs else []), *map(str, words)]
+
+    def run(self, *words: Word, at: str = "", **env: str) -> str:
+        return run(*self.words(*words, **env), cwd=at or self.room)
+
+    def library(self, _: bool = False) -> list[str]:
+        """What links a program to it."""
+        return ["-I", str(TOP / "include"), str(self.archive)]
 
 
-def of_the_arena(room: Path, folder: Path, words: Sequence[str]) -> str:
-    """The client without an operating system, whose heap is its own."""
-    return linked(words, folder / "bare", EXAMPLES / "c/host_machine.c", EXAMPLES / "c/bare.c", room / "libtftp.a")
-
-
-def in_c(room: Path, compiler: str, checker: str) -> Built:
-    """The examples in C, by this compiler."""
-    flags = {"sanitized": SANITIZED, "valgrind": PLAIN, "static": STATIC}[checker]
-    before = [*VALGRIND, *LEAKS] if checker == "valgrind" else []
-    it = Built(f"C ({compiler}, {checker})", bool(before))
-    folder, words = room / f"{compiler}-{checker}", [compiler, *WARNINGS, *flags]
-    folder.mkdir()
-    (folder / "manual.c").write_text(of_the_manual())
-    for name in ["get", "put", "serve", "shards", "manual"]:
-        source = folder / "manual.c" if name == "manual" else EXAMPLES / f"c/{name}.c"
-        it.words[name] = [*before, linked([*words, "-I", str(EXAMPLES / "c")], folder / name, source, room / "libtftp.a")]
-    it.words["bare"] = [*before, of_the_arena(room, folder, words)]
-    wrapped = "-Wl,--wrap=malloc,--wrap=realloc"
-    layout = linked(words, folder / "layout", TOP / "tools/c_library.c", wrapped, room / "libtftp.a")
-    it.words["layout"] = [*before, layout]
-    return it
-
-
-def refused(*words: Union[str, Path]) -> str:
-    """What a compiler says of a header that it refuses, by one line."""
-    done = subprocess.run([*words, "-fsyntax-only", TOP / "include/tftp.h"], capture_output=True, text=True, check=False)
-    errors = [line for line in done.stderr.splitlines() if "error:" in line]
-    if done.returncode == 0 or len(errors) != 1:
-        raise AssertionError(f"{' '.join(map(str, words))}: status {done.returncode}: {done.stderr}")
-    return errors[0]
-
-
-def is_for_this() -> None:
-    """A standard before C99, and a processor that the library is not built for, are refused by a line that says so."""
-    others = [["gcc", "-m32"], ["gcc", "-mx32"], *[[it] for it in ["riscv64-linux-gnu-gcc"] if shutil.which(it)]]
-    for words, said in [(["gcc", "-std=c89"], "needs C99"), (["gcc", "-std=gnu90"], "needs C99"),
-                        *[(words, "no other processor") for words in others]]:
-        if said not in refused(*words):
-            raise AssertionError(f"{' '.join(words)}: {refused(*words)}")
-
-
-def in_c_alone(room: Path) -> Built:
-    """The client without an operating system, linked to the library and to no C library: it has all that the library calls."""
-    is_for_this()
-    listed = run("nm", "--undefined-only", "--format=just-symbols", room / "libtftp.a").split()
-    defined = run("nm", "--defined-only", "--extern-only", "--format=just-symbols", room / "libtftp.a").split()
-    wanted = {it for it in listed if not it.endswith(":")} - {*defined} - OF_C
-    if wanted:
-        raise AssertionError(f"the archive calls {', '.join(sorted(wanted))}")
-    it = Built("C (no C library)", False)
-    words = ["gcc", *WARNINGS, *ALONE, str(EXAMPLES / "c/bare.c")]
-    it.words["bare"] = [linked(words, room / "alone", EXAMPLES / "c/alone_machine.c", room / "libtftp.a")]
-    return it
+def archive(room: Path) -> Path:
+    """libtftp.a and libtftp.so.1 in the folder, of what `rt lib` built."""
+    if not (TOP / "crates/tftp_c/out/libtftp_c.a").is_file():
+        run("rt", "lib", "--cpu=x86-64", cwd=TOP / "crates/tftp_c")
+    run(TOP / "tools/library.sh", room)
+    return room / "libtftp.a"
 
 
 def of_the_manual() -> str:
@@ -121,77 +106,117 @@ def of_the_manual() -> str:
     return shown.replace("\\e", "\\")
 
 
-def in_cpp(room: Path, compiler: str, checker: str) -> Built:
+def in_c(place: Any, compiler: str, checker: str) -> Built:
+    """The examples in C, by this compiler."""
+    before = LEAKS if checker == "valgrind" else place.emulator
+    it = Built(f"C, {compiler}, {checker}", bool(before))
+
+    def compiled(name: str, *sources: Word) -> None:
+        program = place.path(f"{name}-{compiler}-{checker}")
+        words = [compiler, *WARNINGS, *FLAGS[checker], "-I", f"{place.examples}/c"]
+        place.run(*words, *sources, *place.library(), "-o", program)
+        it.words[name] = place.words(*before, program)
+
+    for name in IN_C if place.is_host else ["get", "put", "serve"]:
+        compiled(name, *(f"{place.examples}/c/{source}" for source in IN_C[name]))
+    if place.is_host:
+        place.outside("manual.c").write_text(of_the_manual())
+        compiled("manual", place.path("manual.c"))
+        compiled("layout", LAYOUT, "-Wl,--wrap=malloc,--wrap=realloc")
+    return it
+
+
+def refused(*words: Word) -> str:
+    """What a compiler says of a header that it refuses, by one line."""
+    done = subprocess.run([*map(str, words), "-fsyntax-only", str(TOP / "include/tftp.h")], capture_output=True, text=True)
+    errors = [line for line in done.stderr.splitlines() if "error:" in line]
+    assert done.returncode and len(errors) == 1, f"{words}: status {done.returncode}: {done.stderr}"
+    return errors[0]
+
+
+def in_c_alone(place: Host) -> Built:
+    """The client without an operating system, linked to the library and to no C library: it has all that the library calls. A
+    standard before C99, and a processor that the library is not built for, are refused by a line that says so."""
+    others = [["gcc", "-m32"], ["gcc", "-mx32"], *[[it] for it in ["riscv64-linux-gnu-gcc"] if shutil.which(it)]]
+    for words, said in [(["gcc", "-std=c89"], "needs C99"), (["gcc", "-std=gnu90"], "needs C99"),
+                        *[(words, "no other processor") for words in others]]:
+        assert said in refused(*words), words
+    listed = run("nm", "--undefined-only", "--format=just-symbols", place.archive).split()
+    defined = run("nm", "--defined-only", "--extern-only", "--format=just-symbols", place.archive).split()
+    assert {it for it in listed if not it.endswith(":")} - {*defined} <= OF_C
+    it = Built("C, no C library")
+    program, sources = place.path("alone"), [EXAMPLES / "c/bare.c", EXAMPLES / "c/alone_machine.c"]
+    place.run("gcc", *WARNINGS, *ALONE, *sources, *place.library(), "-o", program)
+    it.words["bare"] = [program]
+    return it
+
+
+def in_cpp(place: Any, compiler: str) -> Built:
     """The example in C++, without exceptions in it."""
-    flags = SANITIZED if checker == "sanitized" else PLAIN
-    before = [*VALGRIND, *LEAKS] if checker == "valgrind" else []
-    it = Built(f"C++ ({compiler}, {checker})", bool(before))
-    folder = room / f"{compiler}-{checker}"
-    folder.mkdir()
-    words = [compiler, "-std=c++17", *WARNINGS[1:], *flags]
-    run(*words, "-fsyntax-only", "-I", TOP / "include", TOP / "tools/cpp_views.cpp")
-    client = linked(words, folder / "client", EXAMPLES / "cpp/client.cpp", room / "libtftp.a")
+    it, client = Built(f"C++, {compiler}"), place.path(f"client-{compiler}")
+    words = [compiler, "-std=c++17", *WARNINGS[1:], *FLAGS["sanitized"]]
+    if place.is_host:
+        place.run(*words, "-fsyntax-only", "-I", TOP / "include", TOP / "tests/library/views.cpp")
+    place.run(*words, f"{place.examples}/cpp/client.cpp", *place.library(True), "-o", client)
     for verb in ["get", "put"]:
-        it.words[f"{verb} in C++"] = [*before, client, verb]
+        it.words[f"{verb} in C++"] = place.words(client, verb)
     return it
 
 
-def in_go(room: Path) -> Built:
-    """The package's test is run, and its client is built, with the checks of pointers that cgo has."""
-    it = Built("Go", False)
-    folder, client = EXAMPLES / "go", room / "go-client"
-    env = {**os.environ, "CGO_ENABLED": "1", "CGO_CFLAGS": f"-I{TOP / 'include'}", "CGO_LDFLAGS": f"-L{room}",
-           "GOFLAGS": "-mod=mod", "GOPROXY": "off", "GOTOOLCHAIN": "local", "LD_LIBRARY_PATH": str(room),
-           "GODEBUG": "cgocheck=2" if go_checks_pointers() else "cgocheck=1"}
-    run("go", "vet", "./...", cwd=folder, env=env)
-    run("go", "test", "./...", cwd=folder, env=env)
-    run("go", "build", "-o", client, "./cmd/client", cwd=folder, env=env)
-    it.env.update(LD_LIBRARY_PATH=str(room))
+def copied(place: Any, name: str) -> str:
+    """A copy of a folder of examples, in which is built."""
+    source = place.examples if place.is_host else place.root / str(place.examples).lstrip("/")
+    shutil.copytree(Path(source, name), place.outside(name), ignore=shutil.ignore_patterns("target", "Cargo.lock"))
+    return str(place.path(name))
+
+
+def in_go(place: Any) -> Built:
+    """The package's test is run, and its client is built: Go checks each pointer that is passed, and valgrind does not know
+    the stacks of Go."""
+    it, folder, client = Built("Go"), copied(place, "go"), place.path("go-client")
+    # (from 1.21 on the strictest check of pointers at run time is an experiment of the build)
+    checks = "2" if re.match(r"go1\.(18|19|20)\b", run("go", "env", "GOVERSION")) else "1"
+    env = {"CGO_ENABLED": "1", "GOFLAGS": "-mod=mod", "GOPROXY": "off", "GOTOOLCHAIN": "local", "GODEBUG": f"cgocheck={checks}",
+           **place.go}
+    for words in [["vet", "./..."], ["test", "./..."], ["build", "-o", client, "./cmd/client"]]:
+        place.run("go", *words, at=folder, **env)
     for verb in ["get", "put"]:
-        it.words[f"{verb} in Go"] = [str(client), verb]
+        it.words[f"{verb} in Go"] = place.words(client, verb, **env)
     return it
 
 
-def go_checks_pointers() -> bool:
-    """Whether this Go takes its strictest check of pointers at run time: from 1.21 on it is an experiment of the build."""
-    return run("go", "env", "GOVERSION").strip().startswith(("go1.18", "go1.19", "go1.20"))
-
-
-def in_rust(room: Path, checker: str) -> Built:
+def in_rust(place: Any, checker: str) -> Built:
     """The tests of both crates are run, those of their documentation too, and the example is built; they are formatted."""
-    folder = room / f"rust-{checker}"
-    shutil.copytree(EXAMPLES / "rust", folder, ignore=shutil.ignore_patterns("target", "Cargo.lock"))
-    env = {**os.environ, "TFTP_LIB": str(room)}
-    target = ["--target", RUST_TARGET]
+    folder, env = copied(place, "rust"), dict(place.rust)
     if checker == "sanitized":
         # a stable compiler has the sanitizer's runtime, and no stable flag for it
         env |= {"RUSTC_BOOTSTRAP": "1", "RUSTFLAGS": "-Zsanitizer=address", "RUSTDOCFLAGS": "-Zsanitizer=address"}
-    for words in [["test", "--workspace"], ["build", "--examples"]]:
-        run("cargo", "--offline", "--quiet", *words, *target, cwd=folder, env=env)
-    if shutil.which("rustfmt"):
-        run("cargo", "fmt", "--all", "--check", cwd=folder, env=env)
-    before = [*VALGRIND, *LOST] if checker == "valgrind" else []
-    it = Built(f"Rust ({checker})", bool(before))
+    for words in [["test", *["--workspace"] * place.is_host], ["build", "--examples"]]:
+        place.run("cargo", "--offline", "--quiet", *words, "--target", RUST_TARGET, at=folder, **env)
+    if place.is_host and shutil.which("rustfmt"):
+        place.run("cargo", "fmt", "--all", "--check", at=folder, **env)
+    before = LOST if checker == "valgrind" else []
+    it = Built(f"Rust, {checker}", bool(before))
     for verb in ["get", "put"]:
-        it.words[f"{verb} in Rust"] = [*before, str(folder / "target" / RUST_TARGET / "debug/examples/client"), verb]
+        it.words[f"{verb} in Rust"] = place.words(*before, f"{folder}/target/{RUST_TARGET}/debug/examples/client", verb)
     return it
 
 
-def in_python(room: Path, checker: str) -> Built:
+def in_python(place: Any, checker: str) -> Built:
     """The module for Python, whose tests are run, and as a program, whose buffers are blocks of malloc, with the library that
     it loads."""
-    before, env = list[str](), {"PYTHONMALLOC": "malloc", "TFTP_LIBRARY": str(room / "libtftp.so.1")}
+    python, before, env = sys.executable if place.is_host else "python3", list[str](), {"PYTHONMALLOC": "malloc", **place.python}
     if checker == "sanitized":
         # (the interpreter frees not all at its end)
-        runtime = run("gcc", "-print-file-name=libasan.so").strip()
-        env |= {"LD_PRELOAD": runtime, "ASAN_OPTIONS": "detect_leaks=0"}
+        env |= {"LD_PRELOAD": run("gcc", "-print-file-name=libasan.so").strip(), "ASAN_OPTIONS": "detect_leaks=0"}
     else:
-        (room / "suppressed").write_text(INTERPRETER)
-        before = [*VALGRIND, f"--suppressions={room / 'suppressed'}"]
-    it = Built(f"Python ({checker})", bool(before), **env)
-    run(*before, sys.executable, "-m", "unittest", "tftp_test", cwd=EXAMPLES / "python", env=it.env)
+        place.outside("suppressed").write_text(INTERPRETER)
+        before = [*VALGRIND, f"--suppressions={place.path('suppressed')}"]
+    it = Built(f"Python, {checker}", bool(before))
+    if place.is_host:
+        place.run(*before, python, "-m", "unittest", "tftp_test", at=f"{place.examples}/python", **env)
     for verb in ["get", "put"]:
-        it.words[f"{verb} in Python"] = [*before, sys.executable, "-S", str(EXAMPLES / "python/tftp.py"), verb]
+        it.words[f"{verb} in Python"] = place.words(*before, python, "-S", f"{place.examples}/python/tftp.py", verb, **env)
     return it
 
 
@@ -201,30 +226,27 @@ def rust_has_sanitizer() -> bool:
     return any(root.glob(f"lib/rustlib/{RUST_TARGET}/lib/librustc*asan*"))
 
 
-def to_build(room: Path, skipped: list[str]) -> list[Callable[[], Built]]:
-    """What is built here; what this host lacks is skipped and said."""
-    def has(program: str, why: str = "") -> bool:
-        if not shutil.which(program):
-            skipped.append(f"{program}{why}")
-        return bool(shutil.which(program))
+class Build(NamedTuple):
+    """The commands that a build needs, and what builds in a place."""
+    needs: list[str]
+    make: Callable[[Any], Built]
 
-    compilers, memcheck = [it for it in ["gcc", "clang"] if has(it)], has("valgrind")
-    found = [partial(in_c, room, it, "sanitized") for it in compilers]
-    found += [partial(in_c, room, it, "valgrind") for it in compilers[:1] if memcheck]
-    found += [partial(in_c, room, "musl-gcc", "static")] * has("musl-gcc", " (musl)")
-    found += [partial(in_c_alone, room)] * ("gcc" in compilers)
-    found += [partial(in_cpp, room, it, "sanitized") for it in ["g++", "clang++"] if has(it)]
-    if has("cargo", " (Rust)"):
-        if rust_has_sanitizer():
-            found.append(partial(in_rust, room, "sanitized"))
-        else:
-            skipped.append("Rust's AddressSanitizer")
-        found.append(partial(in_rust, room, "valgrind" if memcheck else "plain"))
-    if has("go", " (Go)") and compilers and (room / "libtftp.so.1").is_file():
-        found.append(partial(in_go, room))
-    if (room / "libtftp.so.1").is_file():
-        found += [partial(in_python, room, "sanitized")] * ("gcc" in compilers)
-        found += [partial(in_python, room, "valgrind")] * memcheck
-    else:
-        skipped.append("Python (no shared library)")
-    return list(found)
+
+BUILDS = {
+    **{f"C, {name}, sanitized": Build([name], partial(in_c, compiler=name, checker="sanitized")) for name in ["gcc", "clang"]},
+    "C, gcc, valgrind": Build(["gcc", "valgrind"], partial(in_c, compiler="gcc", checker="valgrind")),
+    "C, musl-gcc, static": Build(["musl-gcc"], partial(in_c, compiler="musl-gcc", checker="static")),
+    "C, no C library": Build(["gcc"], in_c_alone),
+    **{f"C++, {name}": Build([name], partial(in_cpp, compiler=name)) for name in ["g++", "clang++"]},
+    **{f"Rust, {it}": Build(["cargo", *["valgrind"] * (it == "valgrind")], partial(in_rust, checker=it)) for it in ["sanitized", "valgrind"]},
+    # (these three load the shared library, which objcopy makes)
+    "Go": Build(["go", "gcc", "objcopy"], in_go),
+    "Python, sanitized": Build(["gcc", "objcopy"], partial(in_python, checker="sanitized")),
+    "Python, valgrind": Build(["valgrind", "objcopy"], partial(in_python, checker="valgrind")),
+}
+
+
+def lacking(build: str) -> list[str]:
+    """What this host has not of what a build needs."""
+    found = [it for it in BUILDS[build].needs if not shutil.which(it)]
+    return found + ["Rust's AddressSanitizer"] * (not found and build == "Rust, sanitized" and not rust_has_sanitizer())

@@ -1,9 +1,8 @@
 """Reads a text in Prometheus' text format, strictly: each metric once, with its help and its type before its samples."""
 import re
+import shutil
 import subprocess
 from typing import Optional
-
-from lib.prometheus import path_of
 
 # The name and the labels of a sample, the labels by their names
 Sample = tuple[str, tuple[tuple[str, str], ...]]
@@ -67,7 +66,8 @@ def value(found: dict[Sample, int], name: str, **labels: str) -> int:
 
 def promtool_says(text: str) -> Optional[str]:
     """What `promtool check metrics` says of a text; nothing where it accepts it, or is not installed."""
-    tool = path_of("promtool")
+    # (.ci/packages puts it there)
+    tool = shutil.which("promtool", path="/usr/local/sbin:/usr/bin:/bin")
     if not tool:
         return None
     done = subprocess.run([tool, "check", "metrics"], input=text, capture_output=True, text=True, check=False, timeout=60)

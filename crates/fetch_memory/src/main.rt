@@ -74,7 +74,7 @@ fn run(rt: &HostRuntime) -> Result<(), Fault> {
     let Ok(mut server) = server_of_text(rt.alloc()) else {
         return Err(Fault::Refused);
     };
-    let mut sink = MemSink::new(rt.alloc(), 1_000);
+    let mut sink = MemSink::new(rt.alloc(), 1_000, false);
     fetch(rt.alloc(), &mut server, &mut sink)?;
     let Ok(text) = std::str::from_utf8(sink.as_bytes()) else {
         return Err(Fault::Incomplete);

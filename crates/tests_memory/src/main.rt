@@ -1,7 +1,7 @@
 //! Five scenes whose calls allocate memory, and reads between two ends. It announces each call of a
 //! scene, and prints its result and the state after it; of the reads it prints the number of blocks.
 //!
-//! `tools/memory_in_turn.py` runs the scenes once for each allocation of a call, with that one
+//! `tests/memory` runs the scenes once for each allocation of a call, with that one
 //! refused. The call then has to return that it is out of memory and to leave the state unchanged,
 //! and the same call again has to give its row. With three words, the block size and the file's
 //! length in bytes and the number of reads, it plays such reads alone: `make bench` measures them.

@@ -146,7 +146,7 @@ fn is_full(rt: &impl Abort, alloc: Global, stored: usize, next: &[u8])
     requires { stored < 5 }
 {
     let mut end = receiver(rt, alloc);
-    let mut sink = MemSink::new(alloc, 1000);
+    let mut sink = MemSink::new(alloc, 1000, false);
     for at in 0..stored {
         takes(rt, alloc, &mut end, &mut sink, DATA[at], ACKS[at + 1]);
     }

@@ -67,7 +67,7 @@ fn a_file_is_shared_and_grows_on(rt: HostRuntime) {
 #[test]
 fn a_full_sink_keeps_what_has_room(rt: HostRuntime) {
     let rt = &rt;
-    let mut sink = MemSink::new(rt.alloc(), 3);
+    let mut sink = MemSink::new(rt.alloc(), 3, false);
     appends(rt, &mut sink, b"AB", Ok(()), "within the room");
     let full = Err(StoreFault::Full);
     appends(rt, &mut sink, b"CDE", full, "past the room");
@@ -78,7 +78,7 @@ fn a_full_sink_keeps_what_has_room(rt: HostRuntime) {
 #[test]
 fn a_sink_is_committed_by_its_commit(rt: HostRuntime) {
     let rt = &rt;
-    let mut sink = MemSink::new(rt.alloc(), 3);
+    let mut sink = MemSink::new(rt.alloc(), 3, false);
     appends(rt, &mut sink, b"ABC", Ok(()), "within the room");
     expect(rt, !sink.is_committed(), "before the commit");
     commits(rt, &mut &mut sink, Ok(()), "the commit");
@@ -88,7 +88,7 @@ fn a_sink_is_committed_by_its_commit(rt: HostRuntime) {
 #[test]
 fn an_append_is_refused_once_as_armed(rt: HostRuntime) {
     let rt = &rt;
-    let mut sink = &mut MemSink::new(rt.alloc(), 9);
+    let mut sink = &mut MemSink::new(rt.alloc(), 9, false);
     sink.refuse_next(true);
     expect(rt, sink.refuses(), "told");
     appends(rt, sink, b"A", Err(StoreFault::Full), "the append");
@@ -100,7 +100,7 @@ fn an_append_is_refused_once_as_armed(rt: HostRuntime) {
 #[test]
 fn a_commit_is_refused_once_as_armed(rt: HostRuntime) {
     let rt = &rt;
-    let mut sink = MemSink::new(rt.alloc(), 9);
+    let mut sink = MemSink::new(rt.alloc(), 9, false);
     appends(rt, &mut sink, b"A", Ok(()), "the append");
     sink.refuse_next(true);
     commits(rt, &mut sink, Err(StoreFault::Full), "the commit");
@@ -112,7 +112,7 @@ fn a_commit_is_refused_once_as_armed(rt: HostRuntime) {
 #[test]
 fn a_commit_is_refused_as_made(rt: HostRuntime) {
     let rt = &rt;
-    let mut sink = MemSink::refusing_commits(rt.alloc(), 9);
+    let mut sink = MemSink::new(rt.alloc(), 9, true);
     commits(rt, &mut sink, Err(StoreFault::Full), "the first time");
     commits(rt, &mut sink, Err(StoreFault::Full), "the second time");
     expect(rt, !sink.is_committed(), "never");
@@ -132,7 +132,7 @@ fn files_are_of_either_direction(rt: HostRuntime) {
     let rt = &rt;
     let source = source_of(rt, rt.alloc(), b"A", Mode::Octet);
     moves_a_byte(rt, rt.alloc(), Files::Source(source));
-    let sink = MemSink::new(rt.alloc(), 1);
+    let sink = MemSink::new(rt.alloc(), 1, false);
     moves_a_byte(rt, rt.alloc(), Files::Sink(sink));
 }
 

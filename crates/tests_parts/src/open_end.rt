@@ -74,8 +74,8 @@ impl AtCommit {
     /// An empty sink whose commit goes so.
     fn sink(self, alloc: Global) -> MemSink {
         match self {
-            AtCommit::Succeeds => MemSink::new(alloc, ROOM),
-            AtCommit::Refuses => MemSink::refusing_commits(alloc, ROOM),
+            AtCommit::Succeeds => MemSink::new(alloc, ROOM, false),
+            AtCommit::Refuses => MemSink::new(alloc, ROOM, true),
         }
     }
 }
@@ -116,7 +116,7 @@ pub(crate) fn reader(
     );
     OpenEnd {
         end,
-        files: Files::Sink(MemSink::new(alloc, ROOM)),
+        files: Files::Sink(MemSink::new(alloc, ROOM, false)),
         step,
         sent,
     }

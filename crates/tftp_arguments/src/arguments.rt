@@ -1,8 +1,8 @@
 //! The words of a command line, and the messages for faulty ones.
 
-ghost use Rattle.std.specs.Prelude.{◌≡◌, ◌≤◌};
+ghost use Rattle.std.specs.Prelude.{◌≡◌, ◌⊎◌, is_ok};
 ghost use Rattle.clap.specs.Values.{kind_of};
-ghost use Rattle.tftp_arguments.specs.Fault.{HasStatus, IsZeroForText};
+ghost use Rattle.tftp_arguments.specs.Fault.{HasStatus, IsZeroForText, usage_status};
 ghost use Rattle.tftp_arguments.specs.Read.{IsFlag, value_text};
 ghost use Rattle.tftp_arguments.specs.Rules.{HasRule, flag_rule, number_rule, word_rule};
 
@@ -70,14 +70,21 @@ pub fn print_words_fault<R: Eprint>(rt: &R, program: &str, fault: WordsFault) ->
     }
 }
 
-/// Prints the help, the version or the fault of a command line, and returns the status for it: 2
-/// for a fault, and if standard output or error cannot be written.
+/// Prints the help, the version or the fault of a command line, and returns the status for it: 0
+/// for a help or a version that was printed, and else 2.
 pub fn print_usage<R: Print + Eprint>(rt: &R, error: &clap::Error) -> u8
-    ensures status { result ≤ 2 }
+    ensures ends { (result ≡ 0) ⊎ (result ≡ 2) }
     ensures fault { HasStatus (kind_of error.now) result }
     ensures text { IsZeroForText error.now result }
 {
-    if error.print(rt).is_err() || error.use_stderr() {
+    usage_status(error, error.print(rt))
+}
+
+/// The status for an error by whether its text was printed.
+fn usage_status(error: &clap::Error, printed: io::Result<()>) -> u8
+    ensures { result ≡ usage_status (kind_of error.now) (is_ok printed) }
+{
+    if error.use_stderr() || printed.is_err() {
         2
     } else {
         0

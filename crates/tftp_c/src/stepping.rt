@@ -1,9 +1,14 @@
 //! The steps of an end for C.
 
-ghost use Rattle.std.specs.Prelude.{◌≡◌, ◌≤◌, true, false, length, IfOk, OnErr};
+ghost use Rattle.std.specs.Prelude.{◌≡◌, ◌≤◌, true, false, length, IfOk, OnErr, Option};
+ghost use Rattle.tftp_wire.specs.declared.packet.Packet.{Packet};
+ghost use Rattle.tftp_ends.specs.declared.action.Action.TheVariants.{Send, Store};
+ghost use Rattle.tftp_ends.specs.declared.phase.Phase.TheVariants.{Receiving, Sending};
+ghost use Rattle.tftp_ends.specs.Action.{Decodes, datagram_action};
 ghost use Rattle.tftp_ends.specs.End.{is_sender, record_of};
+ghost use Rattle.tftp_ends.specs.Fits.{ActionFits, BytesFit};
 ghost use Rattle.tftp_c.specs.Handled.{Received, Sent, Stored, Taken, TimedOut};
-ghost use Rattle.tftp_c.specs.Reports.{Reports, Sends};
+ghost use Rattle.tftp_c.specs.Reports.{Reports, Sends, endpoint_of};
 ghost use Rattle.tftp_c.specs.Stated.{Learns, LearnsFrom};
 ghost use Rattle.tftp_ends.specs.Step.{lent};
 ghost use Rattle.tftp_c.specs.Waits.{Waits};
@@ -14,7 +19,7 @@ use crate::report::{endpoint, report, report_record, wait_of};
 use crate::slice_sink::SliceSink;
 use crate::slice_source::SliceSource;
 use crate::stated::stated_after;
-use tftp_ends::{End, EndFault, Endpoint, Outgoing, Step};
+use tftp_ends::{End, EndFault, Endpoint, NextBlock, Outgoing, Step};
 
 fn number(fault: EndFault) -> u8
     ensures { result ≡ 0 → ⊥ }
@@ -43,7 +48,36 @@ fn store(
         used: 0,
         is_committed: false,
     };
-    match end.handle_datagram_as_receiver(&mut sink, from, datagram) {
+    match end.handle_any_as_receiver(&mut sink, from, datagram) {
+        Ok((step, outgoing)) => Ok((step, outgoing, sink.count())),
+        Err(fault) => Err(fault),
+    }
+}
+
+/// As [`store`], of the next block.
+#[inline(always)]
+fn store_next(
+    end: &mut End,
+    next: NextBlock,
+    from: Endpoint,
+    datagram: &[u8],
+    file: &mut [u8],
+) -> Result<(Step, Outgoing, usize), EndFault>
+    requires phase { end.old.position.phase ≡ Receiving next.terms next.newest }
+    requires action { (decoded : Option Packet) × Decodes datagram.now decoded
+        × (Store next.terms next.number ≡ datagram_action end.old from datagram.now decoded) }
+    requires fits { ActionFits end.old (Store next.terms next.number) }
+    requires bytes { BytesFit end.old datagram.now (Store next.terms next.number) }
+    ensures ok { IfOk result (λ made. Stored from datagram.now end.old end.new file.old file.new
+        made.0 made.1 made.2) }
+    ensures err { OnErr result (end.new ≡ end.old) }
+{
+    let mut sink = SliceSink {
+        room: file,
+        used: 0,
+        is_committed: false,
+    };
+    match end.store_next(next, &mut sink, from, datagram) {
         Ok((step, outgoing)) => Ok((step, outgoing, sink.count())),
         Err(fault) => Err(fault),
     }
@@ -63,7 +97,35 @@ fn take(
     ensures err { OnErr result (end.new ≡ end.old) }
 {
     let mut source = SliceSource::of(next);
-    match end.handle_datagram_as_sender(&mut source, from, datagram) {
+    match end.handle_any_as_sender(&mut source, from, datagram) {
+        Ok((step, outgoing)) => {
+            let count = source.taken_of(next);
+            Ok((step, outgoing, count))
+        }
+        Err(fault) => Err(fault),
+    }
+}
+
+/// As [`take`], of the next block.
+#[inline(always)]
+fn take_next(
+    end: &mut End,
+    block: NextBlock,
+    from: Endpoint,
+    datagram: &[u8],
+    next: &[u8],
+) -> Result<(Step, Outgoing, usize), EndFault>
+    requires phase { end.old.position.phase ≡ Sending block.terms block.newest }
+    requires action { (decoded : Option Packet) × Decodes datagram.now decoded
+        × (Send block.terms block.number ≡ datagram_action end.old from datagram.now decoded) }
+    requires fits { ActionFits end.old (Send block.terms block.number) }
+    requires bytes { BytesFit end.old datagram.now (Send block.terms block.number) }
+    ensures ok { IfOk result (λ made. Taken from datagram.now end.old end.new next.now
+        made.0 made.1 made.2) }
+    ensures err { OnErr result (end.new ≡ end.old) }
+{
+    let mut source = SliceSource::of(next);
+    match end.send_next(block, &mut source, from, datagram) {
         Ok((step, outgoing)) => {
             let count = source.taken_of(next);
             Ok((step, outgoing, count))
@@ -104,10 +166,68 @@ fn conclude(
     report_record(&state, wait, step, answer, reply, count, event);
 }
 
-/// Handles a datagram at a receiver.
+/// Handles a datagram at a receiver: most bring the next block.
 // A block's step is one function, down to the copy: no phase and no action is copied between calls.
 #[inline(always)]
 pub(crate) fn receive(
+    client: &mut Client,
+    from: &TftpEndpoint,
+    datagram: &[u8],
+    file: &mut [u8],
+    reply: &mut [u8],
+    event: &mut TftpEvent,
+) -> u8
+    ensures ok { result ≡ 0 → Received from.now datagram.now client.old.end client.new.end file.old
+        file.new reply.new event.new }
+    ensures learns { result ≡ 0 → LearnsFrom datagram.now client.old client.new }
+    ensures fits { result ≡ 0 → event.new.send_len ≤ length reply.old }
+    ensures waits { result ≡ 0 → Waits client.old.backoff client.new.end event.new }
+    ensures backoff { client.new.backoff ≡ client.old.backoff }
+    ensures err { (result ≡ 0 → ⊥) → (client.new ≡ client.old) × (event.new ≡ event.old) }
+{
+    match client.end.next_block(endpoint(from), datagram) {
+        Some(next) => receive_next(client, next, from, datagram, file, reply, event),
+        None => receive_any(client, from, datagram, file, reply, event),
+    }
+}
+
+/// As [`receive`], of the next block.
+#[inline(always)]
+fn receive_next(
+    client: &mut Client,
+    next: NextBlock,
+    from: &TftpEndpoint,
+    datagram: &[u8],
+    file: &mut [u8],
+    reply: &mut [u8],
+    event: &mut TftpEvent,
+) -> u8
+    requires phase { client.old.end.position.phase ≡ Receiving next.terms next.newest }
+    requires action { (decoded : Option Packet) × Decodes datagram.now decoded
+        × (Store next.terms next.number
+        ≡ datagram_action client.old.end (endpoint_of from.now) datagram.now decoded) }
+    requires fits { ActionFits client.old.end (Store next.terms next.number) }
+    requires bytes { BytesFit client.old.end datagram.now (Store next.terms next.number) }
+    ensures ok { result ≡ 0 → Received from.now datagram.now client.old.end client.new.end file.old
+        file.new reply.new event.new }
+    ensures learns { result ≡ 0 → LearnsFrom datagram.now client.old client.new }
+    ensures fits { result ≡ 0 → event.new.send_len ≤ length reply.old }
+    ensures waits { result ≡ 0 → Waits client.old.backoff client.new.end event.new }
+    ensures backoff { client.new.backoff ≡ client.old.backoff }
+    ensures err { (result ≡ 0 → ⊥) → (client.new ≡ client.old) × (event.new ≡ event.old) }
+{
+    match store_next(&mut client.end, next, endpoint(from), datagram, file) {
+        Ok(made) => {
+            conclude(client, Some(next.peer()), datagram, made, reply, event);
+            0
+        }
+        Err(fault) => number(fault),
+    }
+}
+
+/// As [`receive`], of any datagram.
+#[inline(never)]
+fn receive_any(
     client: &mut Client,
     from: &TftpEndpoint,
     datagram: &[u8],
@@ -136,10 +256,68 @@ pub(crate) fn receive(
     }
 }
 
-/// Handles a datagram at a sender.
+/// Handles a datagram at a sender: most request the next block.
 // As of a receiver, a block's step is one function.
 #[inline(always)]
 pub(crate) fn send(
+    client: &mut Client,
+    from: &TftpEndpoint,
+    datagram: &[u8],
+    next: &[u8],
+    reply: &mut [u8],
+    event: &mut TftpEvent,
+) -> u8
+    ensures ok { result ≡ 0 → Sent from.now datagram.now client.old.end client.new.end next.now
+        reply.new event.new }
+    ensures learns { result ≡ 0 → LearnsFrom datagram.now client.old client.new }
+    ensures fits { result ≡ 0 → event.new.send_len ≤ length reply.old }
+    ensures waits { result ≡ 0 → Waits client.old.backoff client.new.end event.new }
+    ensures backoff { client.new.backoff ≡ client.old.backoff }
+    ensures err { (result ≡ 0 → ⊥) → (client.new ≡ client.old) × (event.new ≡ event.old) }
+{
+    match client.end.next_ack(endpoint(from), datagram) {
+        Some(block) => send_next(client, block, from, datagram, next, reply, event),
+        None => send_any(client, from, datagram, next, reply, event),
+    }
+}
+
+/// As [`send`], of the next block.
+#[inline(always)]
+fn send_next(
+    client: &mut Client,
+    block: NextBlock,
+    from: &TftpEndpoint,
+    datagram: &[u8],
+    next: &[u8],
+    reply: &mut [u8],
+    event: &mut TftpEvent,
+) -> u8
+    requires phase { client.old.end.position.phase ≡ Sending block.terms block.newest }
+    requires action { (decoded : Option Packet) × Decodes datagram.now decoded
+        × (Send block.terms block.number
+        ≡ datagram_action client.old.end (endpoint_of from.now) datagram.now decoded) }
+    requires fits { ActionFits client.old.end (Send block.terms block.number) }
+    requires bytes { BytesFit client.old.end datagram.now (Send block.terms block.number) }
+    ensures ok { result ≡ 0 → Sent from.now datagram.now client.old.end client.new.end next.now
+        reply.new event.new }
+    ensures learns { result ≡ 0 → LearnsFrom datagram.now client.old client.new }
+    ensures fits { result ≡ 0 → event.new.send_len ≤ length reply.old }
+    ensures waits { result ≡ 0 → Waits client.old.backoff client.new.end event.new }
+    ensures backoff { client.new.backoff ≡ client.old.backoff }
+    ensures err { (result ≡ 0 → ⊥) → (client.new ≡ client.old) × (event.new ≡ event.old) }
+{
+    match take_next(&mut client.end, block, endpoint(from), datagram, next) {
+        Ok(made) => {
+            conclude(client, Some(block.peer()), datagram, made, reply, event);
+            0
+        }
+        Err(fault) => number(fault),
+    }
+}
+
+/// As [`send`], of any datagram.
+#[inline(never)]
+fn send_any(
     client: &mut Client,
     from: &TftpEndpoint,
     datagram: &[u8],

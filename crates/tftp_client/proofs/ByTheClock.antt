@@ -3,7 +3,6 @@ use Rattle.std.proofs.Common.{arith, ◌≡◌, ◌<◌, ◌≤◌, ◌⊎◌, �
 use Rattle.std.specs.Prelude.{◌+◌, ◌-◌, ◌*◌, min}
 use Rattle.tftp_negotiate.specs.declared.asked.Asked.{Asked}
 use Rattle.tftp_negotiate.specs.declared.known.Kind.{Kind}
-use Rattle.tftp_negotiate.specs.declared.known.Kind.TheVariants.{Read, Write}
 use Rattle.tftp_file.specs.Sink.{SinkMeaning}
 use Rattle.tftp_file.specs.Source.{SourceMeaning}
 use Rattle.tftp_file.specs.declared.files.Files.{Files}
@@ -24,8 +23,8 @@ use Rattle.tftp_client.specs.Converses.MayElapse.{Stays, Elapses}
 use Rattle.tftp_client.specs.Runs.{begun, opens}
 use Rattle.tftp_client.specs.Seconds.{IsSteady, PassesWithTheClock, ReceivesNone, TimesOutByTheClock}
 use Rattle.tftp_client.specs.Silence.{seconds_in}
-use Rattle.tftp_client.proofs.Growing.{one_more, wait_least, waiting_deadline}
-use Rattle.tftp_client.proofs.Silent.{before_due, begins_now, closed_not, times_out}
+use Rattle.tftp_client.proofs.Growing.{one_more, wait_least}
+use Rattle.tftp_client.proofs.Silent.{before_due, begins_now, closed_not, first_wait, times_out}
 
 -- ---- one reading
 -- the time advances as much as the clock, if that advances by a second at most
@@ -186,32 +185,24 @@ module _ {S K : Type 0} {sources : SourceMeaning S} {sinks : SinkMeaning K} wher
 abbrev all_waits : Backoff → ℕ → ℕ
 all_waits backoff retries = seconds_in backoff 1 0 (retries + 1) * 1000 + retries * 1000
 
-first_wait : (backoff : Backoff) (port reading : ℕ) (e : EndState) (before : List SocketEvent) (asked : Asked) (limit : ℕ)
-    → e.position.phase ≡ Waiting asked limit → e.role.retries ≡ 0 + e.position.retries_left
-    → Unanswered backoff (all_waits backoff e.role.retries) (begun backoff port reading e before)
-first_wait backoff port reading e before asked limit waiting counted =
-    let is = waiting_deadline backoff 0 0 e asked limit waiting counted in
-    let first = one_more backoff 1 0 (e.role.retries + 1) (omega arith) in
-    let rest : seconds_in backoff 1 1 (e.role.retries + 1 - 1) ≡ seconds_in backoff 1 1 e.position.retries_left =
-    ap (λ (n : ℕ). seconds_in backoff 1 1 n) (omega (arith, counted)) in
-    record {
-      asked = asked;
-      limit = limit;
-      waiting = waiting;
-      grows = refl;
-      used = 0;
-      counted = counted;
-      due = omega (arith, is, first, rest, counted);
-      soon = omega arith;
-    }
-
 begins : (port reading : ℕ) (kind : Kind) (job : Job) (length : ℕ) (before : List SocketEvent)
     → Alone job.backoff (all_waits job.backoff job.retries)
     (begun job.backoff port reading (opens kind job length) before)
-begins port reading Read job length before =
-    inr (first_wait job.backoff port reading (opens Read job length) before _ _ refl (omega arith))
-begins port reading Write job length before =
-    inr (first_wait job.backoff port reading (opens Write job length) before _ _ refl (omega arith))
+begins port reading kind job length before =
+    let first = first_wait kind job length in
+    let near = first.near in
+    let few = first.few in
+    let all_left = first.all_left in
+    inr (record {
+      asked = first.asked;
+      limit = first.limit;
+      waiting = first.waiting;
+      grows = refl;
+      used = 0;
+      counted = first.counted;
+      due = omega (arith, near, few, all_left);
+      soon = omega arith;
+    })
 
 module _ {S K : Type 0} (sources : SourceMeaning S) (sinks : SinkMeaning K) where
   pub passes_with_the_clock : PassesWithTheClock sources sinks

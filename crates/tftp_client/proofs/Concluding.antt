@@ -82,6 +82,7 @@ module _ {F K : Type 0} (sources : SourceMeaning (DiskSource F)) (sinks : SinkMe
           last = done.last;
           files = done.files;
           count = done.count;
+          ends = done.ends;
           transfers = (inl done.run.0, done.run.1);
           complete = done.complete;
           stays = done.stays;
@@ -110,6 +111,7 @@ module _ {F K : Type 0} (sources : SourceMeaning (DiskSource F)) (sinks : SinkMe
           last = done.last;
           files = done.files;
           count = done.count;
+          ends = done.ends;
           transfers = (
             inr (middle, refused, done.run.0),
             begins_plain job done.count done.run.0.length done.run.0.runs.file
@@ -142,6 +144,7 @@ module _ {D F V G : Type 0} {logs : looks.Ghosts D} {writes : write.Ghosts F} {v
         last = r.last;
         files = r.files;
         count = count_of sent r.files;
+        ends = r.ends;
         run = (
           runs_as sources sinks known job kind sent length may
               (record { reading = reading; file = file; new = new; converses = r.converses }) side octet refl,

@@ -1,5 +1,5 @@
 -- The file of a complete job has its name, and what moved is in it.
-use Rattle.std.proofs.Common.{◌≡◌, ℕ, Bool, true, List, Some, inl, inr, refl, sym, ap, ◌∙◌, subst}
+use Rattle.std.proofs.Common.{◌≡◌, ◌⊎◌, ℕ, Bool, true, List, Some, inl, inr, refl, sym, ap, ◌∙◌, subst}
 use Rattle.std.proofs.Math.Logic.{∥∥₁_map}
 use Rattle.std.proofs.lemmas.Option.{same_Some}
 use Rattle.std.specs.declared.io.traits.Read as read
@@ -23,6 +23,7 @@ use Rattle.tftp_client.specs.CommandLine.{IfExit, IfRun}
 use Rattle.tftp_client.specs.Converses.{Converses, State}
 use Rattle.tftp_client.specs.Fetched.{Keeps, KeepsPlace, Paths, WasNamed}
 use Rattle.tftp_client.specs.OnDisk.{IsFor, IsOnDisk, KeepsFile, job_paths}
+use Rattle.tftp_client.specs.Ordered.{EndsWithoutJob}
 use Rattle.tftp_client.specs.Runs.{IsWhole}
 use Rattle.tftp_client.specs.Sent.{DoesOrder, DoesWords}
 use Rattle.tftp_client.specs.Stored.{HasDisk, IsReceived}
@@ -138,15 +139,22 @@ module _ {S : Type 0} {D F V G : Type 0} {logs : looks.Ghosts D} {writes : write
 module _ {D F V G : Type 0} {logs : looks.Ghosts D} {writes : write.Ghosts F} {views : looks.Ghosts V}
     {reads : read.Ghosts G} {seeks : seek.Ghosts G}
     (sources : SourceMeaning (DiskSource G)) (sinks : SinkMeaning (LocalFile D F V G logs writes views reads seeks)) where
+  -- without a job the status says whether the words ask for a text
+  ends_without : (words : List (List ℕ)) (status : ℕ) → (status ≡ 0) ⊎ (status ≡ 2)
+      → (status ≡ 0 → AskForText tftp_app words) → EndsWithoutJob words status
+  ends_without words status (inl zero) text = inl (zero, text zero)
+  ends_without words status (inr two) text = inr two
+
   -- a job was run, or nothing was done
   pub does_words : {before after : List SocketEvent} {calls calls' : List DiskEvent} (words : List (List ℕ)) {status : ℕ}
       (line : CommandLine)
       → IfRun line (λ job. WordsName words job)
+      → IfExit line (λ n. (n ≡ 0) ⊎ (n ≡ 2))
       → IfExit line (λ n. n ≡ 0 → AskForText tftp_app words)
       → IfRun line (λ job. DoesOrder sources sinks job status before after calls calls')
       → IfExit line (λ _. after ≡ before) → IfExit line (λ _. calls' ≡ calls) → IfExit line (λ n. status ≡ n)
       → DoesWords sources sinks words status before after calls calls'
-  does_words words (lines.Run job) names text runs none unchanged same =
+  does_words words (lines.Run job) names ends text runs none unchanged same =
       (inr (job, names, runs.0), (runs.1, runs.2), runs.3)
-  does_words words (lines.Exit n) names text runs none unchanged same =
-      (inl (none, λ zero. text (sym same ∙ zero)), unchanged, tt)
+  does_words words (lines.Exit n) names ends text runs none unchanged same =
+      (inl (none, subst (EndsWithoutJob words) (sym same) (ends_without words n ends text)), unchanged, tt)

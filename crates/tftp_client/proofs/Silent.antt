@@ -195,35 +195,57 @@ module _ {S K : Type 0} {sources : SourceMeaning S} {sinks : SinkMeaning K} wher
       elapses backoff most port timed (silent backoff most run quiet h early)
   silent backoff most (Rests run works) quiet h ends = silent backoff most run quiet h ends
 
--- a request was just sent
-first_wait : (backoff : Backoff) (port reading : ℕ) (e : EndState) (before : List SocketEvent) (asked : Asked) (limit : ℕ)
+-- an end as a job opens it: no timeout was delivered, and its waits are the first one and those behind it
+pub record FirstWait (backoff : Backoff) (retries : ℕ) (e : EndState) : Type 0 where
+  pub asked : Asked
+  pub limit : ℕ
+  pub waiting : e.position.phase ≡ Waiting asked limit
+  pub counted : e.role.retries ≡ 0 + e.position.retries_left
+  pub all_left : e.position.retries_left ≡ retries
+  pub near : deadline_at backoff 0 e ≤ wait_of backoff 1 0 * 1000
+  pub few : seconds_in backoff 1 0 (retries + 1)
+      ≡ wait_of backoff 1 0 + seconds_in backoff 1 1 e.position.retries_left
+
+first_of : (backoff : Backoff) (retries : ℕ) (e : EndState) (asked : Asked) (limit : ℕ)
     → e.position.phase ≡ Waiting asked limit → e.role.retries ≡ 0 + e.position.retries_left
-    → Unanswered backoff (seconds_in backoff 1 0 (e.role.retries + 1) + waits before)
-    (begun backoff port reading e before)
-first_wait backoff port reading e before asked limit waiting counted =
+    → e.position.retries_left ≡ retries → FirstWait backoff retries e
+first_of backoff retries e asked limit waiting counted all_left =
     let is = waiting_deadline backoff 0 0 e asked limit waiting counted in
-    let first = one_more backoff 1 0 (e.role.retries + 1) (omega arith) in
-    let rest : seconds_in backoff 1 1 (e.role.retries + 1 - 1) ≡ seconds_in backoff 1 1 e.position.retries_left =
-    ap (λ (n : ℕ). seconds_in backoff 1 1 n) (omega (arith, counted)) in
+    let first = one_more backoff 1 0 (retries + 1) (omega arith) in
+    let rest : seconds_in backoff 1 1 (retries + 1 - 1) ≡ seconds_in backoff 1 1 e.position.retries_left =
+    ap (λ (n : ℕ). seconds_in backoff 1 1 n) (omega (arith, all_left)) in
     record {
       asked = asked;
       limit = limit;
       waiting = waiting;
-      grows = refl;
-      used = 0;
       counted = counted;
-      left = wait_of backoff 1 0;
+      all_left = all_left;
       near = omega (arith, is);
       few = omega (arith, first, rest);
     }
 
+pub first_wait : (kind : Kind) (job : Job) (length : ℕ) → FirstWait job.backoff job.retries (opens kind job length)
+first_wait Read job length = first_of job.backoff job.retries (opens Read job length) _ _ refl (omega arith) refl
+first_wait Write job length = first_of job.backoff job.retries (opens Write job length) _ _ refl (omega arith) refl
+
 begins : (port reading : ℕ) (kind : Kind) (job : Job) (length : ℕ) (before : List SocketEvent)
     → Silent job.backoff (seconds_in job.backoff 1 0 (job.retries + 1) + waits before)
     (begun job.backoff port reading (opens kind job length) before)
-begins port reading Read job length before =
-    inr (first_wait job.backoff port reading (opens Read job length) before _ _ refl (omega arith))
-begins port reading Write job length before =
-    inr (first_wait job.backoff port reading (opens Write job length) before _ _ refl (omega arith))
+begins port reading kind job length before =
+    let first = first_wait kind job length in
+    let near = first.near in
+    let few = first.few in
+    inr (record {
+      asked = first.asked;
+      limit = first.limit;
+      waiting = first.waiting;
+      grows = refl;
+      used = 0;
+      counted = first.counted;
+      left = wait_of job.backoff 1 0;
+      near = omega (arith, near);
+      few = omega (arith, few);
+    })
 
 module _ {S K : Type 0} (sources : SourceMeaning S) (sinks : SinkMeaning K) where
   abbrev most_waits : Job → List SocketEvent → ℕ

@@ -125,6 +125,7 @@ module _ {S : Type 0} {D F V G : Type 0} {logs : looks.Ghosts D} {writes : write
       (file : Files S (LocalFile D F V G logs writes views reads seeks)) (sent : ℕ)
       (after : List SocketEvent)
       (files' : Files S (LocalFile D F V G logs writes views reads seeks)) : Type 0 where
+    pub ends : (status ≡ 0) ⊎ (status ≡ 2)
     pub last : State
     pub files : Files S (LocalFile D F V G logs writes views reads seeks)
     pub converses : Converses sources sinks port first file last files

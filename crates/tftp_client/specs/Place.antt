@@ -42,6 +42,13 @@ abbrev pub IsPartFree : Result Found Error → Type 0
 IsPartFree (Ok found) = found.kind ≢ Folder
 IsPartFree (Err error) = error_kind error ≡ kinds.NotFound
 
+-- by this look at the other name there is no place, for this reason: it is a folder's, or cannot be
+-- looked at
+abbrev pub IsPartFault : Result Found Error → LocalError → Type 0
+IsPartFault (Ok found) error = (found.kind ≡ Folder) × (error ≡ errors.PartIsAFolder)
+IsPartFault (Err failure) error =
+    (error_kind failure ≢ kinds.NotFound) × (error ≡ errors.System failure)
+
 -- between these calls both names were looked at, and found free, and then their folder was opened,
 -- or may not be read
 pub record FindsPlace (paths : Paths) (existing : Existing) (before after : List DiskEvent)
@@ -67,12 +74,12 @@ pub data FindsNone (paths : Paths) (existing : Existing) (before : List DiskEven
       → ReplacesAt existing at_local (Err error)
       → FindsNone paths existing before error (Looked paths.local at_local ∷ before)
   PartIsTaken : {error : LocalError} (at_local at_part : Result Found Error)
-      → IsFree existing at_local → (IsPartFree at_part → ⊥)
+      → IsFree existing at_local → IsPartFault at_part error
       → FindsNone paths existing before error
       (Looked paths.part at_part ∷ Looked paths.local at_local ∷ before)
-  HasNoFolder : {error : LocalError} (at_local at_part : Result Found Error) (folder : List ℕ)
+  HasNoFolder : {failure : Error} (at_local at_part : Result Found Error) (folder : List ℕ)
       (answer : Done) → IsFree existing at_local → IsPartFree at_part
       → IsFolderOf paths.local folder
-      → FindsNone paths existing before error
+      → FindsNone paths existing before (errors.System failure)
       (Folder_opened folder answer ∷ Looked paths.part at_part
       ∷ Looked paths.local at_local ∷ before)

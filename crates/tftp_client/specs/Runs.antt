@@ -1,6 +1,6 @@
 -- What the program did for a job: the run of one end from its request on, or of a second one, where
 -- options were refused.
-use Rattle.std.specs.Prelude.{ℕ, ◌≡◌, ◌==◌, ◌≤◌, ◌⊎◌, Bool, true, false, if◌then◌else◌}
+use Rattle.std.specs.Prelude.{ℕ, ◌≡◌, ◌==◌, ◌≤◌, ◌+◌, ◌⊎◌, Bool, true, false, if◌then◌else◌, Result, IfErr}
 use Rattle.std.specs.Prelude.{List, [], ◌∷◌, length as list_length}
 use Rattle.std.specs.Prelude.{Some, None, IsSome, option_map}
 use Rattle.std.proofs.Common.{inl, inr}
@@ -88,6 +88,13 @@ plain job = record job { asked = record { blksize = None; timeout = None; tsize 
 abbrev pub MayFallBack : Job → ClientOutcome → Type 0
 MayFallBack job (ends.Failed outcome) = (job.falls_back ≡ true) × FallsBack outcome job.asked
 MayFallBack job _ = ⊥
+
+-- a run ended so, behind so many waits of the program, and so many were left to it: as many as it did
+-- not make, if it failed, and it never made more than all of them
+pub record CountsWaits {A E : Type 0} (most left : ℕ) (result : Result A E) (after : List SocketEvent)
+    : Type 0 where
+  pub counted : IfErr result (λ _. left + waits after ≡ most)
+  pub within : waits after ≤ most
 
 module _ {S K : Type 0} (sources : SourceMeaning S) (sinks : SinkMeaning K) where
   -- a received file has taken nothing

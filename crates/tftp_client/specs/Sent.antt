@@ -1,5 +1,5 @@
 -- What was sent of a file on the disk, by the calls of the system on it.
-use Rattle.std.specs.Prelude.{ℕ, ◌≡◌, true, List, length, Some}
+use Rattle.std.specs.Prelude.{ℕ, ◌≡◌, ◌⊎◌, true, List, length, Some}
 use Rattle.std.proofs.Common.{inl, inr}
 use Rattle.std.specs.declared.io.traits.Read as read
 use Rattle.std.specs.declared.io.traits.Write as write
@@ -99,6 +99,7 @@ module _ {F K : Type 0} (sources : SourceMeaning (DiskSource F)) (sinks : SinkMe
     pub last : State
     pub files : Files (DiskSource F) K
     pub count : ℕ
+    pub ends : (status ≡ 0) ⊎ (status ≡ 2)
     pub run : RunsFor port kind job before last files count
     pub complete : is_complete last.end.position.phase ≡ true
     pub stays : Dallies sources sinks port (printed (line_by status count) last) files after
@@ -118,6 +119,7 @@ module _ {F K : Type 0} (sources : SourceMeaning (DiskSource F)) (sinks : SinkMe
     pub last : State
     pub files : Files (DiskSource F) K
     pub count : ℕ
+    pub ends : (status ≡ 0) ⊎ (status ≡ 2)
     pub transfers : TransfersFor most port job before last files count
     pub complete : is_complete last.end.position.phase ≡ true
     pub stays : Dallies sources sinks port (printed (line_by status count) last) files after

@@ -1,6 +1,6 @@
 //! The command line of `tftp`, and the job that its words name.
 
-ghost use Rattle.std.specs.Prelude.{◌≡◌, ◌≢◌, ◌≤◌, true, false, codes, Some, None, map};
+ghost use Rattle.std.specs.Prelude.{◌≡◌, ◌≢◌, ◌⊎◌, true, false, codes, Some, None, map};
 ghost use Rattle.std.specs.Prelude.{IfOk, IfSome};
 ghost use Rattle.clap.specs.Simple.{App, subcommand_rows_of};
 ghost use Rattle.tftp_wire.specs.declared.mode.Mode.TheVariants.{Octet, Netascii};
@@ -72,7 +72,7 @@ pub(crate) fn read_words<'a, P: Print + Eprint, S: AsStr>(
     words: &'a [S],
     errors: ErrorOutput,
 ) -> anyhow::Result<CommandLine<'a>>
-    ensures status { IfOk result (λ line. IfExit line (λ status. status ≤ 2)) }
+    ensures ends { IfOk result (λ line. IfExit line (λ status. (status ≡ 0) ⊎ (status ≡ 2))) }
     ensures names { IfOk result (λ line. IfRun line (λ job.
         WordsName (map S.text words.now) job)) }
     ensures text { IfOk result (λ line. IfExit line (λ status. status ≡ 0
@@ -94,7 +94,7 @@ fn match_words<'a, P: Print + Eprint, S: AsStr>(
     errors: ErrorOutput,
 ) -> anyhow::Result<CommandLine<'a>>
     requires { IsApp tftp_app command.old }
-    ensures status { IfOk result (λ line. IfExit line (λ status. status ≤ 2)) }
+    ensures ends { IfOk result (λ line. IfExit line (λ status. (status ≡ 0) ⊎ (status ≡ 2))) }
     ensures names { IfOk result (λ line. IfRun line (λ job.
         WordsName (map S.text words.now) job)) }
     ensures text { IfOk result (λ line. IfExit line (λ status. status ≡ 0

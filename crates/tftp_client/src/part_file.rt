@@ -7,7 +7,7 @@ ghost use Rattle.tftp_disk.specs.DiskTrace.{made_at, made_when};
 ghost use Rattle.tftp_disk.specs.DiskWriter.{calls_of, handed};
 ghost use Rattle.tftp_disk.specs.Still.{IsStillAt};
 ghost use Rattle.tftp_client.specs.Fetched.{Keeps, KeepsPlace, WasNamed};
-ghost use Rattle.tftp_client.specs.Place.{FindsNone, FindsPlace, IsPartFree};
+ghost use Rattle.tftp_client.specs.Place.{FindsNone, FindsPlace, IsPartFault, IsPartFree};
 ghost use Rattle.tftp_client.specs.Written.{bytes_in, place_in, paths_for, paths_of, HasNoRest};
 ghost use Rattle.tftp_client.specs.Written.{IsFolderIn, IsLeftIn, IsStillIn, SameIn};
 
@@ -280,7 +280,7 @@ fn make_part<D: Disk>(
 /// Fails if `LOCAL.part` was found to be a folder, which cannot be removed, or cannot be a name.
 fn check_part(found: io::Result<Found>) -> Result<(), LocalError>
     ensures free { OnOk result (IsPartFree found) }
-    ensures taken { OnErr result (IsPartFree found → ⊥) }
+    ensures taken { IfErr result (IsPartFault found) }
 {
     match found {
         Ok(found) => {

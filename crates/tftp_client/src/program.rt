@@ -41,8 +41,9 @@ pub fn tftp_command<R: Runtime + LockFiles + AllocGlobal + Net, E: IsTerminal>(
 /// name. `errors` is standard error; progress is shown only if it is a terminal.
 ///
 /// `--help` and `--version` return 0. The status of a transfer is that of the [`ClientOutcome`]
-/// whose line is printed. The status is 2 for an invalid command line, which is reported on
-/// standard error, when out of memory, and if an output cannot be written.
+/// whose line is printed, or 2 if the line of a complete one cannot be. The status is 2 for an
+/// invalid command line, which is reported on standard error, when out of memory, and if the text
+/// of `--help` or `--version` cannot be written.
 pub fn tftp_words<R: Runtime + LockFiles + AllocGlobal + Net, S: AsStr, E: IsTerminal>(
     rt: &R,
     words: &[S],
@@ -57,10 +58,11 @@ pub fn tftp_words<R: Runtime + LockFiles + AllocGlobal + Net, S: AsStr, E: IsTer
 
 /// As [`tftp_words`], over devices that keep their own traces; it hands the disk back. It did
 /// nothing, as for `--help`, or the job that the words name: its direction, its endpoint, its
-/// names, its mode and its options. The status is 0 just if the words ask for the help or the
-/// version, or that job is complete and its line was printed. It is 2 if the system refused that
-/// line, and 1 or 2 if the job failed. All its runs and its dally make 1,000,000 waits at most. On
-/// the disk it changed no other name than LOCAL and LOCAL.part, and none if it sends a file.
+/// names, its mode and its options. Without a job the status is 0, just if the words ask for the
+/// help or the version, or 2. With one it is 0 if the job is complete and its line was printed, 2 if
+/// the system refused that line, 1 if the transfer was opened and failed, and 2 if none was opened.
+/// All its runs and its dally make 1,000,000 waits at most. On the disk it changed no other name
+/// than LOCAL and LOCAL.part, and none if it sends a file.
 pub fn tftp_on<P: Print + Eprint, N: ClientUdp, D: Disk, S: AsStr, E: IsTerminal>(
     rt: &P,
     net: &mut N,
@@ -120,7 +122,7 @@ fn run_command_line<E: Eprint, N: ClientUdp, D: Disk>(
     line: &CommandLine<'_>,
     disk: D,
 ) -> (u8, D)
-    requires { IfExit line.now (λ status. status ≤ 2) }
+    requires { IfExit line.now (λ status. (status ≡ 0) ⊎ (status ≡ 2)) }
     ensures status { result.0 ≤ 2 }
     ensures runs { IfRun line.now (λ job. DoesOrder
         ⟦<SourceOf<D> as Source>⟧.meaning ⟦<LocalFile<D> as Sink>⟧.meaning
@@ -159,15 +161,13 @@ fn run_job<E: Eprint, N: ClientUdp, D: Disk>(
     }
 }
 
-/// Reports a failure, and returns the status: 2 if standard error cannot be written.
+/// Reports a failure, and returns the status. It is the same if standard error cannot be written.
 fn report<R: Eprint>(rt: &R, failure: &Failure, job: &Job<'_>) -> u8
-    ensures status { (result ≡ status_of failure.now.end) ⊎ (result ≡ 2) }
+    ensures status { result ≡ status_of failure.now.end }
     ensures fails { (1 ≤ result) × (result ≤ 2) }
 {
-    match print_failure(rt, failure, job) {
-        Ok(()) => failure.end.status(),
-        Err(_) => 2,
-    }
+    let _ = print_failure(rt, failure, job);
+    failure.end.status()
 }
 
 /// Prints how a transfer failed, and its cause.

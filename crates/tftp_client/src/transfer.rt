@@ -6,7 +6,7 @@ mod conversation;
 mod failure;
 mod notes;
 
-ghost use Rattle.std.specs.Prelude.{ℕ, ◌≡◌, ◌≤◌, ◌+◌, ◌⊎◌, ◌↔◌, IfOk, IfErr, IsTrue, List, false};
+ghost use Rattle.std.specs.Prelude.{ℕ, ◌≡◌, ◌≤◌, ◌+◌, ◌↔◌, IfOk, IfErr, IsTrue, List, false};
 ghost use Rattle.tftp_negotiate.specs.declared.known.Kind.TheVariants.{Read, Write};
 ghost use Rattle.tftp_disk.specs.DiskSource.{source_calls};
 ghost use Rattle.tftp_disk.specs.DiskTrace.{DiskEvent};
@@ -24,7 +24,7 @@ ghost use Rattle.tftp_client.specs.Sent.{Concludes, EndStores, IsOpenedAt, JobSt
 ghost use Rattle.tftp_client.specs.Stored.{HasDisk, IsReceived, count_of, stored};
 ghost use Rattle.tftp_client.specs.Taken.{nothing};
 ghost use Rattle.tftp_client.specs.Written.{held_of, paths_of};
-ghost use Rattle.tftp_client.specs.Runs.{MayFallBack, plain};
+ghost use Rattle.tftp_client.specs.Runs.{CountsWaits, MayFallBack, plain};
 
 use crate::cause::Cause;
 use crate::local::{FileOf, LocalFile, SourceOf, read_error};
@@ -100,7 +100,6 @@ pub(crate) fn transfer<E: Eprint, N: ClientUdp, D: Disk>(
     disk: D,
     waits: &mut u32,
 ) -> (Result<u8, Failure>, D)
-    ensures ends { IfOk result.0 (λ status. (status ≡ 0) ⊎ (status ≡ 2)) }
     ensures ok { IfOk result.0 (λ status. JobStores
         ⟦<SourceOf<D> as Source>⟧.meaning ⟦<LocalFile<D> as Sink>⟧.meaning status
         (waits.old + waits_in (N.log net.old)) job.now (N.log net.old) (N.log net.new)
@@ -156,7 +155,6 @@ fn transfer_once<E: Eprint, N: ClientUdp, D: Disk>(
     disk: D,
     waits: &mut u32,
 ) -> (Result<u8, Failure>, D)
-    ensures ends { IfOk result.0 (λ status. (status ≡ 0) ⊎ (status ≡ 2)) }
     ensures ok { IfOk result.0 (λ status. EndStores
         ⟦<SourceOf<D> as Source>⟧.meaning ⟦<LocalFile<D> as Sink>⟧.meaning status
         (waits.old + waits_in (N.log net.old)) job.now.kind job.now
@@ -166,9 +164,8 @@ fn transfer_once<E: Eprint, N: ClientUdp, D: Disk>(
         (waits.old + waits_in (N.log net.old)) job.now (N.log net.old) (N.log net.new)
         (D.log result.1) failure.end) }
     ensures keeps { KeepsDisk job.now (D.log disk) (D.log result.1) }
-    ensures counted { IfErr result.0 (λ _. waits.new + waits_in (N.log net.new)
-        ≡ waits.old + waits_in (N.log net.old)) }
-    ensures within { waits_in (N.log net.new) ≤ waits.old + waits_in (N.log net.old) }
+    ensures counts { CountsWaits (waits.old + waits_in (N.log net.old)) waits.new result.0
+        (N.log net.new) }
 {
     match job.kind {
         Kind::Read => get(rt, net, alloc, job, disk, waits),
@@ -188,7 +185,6 @@ fn get<E: Eprint, N: ClientUdp, D: Disk>(
     mut disk: D,
     waits: &mut u32,
 ) -> (Result<u8, Failure>, D)
-    ensures ends { IfOk result.0 (λ status. (status ≡ 0) ⊎ (status ≡ 2)) }
     ensures ok { IfOk result.0 (λ status. EndStores
         ⟦<SourceOf<D> as Source>⟧.meaning ⟦<LocalFile<D> as Sink>⟧.meaning status
         (waits.old + waits_in (N.log net.old)) Read job.now
@@ -198,9 +194,8 @@ fn get<E: Eprint, N: ClientUdp, D: Disk>(
         (waits.old + waits_in (N.log net.old)) Read job.now 0 (N.log net.old) (N.log net.new)
         (D.log result.1) failure.end) }
     ensures keeps { Keeps (job_paths job.now) (D.log disk) (D.log result.1) }
-    ensures counted { IfErr result.0 (λ _. waits.new + waits_in (N.log net.new)
-        ≡ waits.old + waits_in (N.log net.old)) }
-    ensures within { waits_in (N.log net.new) ≤ waits.old + waits_in (N.log net.old) }
+    ensures counts { CountsWaits (waits.old + waits_in (N.log net.old)) waits.new result.0
+        (N.log net.new) }
 {
     match Place::of(&mut disk, alloc, job.local, job.existing) {
         Ok(place) => {
@@ -222,7 +217,6 @@ fn get_into<E: Eprint, N: ClientUdp, D: Disk>(
 ) -> (Result<u8, Failure>, D)
     requires empty { held_of local.part.written local.committed ≡ nothing }
     requires paths { paths_of local.part.names local.part.existing ≡ job_paths job.now }
-    ensures ends { IfOk result.0 (λ status. (status ≡ 0) ⊎ (status ≡ 2)) }
     ensures ok { IfOk result.0 (λ status. EndStores
         ⟦<SourceOf<D> as Source>⟧.meaning ⟦<LocalFile<D> as Sink>⟧.meaning status
         (waits.old + waits_in (N.log net.old)) Read job.now
@@ -232,9 +226,8 @@ fn get_into<E: Eprint, N: ClientUdp, D: Disk>(
         (waits.old + waits_in (N.log net.old)) Read job.now 0 (N.log net.old) (N.log net.new)
         (D.log result.1) failure.end) }
     ensures keeps { Keeps (job_paths job.now) (D.log local.part.disk) (D.log result.1) }
-    ensures counted { IfErr result.0 (λ _. waits.new + waits_in (N.log net.new)
-        ≡ waits.old + waits_in (N.log net.old)) }
-    ensures within { waits_in (N.log net.new) ≤ waits.old + waits_in (N.log net.old) }
+    ensures counts { CountsWaits (waits.old + waits_in (N.log net.old)) waits.new result.0
+        (N.log net.new) }
 {
     let conversation = match ask_to_get(net, alloc, job) {
         Ok(conversation) => conversation,
@@ -265,7 +258,6 @@ fn put<E: Eprint, N: ClientUdp, D: Disk>(
     disk: &D,
     waits: &mut u32,
 ) -> Result<u8, Failure>
-    ensures ends { IfOk result (λ status. (status ≡ 0) ⊎ (status ≡ 2)) }
     ensures ok { IfOk result (λ status. Concludes
         ⟦<SourceOf<D> as Source>⟧.meaning ⟦<LocalFile<D> as Sink>⟧.meaning status
         (waits.old + waits_in (N.log net.old)) Write job.now
@@ -274,9 +266,8 @@ fn put<E: Eprint, N: ClientUdp, D: Disk>(
         ⟦<SourceOf<D> as Source>⟧.meaning ⟦<LocalFile<D> as Sink>⟧.meaning
         (waits.old + waits_in (N.log net.old)) Write job.now length
         (N.log net.old) (N.log net.new) (D.log disk.now) failure.end) }
-    ensures counted { IfErr result (λ _. waits.new + waits_in (N.log net.new)
-        ≡ waits.old + waits_in (N.log net.old)) }
-    ensures within { waits_in (N.log net.new) ≤ waits.old + waits_in (N.log net.old) }
+    ensures counts { CountsWaits (waits.old + waits_in (N.log net.old)) waits.new result
+        (N.log net.new) }
 {
     match Outbound::open(&mut disk.view(), alloc, job.local, job.mode) {
         Ok(outbound) => put_from::<E, N, D>(rt, net, alloc, job, outbound, waits),
@@ -296,7 +287,6 @@ fn put_from<E: Eprint, N: ClientUdp, D: Disk>(
     requires opened { IsOpenedAt job.now.local.now job.now.mode outbound.source }
     requires long { outbound.length.wire_bytes ≤ MAX_WIRE → HasLength job.now.mode
         outbound.length.bytes outbound.length.wire_bytes (source_calls outbound.source) }
-    ensures ends { IfOk result (λ status. (status ≡ 0) ⊎ (status ≡ 2)) }
     ensures ok { IfOk result (λ status. Concludes
         ⟦<SourceOf<D> as Source>⟧.meaning ⟦<LocalFile<D> as Sink>⟧.meaning status
         (waits.old + waits_in (N.log net.old)) Write job.now
@@ -305,9 +295,8 @@ fn put_from<E: Eprint, N: ClientUdp, D: Disk>(
         ⟦<SourceOf<D> as Source>⟧.meaning ⟦<LocalFile<D> as Sink>⟧.meaning
         (waits.old + waits_in (N.log net.old)) Write job.now outbound.length.wire_bytes
         (N.log net.old) (N.log net.new) calls failure.end) }
-    ensures counted { IfErr result (λ _. waits.new + waits_in (N.log net.new)
-        ≡ waits.old + waits_in (N.log net.old)) }
-    ensures within { waits_in (N.log net.new) ≤ waits.old + waits_in (N.log net.old) }
+    ensures counts { CountsWaits (waits.old + waits_in (N.log net.old)) waits.new result
+        (N.log net.new) }
 {
     match ask_to_put(net, alloc, job, outbound.length.wire_bytes) {
         Ok(conversation) => {
@@ -334,7 +323,6 @@ fn converse<E: Eprint, N: ClientUdp, D: Disk>(
     requires not_closed { IsOpen conversation.end }
     requires incomplete { is_complete conversation.end.position.phase ≡ false }
     requires ready { IsReady conversation }
-    ensures ends { IfOk result (λ status. (status ≡ 0) ⊎ (status ≡ 2)) }
     ensures ok { IfOk result (λ status. Reaches
         ⟦<SourceOf<D> as Source>⟧.meaning ⟦<LocalFile<D> as Sink>⟧.meaning status
         job.now.dallies (waits.old + waits_in (N.log net.old)) conversation.socket.port
@@ -344,9 +332,8 @@ fn converse<E: Eprint, N: ClientUdp, D: Disk>(
         (waits.old + waits_in (N.log net.old)) conversation.socket.port
         (state_of conversation (N.log net.old)) files.old (N.log net.new) files.new failure.end) }
     ensures keeps { KeepsFile files.old files.new }
-    ensures counted { IfErr result (λ _. waits.new + waits_in (N.log net.new)
-        ≡ waits.old + waits_in (N.log net.old)) }
-    ensures within { waits_in (N.log net.new) ≤ waits.old + waits_in (N.log net.old) }
+    ensures counts { CountsWaits (waits.old + waits_in (N.log net.old)) waits.new result
+        (N.log net.new) }
 {
     let ended = conversation.run(rt, net, files, waits);
     conversation.finish(rt, stored(files));

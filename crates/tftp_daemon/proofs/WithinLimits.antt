@@ -6,6 +6,7 @@ use Rattle.std.specs.String.{string_bytes}
 use Rattle.std.proofs.lemmas.List.Elements.{All-cons, All-nil}
 use Rattle.std.proofs.lemmas.List.{append_assoc}
 use Rattle.tftp_file.specs.Source.{SourceMeaning}
+use Rattle.tftp_disk.specs.Changes.{changes}
 use Rattle.tftp_disk.specs.DiskTrace.{DiskEvent}
 use Rattle.tftp_disk.specs.DiskTrace.DiskEvent.{Looked, Followed, Resolved, Opened, Tried, Created, Made, Locked, Linked}
 use Rattle.tftp_disk.specs.DiskTrace.DiskEvent.{Renamed, Removed, Folder_opened, Folder_synced, Examined, Given, Not_given}
@@ -16,6 +17,8 @@ use Rattle.tftp_folder.specs.Changing.{AreChanges, IsChange, IsDraftIn, IsLock, 
 use Rattle.tftp_folder.specs.Changing.{IsWithin, limits_of}
 use Rattle.tftp_folder.specs.Effects.{changes_of}
 use Rattle.tftp_folder.specs.Inside.{IsInside}
+use Rattle.tftp_folder.specs.Placed.{placed}
+use Rattle.tftp_folder.specs.Reached.{AreReached}
 use Rattle.tftp_folder.specs.Uploads.{IsBelow, path_below, path_of_folder}
 use Rattle.tftp_folder.specs.declared.folder_draft.FolderDraft.{FolderDraft}
 use Rattle.tftp_folder.specs.declared.folder_store.FolderStore.{FolderStore}
@@ -101,6 +104,35 @@ module _ (limits : Limits) (folder : List ℕ) (uploads : limits.uploads ≡ Som
 
 -- ---- what a run keeps
 
+-- calls that changed nothing gave no file a name
+none_placed : (events : List DiskEvent) → changes events ≡ [] → placed events ≡ []
+none_placed [] none = refl
+none_placed (Made path answer ∷ events) none = absurd (let f : Made path answer ∷ changes events ≡ [] = none in cc)
+none_placed (Locked path answer ∷ events) none = absurd (let f : Locked path answer ∷ changes events ≡ [] = none in cc)
+none_placed (Linked file from to answer ∷ events) none =
+    absurd (let f : Linked file from to answer ∷ changes events ≡ [] = none in cc)
+none_placed (Renamed file from to answer ∷ events) none =
+    absurd (let f : Renamed file from to answer ∷ changes events ≡ [] = none in cc)
+none_placed (Removed path answer ∷ events) none = absurd (let f : Removed path answer ∷ changes events ≡ [] = none in cc)
+none_placed (Folder_opened path answer ∷ events) none =
+    absurd (let f : Folder_opened path answer ∷ changes events ≡ [] = none in cc)
+none_placed (Folder_synced path answer ∷ events) none =
+    absurd (let f : Folder_synced path answer ∷ changes events ≡ [] = none in cc)
+none_placed (Looked path answer ∷ events) none = none_placed events none
+none_placed (Followed path answer ∷ events) none = none_placed events none
+none_placed (Resolved path answer ∷ events) none = none_placed events none
+none_placed (Opened path answer ∷ events) none = none_placed events none
+none_placed (Tried path answer ∷ events) none = none_placed events none
+none_placed (Created path calls ∷ events) none = none_placed events none
+none_placed (Examined answer ∷ events) none = none_placed events none
+none_placed (Given bytes ∷ events) none = none_placed events none
+none_placed (Not_given error ∷ events) none = none_placed events none
+none_placed (Sought to answer ∷ events) none = none_placed events none
+none_placed (Written bytes ∷ events) none = none_placed events none
+none_placed (Not_written error ∷ events) none = none_placed events none
+none_placed (Synced answer ∷ events) none = none_placed events none
+none_placed (Mode_set mode answer ∷ events) none = none_placed events none
+
 drafts_inside : (root drafts : List ℕ) (uploads : Option (List ℕ)) → drafts ≡ drafts_in root uploads
     → IsInside root drafts
 drafts_inside root drafts None is = inl is
@@ -118,6 +150,8 @@ module _ {D G H W F E : Type 0} (log : D → List DiskEvent) (meaning : StoreMea
           changed = subst (AreChanges limits) (sym runs.is_server.unchanged) tt;
           drafts = drafts_inside limits.root limits.drafts limits.uploads runs.is_server.drafts;
           inside = runs.is_server.inside tt;
+          reached =
+              subst (AreReached limits.root) (sym (none_placed (log first.server.store.disk) runs.is_server.unchanged)) tt;
         };
         drafts =
             none_held (λ transfer. IfSome (draft_of transfer.files) (IsOwnDraft limits)) first.server.held

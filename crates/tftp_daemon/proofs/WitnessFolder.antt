@@ -26,6 +26,7 @@ use Rattle.tftp_folder.specs.Effects.{HasAppended, HasBegun, HasCommitted}
 use Rattle.tftp_folder.specs.Opened.AreFolders.{Above}
 use Rattle.tftp_folder.specs.Modes.{are_permissions}
 use Rattle.tftp_folder.specs.Placed.{LeavesOthers}
+use Rattle.tftp_folder.specs.Reached.IsReached.{Opens, Walked}
 use Rattle.tftp_folder.specs.Opened.{IsRootOf}
 use Rattle.tftp_folder.specs.Inside.{StaysInside}
 use Rattle.tftp_folder.specs.Source.{OpensSource}
@@ -120,7 +121,7 @@ store_after calls = record {
   is_read_only = false;
   uploads = None;
   port = 1024;
-  lengths = record { measured = tt; longest = 10 };
+  lengths = record { measured = tt; most = 65536; longest = 10 };
   unsynced = record { value = tt };
   may_sync = record { value = tt };
 }
@@ -185,8 +186,8 @@ opens = record {
   unread = record { has_mode = refl; sound = refl; empty = refl };
   longest = 10;
   states = record {
-    long = λ h. absurd (omega (arith, h));
-    octet = λ m h. refl;
+    octet = λ m. refl;
+    long = λ m. absurd (let f : Octet ≡ Netascii = m in cc);
     netascii = λ m. absurd (let f : Octet ≡ Netascii = m in cc);
   };
   looks = refl;
@@ -297,6 +298,7 @@ begins = record {
     still = record { since = []; before = store.disk; made = refl; when = refl; left = tt };
   };
   others = others;
+  reaches = record { newer = begun.disk ∷ []; are = refl; reached = (tt, tt) };
   follows = refl;
   inside = λ own h. (inr (codes ".tftp-" ++ decimal 1024, refl), h);
 }
@@ -335,6 +337,14 @@ commits = record {
     },
     names,
   );
+  reaches = record {
+    newer = ended.disk ∷ (named ++ store.disk) ∷ [];
+    are = refl;
+    reached = (
+      tt,
+      (Opens (Ok tt) folder_of_target (Walked {before = begun.disk} folder_of_target (Above (omega arith))), tt),
+    );
+  };
   follows = refl;
   inside = λ below h. (
     inr below.path,

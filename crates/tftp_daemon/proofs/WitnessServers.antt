@@ -88,6 +88,7 @@ config = record {
   per_client = None;
   ending = record { transfers = 1; rounds = 1000000 };
   longest = None;
+  length_memory = 12582912;
   backoff = Constant;
   drain = None;
   status = None;
@@ -141,6 +142,7 @@ configured = record {
     read_only = refl;
     uploads = refl;
     longest = refl;
+    length_memory = refl;
     backoff = refl;
     ending = Ends_after refl refl refl;
     drain = refl;
@@ -557,6 +559,7 @@ is_server = record {
   drafts = refl;
   unchanged = refl;
   inside = stays_inside;
+  lengths = refl;
 }
 
 pub is_bound : IsBoundTo server server.ip 69

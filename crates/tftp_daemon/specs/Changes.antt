@@ -53,7 +53,8 @@ module _ {D G H W F E : Type 0} (log : D → List DiskEvent)
   -- whatever the words, the server keeps the limits that it began with, which are those of its
   -- configuration (`IsServerOf`): nothing was made, removed or named but its drafts and the places
   -- that clients can name, no path outside its root was passed to the system, and each of its
-  -- drafts is one that it may begin
+  -- drafts is one that it may begin. Just before each call that was to give a file a name, the folders
+  -- on the way to that, below the root, were looked at, and each was a folder and no link
   abbrev pub RunStaysWithin : Type 0
   RunStaysWithin =
       (config : DaemonConfig) (first last : LoopState (FolderStore D G H W) F (FolderDraft E))

@@ -136,9 +136,10 @@ servers_of config = config.instance.servers * (length config.others.items + 1)
 abbrev pub IsOfSeveral : DaemonConfig → Type 0
 IsOfSeveral config = (2 ≤ config.instance.servers) ⊎ (config.others.items ≢ [])
 
--- the configuration has the folder, the address, the ports, the limits, the age, the waits, the end, the flags
--- and the number of servers that were read, and which of several it is; and where `--listen` was
--- given again, with these words, the addresses of the words behind the first, none of them twice
+-- the configuration has the folder, the address, the ports, the limits, the age, the memory for lengths,
+-- the waits, the end, the flags and the number of servers that were read, and which of several it is; and
+-- where `--listen` was given again, with these words, the addresses of the words behind the first, none of
+-- them twice
 pub record NamesServer (read : ReadWords) (listens : List (List ℕ)) (config : DaemonConfig) : Type 0
   where
     pub root : read.word (codes "ROOT") ≡ Some config.root.now
@@ -153,6 +154,7 @@ pub record NamesServer (read : ReadWords) (listens : List (List ℕ)) (config : 
     pub read_only : config.read_only ≡ is_on (read.text (codes "read-only"))
     pub uploads : read.word (codes "uploads") ≡ option_map (λ folder. folder.now) config.uploads
     pub longest : IsNumber 32 (read.text (codes "longest")) config.longest
+    pub length_memory : IsNumber 64 (read.text (codes "length-memory")) (Some config.length_memory)
     pub backoff : config.backoff ≡ backoff_of (is_on (read.text (codes "backoff")))
     pub ending : EndsAs read config.ending
     pub drain : read.word (codes "drain") ≡ option_map (λ path. path.now) config.drain

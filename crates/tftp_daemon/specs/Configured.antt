@@ -17,6 +17,7 @@ use Rattle.tftp_daemon.specs.Words.{WordsConfigure, tftpd_app}
 use Rattle.tftp_daemon.specs.declared.daemon.DaemonConfig.{DaemonConfig}
 use Rattle.tftp_daemon.specs.declared.listen.Listen.{Listen}
 use Rattle.tftp_daemon.specs.declared.listen.Listen.TheVariants.{At, Handed}
+use Rattle.tftp_folder.specs.Counted.{lengths_in}
 use Rattle.tftp_folder.specs.Effects.{changes_of}
 use Rattle.tftp_disk.specs.Changes.{changes}
 use Rattle.tftp_disk.specs.DiskTrace.{DiskEvent}
@@ -80,7 +81,7 @@ module _ {B G H W F D : Type 0} (log : B → List DiskEvent) (start : List DiskE
   -- its folder, to which the system led the word ROOT by the first calls that it was asked for
   -- since this history of the disk. The store refuses writes, or takes them below one folder alone,
   -- as it says, has its drafts there, has changed nothing on the disk, and has passed no path
-  -- outside its root to the system
+  -- outside its root to the system. It remembers as many lengths as the memory for them has room for
   pub record IsServerOf (config : DaemonConfig) (server : ServerState (FolderStore B G H W) F D)
       : Type 0 where
     pub valid : IsConfig config.config
@@ -94,6 +95,7 @@ module _ {B G H W F D : Type 0} (log : B → List DiskEvent) (start : List DiskE
         ≡ drafts_in (string_bytes server.store.folder.root) server.store.uploads
     pub unchanged : changes_of log server.store ≡ changes start
     pub inside : StaysInside (string_bytes server.store.folder.root) start (log server.store.disk)
+    pub lengths : server.store.lengths.most ≡ lengths_in config.length_memory
 
   module _ (meaning : StoreMeaning (FolderStore B G H W) D) (sources : SourceMeaning F) where
     -- a server of the configuration ran

@@ -41,6 +41,7 @@ pub record IsServer (config : DaemonConfig) (server : ℕ) (own : DaemonConfig) 
   pub transfers : own.ending.transfers ≡ config.ending.transfers
   pub rounds : own.ending.rounds ≡ config.ending.rounds
   pub longest : own.longest ≡ config.longest
+  pub length_memory : own.length_memory ≡ config.length_memory
   pub backoff : own.backoff ≡ config.backoff
   pub drain : option_map (λ path. path.now) own.drain
       ≡ option_map (λ path. path.now) config.drain

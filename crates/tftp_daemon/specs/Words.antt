@@ -45,6 +45,7 @@ with_limits app =
     (with_rule
     (with_rule
     (with_rule
+    (with_rule
     (with_rule app
     (by_default (decimal default_config.limits.max_block)
     (within (codes "max-block") 8 65464)))
@@ -53,7 +54,8 @@ with_limits app =
     (flag_rule (codes "backoff")))
     (by_default (decimal default_config.cap) (within (codes "cap") 1 64)))
     (within (codes "per-client") 1 64))
-    (within (codes "longest") 1 4294967295)
+    (within (codes "longest") 1 4294967295))
+    (by_default (codes "12582912") (any_number (codes "length-memory")))
 
 -- with the options of writes
 abbrev pub with_writes : App → App

@@ -18,8 +18,9 @@ use crate::error_output::ErrorOutput;
 use crate::listen::{Listen, has_apart};
 use crate::matched::{is_on, listen_words, server_count};
 use crate::options::{
-    BACKOFF, DRAIN, FOREVER, LISTEN, LOG, LOG_TIME, LONGEST, PER_CLIENT, PORTS, READ_ONLY,
-    REQUESTS_ONLY, ROOT, ROUNDS, SERVER, SERVERS, STATUS, TRANSFERS, Texts, UPLOADS, command,
+    BACKOFF, DRAIN, FOREVER, LENGTH_MEMORY, LISTEN, LOG, LOG_TIME, LONGEST, PER_CLIENT, PORTS,
+    READ_ONLY, REQUESTS_ONLY, ROOT, ROUNDS, SERVER, SERVERS, STATUS, TRANSFERS, Texts, UPLOADS,
+    command,
 };
 use crate::ports::{NoPorts, port_range};
 use crate::refused::{
@@ -262,6 +263,7 @@ fn service<'a>(
     }
     let config = config(matches)?;
     let ending = ending(matches)?;
+    let length_memory = length_memory(matches)?;
     Some(DaemonConfig {
         root,
         config,
@@ -274,6 +276,7 @@ fn service<'a>(
         per_client: matches.get_one::<u8>(PER_CLIENT),
         ending,
         longest: matches.get_one::<u32>(LONGEST),
+        length_memory,
         backoff: backoff(is_on(matches, BACKOFF)),
         drain: matches.get_str(DRAIN),
         status: matches.get_str(STATUS),
@@ -285,6 +288,14 @@ fn service<'a>(
         },
         has_priority: errors.has_priority(),
     })
+}
+
+/// The memory for the lengths of netascii files, in bytes.
+fn length_memory(matches: &ArgMatches<'_>) -> Option<u64>
+    ensures { IfSome result (λ bytes.
+        IsNumber 64 ((read_of matches.now).text (codes "length-memory")) (Some bytes)) }
+{
+    matches.get_one::<u64>(LENGTH_MEMORY)
 }
 
 /// How long a transfer waits after timeouts without progress, by the flag.

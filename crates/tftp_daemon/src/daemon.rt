@@ -4,6 +4,7 @@ ghost use Rattle.std.specs.Prelude.{◌≡◌, ◌≤◌, [], IfOk, IfSome, IsFa
 ghost use Rattle.std.specs.Prelude.{is_some, option_map};
 ghost use Rattle.std.specs.String.{string_bytes};
 ghost use Rattle.tftp_server.specs.Config.{IsConfig};
+ghost use Rattle.tftp_folder.specs.Counted.{lengths_in};
 ghost use Rattle.tftp_folder.specs.Effects.{changes_of};
 ghost use Rattle.tftp_disk.specs.Changes.{changes};
 ghost use Rattle.tftp_folder.specs.Inside.{StaysInside};
@@ -61,6 +62,8 @@ pub(crate) struct DaemonConfig<'a> {
     /// The age of a transfer, in seconds, behind which its datagrams are dropped; `None` for no
     /// limit.
     pub(crate) longest: Option<u32>,
+    /// How many bytes of memory the lengths of netascii files take at most.
+    pub(crate) length_memory: u64,
     /// How long a transfer waits after timeouts without progress.
     pub(crate) backoff: Backoff,
     /// The file that has the server drain once it is there; `None` if none does.
@@ -461,6 +464,8 @@ fn open_store<D: Disk>(
     ensures unchanged { IfOk result (λ store. changes_of D.log store ≡ changes (D.log disk)) }
     ensures inside { IfOk result (λ store. StaysInside (string_bytes store.folder.root)
         (D.log disk) (D.log store.disk)) }
+    ensures lengths { IfOk result (λ store.
+        store.lengths.most ≡ lengths_in config.now.length_memory) }
 {
     let mut store = match open_root(disk, alloc, config) {
         Ok(store) => store,
@@ -492,8 +497,10 @@ fn open_root<D: Disk>(
     ensures inside { IfOk result (λ store. StaysInside (string_bytes store.folder.root)
         (D.log disk) (D.log store.disk)) }
     ensures looks { IfOk result (λ store. changes (D.log store.disk) ≡ changes (D.log disk)) }
+    ensures lengths { IfOk result (λ store.
+        store.lengths.most ≡ lengths_in config.now.length_memory) }
 {
-    match FolderStore::new(disk, alloc, config.root) {
+    match FolderStore::new(disk, alloc, config.root, config.length_memory) {
         Ok(store) => Ok(store),
         Err(error) => Err(fault_of(&error, DaemonFault::Root(reason_of(&error)))),
     }

@@ -54,10 +54,12 @@ pub fn each_draft_has_its_port<D: Disk>()
 /// A run changes the disk within the limits of its store alone, which are those of the
 /// configuration: drafts at the server's own names are made and removed, and get the names of paths
 /// that clients can spell, and what got such a name may lose it. No other file is made, named,
-/// replaced or removed, whatever datagrams come and whatever the system answers. Each path that the
-/// store passes to the system, even to look at a file, is textually the root or below it. The one
-/// exception is ROOT as the operator wrote it, before it is resolved. The disk of `--status` is another
-/// one (`a_run_reports_in_its_file_alone`).
+/// replaced or removed, whatever datagrams come and whatever the system answers. Just before each call
+/// that was to give a file a name, each folder on the way to that, below the root, was looked at, and
+/// was a folder and no link; the same looks come between the opening of a file and its first read
+/// (`OpensAt` of `tftp_folder`). Each path that the store passes to the system, even to look at a file, is
+/// textually the root or below it. The one exception is ROOT as the operator wrote it, before it is
+/// resolved. The disk of `--status` is another one (`a_run_reports_in_its_file_alone`).
 ///
 /// The calls that open a file are recorded apart: in the trace of the source, if the opening
 /// succeeds. They change nothing, and use such paths only (`OpensSource` of `tftp_folder`). For an

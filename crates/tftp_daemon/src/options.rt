@@ -37,6 +37,8 @@ pub(crate) const PER_CLIENT: &str = "per-client";
 
 pub(crate) const LONGEST: &str = "longest";
 
+pub(crate) const LENGTH_MEMORY: &str = "length-memory";
+
 pub(crate) const BACKOFF: &str = "backoff";
 
 pub(crate) const READ_ONLY: &str = "read-only";
@@ -175,7 +177,8 @@ fn with_limits<'a>(alloc: Global, command: Command<'a>, texts: &'a Texts) -> Res
     let command = command.arg(backoff(alloc))?;
     let command = command.arg(cap(alloc, texts))?;
     let command = command.arg(per_client(alloc))?;
-    Ok(command.arg(longest(alloc))?)
+    let command = command.arg(longest(alloc))?;
+    Ok(command.arg(length_memory(alloc))?)
 }
 
 /// The argument for the largest block size (RFC 2348, "Blocksize Option Specification").
@@ -273,6 +276,20 @@ fn longest<'a>(alloc: Global) -> Arg<'a>
         value_parser!(u32).range(1..=4_294_967_295),
         "Longest age of a transfer in seconds; later datagrams are dropped until it times out",
     )
+}
+
+/// The argument for the memory that the lengths of netascii files take.
+fn length_memory<'a>(alloc: Global) -> Arg<'a>
+    ensures { HasRule (by_default (codes "12582912") (any_number (codes "length-memory"))) result }
+{
+    let length_memory = number(
+        alloc,
+        LENGTH_MEMORY,
+        "0..2^64-1",
+        value_parser!(u64),
+        "Memory in bytes for the lengths of netascii files, which are measured once; 192 for a file",
+    );
+    length_memory.default_value("12582912")
 }
 
 /// Adds the options of writes.

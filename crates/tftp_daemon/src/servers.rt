@@ -284,6 +284,8 @@ fn words_of(
     if let Some(seconds) = config.longest {
         add(&mut words, format!(in alloc; "--longest={seconds}")?)?;
     }
+    let bytes = config.length_memory;
+    add(&mut words, format!(in alloc; "--length-memory={bytes}")?)?;
     if let Some(path) = config.drain {
         add(&mut words, format!(in alloc; "--drain={path}")?)?;
     }
@@ -446,6 +448,7 @@ fn has_same_settings(own: &DaemonConfig<'_>, config: &DaemonConfig<'_>) -> bool
     ensures read_only { IsTrue result → own.now.read_only ≡ config.now.read_only }
     ensures logs { IsTrue result → own.now.logs ≡ config.now.logs }
     ensures log_times { IsTrue result → own.now.log_times ≡ config.now.log_times }
+    ensures memory { IsTrue result → own.now.length_memory ≡ config.now.length_memory }
 {
     own.config == config.config
         && is_same_count(own.per_client, config.per_client)
@@ -453,6 +456,7 @@ fn has_same_settings(own: &DaemonConfig<'_>, config: &DaemonConfig<'_>) -> bool
         && own.read_only == config.read_only
         && own.logs == config.logs
         && own.log_times == config.log_times
+        && own.length_memory == config.length_memory
 }
 
 /// Whether two servers end alike, and their transfers, which wait alike.

@@ -113,7 +113,7 @@ pub struct Mark {
     pub reply_to: Option<usize>,
 }
 
-/// A comment on what follows, across the picture: a row in which nothing happens.
+/// A comment on what follows, at the right of the picture: a row in which nothing happens.
 #[derive(Drop)]
 pub struct Comment {
     /// Its row.

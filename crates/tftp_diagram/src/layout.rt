@@ -150,7 +150,8 @@ pub(crate) enum Font {
 }
 
 impl Layout {
-    /// The layout of a diagram. The lines come first, so that each text finds a place beside them.
+    /// The layout of a diagram. The lines come first, so that each text finds a place beside them,
+    /// and the comments last, at the right of all others.
     pub(crate) fn new(alloc: Global, diagram: &Diagram) -> Result<Layout, AllocError> {
         let columns = Columns::new(alloc, diagram)?;
         let mut layout = Layout {
@@ -167,10 +168,10 @@ impl Layout {
         layout.add_times(alloc, diagram)?;
         layout.add_arrows(diagram, &columns)?;
         layout.add_signs(diagram, &columns)?;
-        layout.add_comments(diagram, &columns)?;
         layout.add_labels(diagram, &columns)?;
         layout.add_notes(diagram, &columns)?;
         layout.add_aside(alloc)?;
+        layout.add_comments(alloc, diagram)?;
         layout.add_heading(alloc, diagram)?;
         layout.add_legend(alloc, diagram)?;
         Ok(layout)

@@ -1,4 +1,4 @@
--- A sender's step, from the result of its read. For `End::act_as_sender` and `End::send_first`.
+-- A sender's step, from the result of its read. For `End::send` and `End::send_first`.
 use Rattle.std.proofs.Common.{◌≡◌, ℕ, Bool, true, false, List, Some, refl, sym, ap, subst, ◌∙◌}
 use Rattle.tftp_negotiate.specs.declared.limits.TheConstants.{DEFAULT_BLOCK}
 use Rattle.tftp_file.specs.Source.{SourceMeaning}
@@ -10,13 +10,15 @@ use Rattle.tftp_ends.specs.declared.outgoing.Outgoing.{Outgoing}
 use Rattle.tftp_ends.specs.declared.outgoing.Outgoing.TheVariants.{LastSent, Error}
 use Rattle.tftp_ends.specs.declared.phase.Phase.TheVariants.{Sending}
 use Rattle.tftp_ends.specs.declared.phase.Terms.{Terms}
-use Rattle.tftp_ends.specs.End.{EndState}
+use Rattle.tftp_ends.specs.declared.record.Step.{Step}
+use Rattle.tftp_ends.specs.End.{EndState, step_of}
 use Rattle.tftp_ends.specs.OneFile.{SenderActs}
 use Rattle.tftp_ends.specs.Opening.{FailsToStart}
 use Rattle.tftp_ends.specs.Phase.{refused}
 use Rattle.tftp_ends.specs.Room.{ReadsData}
 use Rattle.tftp_ends.specs.Step.{Turn, Sends, AcksAgain, Lends, in_phase, having_sent, with_position, data_bytes}
-use Rattle.tftp_ends.specs.Step.{sent_turn, refused_turn, filled_turn, block_length}
+use Rattle.tftp_ends.specs.Step.{sent_turn, refused_turn, filled_turn, block_length, reported}
+use Rattle.tftp_ends.proofs.Lending.{reports_lent}
 
 -- without DATA 1 a read cannot be served, and the source has the bytes left that the fill left
 pub fails_to_start : {S : Type 0} (sources : SourceMeaning S) (length : ℕ) (source source' : S) (buffer : List ℕ) →
@@ -62,11 +64,24 @@ module _ {S : Type 0} (sources : SourceMeaning S) (terms : Terms) (number : ℕ)
   step_at is_whole o =
       record { answer = o.answer; piece = o.piece; reads = o.reads; gives = o.gave; answers = refl }
 
+  -- a sender's step and its report, and the bytes that the call lends
+  abbrev pub IsReported : EndState → Step → Outgoing → Type 0
+  IsReported e' step outgoing =
+      (turn : Turn) × Sends sources terms number from e source turn source'
+      × Lends e turn e' step.to outgoing × (step ≡ reported e turn)
+
+  report : (e' : EndState) (outgoing : Outgoing) (step : Step) → IsSent e' outgoing →
+      step ≡ step_of e.position.phase e'.position.phase (Some from) → IsReported e' step outgoing
+  report e' outgoing step s is =
+      let r : Lends e s.0 e' step.to outgoing × (step ≡ reported e s.0) =
+      reports_lent e e' s.0 (Some from) outgoing step s.3 is in
+      (s.0, s.1, r.0, r.1)
+
   -- the block is sent, and a timeout retransmits it
-  pub sent_whole : (o : ReadsNext true) (e' : EndState) →
+  whole : (o : ReadsNext true) (e' : EndState) →
       e' ≡ with_position (having_sent (record { to = from; bytes = buffer }) (in_phase (Sending terms number) e)) e →
       IsSent e' LastSent
-  sent_whole o e' s =
+  whole o e' s =
       let is : filled_turn terms number from o.piece e o.answer
       ≡ sent_turn (Sending terms number) from (data_bytes number o.piece) e =
       rw (← o.whole) refl in
@@ -89,11 +104,18 @@ module _ {S : Type 0} (sources : SourceMeaning S) (terms : Terms) (number : ℕ)
         subst (λ (t : Turn). Lends e t e' (Some from) LastSent) (sym is) lends,
       )
 
+  pub sent_whole : (o : ReadsNext true) (e' : EndState) (step : Step) →
+      e' ≡ with_position (having_sent (record { to = from; bytes = buffer }) (in_phase (Sending terms number) e)) e →
+      step ≡ step_of e.position.phase (Sending terms number) (Some from) → IsReported e' step LastSent
+  sent_whole o e' step s is =
+      report e' LastSent step (whole o e' s)
+      (is ∙ sym (ap (λ (x : EndState). step_of e.position.phase x.position.phase (Some from)) s))
+
   -- the file has changed
-  pub sent_error : (o : ReadsNext false) (e' : EndState) →
+  changed : (o : ReadsNext false) (e' : EndState) →
       e' ≡ with_position (in_phase (refused (Some terms) SourceFault e.position.phase) e) e →
       IsSent e' (Error FileChanged)
-  sent_error o e' s =
+  changed o e' s =
       let is : filled_turn terms number from o.piece e o.answer ≡ refused_turn terms FileChanged SourceFault from e =
       rw (← o.whole) refl in
       let lends : Lends e (refused_turn terms FileChanged SourceFault from e) e' (Some from) (Error FileChanged) =
@@ -103,3 +125,8 @@ module _ {S : Type 0} (sources : SourceMeaning S) (terms : Terms) (number : ℕ)
         tt,
         subst (λ (t : Turn). Lends e t e' (Some from) (Error FileChanged)) (sym is) lends,
       )
+
+  pub sent_error : (o : ReadsNext false) (e' : EndState) (step : Step) →
+      e' ≡ with_position (in_phase (refused (Some terms) SourceFault e.position.phase) e) e →
+      step ≡ step_of e.position.phase e'.position.phase (Some from) → IsReported e' step (Error FileChanged)
+  sent_error o e' step s is = report e' (Error FileChanged) step (changed o e' s) is

@@ -1,5 +1,5 @@
 -- A receiver's step, from the result of storing a block. For `End::store`.
-use Rattle.std.proofs.Common.{◌≡◌, ℕ, Bool, true, false, ltb, List, length, Some, Result, Ok, Err, refl, ap, ◌∙◌}
+use Rattle.std.proofs.Common.{◌≡◌, ℕ, Bool, true, false, ltb, List, length, Some, Result, Ok, Err, refl, sym, ap, ◌∙◌}
 use Rattle.tftp_file.specs.Sink.{SinkMeaning}
 use Rattle.tftp_file.specs.declared.fault.StoreFault.{StoreFault}
 use Rattle.tftp_ends.specs.declared.end.storing.BlockStored.{BlockStored}
@@ -13,10 +13,12 @@ use Rattle.tftp_ends.specs.declared.outgoing.Outgoing.TheVariants.{LastSent, Err
 use Rattle.tftp_ends.specs.declared.phase.Dally.TheVariants.{Fresh}
 use Rattle.tftp_ends.specs.declared.phase.Phase.TheVariants.{Receiving, Dallying}
 use Rattle.tftp_ends.specs.declared.phase.Terms.{Terms}
-use Rattle.tftp_ends.specs.End.{EndState}
+use Rattle.tftp_ends.specs.declared.record.Step.{Step}
+use Rattle.tftp_ends.specs.End.{EndState, step_of}
 use Rattle.tftp_ends.specs.Phase.{refused}
 use Rattle.tftp_ends.specs.Step.{Done, Turn, Stores, GoesOn, Lends, in_phase, having_sent, with_position, holding}
-use Rattle.tftp_ends.specs.Step.{ack_bytes, sent_turn, refused_turn, committed_turn}
+use Rattle.tftp_ends.specs.Step.{ack_bytes, sent_turn, refused_turn, committed_turn, reported}
+use Rattle.tftp_ends.proofs.Lending.{reports_lent}
 use Rattle.tftp_ends.specs.BlockStored.{StoresPiece, StoresOn, committed_as}
 
 module _ {K : Type 0} (sinks : SinkMeaning K) (terms : Terms) (number : ℕ) (from : Endpoint) (piece : List ℕ)
@@ -33,11 +35,6 @@ module _ {K : Type 0} (sinks : SinkMeaning K) (terms : Terms) (number : ℕ) (fr
   StoresNext block_stored =
       StoresPiece sinks e.role.mode e.position.held_back piece
       (ltb (length piece) terms.size) sink sink' block_stored held_after
-
-  -- a receiver's step for an action that stores, and the bytes that the call lends
-  abbrev pub IsStored : EndState → Outgoing → Type 0
-  IsStored e' outgoing =
-      (turn : Turn) × Stores sinks terms number from piece e sink turn sink' × Lends e turn e' (Some from) outgoing
 
   committed : (answer : Result Done StoreFault)
       → stored_turn (committed_as sinks answer) ≡ committed_turn terms number from (holding held_after e) answer
@@ -74,45 +71,64 @@ module _ {K : Type 0} (sinks : SinkMeaning K) (terms : Terms) (number : ℕ) (fr
         rest = goes_on (ltb (length piece) terms.size) o.stores.answer o.stores.mid block_stored o.stores.rest;
       }
 
+  -- a receiver's step for an action that stores, its report, and the bytes that the call lends
+  abbrev pub IsReported : EndState → Step → Outgoing → Type 0
+  IsReported e' step outgoing =
+      (turn : Turn) × Stores sinks terms number from piece e sink turn sink'
+      × Lends e turn e' step.to outgoing × (step ≡ reported e turn)
+
+  report : (e' : EndState) (outgoing : Outgoing) (step : Step) (turn : Turn)
+      → Stores sinks terms number from piece e sink turn sink' → Lends e turn e' (Some from) outgoing
+      → step ≡ step_of e.position.phase e'.position.phase (Some from) → IsReported e' step outgoing
+  report e' outgoing step turn s l is =
+      let r : Lends e turn e' step.to outgoing × (step ≡ reported e turn) =
+      reports_lent e e' turn (Some from) outgoing step l is in
+      (turn, s, r.0, r.1)
+
   -- the block was stored, and it is not the last one
-  pub stored_more : StoresNext More → (e' : EndState)
+  pub stored_more : StoresNext More → (e' : EndState) (step : Step)
       → e'
       ≡ with_position
       (having_sent (record { to = from; bytes = ack_bytes number })
       (in_phase (Receiving terms number) (holding held_after e)))
       e
-      → IsStored e' LastSent
-  stored_more o e' s = (
-    stored_turn More,
-    stores More o,
-    record { state = s; goes = refl; bytes = ap (λ (x : EndState). x.position.last_sent) s },
-  )
+      → step ≡ step_of e.position.phase (Receiving terms number) (Some from)
+      → IsReported e' step LastSent
+  stored_more o e' step s is =
+      report e' LastSent step (stored_turn More) (stores More o)
+      (record { state = s; goes = refl; bytes = ap (λ (x : EndState). x.position.last_sent) s })
+      (is ∙ sym (ap (λ (x : EndState). step_of e.position.phase x.position.phase (Some from)) s))
 
   -- the last block was stored, and the file was committed
-  pub stored_all : StoresNext All → (e' : EndState)
+  pub stored_all : StoresNext All → (e' : EndState) (step : Step)
       → e'
       ≡ with_position
       (having_sent (record { to = from; bytes = ack_bytes number })
       (in_phase (Dallying terms number Fresh) (holding held_after e)))
       e
-      → IsStored e' LastSent
-  stored_all o e' s = (
-    stored_turn All,
-    stores All o,
-    record { state = s; goes = refl; bytes = ap (λ (x : EndState). x.position.last_sent) s },
-  )
+      → step ≡ step_of e.position.phase (Dallying terms number Fresh) (Some from)
+      → IsReported e' step LastSent
+  stored_all o e' step s is =
+      report e' LastSent step (stored_turn All) (stores All o)
+      (record { state = s; goes = refl; bytes = ap (λ (x : EndState). x.position.last_sent) s })
+      (is ∙ sym (ap (λ (x : EndState). step_of e.position.phase x.position.phase (Some from)) s))
 
   -- the store has refused the block
-  pub stored_not : StoresNext Refused → (e' : EndState)
+  pub stored_not : StoresNext Refused → (e' : EndState) (step : Step)
       → e' ≡ with_position (in_phase (refused (Some terms) outcomes.StoreFault e.position.phase) e) e
-      → IsStored e' (Error DiskFull)
-  stored_not o e' s = (stored_turn Refused, stores Refused o, record { state = s; goes = refl; bytes = refl })
+      → step ≡ step_of e.position.phase e'.position.phase (Some from)
+      → IsReported e' step (Error DiskFull)
+  stored_not o e' step s is =
+      report e' (Error DiskFull) step (stored_turn Refused) (stores Refused o)
+      (record { state = s; goes = refl; bytes = refl }) is
 
   -- the store has refused the commit
-  pub not_committed : (reply : ErrorReply) → StoresNext (Uncommitted reply) → (e' : EndState)
+  pub not_committed : (reply : ErrorReply) → StoresNext (Uncommitted reply) → (e' : EndState) (step : Step)
       → e'
       ≡ with_position
       (in_phase (refused (Some terms) outcomes.StoreFault e.position.phase) (holding held_after e)) e
-      → IsStored e' (Error reply)
-  not_committed reply o e' s =
-      (stored_turn (Uncommitted reply), stores (Uncommitted reply) o, record { state = s; goes = refl; bytes = refl })
+      → step ≡ step_of e.position.phase e'.position.phase (Some from)
+      → IsReported e' step (Error reply)
+  not_committed reply o e' step s is =
+      report e' (Error reply) step (stored_turn (Uncommitted reply)) (stores (Uncommitted reply) o)
+      (record { state = s; goes = refl; bytes = refl }) is

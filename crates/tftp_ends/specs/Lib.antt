@@ -13,6 +13,7 @@ pub mod Action
 pub mod Step
 pub mod Sound
 pub mod Fits
+pub mod Next
 pub mod Room
 pub mod Shortage
 pub mod BlockRead

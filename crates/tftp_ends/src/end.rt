@@ -14,12 +14,14 @@ ghost use Rattle.tftp_wire.specs.Borrowed.{owned};
 ghost use Rattle.tftp_wire.specs.Spelling.{Spells};
 ghost use Rattle.tftp_wire.specs.declared.packet.Packet.{Packet};
 ghost use Rattle.tftp_wire.specs.declared.packet.Packet.TheVariants.{Ack, Data};
+ghost use Rattle.tftp_ends.specs.declared.action.Action.TheVariants.{Send, Store};
 ghost use Rattle.tftp_ends.specs.declared.phase.Phase.TheVariants.{Receiving, Sending};
 
 use crate::action::{Action, Response};
 use crate::endpoint::Endpoint;
 use crate::error_reply::ErrorReply;
 use crate::fault::EndFault;
+use crate::next_block::NextBlock;
 use crate::outcome::Outcome;
 use crate::outgoing::Outgoing;
 use crate::phase::{Dally, Phase, Terms};
@@ -90,6 +92,7 @@ impl End {
     ghost use Rattle.tftp_ends.specs.Action.{garbled_response, is_wrong_peer, timeout_response};
     ghost use Rattle.tftp_ends.specs.Action.{timeout_action};
     ghost use Rattle.tftp_ends.specs.Fits.{ActionFits, BytesFit, ReplyFits, ResponseFits};
+    ghost use Rattle.tftp_ends.specs.Next.{IsBy};
     ghost use Rattle.tftp_ends.specs.Room.{FitsRoom, response_room};
     ghost use Rattle.tftp_ends.specs.Shortage.{AppendsNothing, HasNoRoom, LacksMemory};
     ghost use Rattle.tftp_ends.specs.Sound.{IsSound, ResendsAck, longest_sent};
@@ -241,7 +244,7 @@ impl End {
 
     /// How a receiver handles any datagram.
     #[inline(never)]
-    fn any_action(&self, from: Endpoint, bytes: &[u8]) -> Action
+    pub(crate) fn any_action(&self, from: Endpoint, bytes: &[u8]) -> Action
         requires { is_sender self.now.role.side ≡ false }
         ensures action { (decoded : Option Packet) × Decodes bytes.now decoded
             × (result ≡ datagram_action self.now from bytes.now decoded) }
@@ -278,22 +281,30 @@ impl End {
             ≡ datagram_action self.now from bytes.now (Some (Data block piece.now)) }
         ensures fits { ActionFits self.now result }
         ensures bytes { BytesFit self.now bytes.now result }
+        ensures agreed { IsBy terms result }
     {
         self.sound();
         data_action(self.role.mode, self.decoder, terms, stored, block, piece)
     }
 
-    /// The action of a receiver that stores the next block, if the datagram is its DATA from the
-    /// peer.
+    /// The block that a receiver stores next, if the datagram is its DATA from the peer, as most are.
+    /// [`End::store_next`] stores it.
     #[inline(always)]
-    fn next_block(&self, from: Endpoint, bytes: &[u8]) -> Option<Action>
-        ensures action { IfSome result (λ action. (decoded : Option Packet)
+    pub fn next_block(&self, from: Endpoint, bytes: &[u8]) -> Option<NextBlock>
+        ensures phase { IfSome result
+            (λ next. self.now.position.phase ≡ Receiving next.terms next.newest) }
+        ensures action { IfSome result (λ next. (decoded : Option Packet)
             × Decodes bytes.now decoded
-            × (action ≡ datagram_action self.now from bytes.now decoded)) }
-        ensures fits { IfSome result (λ action. ActionFits self.now action) }
-        ensures bytes { IfSome result (λ action. BytesFit self.now bytes.now action) }
+            × (Store next.terms next.number ≡ datagram_action self.now from bytes.now decoded)) }
+        ensures fits { IfSome result (λ next. ActionFits self.now (Store next.terms next.number)) }
+        ensures bytes { IfSome result
+            (λ next. BytesFit self.now bytes.now (Store next.terms next.number)) }
     {
-        let Phase::Receiving { terms, number } = self.phase else {
+        let Phase::Receiving {
+            terms: agreed,
+            number,
+        } = self.phase
+        else {
             return None;
         };
         if self.is_wrong_peer(from) {
@@ -302,9 +313,16 @@ impl End {
         let Some((block, piece)) = data_in(bytes) else {
             return None;
         };
-        let action = self.data_step(from, bytes, terms, number, block, piece);
+        let action = self.data_step(from, bytes, agreed, number, block, piece);
         match action {
-            Action::Store { .. } => Some(action),
+            Action::Store {
+                terms,
+                number: next,
+            } => Some(NextBlock {
+                terms,
+                newest: number,
+                number: next,
+            }),
             Action::Send { .. } => None,
             Action::Respond(_) => None,
         }
@@ -321,22 +339,30 @@ impl End {
             ≡ datagram_action self.now from bytes.now (Some (Ack number)) }
         ensures fits { ActionFits self.now result }
         ensures bytes { BytesFit self.now bytes.now result }
+        ensures agreed { IsBy terms result }
     {
         self.sound();
         acked_action(self.role.length, terms, number, number)
     }
 
-    /// The action of a sender that sends the next block, if the datagram is the ACK of its newest
-    /// from the peer.
+    /// The block that a sender sends next, if the datagram is the ACK of its newest from the peer, as
+    /// most are. [`End::send_next`] sends it.
     #[inline(always)]
-    fn next_ack(&self, from: Endpoint, bytes: &[u8]) -> Option<Action>
-        ensures action { IfSome result (λ action. (decoded : Option Packet)
+    pub fn next_ack(&self, from: Endpoint, bytes: &[u8]) -> Option<NextBlock>
+        ensures phase { IfSome result
+            (λ next. self.now.position.phase ≡ Sending next.terms next.newest) }
+        ensures action { IfSome result (λ next. (decoded : Option Packet)
             × Decodes bytes.now decoded
-            × (action ≡ datagram_action self.now from bytes.now decoded)) }
-        ensures fits { IfSome result (λ action. ActionFits self.now action) }
-        ensures bytes { IfSome result (λ action. BytesFit self.now bytes.now action) }
+            × (Send next.terms next.number ≡ datagram_action self.now from bytes.now decoded)) }
+        ensures fits { IfSome result (λ next. ActionFits self.now (Send next.terms next.number)) }
+        ensures bytes { IfSome result
+            (λ next. BytesFit self.now bytes.now (Send next.terms next.number)) }
     {
-        let Phase::Sending { terms, number } = self.phase else {
+        let Phase::Sending {
+            terms: agreed,
+            number,
+        } = self.phase
+        else {
             return None;
         };
         if self.is_wrong_peer(from) {
@@ -345,9 +371,16 @@ impl End {
         if !acknowledges(bytes, number) {
             return None;
         }
-        let action = self.ack_step(from, bytes, terms, number);
+        let action = self.ack_step(from, bytes, agreed, number);
         match action {
-            Action::Send { .. } => Some(action),
+            Action::Send {
+                terms,
+                number: next,
+            } => Some(NextBlock {
+                terms,
+                newest: number,
+                number: next,
+            }),
             Action::Store { .. } => None,
             Action::Respond(_) => None,
         }
@@ -355,7 +388,7 @@ impl End {
 
     /// How a sender handles any datagram.
     #[inline(never)]
-    fn any_sender_action(&self, from: Endpoint, bytes: &[u8]) -> Action
+    pub(crate) fn any_sender_action(&self, from: Endpoint, bytes: &[u8]) -> Action
         requires { is_sender self.now.role.side ≡ true }
         ensures action { (decoded : Option Packet) × Decodes bytes.now decoded
             × (result ≡ datagram_action self.now from bytes.now decoded) }
@@ -363,38 +396,6 @@ impl End {
         ensures bytes { BytesFit self.now bytes.now result }
     {
         self.datagram_action(true, from, bytes)
-    }
-
-    /// How a sender handles a datagram. Most are the ACK of its newest DATA: its action is not copied
-    /// between calls.
-    #[inline(always)]
-    fn action_as_sender(&self, from: Endpoint, bytes: &[u8]) -> Action
-        requires { is_sender self.now.role.side ≡ true }
-        ensures action { (decoded : Option Packet) × Decodes bytes.now decoded
-            × (result ≡ datagram_action self.now from bytes.now decoded) }
-        ensures fits { ActionFits self.now result }
-        ensures bytes { BytesFit self.now bytes.now result }
-    {
-        match self.next_ack(from, bytes) {
-            Some(action) => action,
-            None => self.any_sender_action(from, bytes),
-        }
-    }
-
-    /// How a receiver handles a datagram. Most are of the next block: its action is not copied between
-    /// calls.
-    #[inline(always)]
-    fn action_as_receiver(&self, from: Endpoint, bytes: &[u8]) -> Action
-        requires { is_sender self.now.role.side ≡ false }
-        ensures action { (decoded : Option Packet) × Decodes bytes.now decoded
-            × (result ≡ datagram_action self.now from bytes.now decoded) }
-        ensures fits { ActionFits self.now result }
-        ensures bytes { BytesFit self.now bytes.now result }
-    {
-        match self.next_block(from, bytes) {
-            Some(action) => action,
-            None => self.any_action(from, bytes),
-        }
     }
 
     /// How the end handles a timeout (RFC 1350, sections 2 and 6).
@@ -428,7 +429,7 @@ impl End {
         self.outcome().is_some()
     }
 
-    fn phase(&self) -> Phase
+    pub(crate) fn phase(&self) -> Phase
         ensures { result ≡ self.now.position.phase }
     {
         self.phase

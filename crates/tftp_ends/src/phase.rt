@@ -3,6 +3,7 @@
 ghost use Rattle.std.specs.Prelude.{◌≡◌, if◌then◌else◌};
 ghost use Rattle.tftp_ends.specs.End.{terms_of, number_of, is_complete, outcome_of, is_progress};
 ghost use Rattle.tftp_ends.specs.End.{step_of};
+ghost use Rattle.tftp_ends.specs.Next.{HasNext, numbered};
 ghost use Rattle.tftp_ends.specs.Phase.{refused, completed, waited};
 
 use crate::endpoint::Endpoint;
@@ -158,6 +159,21 @@ impl Phase {
             to,
             progress: self.is_progress(next),
             closed: next.outcome(),
+        }
+    }
+
+    /// Changes the number of a phase that sends or receives. Nothing else is written.
+    #[inline(always)]
+    pub(crate) fn set_number(&mut self, next: u16)
+        requires { HasNext self.old }
+        ensures { self.new ≡ numbered next self.old }
+    {
+        match self {
+            Phase::Sending { number, .. } => *number = next,
+            Phase::Receiving { number, .. } => *number = next,
+            Phase::Waiting { .. } => unreachable!(),
+            Phase::Dallying { .. } => unreachable!(),
+            Phase::Closed { .. } => unreachable!(),
         }
     }
 

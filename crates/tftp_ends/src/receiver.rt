@@ -4,6 +4,7 @@ ghost use Rattle.std.specs.Prelude.{◌≡◌, nat_lt, length, option_map};
 ghost use Rattle.tftp_wire.specs.Borrowed.{owned};
 ghost use Rattle.tftp_ends.specs.End.{is_client};
 ghost use Rattle.tftp_ends.specs.Fits.{FitsReceiver, IsReceivers};
+ghost use Rattle.tftp_ends.specs.Next.{IsBy};
 ghost use Rattle.tftp_ends.specs.Text.{is_readable};
 ghost use Rattle.tftp_ends.specs.Receiver.{next_action, data_action, receiver_action};
 ghost use Rattle.tftp_ends.specs.Receiver.{dally_response};
@@ -41,6 +42,7 @@ fn is_readable(mode: Mode, decoder: NetDecoder, piece: &[u8], size: u16) -> bool
 fn next_action(mode: Mode, decoder: NetDecoder, terms: Terms, number: u16, bytes: &[u8]) -> Action
     ensures action { result ≡ next_action mode decoder terms number bytes.now }
     ensures fits { FitsReceiver result }
+    ensures agreed { IsBy terms result }
 {
     let size = usize::from(terms.size);
     if bytes.len() > size {
@@ -75,6 +77,7 @@ pub(crate) fn data_action(
 ) -> Action
     ensures action { result ≡ data_action mode decoder terms stored number bytes.now }
     ensures fits { FitsReceiver result }
+    ensures agreed { IsBy terms result }
 {
     if number == stored {
         return Action::Respond(Response::ResendReply);

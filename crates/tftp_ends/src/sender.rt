@@ -6,6 +6,7 @@ ghost use Rattle.tftp_wire.specs.Spelling.{Spells};
 ghost use Rattle.tftp_wire.specs.declared.packet.Packet.TheVariants.{Ack};
 ghost use Rattle.tftp_ends.specs.End.{is_client};
 ghost use Rattle.tftp_ends.specs.Fits.{FitsSender};
+ghost use Rattle.tftp_ends.specs.Next.{IsBy};
 ghost use Rattle.tftp_ends.specs.Sender.{illegal_action, peer_error, acked_action, sender_action};
 
 use crate::action::{Action, Response};
@@ -54,6 +55,7 @@ pub(crate) fn acked_action(length: u64, terms: Terms, number: u16, acked: u16) -
     requires fits { length < 65535 * terms.size }
     ensures action { result ≡ acked_action length terms number acked }
     ensures fits { FitsSender length result }
+    ensures agreed { IsBy terms result }
 {
     if acked > number {
         return illegal_action(terms);

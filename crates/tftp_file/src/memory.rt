@@ -1,6 +1,6 @@
 //! A source and a sink with their file in memory.
 
-ghost use Rattle.std.specs.Prelude.{true, false, ◌≡◌, ◌≤◌, length, IfErr, IfOk};
+ghost use Rattle.std.specs.Prelude.{◌≡◌, ◌≤◌, length, IfErr, IfOk};
 ghost use Rattle.tftp_file.specs.Netascii.{wire_text};
 ghost use Rattle.tftp_file.specs.Memory.{new_mem_sink, with_armed};
 
@@ -106,29 +106,17 @@ impl Model for MemSink {
 }
 
 impl MemSink {
-    /// An empty sink with a capacity of `room` bytes. Allocates no memory.
-    pub fn new(alloc: Global, room: u64) -> MemSink
-        ensures { result ≡ new_mem_sink room false }
+    /// An empty sink with a capacity of `room` bytes, which refuses each commit with `Full` if
+    /// `refuse_commit` is set. Allocates no memory.
+    pub fn new(alloc: Global, room: u64, refuse_commit: bool) -> MemSink
+        ensures { result ≡ new_mem_sink room refuse_commit }
     {
         MemSink {
             bytes: Vec::new(alloc),
             room,
             is_committed: false,
             refuses_next: false,
-            refuses_commit: false,
-        }
-    }
-
-    /// Such a sink that refuses each commit with `Full`.
-    pub fn refusing_commits(alloc: Global, room: u64) -> MemSink
-        ensures { result ≡ new_mem_sink room true }
-    {
-        MemSink {
-            bytes: Vec::new(alloc),
-            room,
-            is_committed: false,
-            refuses_next: false,
-            refuses_commit: true,
+            refuses_commit: refuse_commit,
         }
     }
 

@@ -22,6 +22,8 @@ use Rattle.tftp_folder.specs.Draft.{IsDraftBelow, LosesName, NamesNothingIn, Sam
 use Rattle.tftp_folder.specs.Effects.{changes_of, drafts_of, folder_meaning, HasBegun, HasCommitted}
 use Rattle.tftp_folder.specs.Inside.{AreInside, IsInside, StaysInside}
 use Rattle.tftp_folder.specs.Opened.{follows, IsRootOf}
+use Rattle.tftp_folder.specs.Placed.{placed}
+use Rattle.tftp_folder.specs.Reached.{AreReached, ReachesNames}
 use Rattle.tftp_folder.specs.Settings.{AsksNothing, SameSettings}
 use Rattle.tftp_folder.specs.declared.folder_draft.FolderDraft.{FolderDraft}
 use Rattle.tftp_folder.specs.declared.folder_store.FolderStore.{FolderStore}
@@ -29,6 +31,7 @@ use Rattle.tftp_file.specs.declared.fault.StoreFault.{StoreFault}
 use Rattle.tftp_folder.proofs.ApartLemmas.{draft_apart, lock_apart}
 use Rattle.tftp_folder.proofs.InsideLemmas.{in_folder}
 use Rattle.tftp_folder.proofs.MakingLemmas.{draft_in_folder}
+use Rattle.tftp_folder.proofs.ReachedLemmas.{still_reached}
 
 along : (limits : Limits) (before after : List DiskEvent) → after ≡ before → AreChanges limits before
     → AreChanges limits after
@@ -316,6 +319,7 @@ module _ {D G H K : Type 0} (log : D → List DiskEvent) where
     changed = along limits (changes_of log before) (changes_of log after) (ap changes asks.calls) within.changed;
     drafts = within.drafts;
     inside = subst (AreInside limits.root) (sym asks.calls) within.inside;
+    reached = subst (λ (l : List DiskEvent). AreReached limits.root (placed l)) (sym asks.calls) within.reached;
   }
 
 root_stays : (path root : List ℕ) (first before after : List DiskEvent) → follows after ≡ follows before
@@ -381,6 +385,8 @@ module _ {D G H K F : Type 0} (log : D → List DiskEvent) where
           (changes_of log after) begun.made.made) within.changed;
       drafts = within.drafts;
       inside = begun.inside within.drafts within.inside;
+      reached = still_reached (string_bytes before.folder.root) (log before.disk) (log after.disk) begun.reaches
+          within.reached;
     },
     begins_own draft (limits_of before) before.port path (changes_of log before) (changes_of log after) begun.is_path
         (writes_admitted path before after draft begun) begun.uploads begun.made,
@@ -393,6 +399,8 @@ module _ {D G H K F : Type 0} (log : D → List DiskEvent) where
           begun.not_made within.changed;
       drafts = within.drafts;
       inside = begun.inside within.drafts within.inside;
+      reached = still_reached (string_bytes before.folder.root) (log before.disk) (log after.disk) begun.reaches
+          within.reached;
     },
     tt,
   )
@@ -430,6 +438,10 @@ module _ {D G H K F : Type 0} (log : D → List DiskEvent) where
             changed = committed_within limits before after draft draft' replace fault own' does within.changed;
             drafts = within.drafts;
             inside = commits_inside limits before after draft draft' replace fault within own does;
+            reached =
+                still_reached limits.root (log before.disk) (log after.disk)
+                (subst (λ (r : List ℕ). ReachesNames r (log before.disk) (log after.disk))
+                (ap (λ (l : Limits). l.root) within.has) does.reaches) within.reached;
           },
           own',
         );

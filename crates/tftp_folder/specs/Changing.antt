@@ -15,6 +15,8 @@ use Rattle.tftp_folder.specs.Draft.{BeginsAt, GivesName, NamesNothing}
 use Rattle.tftp_folder.specs.Effects.{changes_of}
 use Rattle.tftp_folder.specs.Inside.{AreInside, IsInside}
 use Rattle.tftp_folder.specs.Opened.{IsRootOf}
+use Rattle.tftp_folder.specs.Placed.{placed}
+use Rattle.tftp_folder.specs.Reached.{AreReached}
 use Rattle.tftp_folder.specs.Uploads.{IsBelow, path_below}
 use Rattle.tftp_folder.specs.declared.folder_draft.FolderDraft.{FolderDraft}
 use Rattle.tftp_folder.specs.declared.folder_store.FolderStore.{FolderStore}
@@ -143,12 +145,15 @@ module _ {F : Type 0} where
 
 module _ {D G H K : Type 0} (log : D → List DiskEvent) where
   -- a store has these limits, and has changed nothing beyond them; it passed no path outside its
-  -- root to the system, and its folder of drafts is inside the root
+  -- root to the system, and its folder of drafts is inside the root. Each call that was to give a
+  -- file a name came just after looks at the folders on the way to that: each was a folder, and no
+  -- link
   pub record IsWithin (limits : Limits) (store : FolderStore D G H K) : Type 0 where
     pub has : limits_of store ≡ limits
     pub changed : AreChanges limits (changes_of log store)
     pub drafts : IsInside limits.root limits.drafts
     pub inside : AreInside limits.root (log store.disk)
+    pub reached : AreReached limits.root (placed (log store.disk))
 
 module _ {D G H K F : Type 0} (log : D → List DiskEvent) where
   -- each call of a store that is within its limits keeps it so, and its drafts its own

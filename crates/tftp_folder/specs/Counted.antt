@@ -1,5 +1,5 @@
 -- How long the text of a file is, as one pass over it counted (ours).
-use Rattle.std.specs.Prelude.{ℕ, ℤ, pos, ◌<ℤ◌, ◌-ℤ◌, ◌≡◌, ◌+◌, ◌≤◌, min, true, List, length, Some}
+use Rattle.std.specs.Prelude.{ℕ, ℤ, pos, ◌<ℤ◌, ◌-ℤ◌, ◌≡◌, ◌+◌, ◌/◌, ◌≤◌, min, true, List, length, Some}
 use Rattle.tftp_wire.specs.declared.mode.Mode.TheVariants.{Netascii}
 use Rattle.tftp_file.specs.Netascii.{wire_text}
 use Rattle.tftp_file.specs.declared.length.TheConstants.{MAX_WIRE}
@@ -7,6 +7,7 @@ use Rattle.tftp_disk.specs.DiskTrace.{DiskEvent}
 use Rattle.tftp_disk.specs.Found.{is_same_file}
 use Rattle.tftp_disk.specs.Given.{examined, given, is_at_end}
 use Rattle.tftp_disk.specs.declared.found.Found.{Found}
+use Rattle.tftp_folder.specs.declared.wire_lengths.TheConstants.{LENGTH_COST}
 
 -- the same file was found twice, as long, and last changed at the same time
 pub record IsUnchanged (first last : Found) : Type 0 where
@@ -23,6 +24,10 @@ IsSettled changed seconds = changed <ℤ (seconds -ℤ pos 2)
 -- if it is longer
 abbrev pub length_counted : List ℕ → ℕ
 length_counted bytes = min (length (wire_text Netascii bytes)) (MAX_WIRE + 1)
+
+-- how many lengths are remembered in so many bytes of memory
+abbrev pub lengths_in : ℕ → ℕ
+lengths_in bytes = bytes / LENGTH_COST
 
 -- by these calls on an open file the system said that it is this one, as long, and last changed at
 -- the same time, and one pass over it counted this length: that of the text of the bytes that it

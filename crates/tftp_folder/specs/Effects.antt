@@ -16,6 +16,7 @@ use Rattle.tftp_folder.specs.Draft.{NamesNothing, SameNames}
 use Rattle.tftp_folder.specs.Inside.{IsInside, StaysInside}
 use Rattle.tftp_folder.specs.Opened.{follows}
 use Rattle.tftp_folder.specs.Placed.{LeavesOthers, StaysThere}
+use Rattle.tftp_folder.specs.Reached.{ReachesNames}
 use Rattle.tftp_folder.specs.Settings.{AsksNothing, SameSettings}
 use Rattle.tftp_folder.specs.Uploads.{IsBelow, path_below}
 use Rattle.tftp_folder.specs.declared.folder_draft.FolderDraft.{FolderDraft}
@@ -42,8 +43,9 @@ module _ {D G H K F : Type 0} (log : D → List DiskEvent) where
   -- has refused it, and changed nothing; it was begun only for a path that a client can name, below
   -- the folder of uploads, if there is one. It was made at a path of the port that was set last,
   -- for that place of the root, and is empty; if it was refused, nothing else changed. Its file is
-  -- at its path, and what was still at the path of no draft of that port is there. No path outside
-  -- the root was passed to the system, if the folder of the drafts is inside it
+  -- at its path, and what was still at the path of no draft of that port is there. No file got a
+  -- name by a link or a rename. No path outside the root was passed to the system, if the folder of
+  -- the drafts is inside it
   pub record HasBegun (path : List ℕ) (before after : FolderStore D G H K)
       (result : Result (FolderDraft F) StoreFault) : Type 0 where
     pub settings : SameSettings before after
@@ -58,6 +60,7 @@ module _ {D G H K F : Type 0} (log : D → List DiskEvent) where
         (changes_of log after))
     pub there : IfOk result (λ draft. IsThere draft (log after.disk))
     pub others : LeavesOthers (drafts_of before) before.port (log before.disk) (log after.disk)
+    pub reaches : ReachesNames (string_bytes before.folder.root) (log before.disk) (log after.disk)
     pub follows : follows (log after.disk) ≡ follows (log before.disk)
     pub inside : IsInside (string_bytes before.folder.root) (string_bytes before.folder.drafts)
         → StaysInside (string_bytes before.folder.root) (log before.disk)
@@ -76,8 +79,9 @@ module _ {D G H K F : Type 0} (log : D → List DiskEvent) where
   -- a draft was committed: by then all that it was handed was in its file and synced, and then it
   -- got its name; or that was refused, and it got none, or lost it. If its file was still at its
   -- path before, it was so when it was to get the name. A rename to the name came just after a look
-  -- at what had it. The settings stay. No path outside the root was passed to the system, if those
-  -- of the draft are below it
+  -- at what had it, and each call that was to give the name just after looks at the folders on the
+  -- way to it: each was a folder, and no link. The settings stay. No path outside the root was passed
+  -- to the system, if those of the draft are below it
   pub record HasCommitted (before : FolderStore D G H K) (draft : FolderDraft F) (replaces : Bool)
       (after : FolderStore D G H K) (draft' : FolderDraft F) (fault : Option StoreFault)
       : Type 0 where
@@ -91,6 +95,7 @@ module _ {D G H K F : Type 0} (log : D → List DiskEvent) where
     pub over : LooksThenRenames replaces (string_bytes draft.target) (log before.disk)
         (log after.disk)
     pub there : IsThere draft (log before.disk) → StaysThere (log before.disk) (log after.disk)
+    pub reaches : ReachesNames (string_bytes before.folder.root) (log before.disk) (log after.disk)
     pub follows : follows (log after.disk) ≡ follows (log before.disk)
     pub inside : IsDraftBelow (string_bytes before.folder.root) draft
         → StaysInside (string_bytes before.folder.root) (log before.disk)

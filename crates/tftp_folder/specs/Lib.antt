@@ -4,12 +4,14 @@ pub mod Commit
 pub mod Counted
 pub mod Draft
 pub mod Effects
+pub mod Held
 pub mod Inside
 pub mod Locks
 pub mod Looked
 pub mod Modes
 pub mod Opened
 pub mod Placed
+pub mod Reached
 pub mod Settings
 pub mod Source
 pub mod Stored

@@ -33,12 +33,12 @@ abbrev pub counted_by : StatedLength → List DiskEvent
 counted_by stated = option_map_or (λ measured. measured.value.calls.value.events) stated.counted []
 
 -- how long a file is said to be that was found so, if the longest that can be sent is so long: in
--- octet as long as the system says, in netascii as one pass over it counted, by these calls, and in
--- each mode too long if it is so by what the system says
+-- octet as long as the system says, whatever that is; in netascii too long if it is so by what the
+-- system says, and else as one pass over it counted, by these calls
 pub record StatesLength (longest : ℕ) (mode : Mode) (found : Found) (calls : List DiskEvent)
     (stated : ℕ) : Type 0 where
-  pub long : min longest MAX_WIRE < found.bytes → stated ≡ MAX_WIRE + 1
-  pub octet : mode ≡ Octet → found.bytes ≤ min longest MAX_WIRE → stated ≡ found.bytes
+  pub octet : mode ≡ Octet → stated ≡ min found.bytes (MAX_WIRE + 1)
+  pub long : mode ≡ Netascii → min longest MAX_WIRE < found.bytes → stated ≡ MAX_WIRE + 1
   pub netascii : mode ≡ Netascii → found.bytes ≤ min longest MAX_WIRE
       → IsCounted found calls stated
 

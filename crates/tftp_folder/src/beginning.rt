@@ -1,6 +1,6 @@
 //! Begins the draft of a new file.
 
-ghost use Rattle.std.specs.Prelude.{◌≡◌, ◌⊎◌, IfOk, IfErr, OnErr};
+ghost use Rattle.std.specs.Prelude.{ℕ, ◌≡◌, ◌⊎◌, List, IfOk, IfErr, OnErr};
 ghost use Rattle.std.specs.String.{string_bytes};
 ghost use Rattle.tftp_file.specs.Path.{IsPath};
 ghost use Rattle.tftp_disk.specs.Changes.{changes};
@@ -10,6 +10,7 @@ ghost use Rattle.tftp_folder.specs.Draft.{BeginsAt, IsThere};
 ghost use Rattle.tftp_folder.specs.Inside.{IsInside, StaysInside};
 ghost use Rattle.tftp_folder.specs.Opened.{follows};
 ghost use Rattle.tftp_folder.specs.Placed.{LeavesOthers};
+ghost use Rattle.tftp_folder.specs.Reached.{ReachesNames};
 ghost use Rattle.tftp_folder.specs.Uploads.{path_below};
 
 use crate::folder_draft::FolderDraft;
@@ -79,6 +80,7 @@ pub(crate) fn begin_draft<D: Disk>(
     ensures there { IfOk result (λ draft. IsThere draft (D.log disk.new)) }
     ensures others { LeavesOthers (string_bytes served.now.drafts) port (D.log disk.old)
         (D.log disk.new) }
+    ensures reaches { (root : List ℕ) → ReachesNames root (D.log disk.old) (D.log disk.new) }
     ensures follows { follows (D.log disk.new) ≡ follows (D.log disk.old) }
     ensures inside { IsInside (string_bytes served.now.root) (string_bytes served.now.drafts)
         → IsInside (string_bytes served.now.root) (string_bytes memory.target)

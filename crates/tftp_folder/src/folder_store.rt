@@ -13,7 +13,9 @@ ghost use Rattle.tftp_disk.specs.Measuring.{calls_on, StaysOpen};
 ghost use Rattle.tftp_folder.specs.Inside.{StaysInside};
 ghost use Rattle.tftp_folder.specs.Opened.{IsRootOf, follows};
 ghost use Rattle.tftp_folder.specs.Placed.{StaysThere};
+ghost use Rattle.tftp_folder.specs.Reached.{ReachesNames};
 ghost use Rattle.tftp_folder.specs.Commit.{LooksThenRenames};
+ghost use Rattle.tftp_folder.specs.Counted.{lengths_in};
 ghost use Rattle.tftp_folder.specs.Draft.{bytes_of, GivesName, IsDraftBelow, IsWhole};
 ghost use Rattle.tftp_folder.specs.Draft.{IsThere, IsWrittenOut, NamesNothing, SameNames};
 ghost use Rattle.tftp_folder.specs.Settings.{AsksNothing, SameSettings};
@@ -68,9 +70,16 @@ pub struct FolderStore<D: Disk> {
 }
 
 impl<D: Disk> FolderStore<D> {
-    /// The store over a folder. It fails with `NotADirectory` if `root` is no folder, with the
-    /// system's error if `root` cannot be resolved, or when out of memory.
-    pub fn new(mut disk: D, alloc: Global, root: &str) -> io::Result<FolderStore<D>>
+    /// The store over a folder, which remembers the lengths of netascii files in at most so many bytes
+    /// of memory. It fails with `NotADirectory` if `root` is no folder, with the system's error if
+    /// `root` cannot be resolved, or when out of memory.
+    pub fn new(
+        mut disk: D,
+        alloc: Global,
+        root: &str,
+        length_memory: u64,
+    ) -> io::Result<FolderStore<D>>
+        ensures lengths { IfOk result (λ store. store.lengths.most ≡ lengths_in length_memory) }
         ensures settings { IfOk result (λ store. (store.is_read_only ≡ false)
             × (store.uploads ≡ None)) }
         ensures root { IfOk result (λ store. IsRootOf root.now (string_bytes store.folder.root)
@@ -95,7 +104,7 @@ impl<D: Disk> FolderStore<D> {
             is_read_only: false,
             uploads: None,
             port: 0,
-            lengths: WireLengths::new(alloc)?,
+            lengths: WireLengths::new(alloc, length_memory)?,
             unsynced: Cell::new(None),
             may_sync: Cell::new(false),
         })
@@ -225,6 +234,8 @@ impl<D: Disk> FolderStore<D> {
             (D.log self.old.disk) (D.log self.new.disk) }
         ensures there { IsThere draft.old (D.log self.old.disk)
             → StaysThere (D.log self.old.disk) (D.log self.new.disk) }
+        ensures reaches { ReachesNames (string_bytes self.old.folder.root)
+            (D.log self.old.disk) (D.log self.new.disk) }
         ensures follows { follows (D.log self.new.disk) ≡ follows (D.log self.old.disk) }
         ensures inside { IsDraftBelow (string_bytes self.old.folder.root) draft.old
             → StaysInside (string_bytes self.old.folder.root) (D.log self.old.disk)

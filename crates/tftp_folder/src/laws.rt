@@ -2,6 +2,7 @@
 
 ghost use Rattle.tftp_folder.specs.Changing.{BeginStaysWithin, BeginsOwn, CommitStaysWithin};
 ghost use Rattle.tftp_folder.specs.Changing.{KeepsRoot, KeepsWithin, ReadOnlyChangesNothing};
+ghost use Rattle.tftp_folder.specs.Held.{StoresKeepDrafts};
 ghost use Rattle.tftp_folder.specs.Locks.{StoresKeepLocks};
 ghost use Rattle.tftp_folder.specs.Source.{GivesFile};
 ghost use Rattle.tftp_folder.specs.Stored.{StoresWhatItTook};
@@ -66,4 +67,12 @@ pub fn read_only_changes_nothing()
 /// its own calls it made that file, and none of them took it away since.
 pub fn locks_are_removed_by_their_makers()
     ensures { StoresKeepLocks }
+{}
+
+/// A store that changes nothing beyond its limits, and names only files that by its own calls are still
+/// where it made them, removes the path of a draft, or links or renames what has it, only while it holds
+/// that: by its own calls it made the file, or locked what it found there, and none of them took the path
+/// away since. No file is to get the path of a draft as its name.
+pub fn drafts_are_taken_by_their_holders()
+    ensures { StoresKeepDrafts }
 {}

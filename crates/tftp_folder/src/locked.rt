@@ -14,6 +14,7 @@ ghost use Rattle.tftp_folder.specs.Draft.{RenamesDraftLocked, RenamesNoDraft};
 ghost use Rattle.tftp_folder.specs.Inside.{IsInside, StaysInside};
 ghost use Rattle.tftp_folder.specs.Opened.{follows};
 ghost use Rattle.tftp_folder.specs.Placed.{StaysThere, placed};
+ghost use Rattle.tftp_folder.specs.Reached.{IsReached, ReachesNames};
 
 use crate::folder_draft::FolderDraft;
 use crate::naming::NameFault;
@@ -38,6 +39,8 @@ pub(crate) fn rename_locked<D: Disk>(
         (D.log disk.new) }
     ensures there { IsThere draft.now (D.log disk.old)
         → StaysThere (D.log disk.old) (D.log disk.new) }
+    ensures reaches { (root : List ℕ) → IsReached root (string_bytes draft.now.target) (D.log disk.old)
+        → ReachesNames root (D.log disk.old) (D.log disk.new) }
     ensures follows { follows (D.log disk.new) ≡ follows (D.log disk.old) }
     ensures inside { (root : List ℕ) → IsDraftBelow root draft.now
         → StaysInside root (D.log disk.old) (D.log disk.new) }
@@ -89,6 +92,8 @@ fn rename_new<D: Disk>(disk: &mut D, draft: &FolderDraft<D::File>) -> io::Result
         (D.log disk.new) }
     ensures there { IsThere draft.now (D.log disk.old)
         → StaysThere (D.log disk.old) (D.log disk.new) }
+    ensures reaches { (root : List ℕ) → IsReached root (string_bytes draft.now.target) (D.log disk.old)
+        → ReachesNames root (D.log disk.old) (D.log disk.new) }
     ensures follows { follows (D.log disk.new) ≡ follows (D.log disk.old) }
     ensures inside { (root : List ℕ) → IsDraftBelow root draft.now
         → StaysInside root (D.log disk.old) (D.log disk.new) }

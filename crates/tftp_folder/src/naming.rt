@@ -7,6 +7,7 @@ ghost use Rattle.tftp_disk.specs.DiskTrace.DiskEvent.{Looked};
 ghost use Rattle.tftp_disk.specs.declared.found.Found.{Found};
 ghost use Rattle.tftp_folder.specs.Opened.{AreFolders, follows};
 ghost use Rattle.tftp_folder.specs.Placed.{StaysThere, placed};
+ghost use Rattle.tftp_folder.specs.Reached.{IsReached, ReachesNames};
 ghost use Rattle.tftp_disk.specs.DiskFault.{is_replaced};
 ghost use Rattle.tftp_disk.specs.NamedFolder.{path_in};
 ghost use Rattle.tftp_folder.specs.Draft.{IsDone, StaysDone, KeepsDone, NamesDraft, TakesBack};
@@ -80,6 +81,7 @@ pub(crate) fn give_name<D: Disk>(
         (D.log disk.old) (D.log disk.new) }
     ensures there { IsThere draft.old (D.log disk.old)
         → StaysThere (D.log disk.old) (D.log disk.new) }
+    ensures reaches { ReachesNames root.now (D.log disk.old) (D.log disk.new) }
     ensures follows { follows (D.log disk.new) ≡ follows (D.log disk.old) }
     ensures inside { IsDraftBelow root.now draft.old
         → StaysInside root.now (D.log disk.old) (D.log disk.new) }
@@ -122,6 +124,8 @@ fn name_in<D: Disk>(
         (D.log disk.old) (D.log disk.new) }
     ensures there { IsThere draft.old (D.log disk.old)
         → StaysThere (D.log disk.old) (D.log disk.new) }
+    ensures reaches { IsReached root.now (string_bytes draft.old.target) (D.log disk.old)
+        → ReachesNames root.now (D.log disk.old) (D.log disk.new) }
     ensures follows { follows (D.log disk.new) ≡ follows (D.log disk.old) }
     ensures inside { IfSome (path_in folder.now.folder) (IsInside root.now)
         → IsDraftBelow root.now draft.old
@@ -153,6 +157,7 @@ fn remove_draft<D: Disk>(disk: &mut D, draft: &FolderDraft<D::File>, way: Way)
         (changes (D.log disk.old)) (changes (D.log disk.new)) }
     ensures renames { renames (D.log disk.new) ≡ renames (D.log disk.old) }
     ensures there { StaysThere (D.log disk.old) (D.log disk.new) }
+    ensures reaches { (root : List ℕ) → ReachesNames root (D.log disk.old) (D.log disk.new) }
     ensures follows { follows (D.log disk.new) ≡ follows (D.log disk.old) }
     ensures inside { (root : List ℕ) → IsDraftBelow root draft.now
         → StaysInside root (D.log disk.old) (D.log disk.new) }
@@ -180,6 +185,7 @@ fn take_back_new<D: Disk>(
         → TakesBack draft.old draft.new (D.log disk.old) (D.log disk.new) }
     ensures renames { renames (D.log disk.new) ≡ renames (D.log disk.old) }
     ensures there { StaysThere (D.log disk.old) (D.log disk.new) }
+    ensures reaches { (root : List ℕ) → ReachesNames root (D.log disk.old) (D.log disk.new) }
     ensures follows { follows (D.log disk.new) ≡ follows (D.log disk.old) }
     ensures inside { (root : List ℕ) → IsDraftBelow root draft.old
         → StaysInside root (D.log disk.old) (D.log disk.new) }
@@ -200,6 +206,7 @@ fn take_back_linked<D: Disk>(disk: &mut D, draft: &mut FolderDraft<D::File>, way
         → TakesBack draft.old draft.new (D.log disk.old) (D.log disk.new) }
     ensures renames { renames (D.log disk.new) ≡ renames (D.log disk.old) }
     ensures there { StaysThere (D.log disk.old) (D.log disk.new) }
+    ensures reaches { (root : List ℕ) → ReachesNames root (D.log disk.old) (D.log disk.new) }
     ensures follows { follows (D.log disk.new) ≡ follows (D.log disk.old) }
     ensures inside { (root : List ℕ) → IsDraftBelow root draft.old
         → StaysInside root (D.log disk.old) (D.log disk.new) }
@@ -218,6 +225,7 @@ fn take_back<D: Disk>(disk: &mut D, draft: &mut FolderDraft<D::File>)
     ensures own { TakesBack draft.old draft.new (D.log disk.old) (D.log disk.new) }
     ensures renames { renames (D.log disk.new) ≡ renames (D.log disk.old) }
     ensures there { StaysThere (D.log disk.old) (D.log disk.new) }
+    ensures reaches { (root : List ℕ) → ReachesNames root (D.log disk.old) (D.log disk.new) }
     ensures follows { follows (D.log disk.new) ≡ follows (D.log disk.old) }
     ensures inside { (root : List ℕ) → IsDraftBelow root draft.old
         → StaysInside root (D.log disk.old) (D.log disk.new) }
@@ -246,6 +254,8 @@ fn put_name<D: Disk>(
         (D.log disk.old) (D.log disk.new) }
     ensures there { IsThere draft.old (D.log disk.old)
         → StaysThere (D.log disk.old) (D.log disk.new) }
+    ensures reaches { (root : List ℕ) → IsReached root (string_bytes draft.old.target) (D.log disk.old)
+        → ReachesNames root (D.log disk.old) (D.log disk.new) }
     ensures follows { follows (D.log disk.new) ≡ follows (D.log disk.old) }
     ensures inside { (root : List ℕ) → IsDraftBelow root draft.old
         → StaysInside root (D.log disk.old) (D.log disk.new) }
@@ -277,6 +287,7 @@ fn look_again<D: Disk>(
     ensures own { OnErr result (TakesBack draft.old draft.new (D.log disk.old)
         (D.log disk.new)) }
     ensures there { StaysThere (D.log disk.old) (D.log disk.new) }
+    ensures reaches { (root : List ℕ) → ReachesNames root (D.log disk.old) (D.log disk.new) }
     ensures follows { follows (D.log disk.new) ≡ follows (D.log disk.old) }
     ensures inside { IsDraftBelow root.now draft.old
         → StaysInside root.now (D.log disk.old) (D.log disk.new) }
@@ -369,6 +380,8 @@ fn name_new<D: Disk>(disk: &mut D, draft: &FolderDraft<D::File>) -> Result<Way, 
         (D.log disk.new) }
     ensures there { IsThere draft.now (D.log disk.old)
         → StaysThere (D.log disk.old) (D.log disk.new) }
+    ensures reaches { (root : List ℕ) → IsReached root (string_bytes draft.now.target) (D.log disk.old)
+        → ReachesNames root (D.log disk.old) (D.log disk.new) }
     ensures follows { follows (D.log disk.new) ≡ follows (D.log disk.old) }
     ensures inside { (root : List ℕ) → IsDraftBelow root draft.now
         → StaysInside root (D.log disk.old) (D.log disk.new) }

@@ -11,6 +11,7 @@ ghost use Rattle.tftp_folder.specs.Inside.{IsInside, StaysInside};
 ghost use Rattle.tftp_folder.specs.Modes.{permissions};
 ghost use Rattle.tftp_folder.specs.Opened.{follows};
 ghost use Rattle.tftp_folder.specs.Placed.{StaysThere, placed};
+ghost use Rattle.tftp_folder.specs.Reached.{IsReached, ReachesNames};
 ghost use Rattle.tftp_folder.specs.Uploads.{IsBelow};
 
 use crate::folder_draft::FolderDraft;
@@ -75,6 +76,8 @@ pub(crate) fn rename_over<D: Disk>(
         (D.log disk.new) }
     ensures there { IsThere draft.old (D.log disk.old)
         → StaysThere (D.log disk.old) (D.log disk.new) }
+    ensures reaches { (root : List ℕ) → IsReached root (string_bytes draft.old.target) (D.log disk.old)
+        → ReachesNames root (D.log disk.old) (D.log disk.new) }
     ensures follows { follows (D.log disk.new) ≡ follows (D.log disk.old) }
     ensures inside { (root : List ℕ) → IsDraftBelow root draft.old
         → StaysInside root (D.log disk.old) (D.log disk.new) }
@@ -99,6 +102,8 @@ fn check_named<D: Disk>(disk: &mut D, draft: &mut FolderDraft<D::File>) -> Resul
     ensures looks { changes (D.log disk.new) ≡ changes (D.log disk.old) }
     ensures renames { renames (D.log disk.new) ≡ renames (D.log disk.old) }
     ensures over { OnOk result (MayBeReplaced (string_bytes draft.old.target) (D.log disk.new)) }
+    ensures reached { (root : List ℕ) → IsReached root (string_bytes draft.old.target) (D.log disk.old)
+        → OnOk result (IsReached root (string_bytes draft.old.target) (D.log disk.new)) }
     ensures placed { placed (D.log disk.new) ≡ placed (D.log disk.old) }
     ensures follows { follows (D.log disk.new) ≡ follows (D.log disk.old) }
     ensures inside { (root : List ℕ) → IsBelow root (string_bytes draft.old.target)

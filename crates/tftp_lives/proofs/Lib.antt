@@ -13,3 +13,4 @@ pub mod Answering
 pub mod Unanswered
 pub mod OneOrder
 pub mod Outlasts
+pub mod NewestSaid

@@ -8,7 +8,7 @@ use Rattle.tftp_wire.specs.declared.packet.Packet.{Packet}
 use Rattle.tftp_file.specs.Sink.{SinkMeaning}
 use Rattle.tftp_file.specs.Source.{SourceMeaning}
 use Rattle.tftp_ends.specs.declared.endpoint.Endpoint.{Endpoint}
-use Rattle.tftp_ends.specs.End.{EndState, is_complete, is_sender, outcome_of}
+use Rattle.tftp_ends.specs.End.{EndState, is_sender}
 use Rattle.tftp_ends.specs.Run.{IsOpen}
 use Rattle.tftp_ends.specs.Step.{Reply, timeout_turn}
 use Rattle.tftp_lives.specs.Lives.{Act, Took, Lost, Said, Timed, HandlesAll, Has, IsNext, Life, Opens, Hears}

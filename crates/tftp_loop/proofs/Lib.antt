@@ -7,6 +7,7 @@ pub mod LoopRuns
 pub mod NoteLemmas
 pub mod RequestRuns
 pub mod Reserving
+pub mod AgreedLongest
 pub mod OrderLemmas
 pub mod PortUses
 pub mod VisitLemmas

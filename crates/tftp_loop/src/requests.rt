@@ -17,7 +17,7 @@ ghost use Rattle.tftp_loop.specs.PortPool.{IsOfPool, most_of};
 ghost use Rattle.tftp_loop.specs.Steps.{IsSet, answering_port, has_most, interval_at, started};
 ghost use Rattle.tftp_loop.specs.Steps.{with_timer};
 ghost use Rattle.tftp_loop.specs.OnlyRequests.{IsHandledBy, begins_as_request};
-ghost use Rattle.tftp_loop.specs.Longest.{longest_in};
+ghost use Rattle.tftp_loop.specs.Longest.{IsBoundedFor, longest_in};
 ghost use Rattle.tftp_loop.specs.LoopStates.{HasAnswered, HasRoom, IsAdmission, WorksRound, timer_of};
 ghost use Rattle.tftp_loop.specs.MayWait.{AnswersPending, HandlesReceived, HasTriedRequests};
 ghost use Rattle.tftp_loop.specs.MayWait.{HasFew, IsSettled, reads_of, timers_of};
@@ -331,6 +331,9 @@ impl<S: ServedStore<Reason> + Drop> ServerLoop<S> {
         ensures rounds { self.new.rounds ≡ self.old.rounds }
         ensures room { HasRoom self.new }
         ensures file { N.file net.new ≡ N.file net.old }
+        // The store opens the file of a read by the longest length that the agreed block size allows.
+        ensures bounded { IsBoundedFor S.is_bounded self.old.server.config.limits admission.entry.ask
+            self.new.server.store }
     {
         let tid = bound.port();
         set_store(&mut self.server, &admission, tid);

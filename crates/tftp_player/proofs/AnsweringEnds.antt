@@ -1,36 +1,18 @@
 -- A client that waits, and an end of the server that has it as its peer.
 -- For RecoveringReads, RecoveringWrites and RecoveringRequests.
-use Rattle.std.proofs.Common.{◌≡◌, ℕ, ◌*◌, Bool, true, false, not, List, [], ◌∷◌, ◌++◌, length, take, Some}
-use Rattle.std.proofs.Common.{None, refl, sym, ap, ◌∙◌, subst, arith}
-use Rattle.std.specs.Prelude.{◌≢◌, if◌then◌else◌, slice_get, option_map}
-use Rattle.std.specs.List.{Contains}
-use Rattle.std.proofs.lemmas.Bool.{true≢false}
-use Rattle.std.proofs.lemmas.Option.{same_Some}
-use Rattle.tftp_wire.specs.declared.packet.Packet.{Packet}
-use Rattle.tftp_wire.specs.Spelling.{Spells}
-use Rattle.tftp_negotiate.specs.Agreed.{size}
-use Rattle.tftp_negotiate.specs.declared.asked.Asked.{Asked}
-use Rattle.tftp_negotiate.specs.declared.refusal.Refusal.{Refusal}
+use Rattle.tftp_player.proofs.Common.{◌≡◌, ℕ, ◌*◌, Bool, true, false, not, List, [], ◌∷◌, ◌++◌, length, take, Some}
+use Rattle.tftp_player.proofs.Common.{None, refl, sym, ap, ◌∙◌, subst, arith, rules, ◌≢◌, if◌then◌else◌, slice_get}
+use Rattle.tftp_player.proofs.Common.{option_map, Contains, true≢false, Packet, Spells, size, Asked, Refusal}
+use Rattle.tftp_player.proofs.Common.{Retransmit, Phase, Waiting, is_client, terms_of, datagram_action, packet_action}
+use Rattle.tftp_player.proofs.Common.{timeout_response, PhaseKept, two_hosts, server_ip, client_ip, Endpoint, Elsewhere}
+use Rattle.tftp_player.proofs.Common.{Machine, OpenEnd, peer_of, Matches, own_of, decoded_is, IsReached, Behaves}
+use Rattle.tftp_player.proofs.Common.{TakesPeer, WorldState, Open_end, datagram, view_of_end, Refines, Datagram}
+use Rattle.tftp_player.proofs.Common.{Timeout}
 use Rattle.tftp_negotiate.specs.declared.refusal.Refusal.TheVariants as refusals
-use Rattle.tftp_ends.specs.declared.action.Response.TheVariants.{Retransmit}
-use Rattle.tftp_ends.specs.declared.phase.Phase.{Phase}
-use Rattle.tftp_ends.specs.declared.phase.Phase.TheVariants.{Waiting}
-use Rattle.tftp_ends.specs.End.{is_client, terms_of}
-use Rattle.tftp_ends.specs.Action.{datagram_action, packet_action, timeout_response}
 use Rattle.tftp_ends.specs.Waiting.{refusal_action}
-use Rattle.tftp_rules.specs.EndKept.{PhaseKept}
-use Rattle.tftp_rules.specs.Hosts.{host_of, two_hosts, server_ip, client_ip}
-use Rattle.tftp_rules.specs.Machine.{Endpoint, Elsewhere, Machine}
-use Rattle.tftp_rules.specs.OpenEnds.{OpenEnd, peer_of}
-use Rattle.tftp_rules.specs.Shows.{Matches}
+use Rattle.tftp_rules.specs.Hosts.{host_of}
 use Rattle.tftp_rules.proofs.Grows.{HasPeer, peer_of as peer_is}
-use Rattle.tftp_rules.proofs.Steps.{own_of}
-use Rattle.tftp_rules.proofs.BlamelessActions.{decoded_is}
-use Rattle.tftp_player.specs.Recovering.{IsReached, IsAnswering, Behaves, TakesPeer}
-use Rattle.tftp_player.specs.World.{WorldState, Open_end, datagram, view_of_end, new_world}
-use Rattle.tftp_player.specs.WorldKept.{Refines}
-use Rattle.tftp_player.specs.declared.datagram.Datagram.{Datagram}
-use Rattle.tftp_player.specs.declared.event.Event.TheVariants.{Timeout}
+use Rattle.tftp_player.specs.Recovering.{IsAnswering}
 use Rattle.tftp_player.proofs.WorldFacts.{holds, matched, spoken, m}
 use Rattle.tftp_player.proofs.SentAgain.{ready_with, Resent, resends, timed_out}
 use Rattle.tftp_player.proofs.StraightActions.{from_server}
@@ -101,8 +83,7 @@ module _ (w : WorldState) (ok : Refines true w) (one other : ℕ) (x y : OpenEnd
   at_y = matched w ok other (Open_end y) a.client_at
 
   kept_y : PhaseKept two_hosts y (Waiting asked limit)
-  kept_y =
-      subst (λ (p : Phase). PhaseKept two_hosts y p) a.waits (ok.ends other (Open_end y) a.client_at).stands.kept.phase
+  kept_y = rw (a.waits) at (ok.ends other (Open_end y) a.client_at).stands.kept.phase
 
   peer_x : (Machine.party (m w ok) sa).peer ≡ Some ra
   peer_x = at_x.peer ∙ a.to_client
@@ -138,11 +119,7 @@ module _ (w : WorldState) (ok : Refines true w) (one other : ℕ) (x y : OpenEnd
   first_y = ((holds w ok).ends ra at_y.is_open).no_peer none_y
 
   away : other ≢ one
-  away same =
-      let same_ends : Open_end y ≡ Open_end x =
-      same_Some (Open_end y) (Open_end x) (sym a.client_at ∙ (ap (slice_get w.ends) same ∙ a.server_at)) in
-      let same_end : y ≡ x = (let f : Open_end y ≡ Open_end x = same_ends in cc) in
-      true≢false (sym client_y ∙ (ap (λ (z : OpenEnd). is_client z.state.role.side) same_end ∙ client_x))
+  away same = search rules
 
   -- the client takes what comes from the server's address
   from_ip : y.state.position.last_sent_to.ip ≡ sa.ip
@@ -200,9 +177,7 @@ module _ (w new : WorldState) (ok : Refines true w) (one other : ℕ) (x y : Ope
       resent.sent ∙ ap (λ (p : Endpoint). w.sent ++ datagram x.address p x.state.position.last_sent ∷ []) to_is
 
   was_sent : Contains w.sent now_sent
-  was_sent =
-      subst (λ (p : Endpoint). Contains w.sent (datagram x.address p x.state.position.last_sent)) to_is
-      (ok.ends one (Open_end x) a.server_at).stands.last_sent
+  was_sent = rw (← to_is) (ok.ends one (Open_end x) a.server_at).stands.last_sent
 
   -- the client accepts it
   accepts : (p : Packet) × Spells p x.state.position.last_sent
@@ -225,32 +200,24 @@ module _ (w new : WorldState) (ok : Refines true w) (one other : ℕ) (x y : Ope
     phase = resent.phase;
     waited_for = record {
       server_at = set_at w run.mid one (Open_end x) (Open_end resent.y) resent.ends a.server_at;
-      client_at =
-          stays_at w run.mid one other (Open_end y) (Open_end resent.y) resent.ends know.away a.client_at;
+      client_at = stays_at w run.mid one other (Open_end y) (Open_end resent.y) resent.ends know.away a.client_at;
       to_client = ap peer_of resent.phase ∙ a.to_client;
       waits = a.waits;
     };
     bytes = x.state.position.last_sent;
     ready =
-        subst (λ (p : Endpoint). IsReady true run.mid (length w.sent) (datagram p y.address x.state.position.last_sent))
-        (sym resent.address)
-        (ready_with w run.mid (Timeout x.address.port) run.report now_sent ok run.times_out sent_is);
+        rw (resent.address) (ready_with w run.mid (Timeout x.address.port) run.report now_sent ok run.times_out
+        sent_is);
     packet = accepts.0;
     spelled = accepts.1;
-    takes =
-        subst (λ (p : Endpoint). TakesPeer (packet_action y.state p (Some accepts.0) (Waiting asked limit)))
-        (sym resent.address) accepts.2;
+    takes = rw (resent.address) accepts.2;
   }
 
 -- what events lead to is kept by the rules
 pub reached_ok : (w : WorldState) → IsReached w → Refines true w
 reached_ok w reached =
-    run_keeps true reached.events (new_world reached.files reached.config) w (any_may reached.events)
-    (new_ok true reached.files reached.config reached.max_block) reached.plays
+    run_keeps _ _ _ w (any_may reached.events) (new_ok true reached.files _ reached.max_block) reached.plays
 
 -- an OACK that is refused gives no peer
 pub refused_takes_none : (refusal : Refusal) → TakesPeer (refusal_action refusal) → ⊥
-refused_takes_none refusals.Repeated t = t
-refused_takes_none refusals.TooLarge t = t
-refused_takes_none refusals.NotAsked t = t
-refused_takes_none refusals.BadValue t = t
+refused_takes_none refusal t = search rules

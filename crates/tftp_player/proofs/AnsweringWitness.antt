@@ -1,31 +1,21 @@
 -- Transfers that recover before their client has a peer: a first datagram was lost, or a request.
 -- For the law a_transfer_recovers, which is then of some runs.
-use Rattle.std.proofs.Common.{◌≡◌, false, [], ◌∷◌, Some, refl, sym, ◌∙◌, subst, arith, rules, inl, inr}
-use Rattle.std.specs.Prelude.{slice_get}
+use Rattle.tftp_player.proofs.Common.{◌≡◌, false, [], ◌∷◌, Some, refl, arith, rules, inl, inr, slice_get, Kind}
+use Rattle.tftp_player.proofs.Common.{timeout_turn, files_of, sending_end, receiving_end, IsReached, service}
+use Rattle.tftp_player.proofs.Common.{IsAccepted, WorldState, Open_end, world_after, report_of, sent_report, opened_in}
+use Rattle.tftp_player.proofs.Common.{datagram, HasPort, WorldStep, ServiceStep, At_request_port, Deliver, packet_in}
 use Rattle.std.specs.Fmt.{digits}
-use Rattle.std.proofs.lemmas.Bool.{true≢false}
 use Rattle.tftp_negotiate.specs.Agreement.{taken_option}
 use Rattle.tftp_negotiate.specs.Answer.{answered_option}
 use Rattle.tftp_negotiate.specs.Negotiation.{occurrences_of}
 use Rattle.tftp_negotiate.specs.Options.{name_of, number_of}
-use Rattle.tftp_negotiate.specs.declared.known.Kind.{Kind}
 use Rattle.tftp_negotiate.specs.declared.known.Kind.TheVariants.{Read, Write}
-use Rattle.tftp_ends.specs.Step.{timeout_turn}
-use Rattle.tftp_server.specs.Port.{Service}
-use Rattle.tftp_rules.specs.OpenEnds.{files_of}
-use Rattle.tftp_player.specs.Openings.{sending_end, receiving_end}
-use Rattle.tftp_player.specs.Recovering.{IsReached, SomeReadRecovers, SomeWriteRecovers, SomeReadRequestRecovers}
+use Rattle.tftp_player.specs.Recovering.{SomeReadRecovers, SomeWriteRecovers, SomeReadRequestRecovers}
 use Rattle.tftp_player.specs.Recovering.{SomeWriteRequestRecovers}
-use Rattle.tftp_player.specs.Requests.{service}
-use Rattle.tftp_player.specs.Straight.{IsAccepted}
-use Rattle.tftp_player.specs.World.{WorldState, Open_end, world_after, report_of, sent_report, opened_in, datagram}
-use Rattle.tftp_player.specs.WorldSteps.{HasPort, WorldStep, ServiceStep, At_request_port}
-use Rattle.tftp_player.specs.declared.event.Event.TheVariants.{Deliver}
-use Rattle.tftp_wire.specs.Parts.{packet_in}
-use Rattle.tftp_player.proofs.SampleDeliveries.{spells, world_at, reports, settles}
-use Rattle.tftp_player.proofs.Witness.{config, files_for, new_world_for, asked_world, begun_world, event_for, client_for}
-use Rattle.tftp_player.proofs.Witness.{Sample, Runs, asks, opens, name, request_for, server_for, service_for}
-use Rattle.tftp_player.proofs.Witness.{is_to_port, is_of_client}
+use Rattle.tftp_player.proofs.SampleDeliveries.{spells, world_at, reports, settles, behaves, timed_by}
+use Rattle.tftp_player.proofs.Witness.{config, files_for, new_world_for, asked_world, begun_world, event_for}
+use Rattle.tftp_player.proofs.Witness.{client_for, Sample, Runs, asks, opens, name, request_for, server_for}
+use Rattle.tftp_player.proofs.Witness.{service_for, is_to_port}
 use Rattle.tftp_player.proofs.Witnesses.{blocks, blocks_run, oack, oack_runs}
 
 -- ---- the first datagram of the server's end is lost
@@ -36,19 +26,12 @@ begun_reached kind s runs = record {
   config = config;
   events = event_for kind s ∷ Deliver 0 ∷ [];
   max_block = (omega arith, omega arith);
-  plays = (
-    asked_world kind s,
-    sent_report (new_world_for kind s),
-    asks kind s runs.may,
-    (begun_world kind s, sent_report (asked_world kind s), opens kind s runs, refl),
-  );
+  plays = search (rules, asked_world, new_world_for, asks, begun_world, opens);
 }
 
 -- the world after the timeout of the server's end
 abbrev server_timed : Kind → Sample → WorldState
-server_timed kind s =
-    world_after (begun_world kind s) 1 (server_for kind s) (timeout_turn (server_for kind s).state)
-    (files_of (server_for kind s)) (begun_world kind s).files
+server_timed kind s = timed_by (begun_world kind s) 1 (server_for kind s)
 
 -- a read recovers whose first DATA was lost
 pub read_recovers : SomeReadRecovers
@@ -77,20 +60,9 @@ read_recovers = (
     );
   },
   refl,
-  record {
-    retries = omega arith;
-    report = report_of (begun_world Read blocks) (server_for Read blocks) (timeout_turn (server_for Read blocks).state);
-    mid = server_timed Read blocks;
-    times_out = (
-      1,
-      Open_end (server_for Read blocks),
-      record { is = refl; there = refl },
-      record { files = (begun_world Read blocks).files; stored = refl; reports = refl; is = refl },
-    );
-    reports = reports blocks.host 8 (server_timed Read blocks) 2;
-    settles = settles blocks.host 8 (server_timed Read blocks) 2 (search rules);
-    taken = inr (refl, refl);
-  },
+  behaves (begun_world Read blocks) _ 1 (server_for Read blocks) (client_for Read blocks) refl refl refl (omega arith)
+      (reports blocks.host 8 (server_timed Read blocks) 2)
+      (settles blocks.host 8 (server_timed Read blocks) 2 (search rules)) (inr (refl, refl)),
   refl,
 )
 
@@ -121,20 +93,9 @@ write_recovers = (
     );
   },
   refl,
-  record {
-    retries = omega arith;
-    report = report_of (begun_world Write oack) (server_for Write oack) (timeout_turn (server_for Write oack).state);
-    mid = server_timed Write oack;
-    times_out = (
-      1,
-      Open_end (server_for Write oack),
-      record { is = refl; there = refl },
-      record { files = (begun_world Write oack).files; stored = refl; reports = refl; is = refl },
-    );
-    reports = reports oack.host 5 (server_timed Write oack) 2;
-    settles = settles oack.host 5 (server_timed Write oack) 2 (search rules);
-    taken = inl (tt, (tt, (tt, (tt, ((λ e. cc), tt)))));
-  },
+  behaves (begun_world Write oack) _ 1 (server_for Write oack) (server_for Write oack) refl refl refl (omega arith)
+      (reports oack.host 5 (server_timed Write oack) 2)
+      (settles oack.host 5 (server_timed Write oack) 2 (search rules)) (inl (tt, (tt, (tt, (tt, ((λ e. cc), tt)))))),
   refl,
 )
 
@@ -150,9 +111,7 @@ asked_reached kind s runs = record {
 
 -- the world after the client's timeout
 abbrev pub client_timed : Kind → Sample → WorldState
-client_timed kind s =
-    world_after (asked_world kind s) 0 (client_for kind s) (timeout_turn (client_for kind s).state)
-    (files_of (client_for kind s)) (asked_world kind s).files
+client_timed kind s = timed_by (asked_world kind s) 0 (client_for kind s)
 
 -- the request is delivered, and the port opens its end
 pub request_delivered : (kind : Kind) (s : Sample) (mid new : WorldState) → HasPort mid →
@@ -166,10 +125,7 @@ request_delivered kind s mid new port there accepted served = (
   datagram (client_for kind s).address (client_for kind s).state.position.last_sent_to (request_for kind s),
   there,
   At_request_port (is_to_port kind s) port accepted.decoded accepted.says accepted.repeated accepted.repeats
-      (subst
-      (λ (is : Service).
-      ServiceStep is mid (client_for kind s).address (request_for kind s) (sent_report mid) new)
-      (sym accepted.is) served),
+      (rw (accepted.is) served),
 )
 
 -- the world after that
@@ -186,13 +142,7 @@ read_accepted s runs is = record {
   decoded = Some (packet_in (request_for Read s));
   says = spells (request_for Read s) runs.spelled;
   repeated = false;
-  repeats = (
-    λ f. absurd (true≢false (sym f)),
-    λ any. elim any [
-      | inl again ↦ absurd (true≢false (sym (is_of_client Read s) ∙ again.still))
-      | inr none ↦ absurd none
-    ],
-  );
+  repeats = search rules;
   is = is;
 }
 
@@ -215,27 +165,14 @@ read_request_recovers = (
   record {
     client_at = refl;
     waits = refl;
-    run = record {
-      retries = omega arith;
-      report =
-          report_of (asked_world Read blocks) (client_for Read blocks) (timeout_turn (client_for Read blocks).state);
-      mid = client_timed Read blocks;
-      times_out = (
-        0,
-        Open_end (client_for Read blocks),
-        record { is = refl; there = refl },
-        record { files = (asked_world Read blocks).files; stored = refl; reports = refl; is = refl },
-      );
-      reports = sent_report (client_timed Read blocks) ∷ reports blocks.host 8 (read_opened blocks) 2;
-      settles = (
-        read_opened blocks,
-        request_delivered Read blocks (client_timed Read blocks) (read_opened blocks) (omega arith) refl
-            (read_accepted blocks blocks_run refl)
-            (blocks.file, refl, record { reports = refl; is = refl }),
-        settles blocks.host 8 (read_opened blocks) 2 (search rules),
-      );
-      taken = inr (refl, refl);
-    };
+    run = behaves (asked_world Read blocks) _ 0 (client_for Read blocks) (client_for Read blocks) refl refl refl (omega arith)
+        (sent_report (client_timed Read blocks) ∷ reports blocks.host 8 (read_opened blocks) 2) (
+          read_opened blocks,
+          request_delivered Read blocks (client_timed Read blocks) (read_opened blocks) (omega arith) refl
+              (read_accepted blocks blocks_run refl)
+              (blocks.file, refl, record { reports = refl; is = refl }),
+          settles blocks.host 8 (read_opened blocks) 2 (search rules),
+        ) (inr (refl, refl));
     accepted = read_accepted blocks blocks_run refl;
   },
   refl,
@@ -257,13 +194,7 @@ write_accepted = record {
   decoded = Some (packet_in (request_for Write oack));
   says = spells (request_for Write oack) oack_runs.spelled;
   repeated = false;
-  repeats = (
-    λ f. absurd (true≢false (sym f)),
-    λ any. elim any [
-      | inl again ↦ absurd (true≢false (sym (is_of_client Write oack) ∙ again.still))
-      | inr none ↦ absurd none
-    ],
-  );
+  repeats = search rules;
   is = refl;
 }
 
@@ -284,26 +215,12 @@ write_request_recovers = (
   record {
     client_at = refl;
     waits = refl;
-    run = record {
-      retries = omega arith;
-      report =
-          report_of (asked_world Write oack) (client_for Write oack) (timeout_turn (client_for Write oack).state);
-      mid = client_timed Write oack;
-      times_out = (
-        0,
-        Open_end (client_for Write oack),
-        record { is = refl; there = refl },
-        record { files = (asked_world Write oack).files; stored = refl; reports = refl; is = refl },
-      );
-      reports = sent_report (client_timed Write oack) ∷ reports oack.host 5 write_opened 2;
-      settles = (
-        write_opened,
-        request_delivered Write oack (client_timed Write oack) write_opened (omega arith) refl write_accepted
-            (record { reports = refl; is = refl }),
-        settles oack.host 5 write_opened 2 (search rules),
-      );
-      taken = inl (tt, (tt, (tt, (tt, (tt, ((λ e. cc), tt))))));
-    };
+    run = behaves (asked_world Write oack) _ 0 (client_for Write oack) (client_for Write oack) refl refl refl (omega arith)
+        (sent_report (client_timed Write oack) ∷ reports oack.host 5 write_opened 2) (
+          write_opened,
+          request_delivered Write oack (client_timed Write oack) write_opened (omega arith) refl write_accepted (search),
+          settles oack.host 5 write_opened 2 (search rules),
+        ) (inl (tt, (tt, (tt, (tt, (tt, ((λ e. cc), tt)))))));
     accepted = write_accepted;
   },
   oack_runs.answered,

@@ -1,39 +1,23 @@
 -- The effect of a datagram on a world, from its effect on the ends. For `Ends::take`, `Simulation::arrive` and
 -- `Simulation::deliver`.
-use Rattle.std.proofs.Common.{◌≡◌, ◌≢◌, ℕ, ◌+◌, ◌<◌, ◌≤◌, List, ◌++◌, length, Some, sym}
-use Rattle.std.proofs.Common.{ap, ◌∙◌, subst, arith, inl, inr}
-use Rattle.std.specs.Prelude.{◌⊎◌, slice_get, slice_set, slice_index_or}
-use Rattle.std.proofs.lemmas.List.{append-nil}
-use Rattle.std.proofs.lemmas.Option.{slice_get_within}
-use Rattle.tftp_server.specs.declared.config.Config.{Config}
-use Rattle.tftp_rules.specs.Hosts.{request_port}
-use Rattle.tftp_rules.specs.Machine.{Endpoint}
-use Rattle.tftp_rules.specs.OpenEnds.{OpenEnd}
-use Rattle.tftp_player.specs.Effect.{no_effect, said_by, report_by}
+use Rattle.tftp_player.proofs.Common.{◌≡◌, ◌≢◌, ℕ, ◌+◌, ◌<◌, ◌≤◌, List, ◌++◌, length, Some, sym, ap, ◌∙◌, subst, inl}
+use Rattle.tftp_player.proofs.Common.{inr, rules, ◌⊎◌, slice_get, slice_set, slice_index_or, slice_get_within, Config}
+use Rattle.tftp_player.proofs.Common.{request_port, Endpoint, OpenEnd, said_by, report_by, PlayedServer, world_of}
+use Rattle.tftp_player.proofs.Common.{EndsAsk, ClosedEnd, WorldState, report_of, no_report, WorldEnd, Open_end}
+use Rattle.tftp_player.proofs.Common.{Closed_end, end_address, world_after, Datagram, Delivery, WorldRefuses, WorldStep}
+use Rattle.tftp_player.proofs.Common.{Deliver, WorldFault, Effect, Report}
+use Rattle.tftp_player.specs.Effect.{no_effect}
 use Rattle.tftp_player.specs.EndSteps.{EndHandles}
-use Rattle.tftp_player.specs.ServerEnd.{PlayedServer}
-use Rattle.tftp_player.specs.Simulation.{world_of, EndsTake, EndTakesAt, LostAt}
-use Rattle.tftp_player.specs.Arriving.{ArrivalRefuses, EndsAsk, EndsDelivery, EndsRefuse}
-use Rattle.tftp_player.specs.World.{ClosedEnd, WorldState, StoredFile, replied, report_of, no_report, WorldEnd, Open_end}
-use Rattle.tftp_player.specs.World.{Closed_end, end_address, world_after}
-use Rattle.tftp_player.specs.declared.datagram.Datagram.{Datagram}
-use Rattle.tftp_player.specs.WorldSteps.{Delivery, LacksPort, EventRefuses, WorldRefuses, WorldStep}
-use Rattle.tftp_player.specs.declared.event.Event.TheVariants.{Deliver}
-use Rattle.tftp_player.specs.declared.fault.WorldFault.{WorldFault}
-use Rattle.tftp_player.specs.declared.fault.WorldFault.TheVariants.{NoSuchDatagram, NoSuchEnd, NoPort, BadRequest}
-use Rattle.tftp_player.specs.declared.fault.WorldFault.TheVariants.{Memory}
-use Rattle.tftp_player.specs.declared.effect.Effect.{Effect}
-use Rattle.tftp_player.specs.declared.report.Report.{Report}
+use Rattle.tftp_player.specs.Simulation.{EndsTake, EndTakesAt, LostAt}
+use Rattle.tftp_player.specs.Arriving.{ArrivalRefuses, EndsDelivery, EndsRefuse}
 use Rattle.tftp_player.proofs.HostEnds.{list_get, same_set}
-use Rattle.tftp_player.proofs.PlayLemmas.{said_is, report_is}
+use Rattle.tftp_player.proofs.PlayLemmas.{report_is}
 use Rattle.tftp_player.proofs.StepLemmas.{open_arrives, closed_arrives, none_arrives, other_arrives}
 
 -- an arrival, with the report and the world replaced by equal ones
 landed : (w v v' : WorldState) (from to : Endpoint) (bytes : List ℕ) (r r' : Report) → r' ≡ r → v' ≡ v →
     Delivery w from to bytes r v → Delivery w from to bytes r' v'
-landed w v v' from to bytes r r' e f a =
-    subst (λ (q : Report). Delivery w from to bytes q v') (sym e)
-    (subst (λ (u : WorldState). Delivery w from to bytes r u) (sym f) a)
+landed w v v' from to bytes r r' e f a = search rules
 
 module _ (from to : Endpoint) (bytes : List ℕ) (before after : PlayedServer) (ends ends' : List WorldEnd)
     (effect : Effect) (away : to ≢ request_port)
@@ -49,11 +33,7 @@ module _ (from to : Endpoint) (bytes : List ℕ) (before after : PlayedServer) (
 
   -- the datagram was lost
   still : (sent : List Datagram) → Lost → new sent ≡ old sent
-  still sent lost =
-      ap (λ (e : Effect). world_of before.config (sent ++ said_by e.from e.to e.bytes) after ends') lost.effects
-      ∙ (ap (λ (ds : List Datagram). world_of before.config ds after ends') (append-nil sent)
-      ∙ (ap (λ (fs : List StoredFile). record (old sent) { files = fs; ends = ends' }) lost.stays
-      ∙ ap (λ (xs : List WorldEnd). record (old sent) { ends = xs }) lost.next))
+  still sent lost = search rules
 
   lost_report : (sent : List Datagram) → Lost → report_by sent effect ≡ no_report
   lost_report sent lost = ap (report_by sent) lost.effects
@@ -62,24 +42,12 @@ module _ (from to : Endpoint) (bytes : List ℕ) (before after : PlayedServer) (
   turned_as : (sent : List Datagram) (index : ℕ) (x : OpenEnd) (y : WorldEnd)
       (h : EndHandles before.config.overwrite from bytes x y before.store.files after.store.files effect) →
       ends' ≡ slice_set ends index y → new sent ≡ world_after (old sent) index x h.turn h.held after.store.files
-  turned_as sent index x y h is =
-      ap (λ (e : Effect). world_of before.config (sent ++ said_by e.from e.to e.bytes) after ends') h.turns.effects
-      ∙ (ap (λ (ds : List Datagram). world_of before.config (sent ++ ds) after ends') (said_is x.address h.turn.reply)
-      ∙ ap
-      (λ (xs : List WorldEnd). record (old sent) {
-        sent = sent ++ replied x.address h.turn.reply;
-        files = after.store.files;
-        ends = xs;
-      }) (is ∙ ap (slice_set ends index) h.turns.next))
+  turned_as sent index x y h is = search rules
 
   -- at a closed end a datagram is lost
   lost_there : (index : ℕ) (x : ClosedEnd) → slice_get ends index ≡ Some (Closed_end x) → x.address ≡ to →
       EndTakesAt index (Closed_end x) from bytes before after ends ends' effect → Lost
-  lost_there index x found same h = record {
-    effects = h.takes.0.effects ∙ ap no_effect same;
-    next = h.is ∙ (ap (slice_set ends index) h.takes.0.next ∙ same_set ends index (Closed_end x) found);
-    stays = h.takes.1;
-  }
+  lost_there index x found same h = search (rules, same_set)
 
   -- a datagram for an end that is there arrives by that end's step
   pub step_arrives : (index : ℕ) → to.port ≡ 1024 + index → EndsTake index from to bytes before after ends ends' effect →
@@ -113,11 +81,7 @@ module _ (from to : Endpoint) (bytes : List ℕ) (before after : PlayedServer) (
   pub nobody_arrives : (to.port < 1024) ⊎ (1024 + length ends ≤ to.port) → after ≡ before → ends' ≡ ends →
       effect ≡ no_effect to → EndsDelivery from to bytes before after ends ends' effect
   nobody_arrives none e f nothing sent =
-      let lost : Lost = record {
-        effects = nothing;
-        next = f;
-        stays = ap (λ (v : PlayedServer). v.store.files) e;
-      } in
+      let lost : Lost = search rules in
       landed (old sent) (old sent) (new sent) from to bytes no_report (report_by sent effect) (lost_report sent lost)
       (still sent lost) (none_arrives (old sent) from to bytes ports away none)
 
@@ -126,8 +90,7 @@ pub asks_arrive :
     (from to : Endpoint) (bytes : List ℕ) (before after : PlayedServer) (ends ends' : List WorldEnd) (effect : Effect) →
     to ≡ request_port → EndsAsk from bytes before after ends ends' effect →
     EndsDelivery from to bytes before after ends ends' effect
-asks_arrive from to bytes before after ends ends' effect e a =
-    subst (λ (there : Endpoint). EndsDelivery from there bytes before after ends ends' effect) (sym e) a
+asks_arrive from to bytes before after ends ends' effect e a = rw (e) a
 
 -- the same, with what was sent given by equations
 pub arrives_reported :
@@ -139,17 +102,12 @@ pub arrives_reported :
     Delivery old from to bytes report (world_of config sent1 after ends')
 arrives_reported config sent from to bytes before after ends ends' effect old sent0 sent1 report set view a same more
     reports =
-    subst (λ (w : WorldState). Delivery w from to bytes report (world_of config sent1 after ends')) view
-    (subst (λ (k : Config). Delivery (world_of k sent before ends) from to bytes report (world_of k sent1 after ends')) set
-    (subst
-    (λ (r : Report).
-    Delivery (world_of before.config sent before ends) from to bytes r (world_of before.config sent1 after ends'))
-    (sym (reports ∙ ap (λ (ds : List Datagram). report_by ds effect) same))
-    (subst
-    (λ (ds : List Datagram).
-    Delivery (world_of before.config sent before ends) from to bytes (report_by sent effect)
-    (world_of before.config ds after ends'))
-    (sym (more ∙ ap (λ (ds : List Datagram). ds ++ said_by effect.from effect.to effect.bytes) same)) (a sent))))
+    subst (λ w. Delivery w from to bytes report (world_of config sent1 after ends')) view (subst (λ k. Delivery
+    (world_of k sent before ends) from to bytes report (world_of k sent1 after ends')) set (subst (λ r.
+    Delivery (world_of before.config sent before ends) from to bytes r (world_of before.config sent1 after ends')) (sym
+    (reports ∙ ap (λ ds. report_by ds effect) same)) (subst (λ ds.
+    Delivery (world_of before.config sent before ends) from to bytes (report_by sent effect) (world_of before.config ds
+    after ends')) (sym (more ∙ ap (λ ds. ds ++ said_by effect.from effect.to effect.bytes) same)) (a sent))))
 
 -- a delivery is a step of the world, with its report
 pub delivers_reported :
@@ -159,47 +117,20 @@ pub delivers_reported :
     world_of config sent before ends ≡ old → EndsDelivery d.from d.to bytes before after ends ends' effect →
     sent0 ≡ sent → sent1 ≡ sent0 ++ said_by effect.from effect.to effect.bytes → report ≡ report_by sent0 effect →
     WorldStep old (Deliver i) report (world_of config sent1 after ends')
-delivers_reported config sent i d bytes before after ends ends' effect old sent0 sent1 report within reads own set view a
-    same more reports =
-    let there =
-    subst (λ (w : WorldState). slice_get w.sent i ≡ Some d) view
-    (subst (λ (ds : List Datagram). slice_get ds i ≡ Some d) same (list_get sent0 i d within reads)) in
-    let l =
-    arrives_reported config sent d.from d.to d.bytes before after ends ends' effect old sent0 sent1 report set view
-    (subst (λ (bs : List ℕ). EndsDelivery d.from d.to bs before after ends ends' effect) own a) same more reports in
-    (d, there, l)
+delivers_reported config sent i d bytes before after ends ends' effect old sent0 sent1 report within reads own set view a same more reports =
+    search (rules, list_get, arrives_reported)
 
 -- and why an arrival is refused
 pub arrival_refused :
     (config : Config) (sent : List Datagram) (to : Endpoint) (before : PlayedServer) (ends : List WorldEnd)
     (old : WorldState) (fault : WorldFault) → world_of config sent before ends ≡ old → EndsRefuse to ends fault →
     ArrivalRefuses old to fault
-arrival_refused config sent to before ends old fault view r =
-    subst (λ (w : WorldState). ArrivalRefuses w to fault) view (by_fault fault r) where
-      by_fault : (f : WorldFault) → EndsRefuse to ends f → ArrivalRefuses (world_of config sent before ends) to f
-      by_fault NoPort h = h
-      by_fault Memory h = h
-      by_fault NoSuchDatagram h = absurd h
-      by_fault NoSuchEnd h = absurd h
-      by_fault BadRequest h = absurd h
+arrival_refused config sent to before ends old fault view r = search rules
 
 -- a delivery is refused as its datagram's arrival is
 pub delivery_refused : (old : WorldState) (i : ℕ) (d : Datagram) (fault : WorldFault) → slice_get old.sent i ≡ Some d →
     ArrivalRefuses old d.to fault → WorldRefuses old (Deliver i) fault
-delivery_refused old i d NoPort e h = (d, e, h)
-delivery_refused old i d Memory e h = none where
-  none : (f : WorldFault) → EventRefuses old (Deliver i) f → ⊥
-  none NoSuchDatagram none_there = let there = slice_get_within old.sent i d e in omega (arith, there, none_there)
-  none NoPort lacks =
-      let same : Some lacks.0 ≡ Some d = sym lacks.1 ∙ e in
-      let is : lacks.0 ≡ d = cc in
-      h (subst (λ (q : Datagram). LacksPort old q.to) is lacks.2)
-  none BadRequest f = f
-  none NoSuchEnd f = f
-  none Memory f = f
-delivery_refused old i d NoSuchDatagram e h = absurd h
-delivery_refused old i d NoSuchEnd e h = absurd h
-delivery_refused old i d BadRequest e h = absurd h
+delivery_refused old i d fault e h = search (rules, slice_get_within)
 
 -- and so is one whose datagram the ends refuse
 pub delivery_fault :
@@ -208,7 +139,4 @@ pub delivery_fault :
     i < length sent0 → d ≡ slice_index_or sent0 i d → sent0 ≡ sent → world_of config sent before ends ≡ old →
     EndsRefuse d.to ends fault → WorldRefuses old (Deliver i) fault
 delivery_fault config sent sent0 i d before ends old fault within reads same view r =
-    delivery_refused old i d fault
-    (subst (λ (w : WorldState). slice_get w.sent i ≡ Some d) view
-    (subst (λ (ds : List Datagram). slice_get ds i ≡ Some d) same (list_get sent0 i d within reads)))
-    (arrival_refused config sent d.to before ends old fault view r)
+    search (rules, delivery_refused, list_get, arrival_refused)

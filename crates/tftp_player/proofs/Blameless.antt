@@ -1,23 +1,12 @@
 -- No end closes because of what a peer at one of the two hosts sent.
 -- For the law no_end_is_blamed.
-use Rattle.std.proofs.Common.{◌≡◌, ℕ, true, List, [], ◌∷◌, Option, Some, None, sym, subst}
-use Rattle.std.specs.Prelude.{◌≢◌, slice_get}
-use Rattle.tftp_file.specs.declared.files.Files.{Files}
-use Rattle.tftp_file.specs.declared.files.Files.TheVariants.{Source, Sink}
-use Rattle.tftp_file.specs.Sink.{Holding}
-use Rattle.tftp_ends.specs.declared.outcome.Outcome.{Outcome}
-use Rattle.tftp_ends.specs.End.{is_client, outcome_of}
-use Rattle.tftp_ends.specs.Step.{Turn, timeout_turn}
+use Rattle.tftp_player.proofs.Common.{◌≡◌, ℕ, true, List, [], ◌∷◌, Some, sym, subst, rules, ◌≢◌, slice_get, Files}
+use Rattle.tftp_player.proofs.Common.{Holding, Outcome, is_client, Turn, timeout_turn, Endpoint, Elsewhere, OpenEnd}
+use Rattle.tftp_player.proofs.Common.{end_after, Blames, WorldState, WorldEnd, Open_end, Closed_end, standing}
+use Rattle.tftp_player.proofs.Common.{in_the_way, file_at, new_world, Refines, PlaysAll, may_refuse_commit, armed_end}
+use Rattle.tftp_player.proofs.Common.{Event}
 use Rattle.tftp_rules.specs.Hosts.{host_of}
-use Rattle.tftp_rules.specs.Machine.{Endpoint, Elsewhere}
-use Rattle.tftp_rules.specs.OpenEnds.{OpenEnd, end_after}
-use Rattle.tftp_player.specs.Closing.{Blames, NoneIsBlamed}
-use Rattle.tftp_player.specs.World.{WorldState, WorldEnd, Open_end, Closed_end, standing, by_outcome, in_the_way}
-use Rattle.tftp_player.specs.World.{file_at, new_world}
-use Rattle.tftp_player.specs.WorldKept.{Refines}
-use Rattle.tftp_player.specs.WorldRuns.{PlaysAll}
-use Rattle.tftp_player.specs.WorldSteps.{may_refuse_commit, armed_end}
-use Rattle.tftp_player.specs.declared.event.Event.{Event}
+use Rattle.tftp_player.specs.Closing.{NoneIsBlamed}
 use Rattle.tftp_player.proofs.EndsCame.{Came, Was, Opened, Armed, Timed, Took, came}
 use Rattle.tftp_player.proofs.OacksTaken.{ArePlain, Known_world, known_then}
 use Rattle.tftp_player.proofs.WorldRuns.{new_ok}
@@ -33,16 +22,9 @@ IsUnblamed (Closed_end x) =
 abbrev AreUnblamed : WorldState → Type 0
 AreUnblamed w = (k : ℕ) (z : WorldEnd) → slice_get w.ends k ≡ Some z → IsUnblamed z
 
-outcome_unblamed : (o : Option Outcome) (x : OpenEnd) → Blameless x.state.position → IsUnblamed (by_outcome o x)
-outcome_unblamed None x h = tt
-outcome_unblamed (Some outcome) x h = h
-
 stands_unblamed : (x : OpenEnd) (turn : Turn) (held : Files (List ℕ) Holding) → Blameless turn.position →
     IsUnblamed (standing (end_after x turn held))
-stands_unblamed x turn (Source left) h =
-    outcome_unblamed (outcome_of turn.position.phase) (end_after x turn (Source left)) h
-stands_unblamed x turn (Sink sink) h =
-    outcome_unblamed (outcome_of turn.position.phase) (end_after x turn (Sink sink)) h
+stands_unblamed x turn held h = search rules
 
 armed_unblamed : (z : WorldEnd) → IsUnblamed z → IsUnblamed (armed_end z)
 armed_unblamed (Open_end x) h = tt
@@ -71,9 +53,7 @@ run_unblamed (event ∷ events) w v known h r =
 -- so no end of a world is blamed
 pub none_is_blamed : NoneIsBlamed
 none_is_blamed w k x p outcome reached there peer own is blames =
-    run_unblamed reached.events (new_world reached.files reached.config) w
-    (record {
+    run_unblamed reached.events (new_world reached.files reached.config) w (record {
       ok = new_ok true reached.files reached.config reached.max_block;
-      plain = λ j z i. absurd (let f : None ≡ Some z = i in cc);
-    })
-    (λ j z i. absurd (let f : None ≡ Some z = i in cc)) reached.plays k (Closed_end x) there outcome is p peer own blames
+      plain = λ j z i. absurd (let f = i in cc);
+    }) (λ j z i. absurd (let f = i in cc)) reached.plays k (Closed_end x) there outcome is p peer own blames

@@ -1,38 +1,23 @@
 -- No turn of an end of a world blames a peer at one of the two hosts.
 -- For Blameless, ErrorAnswers and ErrorsKnown.
-use Rattle.std.proofs.Common.{◌≡◌, ℕ, true, List, Some, None, refl, sym, ap, ◌∙◌, subst, arith, inl, inr}
-use Rattle.std.specs.Prelude.{◌≢◌, is_some, map, slice_get}
-use Rattle.std.specs.List.{Contains}
-use Rattle.tftp_wire.specs.declared.mode.Mode.{Mode}
-use Rattle.tftp_file.specs.Memory.{memory_source}
-use Rattle.tftp_file.specs.Netascii.{wire_text}
-use Rattle.tftp_file.specs.declared.fault.StoreFault.{StoreFault}
-use Rattle.tftp_file.specs.declared.files.Files.{Files}
-use Rattle.tftp_file.specs.Sink.{Holding}
-use Rattle.tftp_ends.specs.declared.outcome.Outcome.{Outcome}
+use Rattle.tftp_player.proofs.Common.{◌≡◌, ℕ, true, List, Some, None, refl, sym, ap, ◌∙◌, subst, arith, inl, inr, rules}
+use Rattle.tftp_player.proofs.Common.{◌≢◌, is_some, map, slice_get, Contains, Mode, memory_source, wire_text}
+use Rattle.tftp_player.proofs.Common.{StoreFault, Files, Holding, Outcome, EndState, is_sender, outcome_of, Position}
+use Rattle.tftp_player.proofs.Common.{datagram_action, Turn, DatagramStep, timeout_turn, two_hosts, request_port}
+use Rattle.tftp_player.proofs.Common.{Endpoint, Elsewhere, Machine, Message, Party, OpenEnd, files_of, EndView, Matches}
+use Rattle.tftp_player.proofs.Common.{Blames, WorldState, WorldEnd, Open_end, datagram, view_of_end, end_address}
+use Rattle.tftp_player.proofs.Common.{end_record, end_file, Refines, world_sink}
 use Rattle.tftp_ends.specs.declared.outcome.Outcome.TheVariants as outcomes
-use Rattle.tftp_ends.specs.End.{EndState, is_sender, outcome_of, Position}
-use Rattle.tftp_ends.specs.Action.{datagram_action}
-use Rattle.tftp_ends.specs.Step.{Turn, DatagramStep, timeout_turn}
 use Rattle.tftp_rules.specs.EndShown.{IsThere}
-use Rattle.tftp_rules.specs.Hosts.{host_of, two_hosts, request_port}
-use Rattle.tftp_rules.specs.Machine.{Endpoint, Elsewhere, Machine, Message, Party}
-use Rattle.tftp_rules.specs.OpenEnds.{OpenEnd, files_of, received_text}
-use Rattle.tftp_rules.specs.Shows.{EndView, Matches}
-use Rattle.tftp_rules.proofs.BlamelessTurns.{IsCalm, Blameless as BlamelessIn, acts_blameless, open_blameless}
-use Rattle.tftp_rules.proofs.BlamelessTurns.{timeout_blameless as timeout_blameless_in}
+use Rattle.tftp_rules.specs.Hosts.{host_of}
+use Rattle.tftp_rules.proofs.BlamelessTurns.{IsCalm, Blameless as BlamelessIn, acts_blameless}
 use Rattle.tftp_rules.proofs.BlamelessActions.{datagram_fine}
-use Rattle.tftp_rules.proofs.SourceMoves.{text_if}
-use Rattle.tftp_player.specs.Closing.{Blames}
-use Rattle.tftp_player.specs.World.{WorldState, WorldEnd, Open_end, Closed_end, datagram, view_of_end, end_address}
-use Rattle.tftp_player.specs.World.{end_record, end_text, end_wire, end_mode, end_file}
-use Rattle.tftp_player.specs.WorldKept.{Refines}
-use Rattle.tftp_player.specs.WorldSteps.{world_sink}
+use Rattle.tftp_player.specs.World.{end_text, end_wire, end_mode}
 use Rattle.tftp_player.proofs.EndsCame.{Arrives}
 use Rattle.tftp_player.proofs.KnownSteps.{from_server}
 use Rattle.tftp_player.proofs.OacksTaken.{ArePlain}
 use Rattle.tftp_player.proofs.Standing.{open_is}
-use Rattle.tftp_player.proofs.WorldFacts.{m, shows, matched}
+use Rattle.tftp_player.proofs.WorldFacts.{m, shows}
 use Rattle.tftp_player.proofs.WorldTurns.{view_at, viewed_at}
 
 -- the same outcomes blame any peer
@@ -40,12 +25,7 @@ abbrev pub BlamesAny : Endpoint → Outcome → Type 0
 BlamesAny p o = Blames o
 
 calm : IsCalm BlamesAny
-calm = record {
-  complete = λ p b. b;
-  timed_out = λ p b. b;
-  heard = λ p code b. b;
-  refused = λ p b. b;
-}
+calm = search rules
 
 -- an end in this position has blamed no peer at one of the two hosts
 abbrev pub Blameless : Position → Type 0
@@ -53,12 +33,10 @@ Blameless position = BlamelessIn two_hosts BlamesAny position
 
 -- a timeout blames nobody
 pub timeout_blameless : (e : EndState) → outcome_of e.position.phase ≡ None → Blameless (timeout_turn e).position
-timeout_blameless e still =
-    timeout_blameless_in two_hosts BlamesAny calm e (open_blameless two_hosts BlamesAny e.position still)
+timeout_blameless e still = search rules
 
 wire_of : (z : WorldEnd) → is_sender (end_record z).side ≡ true → end_text z ≡ end_wire z
-wire_of (Open_end y) s = text_if (is_sender y.state.role.side) y.text (received_text y.state y.stored) s
-wire_of (Closed_end y) s = text_if (is_sender y.recorded.side) y.text (wire_text y.mode y.stored) s
+wire_of z s = search rules
 
 -- ---- an end of a world, with a datagram that arrives there
 module _ (w : WorldState) (ok : Refines true w) (plain : ArePlain w ok) (k : ℕ) (x : OpenEnd)
@@ -97,15 +75,12 @@ module _ (w : WorldState) (ok : Refines true w) (plain : ArePlain w ok) (k : ℕ
       let found = viewed_at w.ends at_peer.0 at_peer.1 at_peer.2 in
       let z = found.0 in
       let address : end_address z ≡ from = ap (λ e. e.address) found.2 ∙ at_peer.3 in
-      let at_z : Matches (view_of_end z) (ends from) =
-      subst (λ (a : Endpoint). Matches (view_of_end z) (ends a)) address (matched w ok at_peer.0 z found.1) in
+      let at_z : Matches (view_of_end z) (ends from) = search rules in
       let sends : is_sender (end_record z).side ≡ true = sym at_z.sender ∙ sender in
       let mode_is : end_mode z ≡ x.state.role.mode = sym at_z.mode ∙ mode in (
         end_file z,
-        sym
-            (at_z.sent sends
-            ∙ (wire_of z sends ∙ ((ok.ends at_peer.0 z found.1).text
-            ∙ ap (λ (q : Mode). wire_text q (end_file z)) mode_is))),
+        sym (at_z.sent sends ∙ (wire_of z sends ∙ ((ok.ends at_peer.0 z found.1).text ∙ ap (λ (q : Mode). wire_text q
+            (end_file z)) mode_is))),
       )
 
   -- a turn on a datagram blames nobody
@@ -113,10 +88,8 @@ module _ (w : WorldState) (ok : Refines true w) (plain : ArePlain w ok) (k : ℕ
       DatagramStep memory_source (world_sink refuses_commit) from bytes x.state (files_of x) turn held →
       Blameless turn.position
   datagram_blameless refuses_commit held turn d =
-      acts_blameless two_hosts BlamesAny calm memory_source (λ text. refl) (world_sink refuses_commit) from x
-      (λ sends left want may p b. may) bytes (datagram_action x.state from bytes d.decoded) held turn
-      (datagram_fine two_hosts BlamesAny calm ok.shown.0 (map view_of_end w.ends) ok.messages ok.shown.1 k x
-      (view_at w.ends k (Open_end x) there ∙ ap (λ (v : EndView). Some v) (open_is x (ap is_some still)))
-      (ok.ends k (Open_end x) there).stands.kept not_port from bytes arrived
-      (from_server x from bytes) (plain k (Open_end x) there) sends_file d.decoded d.says)
-      still d.acts
+      acts_blameless two_hosts BlamesAny calm memory_source (λ text. refl) (world_sink refuses_commit) from x (λ sends
+      left want may p b. may) bytes (datagram_action x.state from bytes d.decoded) held turn (datagram_fine two_hosts
+      BlamesAny calm ok.shown.0 (map view_of_end w.ends) ok.messages ok.shown.1 k x (view_at _ k _ there ∙ ap (λ (v :
+      EndView). Some v) (open_is x (ap is_some still))) (ok.ends k (Open_end x) there).stands.kept not_port from bytes
+      arrived (from_server x from bytes) (plain k (Open_end x) there) sends_file d.decoded d.says) still d.acts

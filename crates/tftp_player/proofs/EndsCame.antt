@@ -1,26 +1,15 @@
 -- How each end of a world came to be what it is by an event.
 -- For OacksTaken, Blameless and NewestKept.
-use Rattle.std.proofs.Common.{◌≡◌, ℕ, true, List, [], ◌∷◌, Some, None, refl, sym, ap, ◌∙◌, subst, inl, inr}
-use Rattle.std.specs.Prelude.{◌⊎◌, slice_get, slice_set}
-use Rattle.std.specs.List.{Contains}
-use Rattle.std.proofs.lemmas.Bool.{true≢false}
-use Rattle.tftp_file.specs.Sink.{Holding}
-use Rattle.tftp_file.specs.declared.files.Files.{Files}
-use Rattle.tftp_ends.specs.End.{is_client, terms_of}
-use Rattle.tftp_ends.specs.Step.{Turn, timeout_turn}
-use Rattle.tftp_negotiate.specs.declared.known.Known.{Known}
+use Rattle.tftp_player.proofs.Common.{◌≡◌, ℕ, true, List, Some, None, refl, sym, ap, ◌∙◌, subst, inl, inr, rules, ◌⊎◌}
+use Rattle.tftp_player.proofs.Common.{slice_get, slice_set, Contains, Holding, Files, is_client, terms_of, Turn}
+use Rattle.tftp_player.proofs.Common.{timeout_turn, Known, Endpoint, Elsewhere, OpenEnd, end_after, files_of}
+use Rattle.tftp_player.proofs.Common.{slice_get-set_cases, slice_get-push_cases, Service, Silent, Refused, Sends, Takes}
+use Rattle.tftp_player.proofs.Common.{sending_end, receiving_end, WorldState, WorldEnd, Open_end, Closed_end, standing}
+use Rattle.tftp_player.proofs.Common.{datagram, in_the_way, file_at, EndStep, WorldStep, ServiceStep, Delivery}
+use Rattle.tftp_player.proofs.Common.{At_request_port, At_open_end, At_closed_end, At_nobody, OpeningStep, Stays}
+use Rattle.tftp_player.proofs.Common.{TimeoutStep, armed_end, Event, Get, Put, Deliver, Timeout, RefuseStore, Stray}
+use Rattle.tftp_player.proofs.Common.{Report}
 use Rattle.tftp_rules.specs.Hosts.{host_of}
-use Rattle.tftp_rules.specs.Machine.{Endpoint, Elsewhere}
-use Rattle.tftp_rules.specs.OpenEnds.{OpenEnd, end_after, files_of}
-use Rattle.tftp_rules.proofs.Indices.{slice_get-set_cases, slice_get-push_cases}
-use Rattle.tftp_server.specs.Port.{Service, Silent, Refused, Sends, Takes}
-use Rattle.tftp_player.specs.Openings.{sending_end, receiving_end}
-use Rattle.tftp_player.specs.World.{WorldState, WorldEnd, Open_end, Closed_end, standing, datagram, in_the_way, file_at}
-use Rattle.tftp_player.specs.WorldSteps.{EndStep, WorldStep, ServiceStep, Delivery, At_request_port, At_open_end}
-use Rattle.tftp_player.specs.WorldSteps.{At_closed_end, At_nobody, OpeningStep, Stays, TimeoutStep, armed_end}
-use Rattle.tftp_player.specs.declared.event.Event.{Event}
-use Rattle.tftp_player.specs.declared.event.Event.TheVariants.{Get, Put, Deliver, Timeout, RefuseStore, Stray}
-use Rattle.tftp_player.specs.declared.report.Report.{Report}
 use Rattle.tftp_player.proofs.WorldRuns.{contains_at}
 
 -- a new client has no peer yet
@@ -73,13 +62,11 @@ opens_came old new x report n o j z i =
 
 sends_newly : (w : WorldState) (peer : Endpoint) (request : List ℕ) (mode : _) (path file : List ℕ)
     (agreed : List Known) → IsNewly (sending_end w peer request mode path file agreed)
-sends_newly w peer request mode path file [] c = absurd (true≢false (sym c))
-sends_newly w peer request mode path file (known ∷ others) c = absurd (true≢false (sym c))
+sends_newly w peer request mode path file agreed c = search rules
 
 takes_newly : (w : WorldState) (peer : Endpoint) (request : List ℕ) (mode : _) (path : List ℕ)
     (agreed : List Known) → IsNewly (receiving_end w peer request mode path agreed)
-takes_newly w peer request mode path [] c = absurd (true≢false (sym c))
-takes_newly w peer request mode path (known ∷ others) c = absurd (true≢false (sym c))
+takes_newly w peer request mode path agreed c = search rules
 
 service_came : (service : Service) (old new : WorldState) (from : Endpoint) (bytes : List ℕ) (report : Report) →
     ServiceStep service old from bytes report new → AllCame old new

@@ -1,38 +1,20 @@
 -- A sender is complete once it hears the last ACK of its peer, which is complete.
 -- For the law a_sender_hears_the_end.
-use Rattle.std.proofs.Common.{◌≡◌, ℕ, ◌+◌, ◌/◌, ◌≤◌, Bool, true, false, not, List, Some, None, refl, sym}
-use Rattle.std.proofs.Common.{ap, ◌∙◌, subst, arith}
-use Rattle.std.specs.Prelude.{◌≢◌, slice_get}
-use Rattle.std.proofs.lemmas.Bool.{true≢false}
-use Rattle.std.proofs.lemmas.Option.{same_Some}
-use Rattle.tftp_wire.specs.declared.packet.Packet.TheVariants.{Ack}
-use Rattle.tftp_wire.specs.Spelling.{Spells}
-use Rattle.tftp_file.specs.Block.{block_count}
-use Rattle.tftp_ends.specs.declared.action.Action.TheVariants.{Respond}
-use Rattle.tftp_ends.specs.declared.action.Response.TheVariants.{Complete}
-use Rattle.tftp_ends.specs.declared.phase.Phase.{Phase}
-use Rattle.tftp_ends.specs.declared.phase.Phase.TheVariants.{Waiting, Sending, Receiving, Dallying, Closed}
-use Rattle.tftp_ends.specs.declared.phase.Terms.{Terms}
-use Rattle.tftp_ends.specs.End.{is_sender, number_of, outcome_of, size_of, terms_of}
-use Rattle.tftp_ends.specs.Action.{datagram_action}
-use Rattle.tftp_ends.specs.Step.{ack_bytes}
-use Rattle.tftp_rules.specs.EndKept.{IsUnderWay, PhaseKept}
-use Rattle.tftp_rules.specs.Hosts.{host_of, two_hosts}
-use Rattle.tftp_rules.specs.Machine.{Endpoint, Elsewhere, Machine, Party}
-use Rattle.tftp_rules.specs.OpenEnds.{OpenEnd, peer_of, received_text}
-use Rattle.tftp_rules.specs.Shows.{Matches}
+use Rattle.tftp_player.proofs.Common.{◌≡◌, ℕ, ◌+◌, ◌≤◌, Bool, true, false, not, List, Some, None, refl, sym, ap, ◌∙◌}
+use Rattle.tftp_player.proofs.Common.{subst, arith, rules, ◌≢◌, slice_get, true≢false, same_Some, Ack, Spells}
+use Rattle.tftp_player.proofs.Common.{block_count, Respond, Complete, Phase, Waiting, Sending, Receiving, Dallying}
+use Rattle.tftp_player.proofs.Common.{Closed, Terms, is_sender, outcome_of, size_of, terms_of, datagram_action}
+use Rattle.tftp_player.proofs.Common.{ack_bytes, IsUnderWay, PhaseKept, two_hosts, Endpoint, Elsewhere, Machine, Party}
+use Rattle.tftp_player.proofs.Common.{OpenEnd, peer_of, received_text, Matches, spells_own, number_fits, text_if}
+use Rattle.tftp_player.proofs.Common.{own_of, WorldState, WorldEnd, Open_end, Closed_end, datagram, end_address}
+use Rattle.tftp_player.proofs.Common.{end_record, view_of_end, Refines, IsComplete, HasPeer, WorldStep, Deliver, Report}
+use Rattle.std.proofs.Common.{◌/◌}
+use Rattle.tftp_ends.specs.End.{number_of}
+use Rattle.tftp_rules.specs.Hosts.{host_of}
 use Rattle.tftp_rules.proofs.Grows.{HasPeer as IsPeer, peer_of as peer_is}
-use Rattle.tftp_rules.proofs.SaidLemmas.{spells_own}
-use Rattle.tftp_rules.proofs.SourceMoves.{number_fits, text_if}
-use Rattle.tftp_rules.proofs.Steps.{own_of, same_size}
+use Rattle.tftp_rules.proofs.Steps.{same_size}
 use Rattle.tftp_player.specs.Lossy.{SendersHearTheEnd}
-use Rattle.tftp_player.specs.World.{WorldState, WorldEnd, Open_end, Closed_end, datagram, end_address, end_record}
-use Rattle.tftp_player.specs.World.{view_of_end}
-use Rattle.tftp_player.specs.WorldKept.{Refines}
-use Rattle.tftp_player.specs.WorldSafety.{IsReceiver, IsComplete, HasPeer}
-use Rattle.tftp_player.specs.WorldSteps.{WorldStep}
-use Rattle.tftp_player.specs.declared.event.Event.TheVariants.{Deliver}
-use Rattle.tftp_player.specs.declared.report.Report.{Report}
+use Rattle.tftp_player.specs.WorldSafety.{IsReceiver}
 use Rattle.tftp_player.proofs.StraightActions.{from_peer, acked_last}
 use Rattle.tftp_player.proofs.StraightOpenings.{any_of}
 use Rattle.tftp_player.proofs.StraightRuns.{set_at}
@@ -133,12 +115,10 @@ module _ (w v : WorldState) (ok : Refines true w) (i j k : ℕ) (report : Report
     spelled = spells_own (Ack n) (number_fits y.text st.size n way.positive way.fits few)
 
     handled : Handles w k y ra (ack_bytes n) report v
-    handled = delivered w v i k y ra (ack_bytes n) report (ports_of true w ok)
-        (sent ∙ ap (λ (c : ℕ). Some (datagram ra sa (ack_bytes c))) (sym last_is)) y_at step
+    handled = search (rules, delivered, ports_of, last_is)
 
     does : datagram_action y.state ra (ack_bytes n) (Some (Ack n)) ≡ Respond Complete
-    does = from_peer y.state (Sending st n) st ra (ack_bytes n) (Ack n) is refl peer_is_x
-        ∙ acked_last y.state.role.length n st none_left
+    does = search (rules, from_peer, peer_is_x, acked_last, none_left)
 
     completes : (z : WorldEnd) × (slice_get v.ends k ≡ Some z) × IsComplete z
     completes =
@@ -149,10 +129,8 @@ module _ (w v : WorldState) (ok : Refines true w) (i j k : ℕ) (report : Report
   hears : (p : Phase) → y.state.position.phase ≡ p → (z : WorldEnd) × (slice_get v.ends k ≡ Some z) × IsComplete z
   hears (Waiting asked limit) is = absurd (let f : None ≡ Some ra = sym (ap peer_of is) ∙ y_peer in cc)
   hears (Sending st n) is = completes st n is
-  hears (Receiving rt n) is =
-      absurd (true≢false (sym sends ∙ (subst (λ (p : Phase). PhaseKept two_hosts y p) is kept).0))
-  hears (Dallying rt n dally) is =
-      absurd (true≢false (sym sends ∙ (subst (λ (p : Phase). PhaseKept two_hosts y p) is kept).0))
+  hears (Receiving rt n) is = absurd (true≢false (sym sends ∙ (subst (λ p. PhaseKept two_hosts y p) is kept).0))
+  hears (Dallying rt n dally) is = absurd (true≢false (sym sends ∙ (subst (λ p. PhaseKept two_hosts y p) is kept).0))
   hears (Closed terms n complete outcome) is =
       absurd (let f : Some outcome ≡ None = sym (ap outcome_of is) ∙ (ok.ends k (Open_end y) y_at).stands.still in cc)
 
@@ -162,9 +140,6 @@ senders_hear_the_end strangers w v i d report k x (Closed_end y) ok is receives 
     bytes step = absurd (true≢false lives)
 senders_hear_the_end strangers w v i d report k x (Open_end y) ok is receives done at lives y_peer x_peer sent from to
     bytes step =
-    let same : d ≡ datagram (end_address x) y.address (ack_bytes (end_record x).number) =
-    ap (λ (a : Endpoint). datagram a d.to d.bytes) from
-    ∙ (ap (λ (a : Endpoint). datagram (end_address x) a d.bytes) to
-    ∙ ap (datagram (end_address x) y.address) bytes) in
+    let same : d ≡ datagram (end_address x) y.address (ack_bytes (end_record x).number) = search rules in
     hears w v (any_of strangers w ok) i is.0 k report x y is.1 receives done at y_peer x_peer (sent ∙ ap Some same) step
     y.state.position.phase refl

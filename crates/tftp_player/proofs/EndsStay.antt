@@ -1,29 +1,16 @@
 -- A complete end stays so at each delivery and at each timeout.
 -- For LossyExchange; OacksTaken takes how the rules go on.
-use Rattle.std.proofs.Common.{◌≡◌, ℕ, true, List, ◌++◌, Some, refl, sym, ap, ◌∙◌, subst, inl, inr}
-use Rattle.std.specs.Prelude.{slice_get, slice_set}
-use Rattle.std.proofs.lemmas.Bool.{cases_eq}
-use Rattle.std.proofs.lemmas.Option.{same_Some}
-use Rattle.tftp_file.specs.Sink.{Holding}
-use Rattle.tftp_file.specs.declared.files.Files.{Files}
-use Rattle.tftp_file.specs.declared.files.Files.TheVariants.{Source, Sink}
-use Rattle.tftp_ends.specs.Step.{Turn}
-use Rattle.tftp_server.specs.Port.{Service, Silent, Refused, Sends, Takes}
-use Rattle.tftp_rules.specs.Hosts.{two_hosts}
-use Rattle.tftp_rules.specs.Machine.{Endpoint, Machine, start}
-use Rattle.tftp_rules.specs.OpenEnds.{OpenEnd, end_after}
+use Rattle.tftp_player.proofs.Common.{◌≡◌, ℕ, true, List, Some, refl, sym, ap, ◌∙◌, subst, inl, inr, rules, slice_get}
+use Rattle.tftp_player.proofs.Common.{slice_set, cases_eq, Holding, Files, Turn, Service, Silent, Refused, Sends, Takes}
+use Rattle.tftp_player.proofs.Common.{two_hosts, Endpoint, Machine, OpenEnd, end_after, slice_get-set_same}
+use Rattle.tftp_player.proofs.Common.{slice_get-set_other, slice_get-push_old, WorldState, WorldEnd, Open_end}
+use Rattle.tftp_player.proofs.Common.{Closed_end, end_address, standing, Refines, IsComplete, WorldStep, ServiceStep}
+use Rattle.tftp_player.proofs.Common.{Delivery, At_request_port, At_open_end, At_closed_end, At_nobody, OpeningStep}
+use Rattle.tftp_player.proofs.Common.{Stays, TimeoutStep, Turns, Event, Deliver, Timeout, Report}
+use Rattle.tftp_rules.specs.Machine.{start}
 use Rattle.tftp_rules.proofs.Grows.{AllGrow}
-use Rattle.tftp_rules.proofs.Indices.{slice_get-set_same, slice_get-set_other, slice_get-push_old}
 use Rattle.tftp_rules.proofs.RulesGrow.{legal_rest, run_grows}
 use Rattle.tftp_rules.proofs.Runs.{run_then}
-use Rattle.tftp_player.specs.World.{WorldState, WorldEnd, Open_end, Closed_end, end_address, standing}
-use Rattle.tftp_player.specs.WorldKept.{Refines}
-use Rattle.tftp_player.specs.WorldSafety.{IsComplete}
-use Rattle.tftp_player.specs.WorldSteps.{WorldStep, ServiceStep, Delivery, At_request_port, At_open_end, At_closed_end}
-use Rattle.tftp_player.specs.WorldSteps.{At_nobody, OpeningStep, Stays, TimeoutStep, Turns}
-use Rattle.tftp_player.specs.declared.event.Event.{Event}
-use Rattle.tftp_player.specs.declared.event.Event.TheVariants.{Deliver, Timeout}
-use Rattle.tftp_player.specs.declared.report.Report.{Report}
 use Rattle.tftp_player.proofs.Standing.{standing_address}
 use Rattle.tftp_player.proofs.WorldFacts.{holds, m, matched}
 use Rattle.tftp_player.proofs.WorldRuns.{steps_are_rules}
@@ -41,16 +28,7 @@ grown w v event report ok s =
     let next = steps_are_rules true w v event report tt ok s in
     let first = ok.shown.0 in
     let more = next.shown.0 in
-    let now : Refines true v = record {
-      messages = next.messages;
-      shown = (first ++ more, next.shown.2);
-      sent = next.sent;
-      only = next.only;
-      speakers = next.speakers;
-      ports = next.ports;
-      max_block = next.max_block;
-      ends = next.ends;
-    } in
+    let now : Refines true v = search rules in
     record {
       now = now;
       grows =
@@ -62,21 +40,12 @@ grown w v event report ok s =
 abbrev StillAt : WorldState → ℕ → Endpoint → Type 0
 StillAt v k a = (z : WorldEnd) × (slice_get v.ends k ≡ Some z) × (end_address z ≡ a)
 
-after_address : (x : OpenEnd) (turn : Turn) (held : Files (List ℕ) Holding) →
-    end_address (standing (end_after x turn held)) ≡ x.address
-after_address x turn (Source left) = standing_address (end_after x turn (Source left))
-after_address x turn (Sink sink) = standing_address (end_after x turn (Sink sink))
-
 module _ (w v : WorldState) (report : Report) (k : ℕ) (x : WorldEnd) (there : slice_get w.ends k ≡ Some x) where
   same_still : Stays w report v → StillAt v k (end_address x)
   same_still s = (x, ap (λ (u : WorldState). slice_get u.ends k) s.is ∙ there, refl)
 
   pushed_still : (y : OpenEnd) → OpeningStep w y report v → StillAt v k (end_address x)
-  pushed_still y o = (
-    x,
-    ap (λ (u : WorldState). slice_get u.ends k) o.is ∙ slice_get-push_old w.ends k (Open_end y) x there,
-    refl,
-  )
+  pushed_still y o = search (rules, slice_get-push_old)
 
   served_still : (service : Service) (from : Endpoint) (bytes : List ℕ) → ServiceStep service w from bytes report v →
       StillAt v k (end_address x)
@@ -92,13 +61,11 @@ module _ (w v : WorldState) (report : Report) (k : ℕ) (x : WorldEnd) (there : 
       let ends : v.ends ≡ slice_set w.ends j z = ap (λ (u : WorldState). u.ends) t.is in
       elim (cases_eq k j) [
         | inl e ↦
-            let same : x ≡ Open_end y =
-            same_Some x (Open_end y) (sym there ∙ (ap (slice_get w.ends) e ∙ at)) in (
+            let same : x ≡ Open_end y = search rules in (
               z,
-              ap (slice_get v.ends) e
-                  ∙ (ap (λ (xs : List WorldEnd). slice_get xs j) ends
-                  ∙ slice_get-set_same w.ends j z (Open_end y) at),
-              after_address y turn held ∙ ap end_address (sym same),
+              ap (slice_get v.ends) e ∙ (ap (λ (xs : List WorldEnd). slice_get xs j) ends ∙ slice_get-set_same w.ends j
+                  z (Open_end y) at),
+              standing_address (end_after y turn held) ∙ ap end_address (sym same),
             )
         | inr away ↦ (
           x,
@@ -129,13 +96,7 @@ module _ (w v : WorldState) (report : Report) (k : ℕ) (x : WorldEnd) (there : 
   remains event ok s done still =
       let g = grown w v event report ok s in
       let before = matched w ok k x there in
-      let after = matched v g.now k still.0 still.1 in (
-        still.0,
-        still.1,
-        sym after.complete
-            ∙ (ap (λ (a : Endpoint). (Machine.party (m v g.now) a).complete) still.2
-            ∙ (g.grows.grows (end_address x) before.is_open).complete (before.complete ∙ done)),
-      )
+      let after = matched v g.now k still.0 still.1 in search rules
 
   -- a complete end stays so at a delivery
   pub remains_delivered : (i : ℕ) → Refines true w → WorldStep w (Deliver i) report v → IsComplete x → Remains

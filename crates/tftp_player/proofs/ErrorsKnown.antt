@@ -1,62 +1,40 @@
 -- An end of which an ERROR to its peer was sent has closed because its store refused.
 -- For the law no_end_is_blamed.
-use Rattle.std.proofs.Common.{◌≡◌, ℕ, ◌+◌, ◌<◌, suc, zero, Bool, true, false, List, [], ◌∷◌, ◌++◌, length, Option, Some}
-use Rattle.std.proofs.Common.{None, refl, sym, ap, ◌∙◌, subst, arith, inl, inr, length-append}
-use Rattle.std.specs.Prelude.{◌≢◌, not, if◌then◌else◌, nat_eq, option_map, slice_get, slice_set}
-use Rattle.std.specs.List.{Contains}
-use Rattle.std.specs.Cmp.Lexicographic.{pointwise}
-use Rattle.std.proofs.lemmas.Bool.{true≢false, cases_Bool}
-use Rattle.std.proofs.lemmas.List.Elements.{Contains-append_cases}
-use Rattle.std.proofs.lemmas.Option.{same_Some, slice_get_within}
-use Rattle.tftp_wire.specs.Spelling.{Spells}
-use Rattle.tftp_wire.specs.declared.mode.Mode.{Mode}
-use Rattle.tftp_wire.specs.declared.packet.Packet.TheVariants.{Error}
-use Rattle.tftp_negotiate.specs.declared.known.Known.{Known}
-use Rattle.tftp_file.specs.declared.files.Files.{Files}
-use Rattle.tftp_file.specs.declared.files.Files.TheVariants.{Source, Sink}
-use Rattle.tftp_file.specs.Memory.{memory_source}
-use Rattle.tftp_file.specs.Sink.{Holding}
+use Rattle.tftp_player.proofs.Common.{common_steps, ◌≡◌, ℕ, ◌+◌, ◌<◌, suc, zero, true, false, List, [], ◌∷◌, ◌++◌}
+use Rattle.tftp_player.proofs.Common.{length, Option, Some, None, refl, sym, ap, ◌∙◌, subst, arith, inl, inr, rules}
+use Rattle.tftp_player.proofs.Common.{◌≢◌, if◌then◌else◌, nat_eq, option_map, slice_get, slice_set, Contains, pointwise}
+use Rattle.tftp_player.proofs.Common.{true≢false, cases_Bool, Contains-append_cases, same_Some, slice_get_within}
+use Rattle.tftp_player.proofs.Common.{Spells, Mode, Error, Known, Files, memory_source, Holding, Outcome, Phase, Terms}
+use Rattle.tftp_player.proofs.Common.{is_client, terms_of, outcome_of, is_wrong_peer, datagram_action, serving_read}
+use Rattle.tftp_player.proofs.Common.{Turn, Reply, timeout_turn, error_bytes, PhaseKept, request_port, server_ip}
+use Rattle.tftp_player.proofs.Common.{two_hosts, Endpoint, At_server, Elsewhere, OpenEnd, end_after, files_of, peer_of}
+use Rattle.tftp_player.proofs.Common.{slice_get-set_cases, slice_get-set_same, slice_get-push_cases, Service, Silent}
+use Rattle.tftp_player.proofs.Common.{Refused, Sends, Takes, reading_client, writing_client, sending_end, receiving_end}
+use Rattle.tftp_player.proofs.Common.{WorldState, WorldEnd, Open_end, Closed_end, standing, datagram, replied}
+use Rattle.tftp_player.proofs.Common.{end_address, end_record, opened_in, said_in, in_the_way, file_at, new_world}
+use Rattle.tftp_player.proofs.Common.{IsReached, HasPeer, Refines, Datagram, PlaysAll, may_refuse_commit, WorldStep}
+use Rattle.tftp_player.proofs.Common.{ServiceStep, Delivery, At_request_port, At_open_end, At_closed_end, At_nobody}
+use Rattle.tftp_player.proofs.Common.{Stays, TimeoutStep, armed_end, world_sink, Event, Get, Put, Deliver, Timeout}
+use Rattle.tftp_player.proofs.Common.{RefuseStore, Stray, Report, acts_by}
+use Rattle.std.proofs.Common.{length-append}
 use Rattle.tftp_ends.specs.declared.error_reply.ErrorReply.TheVariants.{UnknownTransferId}
-use Rattle.tftp_ends.specs.declared.outcome.Outcome.{Outcome}
 use Rattle.tftp_ends.specs.declared.outcome.Outcome.TheVariants as outcomes
-use Rattle.tftp_ends.specs.declared.phase.Phase.{Phase}
-use Rattle.tftp_ends.specs.declared.phase.Terms.{Terms}
-use Rattle.tftp_ends.specs.End.{is_sender, is_client, terms_of, outcome_of}
-use Rattle.tftp_ends.specs.Action.{is_wrong_peer, datagram_action, same_address}
-use Rattle.tftp_ends.specs.Opening.{serving_read, serving_write}
-use Rattle.tftp_ends.specs.Step.{Turn, Reply, timeout_turn, error_bytes}
-use Rattle.tftp_rules.specs.EndKept.{PhaseKept}
-use Rattle.tftp_rules.specs.Hosts.{host_of, request_port, server_ip, two_hosts}
-use Rattle.tftp_rules.specs.Machine.{Endpoint, At_server, Elsewhere}
-use Rattle.tftp_rules.specs.OpenEnds.{OpenEnd, end_after, files_of, peer_of}
-use Rattle.tftp_rules.proofs.Indices.{slice_get-set_cases, slice_get-set_same, slice_get-push_cases}
-use Rattle.tftp_server.specs.Port.{Service, Silent, Refused, Sends, Takes}
-use Rattle.tftp_player.specs.Openings.{reading_client, writing_client, sending_end, receiving_end}
+use Rattle.tftp_ends.specs.Action.{same_address}
+use Rattle.tftp_ends.specs.Opening.{serving_write}
+use Rattle.tftp_rules.specs.Hosts.{host_of}
 use Rattle.tftp_player.specs.Closing.{OnlyRefusalsAreTold}
-use Rattle.tftp_player.specs.World.{WorldState, WorldEnd, Open_end, Closed_end, standing, by_outcome, datagram, replied}
-use Rattle.tftp_player.specs.World.{end_address, end_record, opened_in, said_in, in_the_way, file_at, new_world}
-use Rattle.tftp_player.specs.Recovering.{IsReached}
-use Rattle.tftp_player.specs.WorldSafety.{HasPeer}
-use Rattle.tftp_player.specs.WorldKept.{Refines}
-use Rattle.tftp_player.specs.declared.datagram.Datagram.{Datagram}
-use Rattle.tftp_player.specs.WorldRuns.{PlaysAll}
-use Rattle.tftp_player.specs.WorldSteps.{may_refuse_commit, WorldStep, ServiceStep, Delivery, At_request_port}
-use Rattle.tftp_player.specs.WorldSteps.{At_open_end, At_closed_end, At_nobody, Stays, TimeoutStep, armed_end, world_sink}
-use Rattle.tftp_player.specs.declared.event.Event.{Event}
-use Rattle.tftp_player.specs.declared.event.Event.TheVariants.{Get, Put, Deliver, Timeout, RefuseStore, Stray}
-use Rattle.tftp_player.specs.declared.report.Report.{Report}
 use Rattle.tftp_player.proofs.BlamelessEnds.{Blameless, datagram_blameless, timeout_blameless}
 use Rattle.tftp_player.proofs.EndsCame.{Arrives}
 use Rattle.tftp_player.proofs.OacksTaken.{Known_world, known_then, waits_here}
+use Rattle.tftp_player.proofs.Standing.{standing_address}
 use Rattle.tftp_player.proofs.StraightActions.{peer_near}
 use Rattle.tftp_player.proofs.TermsKept.{step_has, timeout_has}
 use Rattle.tftp_player.proofs.WorldRuns.{contains_at, new_ok}
 use Rattle.tftp_player.proofs.SentAgain.{second}
 use Rattle.tftp_player.proofs.WorldSafe.{kept_is_safe, ip_at_home}
 use Rattle.tftp_player.proofs.WorldTurns.{nothing_in, one_in}
-use Rattle.tftp_player.proofs.ErrorReasons.{IsErr, datagram_tells, no_ack, no_data}
+use Rattle.tftp_player.proofs.ErrorReasons.{IsErr, datagram_tells}
 use Rattle.tftp_player.proofs.ErrorAnswers.{IsRefusal, Answers, ToldAt, turn_answers, timeout_answers}
-use Rattle.tftp_rules.proofs.TurnCases.{acts_by}
 
 -- ---- the ends of a world, by the ERRORs that they sent
 abbrev Told : WorldEnd → Endpoint → List ℕ → Type 0
@@ -71,51 +49,21 @@ pub record Spoken (w : WorldState) : Type 0 where
       slice_get w.ends k ≡ Some z → end_address z ≡ d.from → Told z d.to d.bytes
   pub ports : (d : Datagram) → Contains w.sent d → d.from.port < 1024 + length w.ends
 
-outcome_told : (o : Option Outcome) (x : OpenEnd) (to : Endpoint) (bytes : List ℕ) → ToldAt x.state.position to bytes →
-    Told (by_outcome o x) to bytes
-outcome_told None x to bytes h = h
-outcome_told (Some outcome) x to bytes h = h.0
-
 stands_told : (x : OpenEnd) (turn : Turn) (held : Files (List ℕ) Holding) (to : Endpoint) (bytes : List ℕ) →
     ToldAt turn.position to bytes → Told (standing (end_after x turn held)) to bytes
-stands_told x turn (Source left) to bytes h =
-    outcome_told (outcome_of turn.position.phase) (end_after x turn (Source left)) to bytes h
-stands_told x turn (Sink sink) to bytes h =
-    outcome_told (outcome_of turn.position.phase) (end_after x turn (Sink sink)) to bytes h
-
-outcome_address : (o : Option Outcome) (x : OpenEnd) → end_address (by_outcome o x) ≡ x.address
-outcome_address None x = refl
-outcome_address (Some outcome) x = refl
-
--- a step leaves the endpoint of its end
-pub stands_address : (x : OpenEnd) (turn : Turn) (held : Files (List ℕ) Holding) →
-    end_address (standing (end_after x turn held)) ≡ x.address
-stands_address x turn (Source left) = outcome_address (outcome_of turn.position.phase) (end_after x turn (Source left))
-stands_address x turn (Sink sink) = outcome_address (outcome_of turn.position.phase) (end_after x turn (Sink sink))
-
-outcome_side : (o : Option Outcome) (x : OpenEnd) → is_client (end_record (by_outcome o x)).side ≡ is_client x.state.role.side
-outcome_side None x = refl
-outcome_side (Some outcome) x = refl
+stands_told x turn held to bytes h = search rules
 
 stands_side : (x : OpenEnd) (turn : Turn) (held : Files (List ℕ) Holding) →
     is_client (end_record (standing (end_after x turn held))).side ≡ is_client x.state.role.side
-stands_side x turn (Source left) = outcome_side (outcome_of turn.position.phase) (end_after x turn (Source left))
-stands_side x turn (Sink sink) = outcome_side (outcome_of turn.position.phase) (end_after x turn (Sink sink))
-
-outcome_peer : (o : Option Outcome) (x : OpenEnd) →
-    (end_record (by_outcome o x)).peer ≡ peer_of x.state.position.phase
-outcome_peer None x = refl
-outcome_peer (Some outcome) x = refl
+stands_side x turn held = search rules
 
 stands_peer : (x : OpenEnd) (turn : Turn) (held : Files (List ℕ) Holding) →
     (end_record (standing (end_after x turn held))).peer ≡ peer_of turn.position.phase
-stands_peer x turn (Source left) = outcome_peer (outcome_of turn.position.phase) (end_after x turn (Source left))
-stands_peer x turn (Sink sink) = outcome_peer (outcome_of turn.position.phase) (end_after x turn (Sink sink))
+stands_peer x turn held = search rules
 
 replied_is : (a : Endpoint) (reply : Option Reply) (d : Datagram) → Contains (replied a reply) d →
     (r : Reply) × (reply ≡ Some r) × (d ≡ datagram a r.to r.bytes)
-replied_is a None d i = absurd (nothing_in d i)
-replied_is a (Some r) d i = (r, refl, sym (one_in d (datagram a r.to r.bytes) i))
+replied_is a reply d i = search rules
 
 -- the ends are as many
 pub length_set : (xs : List WorldEnd) (k : ℕ) (y : WorldEnd) → length (slice_set xs k y) ≡ length xs
@@ -159,43 +107,26 @@ module _ (old new : WorldState) (ok : Refines true old) (ok' : Refines true new)
         (stands_side x turn held ∙ client_if none) (stands_peer x turn held ∙ p)
 
     told_old : (to : Endpoint) (bytes : List ℕ) → ToldAt x.state.position to bytes → ToldAt turn.position to bytes
-    told_old to bytes h = by (terms_of before) refl where
-      by : (o : Option Terms) → terms_of before ≡ o → ToldAt turn.position to bytes
-      by (Some t) e =
-          let now_is : peer_of turn.position.phase ≡ Some t.peer = ap peer_in (stays t e) in (
-            λ p own. absurd
-                (let closed = (h.0 (ap peer_in e ∙ (sym now_is ∙ p)) own).0 in
-                let f : None ≡ Some outcomes.StoreFault = sym still ∙ closed in cc),
-            λ none open_still. absurd (let f : Some t.peer ≡ None = sym now_is ∙ none in cc),
-          )
-      by None e = (
-        λ p own. absurd (h.1 (ap peer_in e) still (peer_at_server e to p)),
-        λ none open_still. h.1 (ap peer_in e) still,
-      )
+    told_old to bytes h = search (rules, still, peer_at_server)
 
     turn_spoken : Spoken new
     turn_spoken = record {
       told = λ d i err j z zi address.
           let y = standing (end_after x turn held) in
-          let from_sent = Contains-append_cases old.sent (replied x.address turn.reply) d
-          (subst (λ (ds : List Datagram). Contains ds d) sent i) in
-          elim
-          (slice_get-set_cases old.ends k j y z (sym (ap (λ (zs : List WorldEnd). slice_get zs j) ends) ∙ zi)) [
+          let from_sent = Contains-append_cases old.sent (replied x.address turn.reply) d (rw (← sent) i) in
+          elim (slice_get-set_cases old.ends k j y z (sym (ap (λ (zs : List WorldEnd). slice_get zs j) ends) ∙ zi)) [
             | inl h ↦
                 let mine : x.address ≡ d.from =
-                sym (stands_address x turn held) ∙ (ap end_address (sym h.1) ∙ address) in
-                subst (λ (u : WorldEnd). Told u d.to d.bytes) (sym h.1)
-                (stands_told x turn held d.to d.bytes (elim from_sent [
+                sym (standing_address (end_after x turn held)) ∙ (ap end_address (sym h.1) ∙ address) in
+                rw (h.1) (stands_told x turn held d.to d.bytes (elim from_sent [
                   | inl o ↦ told_old d.to d.bytes (spoken.told d o err k (Open_end x) there mine)
                   | inr f ↦ let r = replied_is x.address turn.reply d f in
-                      subst (λ (c : Datagram). ToldAt turn.position c.to c.bytes) (sym r.2)
-                      (answers blameless r.0 r.1
+                      subst (λ (c : Datagram). ToldAt turn.position c.to c.bytes) (sym r.2) (answers blameless r.0 r.1
                       (subst (λ (c : Datagram). IsErr c.bytes) r.2 err))
                 ]))
             | inr h ↦ elim from_sent [
               | inl o ↦ spoken.told d o err j z h.1 address
-              | inr f ↦ absurd
-                  (let r = replied_is x.address turn.reply d f in
+              | inr f ↦ absurd (let r = replied_is x.address turn.reply d f in
                   let a = ok.ports j z h.1 in
                   let b = ok.ports k (Open_end x) there in
                   let c = ap (λ (p : Endpoint). p.port) (address ∙ ap (λ (c : Datagram). c.from) r.2) in
@@ -204,9 +135,7 @@ module _ (old new : WorldState) (ok : Refines true old) (ok' : Refines true new)
           ];
       ports = λ d i.
           let counted = ap length ends ∙ length_set old.ends k (standing (end_after x turn held)) in
-          elim
-          (Contains-append_cases old.sent (replied x.address turn.reply) d
-          (subst (λ (ds : List Datagram). Contains ds d) sent i)) [
+          elim (Contains-append_cases old.sent (replied x.address turn.reply) d (rw (← sent) i)) [
             | inl o ↦ let l = spoken.ports d o in omega (arith, l, counted)
             | inr f ↦ let r = replied_is x.address turn.reply d f in
                 let b = ok.ports k (Open_end x) there in
@@ -264,21 +193,10 @@ module _ (old new : WorldState) (ok : Refines true old) (ok' : Refines true new)
       let ends = ap (λ (w : WorldState). w.ends) is in
       let sent = ap (λ (w : WorldState). w.sent) is in
       record {
-        told = λ d i err j z zi address.
-            let there = sym (ap (λ (zs : List WorldEnd). slice_get zs j) ends) ∙ zi in
-            elim
-            (Contains-append_cases old.sent (d0 ∷ []) d (subst (λ (ds : List Datagram). Contains ds d) sent i)) [
-              | inl o ↦ spoken.told d o err j z there address
-              | inr f ↦ absurd
-                  (let a = ok.ports j z there in
-                  let b = ap (λ (p : Endpoint). p.port)
-                  (address ∙ (sym (ap (λ (q : Datagram). q.from) (one_in d d0 f)) ∙ from)) in
-                  omega (arith, a, b))
-            ];
+        told = grind (arith, common_steps);
         ports = λ d i.
             let counted = ap length ends in
-            elim
-            (Contains-append_cases old.sent (d0 ∷ []) d (subst (λ (ds : List Datagram). Contains ds d) sent i)) [
+            elim (Contains-append_cases old.sent (d0 ∷ []) d (subst (λ (ds : List Datagram). Contains ds d) sent i)) [
               | inl o ↦ let l = spoken.ports d o in omega (arith, l, counted)
               | inr f ↦ let c = ap (λ (q : Datagram). q.from.port) (one_in d d0 f) in
                   let p = ap (λ (q : Endpoint). q.port) from in omega (arith, c, p)
@@ -287,29 +205,19 @@ module _ (old new : WorldState) (ok : Refines true old) (ok' : Refines true new)
 
 -- ---- an event
 armed_told : (z : WorldEnd) (to : Endpoint) (bytes : List ℕ) → Told z to bytes → Told (armed_end z) to bytes
-armed_told (Open_end x) to bytes h = by (is_sender x.state.role.side) where
-  by : (b : Bool) → Told (Open_end (if b then x else record x { refuses = true })) to bytes
-  by true = h
-  by false = h
-armed_told (Closed_end x) to bytes h = h
+armed_told z to bytes h = search rules
 
 -- so does an event that sets it to refuse
 pub armed_address : (z : WorldEnd) → end_address (armed_end z) ≡ end_address z
-armed_address (Open_end x) = by (is_sender x.state.role.side) where
-  by : (b : Bool) → (if b then x else record x { refuses = true }).address ≡ x.address
-  by true = refl
-  by false = refl
-armed_address (Closed_end x) = refl
+armed_address z = search rules
 
 read_speaks : (agreed : List Known) (peer : Endpoint) (mode : Mode) (count retries : ℕ) (piece : List ℕ) →
     IsErr (serving_read agreed peer mode count retries piece).position.last_sent → ⊥
-read_speaks [] peer mode count retries piece e = no_data 1 piece e
-read_speaks (known ∷ others) peer mode count retries piece e = let z : ◌≡◌ {A = ℕ} 6 5 = e in omega (arith, z)
+read_speaks agreed peer mode count retries piece e = search rules
 
 write_speaks : (agreed : List Known) (peer : Endpoint) (mode : Mode) (retries : ℕ) →
     IsErr (serving_write agreed peer mode retries).position.last_sent → ⊥
-write_speaks [] peer mode retries e = no_ack 0 e
-write_speaks (known ∷ others) peer mode retries e = let z : ◌≡◌ {A = ℕ} 6 5 = e in omega (arith, z)
+write_speaks agreed peer mode retries e = search rules
 
 module _ (old new : WorldState) (known : Known_world old) (ok' : Refines true new) (spoken : Spoken old) where
   abbrev ok : Refines true old
@@ -354,8 +262,7 @@ module _ (old new : WorldState) (known : Known_world old) (ok' : Refines true ne
               let same : same_address x.state.position.last_sent_to from ≡ true =
               ap (λ (ip : List ℕ). pointwise nat_eq ip from.ip) to_ip ∙ ap (pointwise nat_eq server_ip) from_ip in
               let right : is_wrong_peer (terms_of x.state.position.phase) x.state.position.last_sent_to from ≡ false =
-              ap (λ (o : Option Terms). is_wrong_peer o x.state.position.last_sent_to from) e
-              ∙ ap (λ (b : Bool). not b) same in
+              search rules in
               true≢false (sym wrong ∙ right),
         )
 
@@ -404,11 +311,11 @@ module _ (old new : WorldState) (known : Known_world old) (ok' : Refines true ne
 
   step_spoken : (event : Event) (report : Report) → WorldStep old event report new → Spoken new
   step_spoken (Get name mode asked) report s =
-      opens_spoken old new ok ok' spoken (reading_client old name mode asked) refl
-      (λ e. let z : ◌≡◌ {A = ℕ} 1 5 = e in omega (arith, z)) s.2.is
+      opens_spoken old new ok ok' spoken (reading_client old name mode asked) refl (λ e. let z : ◌≡◌ {A = ℕ} 1 5 = e
+      in omega (arith, z)) s.2.is
   step_spoken (Put name mode asked bytes) report s =
-      opens_spoken old new ok ok' spoken (writing_client old name mode asked bytes) refl
-      (λ e. let z : ◌≡◌ {A = ℕ} 2 5 = e in omega (arith, z)) s.2.is
+      opens_spoken old new ok ok' spoken (writing_client old name mode asked bytes) refl (λ e. let z : ◌≡◌ {A = ℕ} 2 5
+      = e in omega (arith, z)) s.2.is
   step_spoken (Deliver i) report s =
       arrives_spoken s.0.from s.0.to s.0.bytes report (inl (contains_at old.sent i s.0 s.1)) s.2
   step_spoken (Timeout port) report s = timeout_spoken s.0 s.1 report s.2.there s.3
@@ -416,16 +323,7 @@ module _ (old new : WorldState) (known : Known_world old) (ok' : Refines true ne
       let sent = ap (λ (w : WorldState). w.sent) s.4 in
       let ends = ap (λ (w : WorldState). w.ends) s.4 in
       record {
-        told = λ d i err j z zi address.
-            let was = subst (λ (ds : List Datagram). Contains ds d) sent i in
-            elim
-            (slice_get-set_cases old.ends s.0 j (armed_end s.1) z
-            (sym (ap (λ (zs : List WorldEnd). slice_get zs j) ends) ∙ zi)) [
-              | inl h ↦ subst (λ (u : WorldEnd). Told u d.to d.bytes) (sym h.1)
-                  (armed_told s.1 d.to d.bytes (spoken.told d was err s.0 s.1 s.2.there
-                  (sym (armed_address s.1) ∙ (ap end_address (sym h.1) ∙ address))))
-              | inr h ↦ spoken.told d was err j z h.1 address
-            ];
+        told = search (rules, slice_get-set_cases, armed_told, armed_address);
         ports = λ d i.
             let counted = ap length ends ∙ length_set old.ends s.0 (armed_end s.1) in
             let l = spoken.ports d (subst (λ (ds : List Datagram). Contains ds d) sent i) in omega (arith, l, counted);

@@ -1,29 +1,14 @@
 -- What a client that waits does at the first datagram of its server's end.
 -- For RecoveringReads and RecoveringWrites, and for LossyReads and LossyWrites.
-use Rattle.std.proofs.Common.{◌≡◌, ℕ, ◌+◌, ◌*◌, ◌<◌, ◌≤◌, Bool, true, false, List, [], ◌++◌, length, take, Some, refl, sym}
-use Rattle.std.proofs.Common.{None, ap, ◌∙◌, arith}
-use Rattle.std.specs.Prelude.{◌≢◌, if◌then◌else◌}
-use Rattle.std.proofs.lemmas.Bool.{le-leb, lt-ltb}
-use Rattle.tftp_wire.specs.declared.mode.Mode.{Mode}
-use Rattle.tftp_wire.specs.declared.packet.Packet.{Packet}
-use Rattle.tftp_wire.specs.declared.packet.Packet.TheVariants.{Data}
-use Rattle.tftp_negotiate.specs.declared.asked.Asked.{Asked}
-use Rattle.tftp_negotiate.specs.declared.limits.TheConstants.{DEFAULT_BLOCK}
-use Rattle.tftp_file.specs.Block.{block, block_count}
-use Rattle.tftp_file.specs.Netascii.{wire_text}
-use Rattle.tftp_ends.specs.declared.action.Action.TheVariants.{Respond, Send, Store}
-use Rattle.tftp_ends.specs.declared.action.Response.TheVariants.{Refuse}
-use Rattle.tftp_ends.specs.declared.error_reply.ErrorReply.TheVariants.{FileTooLarge}
+use Rattle.tftp_player.proofs.Common.{common_steps, ◌≡◌, ℕ, ◌+◌, ◌*◌, ◌<◌, ◌≤◌, Bool, true, false, List, [], ◌++◌}
+use Rattle.tftp_player.proofs.Common.{length, take, Some, refl, sym, ap, ◌∙◌, arith, rules, ◌≢◌, if◌then◌else◌, Mode}
+use Rattle.tftp_player.proofs.Common.{Packet, Data, Asked, DEFAULT_BLOCK, block, block_count, wire_text, Send, Store}
+use Rattle.tftp_player.proofs.Common.{Waiting, Terms, datagram_action, packet_action, EndState, is_sender, next_action}
+use Rattle.tftp_player.proofs.Common.{receiver_action, begin_action, default_terms, reader_action, writer_action}
+use Rattle.tftp_player.proofs.Common.{Endpoint, OpenEnd}
+use Rattle.std.proofs.lemmas.Bool.{le-leb}
 use Rattle.tftp_ends.specs.declared.outcome.Outcome.TheVariants as outcomes
-use Rattle.tftp_ends.specs.declared.phase.Phase.TheVariants.{Waiting}
-use Rattle.tftp_ends.specs.declared.phase.Terms.{Terms}
-use Rattle.tftp_ends.specs.Action.{datagram_action, packet_action}
-use Rattle.tftp_ends.specs.End.{EndState, is_sender}
-use Rattle.tftp_ends.specs.Receiver.{next_action, receiver_action}
-use Rattle.tftp_ends.specs.Waiting.{begin_action, default_terms, no_answer, reader_action, writer_action}
-use Rattle.tftp_rules.specs.Machine.{Endpoint}
-use Rattle.tftp_rules.specs.OpenEnds.{OpenEnd}
-use Rattle.tftp_rules.proofs.NextBlocks.{block_within}
+use Rattle.tftp_ends.specs.Waiting.{no_answer}
 use Rattle.tftp_player.proofs.StraightActions.{data_next}
 use Rattle.tftp_player.proofs.StraightRuns.{IsFit, next_is_stored}
 
@@ -32,23 +17,17 @@ module _ (e : EndState) (asked : Asked) (limit : ℕ) (from : Endpoint) (p : Pac
   -- a client that reads does as a reader
   pub reads_as : is_sender e.role.side ≡ false →
       packet_action e from (Some p) (Waiting asked limit) ≡ reader_action e.role.mode asked limit from (Some p)
-  reads_as receives =
-      ap (λ (b : Bool). if b then writer_action e.role.mode asked limit e.role.length from (Some p)
-      else reader_action e.role.mode asked limit from (Some p)) receives
+  reads_as receives = search rules
 
   -- a client that writes does as a writer
   pub writes_as : is_sender e.role.side ≡ true →
       packet_action e from (Some p) (Waiting asked limit)
       ≡ writer_action e.role.mode asked limit e.role.length from (Some p)
-  writes_as sends =
-      ap (λ (b : Bool). if b then writer_action e.role.mode asked limit e.role.length from (Some p)
-      else reader_action e.role.mode asked limit from (Some p)) sends
+  writes_as sends = search rules
 
 -- a writer begins, if its blocks can be numbered
 pub begins_with : (count : ℕ) (terms : Terms) → count < 65535 * terms.size → begin_action count terms ≡ Send terms 1
-begins_with count terms few =
-    ap (λ (b : Bool). if b then Send terms 1 else Respond (Refuse None FileTooLarge outcomes.TooLarge))
-    (lt-ltb count (65535 * terms.size) few)
+begins_with count terms few = search rules
 
 -- a reader stores DATA 1 of a sender without options
 module _ (ks kr : ℕ) (apart : kr ≢ ks) (sa ra : Endpoint) (st : Terms) (mode : Mode) (file : List ℕ) (sp : st.peer ≡ ra)
@@ -67,13 +46,9 @@ module _ (ks kr : ℕ) (apart : kr ≢ ks) (sa ra : Endpoint) (st : Terms) (mode
         datagram_action y.state sa bytes (Some (Data 1 own)) ≡ Store (default_terms sa) 1
     data_first bytes waits =
         let first : 0 + 1 ≤ block_count (wire_text mode file) st.size = omega arith in
-        let within : length own ≤ DEFAULT_BLOCK =
-        (let l = block_within (wire_text mode file) st.size fit.positive fit.fits 0 first in omega (arith, l, same)) in
-        waits
-        ∙ (reads_as y.state asked limit sa (Data 1 own) receives
-        ∙ (ap (λ (b : Bool).
-        if b then receiver_action true y.state.role.mode [] (default_terms sa) 0 (Some (Data 1 own)) else no_answer)
-        (le-leb (length own) DEFAULT_BLOCK within)
-        ∙ (data_next y.state.role.mode [] (default_terms sa) 0 own
-        ∙ (ap (λ (h : List ℕ). next_action y.state.role.mode h (default_terms sa) (0 + 1) own) (sym held)
-        ∙ next_is_stored true ks kr apart sa ra st (default_terms sa) mode file sp refl same y 0 fit first mode_is none))))
+        let within : length own ≤ DEFAULT_BLOCK = grind (arith, common_steps) in
+        waits ∙ (reads_as y.state asked limit sa (Data 1 own) receives ∙ (ap (λ (b : Bool). if b then receiver_action
+        true y.state.role.mode [] (default_terms sa) 0 (Some (Data 1 own)) else no_answer) (le-leb (length own)
+        DEFAULT_BLOCK within) ∙ (data_next y.state.role.mode [] (default_terms sa) 0 own ∙ (ap (λ (h : List ℕ).
+        next_action y.state.role.mode h (default_terms sa) (0 + 1) own) (sym held) ∙ next_is_stored true ks kr apart sa
+        ra st (default_terms sa) mode file sp refl same y 0 fit first mode_is none))))

@@ -1,22 +1,16 @@
 -- The ends of a world as a list, with their records, and what a step of one end leaves. For `Ends`' calls and five other
 -- files.
-use Rattle.std.proofs.Common.{◌≡◌, ℕ, zero, suc, ◌+◌, ◌<◌, Bool, true, false, List, [], ◌∷◌, ◌++◌, length, set, Some, None}
-use Rattle.std.proofs.Common.{cond, refl, sym, ap, ◌∙◌, subst, arith}
-use Rattle.std.specs.Prelude.{count_by, slice_get, slice_set, slice_index_or}
+use Rattle.tftp_player.proofs.Common.{common_steps, ◌≡◌, ℕ, zero, suc, ◌+◌, ◌<◌, Bool, true, false, List, [], ◌∷◌, ◌++◌}
+use Rattle.tftp_player.proofs.Common.{length, set, Some, None, refl, sym, ap, ◌∙◌, subst, arith, rules, slice_get}
+use Rattle.tftp_player.proofs.Common.{slice_set, slice_index_or, same_Some, Record, Endpoint, EndTakes, records_from}
+use Rattle.tftp_player.proofs.Common.{open_transfers, PlayedServer, ArePartsConsistent, world_of, StoredFile, WorldEnd}
+use Rattle.tftp_player.proofs.Common.{end_address, end_record, Effect}
+use Rattle.std.proofs.Common.{cond, count_by}
 use Rattle.std.proofs.lemmas.List.Sums.{sum_by-cons}
-use Rattle.std.proofs.lemmas.Option.{same_Some, slice_get_read}
-use Rattle.tftp_ends.specs.declared.record.Record.{Record}
-use Rattle.tftp_rules.specs.OpenEnds.{end_after, files_of}
-use Rattle.tftp_rules.specs.Machine.{Endpoint}
-use Rattle.tftp_ends.specs.Step.{timeout_turn}
-use Rattle.tftp_player.specs.EndSteps.{EndTimesOut, EndTakes}
-use Rattle.tftp_player.specs.Played.{records_from}
-use Rattle.tftp_player.specs.Requests.{is_transfer, open_transfers}
-use Rattle.tftp_player.specs.ServerEnd.{PlayedServer}
-use Rattle.tftp_player.specs.Simulation.{ArePartsConsistent, world_of}
-use Rattle.tftp_player.specs.World.{StoredFile, WorldEnd, Open_end, Closed_end, end_address, end_record}
-use Rattle.tftp_player.specs.declared.effect.Effect.{Effect}
-use Rattle.tftp_player.proofs.Standing.{standing_address}
+use Rattle.std.proofs.lemmas.Option.{slice_get_read}
+use Rattle.tftp_player.specs.EndSteps.{EndTimesOut}
+use Rattle.tftp_player.specs.Requests.{is_transfer}
+use Rattle.tftp_player.proofs.SentLemmas.{records_count}
 use Rattle.tftp_player.proofs.WorldTurns.{ports_set, ports_push}
 
 -- what an index reads
@@ -41,15 +35,12 @@ one_if_is false = refl
 
 count_one : {X : Type 0} (test : X → Bool) (x : X) (xs : List X) →
     count_by test (x ∷ xs) ≡ one_if (test x) + count_by test xs
-count_one test x xs =
-    sum_by-cons (λ y. cond (test y) 1 0) x xs ∙ ap (λ (n : ℕ). n + count_by test xs) (one_if_is (test x))
+count_one test x xs = search (rules, sum_by-cons, one_if_is)
 
 count_set : {X : Type 0} (test : X → Bool) (xs : List X) (k : ℕ) (x y : X) → slice_get xs k ≡ Some x →
     count_by test (set xs k y) + one_if (test x) ≡ count_by test xs + one_if (test y)
 count_set {X = X} test [] k x y e = absurd (let f : None ≡ Some x = e in cc)
-count_set {X = X} test (z ∷ xs) zero x y e =
-    let same : one_if (test z) ≡ one_if (test x) = ap (λ (v : X). one_if (test v)) (same_Some z x e) in
-    omega (arith, count_one test y xs, count_one test z xs, same)
+count_set {X = X} test (z ∷ xs) zero x y e = grind (arith, common_steps)
 count_set {X = X} test (z ∷ xs) (suc k) x y e =
     omega (arith, count_one test z (set xs k y), count_one test z xs, count_set test xs k x y e)
 
@@ -61,10 +52,6 @@ transfers-set ends k x y e same =
     omega (arith, count_set is_transfer ends k x y e, one)
 
 -- ---- the records
-records_length : (port : ℕ) (ends : List WorldEnd) → length (records_from port ends) ≡ length ends
-records_length port [] = refl
-records_length port (x ∷ ends) = ap suc (records_length (port + 1) ends)
-
 -- a new end at an index has its record there
 pub records_set : (port : ℕ) (ends : List WorldEnd) (k : ℕ) (y : WorldEnd) →
     records_from port (slice_set ends k y) ≡ slice_set (records_from port ends) k (port + k, end_record y)
@@ -89,15 +76,11 @@ records_push port (y ∷ ends) x =
 -- ---- a step of one end
 -- an end stays at its endpoint in a timeout, and in a datagram
 pub stays_at : (x y : WorldEnd) (effect : Effect) → EndTimesOut x y effect → end_address y ≡ end_address x
-stays_at (Open_end x) y effect t =
-    ap end_address t.next ∙ standing_address (end_after x (timeout_turn x.state) (files_of x))
-stays_at (Closed_end x) y effect t = ap end_address t.next
+stays_at x y effect t = search rules
 
 pub takes_at : (overwrite : Bool) (from : Endpoint) (bytes : List ℕ) (x y : WorldEnd) (files files' : List StoredFile)
     (effect : Effect) → EndTakes overwrite from bytes x y files files' effect → end_address y ≡ end_address x
-takes_at overwrite from bytes (Open_end x) y files files' effect t =
-    ap end_address t.turns.next ∙ standing_address (end_after x t.turn t.held)
-takes_at overwrite from bytes (Closed_end x) y files files' effect t = ap end_address t.0.next
+takes_at overwrite from bytes x y files files' effect t = search rules
 
 module _ (before after : PlayedServer) (ends : List WorldEnd) (records : List (ℕ × Record))
     (consistent : ArePartsConsistent before ends records) (empty : after.held ≡ before.held)
@@ -106,30 +89,30 @@ module _ (before after : PlayedServer) (ends : List WorldEnd) (records : List (�
   pub moved_consistent : (index : ℕ) (x y : WorldEnd) (r : Record) → slice_get ends index ≡ Some x →
       end_address y ≡ end_address x → r ≡ end_record y →
       ArePartsConsistent after (slice_set ends index y) (slice_set records index (1024 + index, r))
-  moved_consistent index x y r there same is = record {
-    recorded =
-        ap (λ (rs : List (ℕ × Record)). slice_set rs index (1024 + index, r)) consistent.recorded
-        ∙ (ap (λ (q : Record). slice_set (records_from 1024 ends) index (1024 + index, q)) is
-        ∙ sym (records_set 1024 ends index y));
-    ports = ports_set (world_of before.config [] before ends) index x y consistent.ports there same;
-    empty = empty ∙ consistent.empty;
-    quiet = quiet;
-  }
+  moved_consistent index x y r there same is = assumption (
+    ap (λ (rs : List (ℕ × Record)). slice_set rs index (
+      1024 +
+          index,
+      r,
+    )) consistent.recorded ∙ (ap (λ (q : Record). slice_set (records_from 1024 ends) index (1024 + index, q))
+        is ∙ sym (records_set 1024 ends index y)),
+    ports_set (world_of before.config [] before ends) index x y
+        consistent.ports there same,
+    empty ∙ consistent.empty,
+  )
 
   -- and with one more
   pub pushed_consistent : (port : ℕ) (x : WorldEnd) (r : Record) → port ≡ 1024 + length ends →
       (end_address x).port ≡ port → r ≡ end_record x →
       ArePartsConsistent after (ends ++ x ∷ []) (records ++ (port, r) ∷ [])
-  pushed_consistent port x r next at is = record {
-    recorded =
-        ap (λ (rs : List (ℕ × Record)). rs ++ (port, r) ∷ []) consistent.recorded
-        ∙ (ap (λ (n : ℕ). records_from 1024 ends ++ (n, r) ∷ []) next
-        ∙ (ap (λ (q : Record). records_from 1024 ends ++ (1024 + length ends, q) ∷ []) is
-        ∙ sym (records_push 1024 ends x)));
-    ports = ports_push (world_of before.config [] before ends) x consistent.ports (at ∙ next);
-    empty = empty ∙ consistent.empty;
-    quiet = quiet;
-  }
+  pushed_consistent port x r next at is = assumption (
+    ap (λ (rs : List (ℕ × Record)). rs ++ (port, r) ∷ [])
+        consistent.recorded ∙ (ap (λ (n : ℕ). records_from 1024 ends ++ (n, r) ∷ []) next ∙ (ap (λ (q : Record).
+        records_from 1024 ends ++ (1024 + length ends, q) ∷ []) is ∙ sym (records_push 1024 ends x))),
+    ports_push
+        (world_of before.config [] before ends) x consistent.ports (at ∙ next),
+    empty ∙ consistent.empty,
+  )
 
   -- the same, by equations
   pub pushed_so : (port : ℕ) (x : WorldEnd) (r : Record) (ends0 ends1 : List WorldEnd)
@@ -137,15 +120,10 @@ module _ (before after : PlayedServer) (ends : List WorldEnd) (records : List (�
       r ≡ end_record x → ends0 ≡ ends → ends1 ≡ ends0 ++ x ∷ [] → records0 ≡ records →
       records1 ≡ records0 ++ (port, r) ∷ [] → ArePartsConsistent after ends1 records1
   pushed_so port x r ends0 ends1 records0 records1 next at is a b c d =
-      subst (λ (es : List WorldEnd). ArePartsConsistent after es records1)
-      (sym (b ∙ ap (λ (es : List WorldEnd). es ++ x ∷ []) a))
-      (subst (ArePartsConsistent after (ends ++ x ∷ []))
-      (sym (d ∙ ap (λ (rs : List (ℕ × Record)). rs ++ (port, r) ∷ []) c))
-      (pushed_consistent port x r next at is))
+      rw ((b ∙ ap (λ (es : List WorldEnd). es ++ x ∷ []) a)) (subst (ArePartsConsistent after (ends ++ x ∷ [])) (sym (d
+      ∙ ap (λ (rs : List (ℕ × Record)). rs ++ (port, r) ∷ []) c)) (pushed_consistent port x r next at is))
 
 -- each end has its record
 pub records_within : (server : PlayedServer) (ends : List WorldEnd) (records : List (ℕ × Record)) (index : ℕ) →
     ArePartsConsistent server ends records → index < length ends → index < length records
-records_within server ends records index consistent within =
-    let n : length records ≡ length ends = ap length consistent.recorded ∙ records_length 1024 ends in
-    omega (arith, within, n)
+records_within server ends records index consistent within = search (rules, records_count)

@@ -1,22 +1,12 @@
 -- The step of an end with a file in memory is one with a file of known content, and an answer from the server's
 -- address is from the server. For BlamelessEnds and WorldRuns.
-use Rattle.std.proofs.Common.{ℕ, List, sym, refl}
-use Rattle.tftp_file.specs.Memory.{memory_source}
-use Rattle.tftp_file.specs.Sink.{Holding}
-use Rattle.tftp_file.specs.declared.fault.StoreFault.{StoreFault}
-use Rattle.tftp_file.specs.declared.files.Files.{Files}
-use Rattle.tftp_file.specs.declared.files.Files.TheVariants.{Source, Sink}
-use Rattle.tftp_ends.specs.End.{EndState}
+use Rattle.tftp_player.proofs.Common.{ℕ, List, sym, rules, memory_source, Holding, StoreFault, Files, Source, Sink}
+use Rattle.tftp_player.proofs.Common.{EndState, Turn, DatagramStep, request_port, two_hosts, Endpoint, OpenEnd}
+use Rattle.tftp_player.proofs.Common.{host_server, world_sink}
 use Rattle.tftp_ends.specs.OtherSinks.{SourcesModel, SinksModel, step_as}
-use Rattle.tftp_ends.specs.Step.{Turn, DatagramStep}
 use Rattle.tftp_rules.specs.EndKept.{IsFromServer}
-use Rattle.tftp_rules.specs.Hosts.{request_port, two_hosts}
 use Rattle.tftp_rules.specs.KnownFiles.{known_source, known_sink}
-use Rattle.tftp_rules.specs.Machine.{Endpoint}
-use Rattle.tftp_rules.specs.OpenEnds.{OpenEnd}
-use Rattle.tftp_rules.proofs.HostLemmas.{host_server}
 use Rattle.tftp_rules.proofs.PhaseMoves.{same_ips}
-use Rattle.tftp_player.specs.WorldSteps.{world_sink}
 
 -- an answer from the address of the request port is from the server
 pub from_server : (x : OpenEnd) (from : Endpoint) (bytes : List ℕ) → IsFromServer two_hosts x from bytes
@@ -24,23 +14,10 @@ from_server x from bytes waits near p spells answers = host_server from (sym (sa
 
 module _ (may_commit : Holding → StoreFault → Type 0) where
   sources_known : SourcesModel (λ (text : List ℕ). text) memory_source known_source
-  sources_known = record {
-    models = λ text. refl;
-    fails = λ text want may. tt;
-    must = λ text want. (λ f. f, λ f. f);
-    gives = λ text rest piece gave. tt;
-  }
+  sources_known = search rules
 
   sinks_known : SinksModel (λ (holding : Holding). holding) (λ holding. Unit {0}) (world_sink may_commit) known_sink
-  sinks_known = record {
-    models = λ holding. refl;
-    keeps = λ before after h b. tt;
-    appends = λ holding bytes fault h may. tt;
-    commits = λ holding fault h may. tt;
-    leaves = λ before after committed h b. tt;
-    after_append = λ before after piece fault h a. tt;
-    after_commit = λ before after fault h a. tt;
-  }
+  sinks_known = search rules
 
   -- the step with a file in memory
   pub known_step :

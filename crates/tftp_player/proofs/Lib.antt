@@ -1,3 +1,4 @@
+pub mod Common
 pub mod Standing
 pub mod KnownSteps
 pub mod Measured
@@ -11,7 +12,6 @@ pub mod ServerLemmas
 pub mod FileLemmas
 pub mod ServerTurns
 pub mod DraftLemmas
-pub mod ClientLemmas
 pub mod StepLemmas
 pub mod UnansweredLemmas
 pub mod WorldTurns

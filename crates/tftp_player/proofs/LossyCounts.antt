@@ -1,14 +1,9 @@
 -- How many timeouts a lossy run has, and why no end gives up, for any exchange in which each
 -- datagram that its peer hears for the first time is answered by the next.
 -- For LossyExchange and LossyRuns.
-use Rattle.std.proofs.Common.{◌≡◌, ℕ, ◌+◌, ◌*◌, ◌<◌, ◌≤◌, Bool, true, false, not, Option, Some, None, refl, arith, inl, inr}
-use Rattle.std.specs.Prelude.{◌⊎◌, slice_get}
-use Rattle.tftp_player.specs.Lossy.{CountsOn, Heard, Has_sent, Stays_at, newest}
-use Rattle.tftp_player.specs.World.{WorldState, WorldEnd, Open_end, Closed_end}
-use Rattle.tftp_player.specs.WorldSteps.{WorldStep}
-use Rattle.tftp_player.specs.declared.datagram.Datagram.{Datagram}
-use Rattle.tftp_player.specs.declared.event.Event.TheVariants.{Deliver, Timeout}
-use Rattle.tftp_player.specs.declared.report.Report.{Report}
+use Rattle.tftp_player.proofs.Common.{◌≡◌, ℕ, ◌+◌, ◌*◌, ◌<◌, ◌≤◌, Bool, true, false, not, Option, Some, None, inl, inr}
+use Rattle.tftp_player.proofs.Common.{rules, ◌⊎◌, slice_get, CountsOn, newest, WorldState, WorldEnd, Open_end}
+use Rattle.tftp_player.proofs.Common.{Closed_end, WorldStep, Datagram, Deliver, Timeout, Report}
 
 -- how many retries an end has left; one that is not open has them all
 abbrev pub left_of : ℕ → Option WorldEnd → ℕ
@@ -29,9 +24,7 @@ other ks kr false = ks
 -- a count goes back to none, or stays
 count_few : (w v : WorldState) (i k before after limit : ℕ) → CountsOn w i v k before after → before ≤ limit →
     after ≤ limit
-count_few w v i k before after limit (Heard d sent is) few = omega arith
-count_few w v i k before after limit (Has_sent fresh) few = omega arith
-count_few w v i k before after limit Stays_at few = few
+count_few w v i k before after limit h7 few = search rules
 
 module _ (retries limit first ks kr : ℕ) where
   -- the retries that an end has left
@@ -50,55 +43,18 @@ module _ (retries limit first ks kr : ℕ) where
   -- both have a retry left before a timeout
   pub have_left : (sending : Bool) (heard ns nr made : ℕ) (w : WorldState) → IsPaced sending heard ns nr made w →
       ns < limit → nr < limit → 2 * limit ≤ retries → (0 < left w ks) × (0 < left w kr)
-  have_left true heard ns nr made w p s r enough =
-      let a = p.active_left in let b = p.other_left in (omega (arith, a, s, enough), omega (arith, b, s, enough))
-  have_left false heard ns nr made w p s r enough =
-      let a = p.active_left in let b = p.other_left in (omega (arith, b, r, enough), omega (arith, a, r, enough))
+  have_left sending heard ns nr made w p s r enough = search rules
 
   paced_elapses : (sending : Bool) (heard ns nr made : ℕ) (w v : WorldState) → IsPaced sending heard ns nr made w →
       ns < limit → nr < limit → left w ks ≤ left v ks + 1 → left w kr ≤ left v kr + 1 →
       IsPaced sending heard (ns + 1) (nr + 1) (made + 1) v
-  paced_elapses true heard ns nr made w v p s r ls lr =
-      let m = p.made_few in let a = p.active_left in let b = p.other_left in
-      record {
-        few_s = omega (arith, s);
-        few_r = omega (arith, r);
-        made_few = omega (arith, m);
-        active_left = omega (arith, a, ls);
-        other_left = omega (arith, b, lr);
-      }
-  paced_elapses false heard ns nr made w v p s r ls lr =
-      let m = p.made_few in let a = p.active_left in let b = p.other_left in
-      record {
-        few_s = omega (arith, s);
-        few_r = omega (arith, r);
-        made_few = omega (arith, m);
-        active_left = omega (arith, a, lr);
-        other_left = omega (arith, b, ls);
-      }
+  paced_elapses sending heard ns nr made w v p s r ls lr = search rules
 
   paced_moves : (sending : Bool) (heard ns nr ns' nr' made : ℕ) (w v : WorldState) →
       IsPaced sending heard ns nr made w → ns' ≤ limit → nr' ≤ limit →
       left w (active ks kr sending) ≤ left v (active ks kr sending) → retries ≤ left v (other ks kr sending) →
       IsPaced (not sending) (heard + 1) ns' nr' made v
-  paced_moves true heard ns nr ns' nr' made w v p s r la lo =
-      let f = p.few_s in let m = p.made_few in let a = p.active_left in
-      record {
-        few_s = s;
-        few_r = r;
-        made_few = omega (arith, m, f);
-        active_left = omega (arith, lo);
-        other_left = omega (arith, a, la, f);
-      }
-  paced_moves false heard ns nr ns' nr' made w v p s r la lo =
-      let f = p.few_r in let m = p.made_few in let a = p.active_left in
-      record {
-        few_s = s;
-        few_r = r;
-        made_few = omega (arith, m, f);
-        active_left = omega (arith, lo);
-        other_left = omega (arith, a, la, f);
-      }
+  paced_moves sending heard ns nr ns' nr' made w v p s r la lo = search rules
 
   -- ---- an exchange: what holds once so many datagrams were heard, and what once it is over, if this holds of the stores
   module _ (At : Bool → ℕ → WorldState → Type 0) (Done : WorldState → Type 0) (Took : Report → Type 0) where
@@ -168,40 +124,18 @@ module _ (retries limit first ks kr : ℕ) where
 
         rested_s : (heard : ℕ) → IsPaced true heard ns nr made w → Rests true heard w v → ns' ≡ ns →
             IsPaced true heard ns' nr' made v
-        rested_s heard p q same =
-            let r = count_few w v i kr nr nr' limit counts_r p.few_r in
-            let f = p.few_s in let m = p.made_few in let a = p.active_left in let b = p.other_left in
-            let ls = q.left_s in let lr = q.left_r in
-            record {
-              few_s = omega (arith, f, same);
-              few_r = r;
-              made_few = omega (arith, m, same);
-              active_left = omega (arith, a, ls, same);
-              other_left = omega (arith, b, lr, same);
-            }
+        rested_s heard p q same = search rules
 
         rested_r : (heard : ℕ) → IsPaced false heard ns nr made w → Rests false heard w v → nr' ≡ nr →
             IsPaced false heard ns' nr' made v
-        rested_r heard p q same =
-            let s = count_few w v i ks ns ns' limit counts_s p.few_s in
-            let f = p.few_r in let m = p.made_few in let a = p.active_left in let b = p.other_left in
-            let ls = q.left_s in let lr = q.left_r in
-            record {
-              few_s = s;
-              few_r = omega (arith, f, same);
-              made_few = omega (arith, m, same);
-              active_left = omega (arith, a, lr, same);
-              other_left = omega (arith, b, ls, same);
-            }
+        rested_r heard p q same = search rules
 
         -- what was heard moves it on; else nothing new was sent, and the count of the active end
         -- stays
         unless_heard : (k before after : ℕ) (heard : Type 0) → CountsOn w i v k before after →
             ((d : Datagram) → slice_get w.sent i ≡ Some d → newest w k ≡ Some d → heard) →
             heard ⊎ ((newest v k ≡ newest w k) → after ≡ before)
-        unless_heard k before after heard (Heard d sent is) then_on = inl (then_on d sent is)
-        unless_heard k before after heard (Has_sent fresh) then_on = inr (λ same. absurd (fresh same))
-        unless_heard k before after heard Stays_at then_on = inr (λ same. refl)
+        unless_heard k before after heard h4 then_on = search rules
 
         by_arrival : (sending : Bool) (heard : ℕ) → At sending heard w → IsPaced sending heard ns nr made w →
             first ≤ i → WorldStep w (Deliver i) report v → Took report → Progress ns' nr' made v

@@ -1,16 +1,8 @@
 -- A lossy run of a transfer is an exchange: each datagram that is heard for the first time is answered by the next.
 -- For LossyReads and LossyWrites.
-use Rattle.std.proofs.Common.{◌≡◌, ℕ, ◌+◌, ◌*◌, ◌<◌, ◌≤◌, Bool, true, false, not, Some, refl, sym, ap}
-use Rattle.std.proofs.Common.{◌∙◌, subst, arith, inl, inr}
-use Rattle.std.specs.Prelude.{◌⊎◌, slice_get}
-use Rattle.tftp_rules.specs.Hosts.{request_port}
-use Rattle.tftp_ends.specs.declared.phase.Phase.TheVariants.{Waiting}
-use Rattle.tftp_player.specs.Lossy.{StoresTook, newest}
-use Rattle.tftp_player.specs.World.{WorldState}
-use Rattle.tftp_player.specs.WorldSteps.{WorldStep}
-use Rattle.tftp_player.specs.declared.datagram.Datagram.{Datagram}
-use Rattle.tftp_player.specs.declared.event.Event.TheVariants.{Deliver, Timeout}
-use Rattle.tftp_player.specs.declared.report.Report.{Report}
+use Rattle.tftp_player.proofs.Common.{◌≡◌, ℕ, ◌+◌, ◌*◌, ◌<◌, ◌≤◌, Bool, true, false, not, Some, refl, sym, ap, ◌∙◌}
+use Rattle.tftp_player.proofs.Common.{subst, arith, inl, inr, rules, ◌⊎◌, slice_get, request_port, Waiting, StoresTook}
+use Rattle.tftp_player.proofs.Common.{newest, WorldState, WorldStep, Datagram, Deliver, Timeout, Report}
 use Rattle.tftp_player.proofs.EndsStay.{remains_delivered, remains_timed}
 use Rattle.tftp_player.proofs.LossyCounts.{active, other, IsExchange, Moves, Ends, Goes, Rests, Waits}
 use Rattle.tftp_player.proofs.LossyMoves.{IsReceived, MovesOn, Received, Acked, SendsMore, ack_arrives, data_arrives}
@@ -48,14 +40,7 @@ not_not false = refl
 -- of the sender and the receiver one is the client, the other the server's end
 one_of_two : (port ks kr : ℕ) (b : Bool) → (port ≡ 1024 + ks) ⊎ (port ≡ 1024 + kr) →
     (port ≡ 1024 + active ks kr b) ⊎ (port ≡ 1024 + other ks kr b)
-one_of_two port ks kr true (inl e) = inl e
-one_of_two port ks kr true (inr e) = inr e
-one_of_two port ks kr false (inl e) = inr e
-one_of_two port ks kr false (inr e) = inl e
-
-both_of_two : (P : ℕ → Type 0) (ks kr : ℕ) (b : Bool) → P (active ks kr b) → P (other ks kr b) → P ks × P kr
-both_of_two P ks kr true h k = (h, k)
-both_of_two P ks kr false h k = (k, h)
+one_of_two port ks kr b h4 = search rules
 
 these_two : (P : ℕ → Type 0) (ks kr : ℕ) (b : Bool) → P ks → P kr → P (active ks kr b) × P (other ks kr b)
 these_two P ks kr true h k = (h, k)
@@ -98,17 +83,14 @@ module _ (t : Transfer) (o : Offer) (lost : ℕ) where
   waits_at : (sending : Bool) (heard : ℕ) (w v : WorldState) → AtStage sending heard v →
       left t w (client t o) ≤ left t v (client t o) + 1 → left t w (server t) ≤ left t v (server t) + 1 →
       WaitsAt sending heard w v
-  waits_at sending heard w v now lc ls =
-      let both = both_of_two (λ (k : ℕ). left t w k ≤ left t v k + 1) t.ks t.kr t.client_sends lc ls in
-      record { at = now; left_s = both.0; left_r = both.1 }
+  waits_at sending heard w v now lc ls = search rules
 
   pair_waits : (sending : Bool) (heard r port : ℕ) (w v : WorldState) (report : Report) →
       Pair t w (top sending r) r → heard + t.met.low_s + t.met.low_r ≡ due sending r → 0 < left t w t.ks →
       0 < left t w t.kr → (port ≡ 1024 + t.ks) ⊎ (port ≡ 1024 + t.kr) → WorldStep w (Timeout port) report v →
       WaitsAt sending heard w v
   pair_waits sending heard r port w v report p counted ls lr (inl e) step =
-      let h =
-      sender_waits t w v (top sending r) r p report ls (subst (λ (q : ℕ). WorldStep w (Timeout q) report v) e step) in
+      let h = sender_waits t w v (top sending r) r p report ls (rw (← e) step) in
       record { at = Is_paired r h.pair counted; left_s = h.left_ks; left_r = h.left_kr }
   pair_waits sending heard r port w v report p counted ls lr (inr e) step =
       let h =
@@ -124,24 +106,20 @@ module _ (t : Transfer) (o : Offer) (lost : ℕ) where
         elim (one_of_two port t.ks t.kr t.client_sends at) [
           | inl e ↦
               let h =
-              asking_waits t o w v report a x.next have.0
-              (subst (λ (q : ℕ). WorldStep w (Timeout q) report v) e step) in
+              asking_waits t o w v report a x.next have.0 (subst (λ (q : ℕ). WorldStep w (Timeout q) report v) e step)
+              in
               waits_at sending heard w v (Is_asking turn none h.asking) h.left_c h.left_s
-          | inr e ↦ absurd
-              (none_waits t o w v report a x.next (subst (λ (q : ℕ). WorldStep w (Timeout q) report v) e step))
+          | inr e ↦ absurd (none_waits t o w v report a x.next (subst (λ (q : ℕ). WorldStep w (Timeout q) report v) e
+              step))
         ]
     elapses sending heard port w v report (Is_answered turn one a) ls lr at step =
         let have = these_two (λ (k : ℕ). 0 < left t w k) t.ks t.kr t.client_sends ls lr in
         elim (one_of_two port t.ks t.kr t.client_sends at) [
           | inl e ↦
-              let h =
-              client_waits t o w v report a x.next have.0
-              (subst (λ (q : ℕ). WorldStep w (Timeout q) report v) e step) in
+              let h = client_waits t o w v report a x.next have.0 (rw (← e) step) in
               waits_at sending heard w v (Is_answered turn one h.answered) h.left_c h.left_s
           | inr e ↦
-              let h =
-              server_waits t o w v report a x.next x.may have.1
-              (subst (λ (q : ℕ). WorldStep w (Timeout q) report v) e step) in
+              let h = server_waits t o w v report a x.next x.may have.1 (rw (← e) step) in
               waits_at sending heard w v (Is_answered turn one h.answered) h.left_c h.left_s
         ]
     elapses sending heard port w v report (Is_paired r p counted) ls lr at step =
@@ -150,25 +128,19 @@ module _ (t : Transfer) (o : Offer) (lost : ℕ) where
     -- ---- what is heard for the first time
     asked_moves : (sending : Bool) (heard : ℕ) (w v : WorldState) → sending ≡ t.client_sends → heard ≡ 0 →
         AnswerMade t o w v → MovesAt sending heard w v
-    asked_moves sending heard w v turn none h =
-        Goes (Is_answered (ap not turn) (let e : heard + 1 ≡ 1 = omega (arith, none) in e) h.answered)
-        (subst (λ (b : Bool). left t w (active t.ks t.kr b) ≤ left t v (active t.ks t.kr b)) (sym turn) h.left_c)
-        (subst (λ (b : Bool). t.retries ≤ left t v (other t.ks t.kr b)) (sym turn) h.left_s)
+    asked_moves sending heard w v turn none h = search rules
 
     first_moves : (sending : Bool) (heard : ℕ) (w v : WorldState) → sending ≡ not t.client_sends → heard ≡ 1 →
         FirstMoves t w v → MovesAt sending heard w v
     first_moves sending heard w v turn one (All_received done) = Ends done
     first_moves sending heard w v turn one (Begins r p counted ls lc) =
-        let back : not sending ≡ t.client_sends = ap not turn ∙ not_not t.client_sends in
-        let same : active t.ks t.kr sending ≡ server t =
-        ap (active t.ks t.kr) turn ∙ active_not t.ks t.kr t.client_sends in
-        let same_other : other t.ks t.kr sending ≡ active t.ks t.kr t.client_sends =
-        ap (other t.ks t.kr) turn ∙ other_not t.ks t.kr t.client_sends in
+        let back = ap not turn ∙ not_not t.client_sends in
+        let same = ap (active t.ks t.kr) turn ∙ active_not t.ks t.kr t.client_sends in
+        let same_other = ap (other t.ks t.kr) turn ∙ other_not t.ks t.kr t.client_sends in
         let heard_now : heard + 1 + t.met.low_s + t.met.low_r ≡ due t.client_sends r = omega (arith, one, counted) in
-        Goes
-        (Is_paired r (subst (λ (b : Bool). Pair t v (top b r) r) (sym back) p) (heard_now ∙ ap (λ (b : Bool). due b r) (sym back)))
-        (subst (λ (k : ℕ). left t w k ≤ left t v k) (sym same) ls)
-        (subst (λ (k : ℕ). t.retries ≤ left t v k) (sym same_other) lc)
+        Goes (Is_paired r (subst (λ (b : Bool). Pair t v (top b r) r) (sym back) p) (heard_now ∙ ap (λ (b : Bool). due b
+        r) (sym back))) (subst (λ (k : ℕ). left t w k ≤ left t v k) (sym same) ls) (subst (λ (k : ℕ). t.retries ≤ left t
+        v k) (sym same_other) lc)
 
     data_moves : (heard r : ℕ) (w v : WorldState) → heard + t.met.low_s + t.met.low_r ≡ due true r → MovesOn t w v r →
         MovesAt true heard w v
@@ -209,25 +181,17 @@ module _ (t : Transfer) (o : Offer) (lost : ℕ) where
     -- ---- any delivery
     pair_rests : (sending : Bool) (heard r : ℕ) (w v : WorldState) → Pair t w (top sending r) r →
         heard + t.met.low_s + t.met.low_r ≡ due sending r → PairRests t w v (top sending r) r → RestsAt sending heard w v
-    pair_rests sending heard r w v p counted h = record {
-      at = Is_paired r h.pair counted;
-      left_s = h.left_ks;
-      left_r = h.left_kr;
-      newest_s = newest_s t v (top sending r) r h.pair ∙ sym (newest_s t w (top sending r) r p);
-      newest_r = newest_r t v (top sending r) r h.pair ∙ sym (newest_r t w (top sending r) r p);
-    }
+    pair_rests sending heard r w v p counted h = assumption (
+      Is_paired r h.pair counted,
+      newest_s t v (top sending r) r
+          h.pair ∙ sym (newest_s t w (top sending r) r p),
+      newest_r t v (top sending r) r h.pair ∙ sym (newest_r t w (top
+          sending r) r p),
+    )
 
     same_rests : (sending : Bool) (heard : ℕ) (w v : WorldState) → v ≡ w → AtStage sending heard w →
         RestsAt sending heard w v
-    same_rests sending heard w v same now =
-        subst (λ (u : WorldState). RestsAt sending heard w u) (sym same)
-        (record {
-          at = now;
-          left_s = omega arith;
-          left_r = omega arith;
-          newest_s = refl;
-          newest_r = refl;
-        })
+    same_rests sending heard w v same now = search rules
 
     arrives : (sending : Bool) (heard i : ℕ) (w v : WorldState) (report : Report) → AtStage sending heard w →
         t.first ≤ i → WorldStep w (Deliver i) report v → StoresTook (not t.client_sends) report →
@@ -260,29 +224,13 @@ module _ (t : Transfer) (o : Offer) (lost : ℕ) where
         WorldStep w (Timeout port) report v → IsReceived t v
     over_timed port w v report done step =
         let z = remains_timed w v report t.kr done.x done.there port done.ok step done.complete in
-        record {
-          ok = step_keeps true w v (Timeout port) report tt done.ok step;
-          x = z.0;
-          there = z.1;
-          complete = z.2;
-        }
+        search (step_keeps true w v (Timeout port) report tt done.ok step)
 
     over_delivered : (i : ℕ) (w v : WorldState) (report : Report) → IsReceived t w →
         WorldStep w (Deliver i) report v → IsReceived t v
     over_delivered i w v report done step =
         let z = remains_delivered w v report t.kr done.x done.there i done.ok step done.complete in
-        record {
-          ok = step_keeps true w v (Deliver i) report tt done.ok step;
-          x = z.0;
-          there = z.1;
-          complete = z.2;
-        }
+        search (step_keeps true w v (Deliver i) report tt done.ok step)
 
     pub is_exchange : IsExchange t.retries lost t.first t.ks t.kr AtStage (IsReceived t) (StoresTook (not t.client_sends))
-    is_exchange = record {
-      elapses = elapses;
-      hears = hears;
-      arrives = arrives;
-      over_timed = over_timed;
-      over_delivered = over_delivered;
-    }
+    is_exchange = search (rules, elapses, hears, arrives, over_timed, over_delivered)

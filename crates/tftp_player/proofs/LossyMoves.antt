@@ -1,32 +1,16 @@
 -- How the two ends of a lossy run go on once both have a peer: a datagram that is heard for the first time is answered
 -- by the next one, and any other changes nothing.
 -- For LossyExchange.
-use Rattle.std.proofs.Common.{◌≡◌, ℕ, ◌+◌, ◌*◌, ◌/◌, ◌<◌, ◌≤◌, zero, suc, true, List, not}
-use Rattle.std.proofs.Common.{length, drop, Some, refl, sym, ap, ◌∙◌, subst, arith, inl, inr}
-use Rattle.std.specs.Prelude.{◌⊎◌, slice_get}
-use Rattle.std.proofs.lemmas.Bool.{cases_eq}
-use Rattle.tftp_wire.specs.declared.packet.Packet.TheVariants.{Ack}
-use Rattle.tftp_ends.specs.declared.action.Action.TheVariants.{Send}
-use Rattle.tftp_ends.specs.declared.phase.Phase.{Phase}
-use Rattle.tftp_ends.specs.declared.phase.Phase.TheVariants.{Receiving, Sending}
-use Rattle.tftp_ends.specs.Action.{datagram_action}
-use Rattle.tftp_ends.specs.End.{is_progress}
-use Rattle.tftp_ends.specs.Step.{ack_bytes}
-use Rattle.tftp_player.specs.Lossy.{StoresTook}
-use Rattle.tftp_player.specs.World.{WorldState, WorldEnd, datagram}
-use Rattle.tftp_player.specs.WorldKept.{Refines}
-use Rattle.tftp_player.specs.WorldSafety.{IsComplete}
-use Rattle.tftp_player.specs.WorldSteps.{WorldStep}
-use Rattle.tftp_player.specs.declared.datagram.Datagram.{Datagram}
-use Rattle.tftp_player.specs.declared.event.Event.TheVariants.{Deliver}
-use Rattle.tftp_player.specs.declared.report.Report.{Report}
+use Rattle.tftp_player.proofs.Common.{◌≡◌, ℕ, ◌+◌, ◌*◌, ◌<◌, ◌≤◌, true, List, not, length, drop, Some, refl, ap, ◌∙◌}
+use Rattle.tftp_player.proofs.Common.{arith, inl, inr, rules, ◌⊎◌, slice_get, cases_eq, Ack, Send, Phase, Receiving}
+use Rattle.tftp_player.proofs.Common.{Sending, datagram_action, is_progress, ack_bytes, StoresTook, WorldState}
+use Rattle.tftp_player.proofs.Common.{WorldEnd, datagram, Refines, IsComplete, WorldStep, Datagram, Deliver, Report}
 use Rattle.tftp_player.proofs.LossyCounts.{left_of}
-use Rattle.tftp_player.proofs.LossyPairs.{Transfer, text, blocks, said_s, said_r, said_data, IsOurs, Asks}
-use Rattle.tftp_player.proofs.LossyPairs.{From_sender, From_receiver, ours_more, Pair, gives_at, takes_at, pair_then, way}
-use Rattle.tftp_player.proofs.LossyPairs.{text_is}
-use Rattle.tftp_player.proofs.LossySteps.{left, DataHeard, DataSent, PairRests, ack_spelled, data_heard, data_sent, fit_of}
-use Rattle.tftp_player.proofs.LossySteps.{handled_s, old_r_rests, old_s_rests, progress_r, progress_s, request_rests}
-use Rattle.tftp_player.proofs.StraightActions.{acked_more, from_peer}
+use Rattle.tftp_player.proofs.LossyPairs.{Transfer, text, blocks, said_s, said_r, said_data, IsOurs, Asks, From_sender}
+use Rattle.tftp_player.proofs.LossyPairs.{From_receiver, ours_more, Pair, gives_at, takes_at, pair_then, way, text_is}
+use Rattle.tftp_player.proofs.LossySteps.{left, DataHeard, DataSent, PairRests, ack_spelled, data_heard, data_sent}
+use Rattle.tftp_player.proofs.LossySteps.{fit_of, handled_s, old_r_rests, old_s_rests, progress_r, progress_s}
+use Rattle.tftp_player.proofs.LossySteps.{request_rests}
 use Rattle.tftp_player.proofs.StraightRuns.{AwaitsAt, receiving_stores}
 use Rattle.tftp_player.proofs.StraightSteps.{handles_send}
 use Rattle.tftp_player.proofs.WorldRuns.{step_keeps}
@@ -52,25 +36,17 @@ module _ (t : Transfer) where
       elim (cases_eq (r + 1) (blocks t)) [
         | inl last ↦
             let z = h.ends last in
-            Received (record {
-              ok = step_keeps true w v (Deliver i) report tt p.ok step;
-              x = z.0;
-              there = z.1;
-              complete = z.2;
-            })
+            Received (search (step_keeps true w v (Deliver i) report tt p.ok step))
         | inr d ↦
             let more : r + 1 < blocks t = omega (arith, within, d) in
             let takes = h.goes_on more in
             let low = p.low_r in
             let same : left t v t.ks ≡ left t w t.ks = ap (left_of t.retries) h.sender in
             let all = takes.1 in
-            Acked
-            (pair_then t w v (Deliver i) report (r + 1) r (r + 1) (r + 1) p step (gives_at t w v (r + 1) h.sender p.gives)
-            takes.0
-            (ours_more t w v (r + 1) r (r + 1) (r + 1) (datagram t.ra t.sa (said_r t (r + 1))) (omega arith) (omega arith)
-            h.sent (From_receiver (r + 1) (omega (arith, low)) (omega arith) refl) p.ours) (omega arith) (omega arith)
-            more)
-            (omega (arith, same)) (omega (arith, all))
+            Acked (pair_then t w v (Deliver i) report (r + 1) r (r + 1) (r + 1) p step (gives_at t w v (r + 1) h.sender
+            p.gives) takes.0 (ours_more t w v (r + 1) r (r + 1) (r + 1) (datagram t.ra t.sa (said_r t (r + 1))) (omega
+            arith) (omega arith) h.sent (From_receiver (r + 1) (omega (arith, low)) (omega arith) refl) p.ours) (omega
+            arith) (omega arith) more) (omega (arith, same)) (omega (arith, all))
       ]
 
   -- the receiver hears the sender's newest block
@@ -81,24 +57,12 @@ module _ (t : Transfer) where
       let rx = p.takes.x in
       let fit = fit_of t w (r + 1) r p in
       let within : r + 1 ≤ blocks t = (let more = p.more in omega (arith, more)) in
-      let a : AwaitsAt true t.ks t.kr t.apart t.sa t.ra t.met.st t.met.rt t.mode t.file t.met.to_receiver t.met.to_sender t.met.same_size
-      (not t.client_sends) w r = record {
-        x = rx;
-        there = p.takes.there;
-        address = p.takes.is.address;
-        receiver = p.takes.is.receives;
-        willing = p.takes.is.willing;
-        mode_is = p.takes.is.mode;
-        received = p.takes.is.received;
-        holds = p.takes.is.holds;
-        stores =
-            receiving_stores true t.ks t.kr t.apart t.sa t.ra t.met.st t.met.rt t.mode t.file t.met.to_receiver t.met.to_sender
-            t.met.same_size rx r fit within p.takes.is.phase p.takes.is.mode p.takes.is.received;
-      } in
-      moves_on w v r i report p step
-      (data_heard t w v r i report p.ok fit a p.takes.is.client p.takes.is.retries
-      (ap (λ (q : Phase). is_progress q (Receiving t.met.rt (r + 1))) p.takes.is.phase ∙ progress_r t r) within
-      (at ∙ ap (λ (b : List ℕ). Some (datagram t.sa t.ra b)) (said_data t r)) step took)
+      let a : AwaitsAt true t.ks t.kr t.apart t.sa t.ra t.met.st t.met.rt t.mode t.file t.met.to_receiver
+      t.met.to_sender t.met.same_size
+      (not t.client_sends) w r = search (rules, receiving_stores) in
+      moves_on w v r i report p step (data_heard t w v r i report p.ok fit a p.takes.is.client p.takes.is.retries
+      (ap (λ (q : Phase). is_progress q (Receiving t.met.rt (r + 1))) p.takes.is.phase ∙ progress_r t r) within (at ∙
+      ap (λ (b : List ℕ). Some (datagram t.sa t.ra b)) (said_data t r)) step took)
 
   -- the sender hears the ACK of its newest block: its next one is on its way
   pub record SendsMore (w v : WorldState) (n : ℕ) : Type 0 where
@@ -124,13 +88,7 @@ module _ (t : Transfer) where
 
   -- what a receiver that waits for more sent last is an ACK, if its sender waits for that
   newest_ack : (w : WorldState) (n : ℕ) → Pair t w n n → said_r t n ≡ ack_bytes n
-  newest_ack w zero p =
-      let low : t.met.low_r ≡ 0 = (let l = p.low_r in omega (arith, l)) in
-      elim (t.met.oack_r low) [
-        | inl e ↦ e
-        | inr o ↦ absurd (let l = p.low_n in let f = o.4 in omega (arith, l, f))
-      ]
-  newest_ack w (suc n) p = refl
+  newest_ack w n p = search rules
 
   -- an ACK of the newest block that arrives for the first time does so
   pub hears_ack : (w v : WorldState) (n i : ℕ) (report : Report) → Pair t w n n →
@@ -143,17 +101,14 @@ module _ (t : Transfer) where
       let at_ack : slice_get w.sent i ≡ Some (datagram t.ra t.sa (ack_bytes n)) =
       at ∙ ap (λ (b : List ℕ). Some (datagram t.ra t.sa b)) (newest_ack w n p) in
       let h = handled_s t w v n n p report i step (ack_bytes n) at_ack in
-      let does : datagram_action sx.state t.ra (ack_bytes n) (Some (Ack n)) ≡ Send t.met.st (n + 1) =
-      from_peer sx.state (Sending t.met.st n) t.met.st t.ra (ack_bytes n) (Ack n) p.gives.is.phase refl t.met.to_receiver
-      ∙ acked_more sx.state.role.length n t.met.st (subst (λ (k : ℕ). n < k / t.met.st.size + 1) (sym measured) p.more) in
+      let does : datagram_action sx.state t.ra (ack_bytes n) (Some (Ack n)) ≡ Send t.met.st (n + 1) = search rules
+      in
       let z =
-      handles_send w v t.ks sx t.ra (ack_bytes n) report h (Ack n) t.met.st n (text t)
-      (ack_spelled t w v n n p report i step n (omega arith)) does u.sender measured
-      (u.left ∙ ap (drop (n * t.met.st.size)) same_text) in
-      sends_more w v n i report p step
-      (data_sent t w v n (ack_bytes n) report sx h z.0 z.1 z.2 p.gives.there p.gives.is.address p.gives.is.file p.gives.is.mode
-      p.gives.is.client p.gives.is.retries
-      (ap (λ (q : Phase). is_progress q (Sending t.met.st (n + 1))) p.gives.is.phase ∙ progress_s t n))
+      handles_send w v t.ks sx t.ra (ack_bytes n) report h (Ack n) t.met.st n (text t) (ack_spelled t w v n n p report i
+      step n (omega arith)) does u.sender measured (u.left ∙ ap (drop (n * t.met.st.size)) same_text) in
+      sends_more w v n i report p step (data_sent t w v n (ack_bytes n) report sx h z.0 z.1 z.2 p.gives.there
+      p.gives.is.address p.gives.is.file p.gives.is.mode p.gives.is.client p.gives.is.retries (ap (λ (q : Phase).
+      is_progress q (Sending t.met.st (n + 1))) p.gives.is.phase ∙ progress_s t n))
 
   -- ---- any delivery
   -- any datagram of this transfer that arrives at the receiver is stored, or changes nothing

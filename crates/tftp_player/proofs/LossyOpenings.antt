@@ -1,35 +1,15 @@
 -- The beginning of a lossy run: the client asks, and the server's end has answered; what a timeout or a delivery does.
 -- For LossyExchange.
-use Rattle.std.proofs.Common.{◌≡◌, ℕ, ◌+◌, ◌<◌, ◌≤◌, suc, zero, Bool, true, false, not, List, [], ◌∷◌, ◌++◌, length}
-use Rattle.std.proofs.Common.{set, Option, Some, None, refl, sym, ap, ◌∙◌, subst, arith, inl, inr}
-use Rattle.std.specs.Prelude.{◌⊎◌, ◌&&◌, slice_get, slice_set}
-use Rattle.std.proofs.lemmas.Bool.{true≢false}
-use Rattle.std.proofs.lemmas.Option.{same_Some, slice_get_within}
-use Rattle.tftp_wire.specs.declared.packet.Packet.{Packet}
-use Rattle.tftp_negotiate.specs.declared.asked.Asked.{Asked}
-use Rattle.tftp_negotiate.specs.declared.limits.Limits.{Limits}
-use Rattle.tftp_ends.specs.declared.phase.Phase.{Phase}
-use Rattle.tftp_ends.specs.declared.phase.Phase.TheVariants.{Waiting}
-use Rattle.tftp_ends.specs.declared.role.Role.{Role}
-use Rattle.tftp_ends.specs.End.{is_client, is_sender}
-use Rattle.tftp_ends.specs.Action.{Decodes}
-use Rattle.tftp_ends.specs.Step.{timeout_turn}
-use Rattle.tftp_server.specs.Port.{Service, service as service_by}
+use Rattle.tftp_player.proofs.Common.{◌≡◌, ℕ, ◌+◌, ◌<◌, ◌≤◌, suc, zero, Bool, true, false, not, List, [], ◌∷◌, ◌++◌}
+use Rattle.tftp_player.proofs.Common.{length, set, Option, Some, None, refl, sym, ap, ◌∙◌, subst, arith, inl, inr}
+use Rattle.tftp_player.proofs.Common.{rules, ◌⊎◌, slice_get, slice_set, true≢false, same_Some, slice_get_within, Packet}
+use Rattle.tftp_player.proofs.Common.{Asked, Phase, Waiting, is_client, is_sender, Decodes, timeout_turn, Service}
+use Rattle.tftp_player.proofs.Common.{request_port, Endpoint, OpenEnd, files_of, slice_get-push_cases}
+use Rattle.tftp_player.proofs.Common.{slice_get-push_new, slice_get-push_old, slice_get-set_other, newest, newest_of}
+use Rattle.tftp_player.proofs.Common.{IsRepeated, Repeats, open_transfers, service, IsAccepted, WorldState, WorldEnd}
+use Rattle.tftp_player.proofs.Common.{Open_end, StoredFile, datagram, Refines, OpeningStep, ServiceStep, Turns}
+use Rattle.tftp_player.proofs.Common.{WorldStep, Datagram, Deliver, Timeout, Report}
 use Rattle.tftp_server.specs.State.{AnyByRecursion}
-use Rattle.tftp_rules.specs.Hosts.{request_port}
-use Rattle.tftp_rules.specs.Machine.{Endpoint}
-use Rattle.tftp_rules.specs.OpenEnds.{OpenEnd, end_after, files_of}
-use Rattle.tftp_rules.proofs.Indices.{slice_get-push_cases, slice_get-push_new, slice_get-push_old, slice_get-set_other}
-use Rattle.tftp_player.specs.Lossy.{newest, newest_of}
-use Rattle.tftp_player.specs.Requests.{IsRepeated, Repeats, begun_of, open_transfers, opened_of, service}
-use Rattle.tftp_player.specs.Straight.{IsAccepted}
-use Rattle.tftp_player.specs.World.{WorldState, WorldEnd, Open_end, StoredFile, datagram, file_at, in_the_way}
-use Rattle.tftp_player.specs.World.{has_committed}
-use Rattle.tftp_player.specs.WorldKept.{Refines}
-use Rattle.tftp_player.specs.WorldSteps.{FilesAfter, OpeningStep, ServiceStep, Turns, WorldStep}
-use Rattle.tftp_player.specs.declared.datagram.Datagram.{Datagram}
-use Rattle.tftp_player.specs.declared.event.Event.TheVariants.{Deliver, Timeout}
-use Rattle.tftp_player.specs.declared.report.Report.{Report}
 use Rattle.tftp_player.proofs.HostEnds.{transfers-set}
 use Rattle.tftp_player.proofs.ErrorsKnown.{length_set}
 use Rattle.tftp_player.proofs.LossyCounts.{active, left_of}
@@ -65,46 +45,18 @@ module _ {T : Type 0} (Holds : T → Type 0) where
 same_service : (w v : WorldState) (repeated : Bool) (bytes : List ℕ) (decoded : Option Packet) → v.limits ≡ w.limits →
     v.files ≡ w.files → v.overwrite ≡ w.overwrite → v.cap ≡ w.cap →
     open_transfers v.ends ≡ open_transfers w.ends → service v repeated bytes decoded ≡ service w repeated bytes decoded
-same_service w v repeated bytes decoded limits files overwrite cap count =
-    ap (λ (l : Limits).
-    service_by l (λ path mode. opened_of mode (file_at v.files path))
-    (λ path. begun_of (in_the_way v.overwrite (file_at v.files path))) v.cap (open_transfers v.ends) repeated bytes
-    decoded) limits
-    ∙ (ap (λ (fs : List StoredFile).
-    service_by w.limits (λ path mode. opened_of mode (file_at fs path))
-    (λ path. begun_of (in_the_way v.overwrite (file_at fs path))) v.cap (open_transfers v.ends) repeated bytes decoded)
-    files
-    ∙ (ap (λ (b : Bool).
-    service_by w.limits (λ path mode. opened_of mode (file_at w.files path))
-    (λ path. begun_of (in_the_way b (file_at w.files path))) v.cap (open_transfers v.ends) repeated bytes decoded)
-    overwrite
-    ∙ (ap (λ (n : ℕ).
-    service_by w.limits (λ path mode. opened_of mode (file_at w.files path))
-    (λ path. begun_of (in_the_way w.overwrite (file_at w.files path))) n (open_transfers v.ends) repeated bytes decoded)
-    cap
-    ∙ ap (λ (n : ℕ).
-    service_by w.limits (λ path mode. opened_of mode (file_at w.files path))
-    (λ path. begun_of (in_the_way w.overwrite (file_at w.files path))) w.cap n repeated bytes decoded) count)))
+same_service w v repeated bytes decoded limits files overwrite cap count = search rules
 
 same_repeats : (from : Endpoint) (decoded : Option Packet) (repeated : Bool) (ends : List WorldEnd) (k : ℕ)
     (x y : OpenEnd) → slice_get ends k ≡ Some (Open_end x) → is_client x.state.role.side ≡ true →
     is_client y.state.role.side ≡ true → IsRepeated repeated from decoded ends →
     IsRepeated repeated from decoded (set ends k (Open_end y))
-same_repeats from None repeated ends k x y there c d h = h
-same_repeats from (Some packet) repeated ends k x y there c d h = (
-  λ is. any_set (Repeats from packet) ends k (Open_end x) (Open_end y) there
-      (λ again. true≢false (sym c ∙ again.still)) (h.0 is),
-  λ any. h.1 (any_unset (Repeats from packet) ends k (Open_end y) (λ again. true≢false (sym d ∙ again.still)) any),
-)
+same_repeats from decoded repeated ends k x y there c d h = search (rules, any_set, true≢false, any_unset)
 
 -- no file of the server changes at a timeout of a client
 same_files : (w v : WorldState) (k : ℕ) (x : OpenEnd) (report : Report) → is_client x.state.role.side ≡ true →
     Turns w k x (timeout_turn x.state) (files_of x) report v → v.files ≡ w.files
-same_files w v k x report client t =
-    let y = end_after x (timeout_turn x.state) (files_of x) in
-    ap (λ (u : WorldState). u.files) t.is
-    ∙ subst (λ (b : Bool). FilesAfter w.overwrite (not b && has_committed x y) x.path y.stored w.files t.files) client
-    t.stored
+same_files w v k x report client t = search rules
 
 -- ---- an end that has sent only its first datagram so far
 -- an end as it opened
@@ -140,10 +92,7 @@ module _ (t : Transfer) (w v : WorldState) (k : ℕ) (mine to : Endpoint) (now :
   -- the datagram that an opened end sent last
   pub opened_own : (o : Opened t w k mine to now sent sends client) →
       datagram o.x.address o.x.state.position.last_sent_to o.x.state.position.last_sent ≡ datagram mine to sent
-  opened_own o =
-      ap (λ (a : Endpoint). datagram a o.x.state.position.last_sent_to o.x.state.position.last_sent) o.is.address
-      ∙ (ap (λ (a : Endpoint). datagram mine a o.x.state.position.last_sent) o.is.goes_to
-      ∙ ap (datagram mine to) o.is.newest)
+  opened_own o = search rules
 
   -- it is that end's newest
   pub opened_newest : Opened t w k mine to now sent sends client → newest w k ≡ Some (datagram mine to sent)
@@ -164,14 +113,12 @@ module _ (t : Transfer) (w v : WorldState) (k : ℕ) (mine to : Endpoint) (now :
   opened_waits report ok o may some step =
       let port = ok.ports k (Open_end o.x) o.there in
       let turns =
-      timed_out w v k o.x report ok o.there
-      (subst (λ (q : ℕ). WorldStep w (Timeout q) report v) (sym port) step) in
+      timed_out w v k o.x report ok o.there (subst (λ (q : ℕ). WorldStep w (Timeout q) report v) (sym port) step) in
       let has : left t w k ≡ o.x.state.position.retries_left = ap (left_of t.retries) o.there in
       let resent : Resent w v k o.x =
-      resends w v k o.x report
-      (retransmits o.x.state.position.retries_left o.x.state.position.phase (subst MaySendAgain (sym o.is.phase) may)
-      (subst (λ (n : ℕ). 0 < n) has some))
-      (ok.ends k (Open_end o.x) o.there).stands.still turns in
+      resends w v k o.x report (retransmits o.x.state.position.retries_left o.x.state.position.phase (subst MaySendAgain
+      (sym o.is.phase) may) (subst (λ (n : ℕ). 0 < n) has some)) (ok.ends k (Open_end o.x) o.there).stands.still turns
+      in
       let there : slice_get v.ends k ≡ Some (Open_end resent.y) =
       set_at w v k (Open_end o.x) (Open_end resent.y) resent.ends o.there in
       let is : left t v k ≡ resent.y.state.position.retries_left = ap (left_of t.retries) there in
@@ -179,24 +126,7 @@ module _ (t : Transfer) (w v : WorldState) (k : ℕ) (mine to : Endpoint) (now :
       record {
         turns = turns;
         resent = resent;
-        opened = record {
-          x = resent.y;
-          there = there;
-          is = record {
-            address = resent.address ∙ o.is.address;
-            phase = resent.phase ∙ o.is.phase;
-            newest = resent.last_sent ∙ o.is.newest;
-            goes_to = resent.last_sent_to ∙ o.is.goes_to;
-            sender = ap is_sender resent.side ∙ o.is.sender;
-            client_is = ap is_client resent.side ∙ o.is.client_is;
-            mode = resent.mode ∙ o.is.mode;
-            retries = ap (λ (q : Role). q.retries) resent.role ∙ o.is.retries;
-            file = λ s. resent.file ∙ o.is.file s;
-            stored = resent.stored ∙ o.is.stored;
-            held = resent.held_back ∙ o.is.held;
-            refuses = resent.refuses ∙ o.is.refuses;
-          };
-        };
+        opened = search rules;
         same = refl;
         sent_again = resent.sent ∙ ap (λ (d : Datagram). w.sent ++ d ∷ []) (opened_own o);
         left_k = omega (arith, has, is, fewer);
@@ -269,11 +199,7 @@ module _ (t : Transfer) (o : Offer) where
   -- ---- the client asks
   -- the server's end is not open yet
   pub no_server : (w : WorldState) → Asking w → server t ≡ client + 1 → slice_get w.ends (server t) ≡ None
-  no_server w a next = by (slice_get w.ends (server t)) refl where
-    by : (e : Option WorldEnd) → slice_get w.ends (server t) ≡ e → e ≡ None
-    by None is = refl
-    by (Some x) is =
-        absurd (let f = slice_get_within w.ends (server t) x is in let l = a.last in omega (arith, f, l, next))
+  no_server w a next = search (rules, server, slice_get_within)
 
   module _ (w v : WorldState) (report : Report) (a : Asking w) (next : server t ≡ client + 1) where
     pub record AskingWaits : Type 0 where
@@ -292,33 +218,21 @@ module _ (t : Transfer) (o : Offer) where
         let count : length v.ends ≡ length w.ends = ap length ends ∙ length_set w.ends client (Open_end y) in
         let client_y : is_client y.state.role.side ≡ true = ap is_client e.resent.side ∙ a.c.is.client_is in
         let transfers : open_transfers v.ends ≡ open_transfers w.ends =
-        ap open_transfers ends
-        ∙ transfers-set w.ends client (Open_end a.c.x) (Open_end y) a.c.there
-        (ap not client_y ∙ sym (ap not a.c.is.client_is)) in
+        ap open_transfers ends ∙ transfers-set w.ends client (Open_end a.c.x) (Open_end y) a.c.there (ap not client_y ∙
+        sym (ap not a.c.is.client_is)) in
         let files : v.files ≡ w.files = same_files w v client a.c.x report a.c.is.client_is e.turns in
-        let accepted : IsAccepted v y o.accepts = record {
-          decoded = a.accepted.decoded;
-          says =
-              subst (λ (b : List ℕ). Decodes b a.accepted.decoded) (sym e.resent.last_sent) a.accepted.says;
-          repeated = a.accepted.repeated;
-          repeats =
-              subst (λ (xs : List WorldEnd). IsRepeated a.accepted.repeated y.address a.accepted.decoded xs) (sym ends)
-              (subst
-              (λ (p : Endpoint).
-              IsRepeated a.accepted.repeated p a.accepted.decoded (slice_set w.ends client (Open_end y)))
-              (sym e.resent.address)
-              (same_repeats a.c.x.address a.accepted.decoded a.accepted.repeated w.ends client a.c.x y a.c.there
-              a.c.is.client_is client_y a.accepted.repeats));
-          is =
-              same_service w v a.accepted.repeated y.state.position.last_sent a.accepted.decoded
-              (ap (λ (u : WorldState). u.limits) e.turns.is) files (ap (λ (u : WorldState). u.overwrite) e.turns.is)
-              (ap (λ (u : WorldState). u.cap) e.turns.is) transfers
-              ∙ (ap (λ (b : List ℕ). service w a.accepted.repeated b a.accepted.decoded) e.resent.last_sent
-              ∙ a.accepted.is);
-        } in
+        let accepted : IsAccepted v y o.accepts =
+        search (
+          subst (λ (b : List ℕ). Decodes b a.accepted.decoded) (sym e.resent.last_sent) a.accepted.says,
+          subst (λ (xs : List WorldEnd). IsRepeated a.accepted.repeated y.address a.accepted.decoded xs) (sym ends) (subst (λ (p : Endpoint). IsRepeated a.accepted.repeated p a.accepted.decoded (slice_set w.ends client (Open_end y))) (sym e.resent.address) (same_repeats a.c.x.address a.accepted.decoded a.accepted.repeated w.ends client a.c.x y a.c.there a.c.is.client_is client_y a.accepted.repeats)),
+          same_service w v a.accepted.repeated y.state.position.last_sent a.accepted.decoded (ap (λ (u :
+              WorldState). u.limits) e.turns.is) files (ap (λ (u : WorldState). u.overwrite) e.turns.is) (ap (λ (u
+              : WorldState). u.cap) e.turns.is) transfers ∙ (ap (λ (b : List ℕ). service w a.accepted.repeated
+              b a.accepted.decoded) e.resent.last_sent ∙ a.accepted.is),
+        ) in
         let none : slice_get v.ends (server t) ≡ slice_get w.ends (server t) =
-        ap (λ (xs : List WorldEnd). slice_get xs (server t)) ends
-        ∙ slice_get-set_other w.ends client (server t) (Open_end y) (λ f. omega (arith, f, next)) in
+        ap (λ (xs : List WorldEnd). slice_get xs (server t)) ends ∙ slice_get-set_other w.ends client (server t)
+        (Open_end y) (λ f. omega (arith, f, next)) in
         let same : left t v (server t) ≡ left t w (server t) = ap (left_of t.retries) none in
         record {
           asking = record {
@@ -326,9 +240,8 @@ module _ (t : Transfer) (o : Offer) where
             c = e.opened;
             last = omega (arith, count, last);
             ours = λ i d from at.
-                elim
-                (slice_get-push_cases w.sent i asks_by d
-                (sym (ap (λ (ds : List Datagram). slice_get ds i) e.sent_again) ∙ at)) [
+                elim (slice_get-push_cases w.sent i asks_by d (sym (ap (λ (ds : List Datagram). slice_get ds i)
+                e.sent_again) ∙ at)) [
                   | inl old ↦ a.ours i d from old
                   | inr f ↦ f.1
                 ];
@@ -368,9 +281,8 @@ module _ (t : Transfer) (o : Offer) where
   asking_heard w v i report a next opens at step =
       let c = a.c.x in
       let at_c : slice_get w.sent i ≡ Some (datagram c.address request_port c.state.position.last_sent) =
-      at
-      ∙ (ap (λ (p : Endpoint). Some (datagram p request_port t.request)) (sym a.c.is.address)
-      ∙ ap (λ (b : List ℕ). Some (datagram c.address request_port b)) (sym a.c.is.newest)) in
+      at ∙ (ap (λ (p : Endpoint). Some (datagram p request_port t.request)) (sym a.c.is.address) ∙ ap (λ (b : List ℕ).
+      Some (datagram c.address request_port b)) (sym a.c.is.newest)) in
       let serves = port_comes w v i c report o.accepts (ports_of true w a.ok) a.accepted at_c step in
       let last : length w.ends ≡ server t = a.last ∙ sym next in
       let z = opens w v report c a.files a.retries last a.c.is.address a.c.is.newest serves in
@@ -378,17 +290,14 @@ module _ (t : Transfer) (o : Offer) where
       let first = z.2 in
       let opened : HasOpened w v x = has_opened w v x report z.1 in
       let there_x : slice_get v.ends (server t) ≡ Some (Open_end x) =
-      ap (λ (xs : List WorldEnd). slice_get xs (server t)) opened.ends
-      ∙ (ap (slice_get (w.ends ++ Open_end x ∷ [])) (sym last) ∙ slice_get-push_new w.ends (Open_end x)) in
+      ap (λ (xs : List WorldEnd). slice_get xs (server t)) opened.ends ∙ (ap (slice_get (w.ends ++ Open_end x ∷ []))
+      (sym last) ∙ slice_get-push_new w.ends (Open_end x)) in
       let there_c : slice_get v.ends client ≡ slice_get w.ends client =
-      ap (λ (xs : List WorldEnd). slice_get xs client) opened.ends
-      ∙ (slice_get-push_old w.ends client (Open_end x) (Open_end c) a.c.there ∙ sym a.c.there) in
-      let own : datagram x.address x.state.position.last_sent_to x.state.position.last_sent ≡ answers_by =
-      ap (λ (p : Endpoint). datagram p x.state.position.last_sent_to x.state.position.last_sent) first.is.address
-      ∙ (ap (λ (p : Endpoint). datagram o.answerer p x.state.position.last_sent) first.is.goes_to
-      ∙ ap (datagram o.answerer t.asker) first.is.newest) in
-      let sent : v.sent ≡ w.sent ++ answers_by ∷ [] =
-      opened.sent ∙ ap (λ (d : Datagram). w.sent ++ d ∷ []) own in
+      ap (λ (xs : List WorldEnd). slice_get xs client) opened.ends ∙ (slice_get-push_old w.ends client (Open_end x)
+      (Open_end c) a.c.there ∙ sym a.c.there) in
+      let own : datagram x.address x.state.position.last_sent_to x.state.position.last_sent ≡ answers_by = search rules
+      in
+      let sent : v.sent ≡ w.sent ++ answers_by ∷ [] = opened.sent ∙ ap (λ (d : Datagram). w.sent ++ d ∷ []) own in
       let has : left t v (server t) ≡ t.retries = ap (left_of t.retries) there_x ∙ first.left_is in
       let same : left t v client ≡ left t w client = ap (left_of t.retries) there_c in
       record {
@@ -398,9 +307,8 @@ module _ (t : Transfer) (o : Offer) where
               there_c a.c;
           s = record { x = x; there = there_x; is = first.is };
           ours = λ j d from here.
-              elim
-              (slice_get-push_cases w.sent j answers_by d
-              (sym (ap (λ (ds : List Datagram). slice_get ds j) sent) ∙ here)) [
+              elim (slice_get-push_cases w.sent j answers_by d (sym (ap (λ (ds : List Datagram). slice_get ds j) sent) ∙
+              here)) [
                 | inl old ↦ inl (a.ours j d from old)
                 | inr f ↦ inr f.1
               ];
@@ -420,11 +328,7 @@ module _ (t : Transfer) (o : Offer) where
   early_more : (w v : WorldState) (a : Datagram) → v.sent ≡ w.sent ++ a ∷ [] → ((a ≡ asks_by) ⊎ (a ≡ answers_by)) →
       Answered w → (i : ℕ) (d : Datagram) → t.first ≤ i → slice_get v.sent i ≡ Some d →
       (d ≡ asks_by) ⊎ (d ≡ answers_by)
-  early_more w v a sent is h i d from at =
-      elim (slice_get-push_cases w.sent i a d (sym (ap (λ (ds : List Datagram). slice_get ds i) sent) ∙ at)) [
-        | inl old ↦ h.ours i d from old
-        | inr f ↦ subst (λ (e : Datagram). (e ≡ asks_by) ⊎ (e ≡ answers_by)) (sym f.1) is
-      ]
+  early_more w v a sent is h i d from at = search (rules, slice_get-push_cases)
 
   module _ (w v : WorldState) (report : Report) (a : Answered w) (next : server t ≡ client + 1) where
     away : client ≡ server t → ⊥
@@ -433,20 +337,18 @@ module _ (t : Transfer) (o : Offer) where
     pub client_waits : 0 < left t w client → WorldStep w (Timeout (1024 + client)) report v → AnsweredWaits w v
     unfolding opened_at
     client_waits some step =
-        let e =
-        opened_waits t w v client t.asker request_port (Waiting o.asked o.limit) t.request t.client_sends true report
-        a.ok a.c tt some step in
+        let e = opened_waits t w v _ _ _ _ _ _ _ _ a.ok a.c tt some step in
         let y = e.resent.y in
         let other_is : slice_get v.ends (server t) ≡ slice_get w.ends (server t) =
-        ap (λ (xs : List WorldEnd). slice_get xs (server t)) e.resent.ends
-        ∙ slice_get-set_other w.ends client (server t) (Open_end y) (λ f. away (sym f)) in
+        ap (λ (xs : List WorldEnd). slice_get xs (server t)) e.resent.ends ∙ slice_get-set_other w.ends client (server
+        t) (Open_end y) (λ f. away (sym f)) in
         let same : left t v (server t) ≡ left t w (server t) = ap (left_of t.retries) other_is in
         record {
           answered = record {
             ok = step_keeps true w v (Timeout (1024 + client)) report tt a.ok step;
             c = e.opened;
-            s = opened_at t w v (server t) o.answerer t.asker o.now o.answer (not t.client_sends) false other_is a.s;
-            ours = early_more w v asks_by e.sent_again (inl refl) a;
+            s = opened_at t w v _ _ _ _ _ _ _ other_is a.s;
+            ours = early_more w v _ e.sent_again (inl refl) a;
             again = a.again;
           };
           left_c = e.left_k;
@@ -456,23 +358,19 @@ module _ (t : Transfer) (o : Offer) where
     pub server_waits : MaySendAgain o.now → 0 < left t w (server t) → WorldStep w (Timeout (1024 + server t)) report v →
         AnsweredWaits w v
     server_waits may some step =
-        let e =
-        opened_waits t w v (server t) o.answerer t.asker o.now o.answer (not t.client_sends) false report a.ok a.s may
-        some step in
+        let e = opened_waits t w v _ _ _ _ _ _ _ _ a.ok a.s may some step in
         let y = e.resent.y in
         let other_is : slice_get v.ends client ≡ slice_get w.ends client =
-        ap (λ (xs : List WorldEnd). slice_get xs client) e.resent.ends
-        ∙ slice_get-set_other w.ends (server t) client (Open_end y) away in
+        ap (λ (xs : List WorldEnd). slice_get xs client) e.resent.ends ∙ slice_get-set_other w.ends (server t) client
+        (Open_end y) away in
         let same : left t v client ≡ left t w client = ap (left_of t.retries) other_is in
         record {
           answered = record {
             ok = step_keeps true w v (Timeout (1024 + server t)) report tt a.ok step;
-            c = opened_at t w v client t.asker request_port (Waiting o.asked o.limit) t.request t.client_sends true
-                other_is a.c;
+            c = opened_at t w v _ _ _ _ _ _ _ other_is a.c;
             s = e.opened;
-            ours = early_more w v answers_by e.sent_again (inr refl) a;
-            again =
-                requests_last w v (Timeout (1024 + server t)) report t.asker t.packet (server t) (Open_end a.s.x)
+            ours = early_more w v _ e.sent_again (inr refl) a;
+            again = requests_last w v (Timeout (1024 + server t)) report t.asker t.packet (server t) (Open_end a.s.x)
                 (Open_end e.opened.x) step a.s.there a.again e.opened.there refl;
           };
           left_c = omega (arith, same);

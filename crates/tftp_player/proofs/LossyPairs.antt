@@ -1,37 +1,17 @@
 -- The two ends of a lossy run once both have a peer: what each has sent so far, and what a step of one of them leaves.
 -- For LossySteps and all Lossy files above it.
-use Rattle.std.proofs.Common.{◌≡◌, ℕ, ◌+◌, ◌*◌, ◌<◌, ◌≤◌, suc, zero, Bool, true, false, not, List, [], ◌∷◌, ◌++◌}
-use Rattle.std.proofs.Common.{take, Some, None, refl, sym, ap, ◌∙◌, subst, arith, inl, inr, add-one}
-use Rattle.std.specs.Prelude.{◌≢◌, ◌⊎◌, slice_get, slice_set}
-use Rattle.tftp_wire.specs.declared.mode.Mode.{Mode}
-use Rattle.tftp_wire.specs.declared.options.RawOption.{RawOption}
-use Rattle.tftp_wire.specs.declared.packet.Packet.{Packet}
-use Rattle.tftp_wire.specs.declared.packet.Packet.TheVariants.{Oack}
-use Rattle.tftp_wire.specs.Spelling.{Spells}
-use Rattle.tftp_file.specs.Block.{block, block_count}
-use Rattle.tftp_file.specs.Netascii.{wire_text}
-use Rattle.tftp_ends.specs.declared.phase.Phase.{Phase}
-use Rattle.tftp_ends.specs.declared.phase.Phase.TheVariants.{Sending, Receiving}
-use Rattle.tftp_ends.specs.declared.phase.Terms.{Terms}
+use Rattle.tftp_player.proofs.Common.{◌≡◌, ℕ, ◌+◌, ◌*◌, ◌<◌, ◌≤◌, suc, zero, Bool, true, false, not, List, [], ◌∷◌}
+use Rattle.tftp_player.proofs.Common.{◌++◌, take, Some, None, refl, sym, ap, ◌∙◌, subst, arith, inl, inr, rules, ◌≢◌}
+use Rattle.tftp_player.proofs.Common.{◌⊎◌, slice_get, slice_set, Mode, RawOption, Packet, Oack, Spells, block}
+use Rattle.tftp_player.proofs.Common.{block_count, wire_text, Phase, Sending, Receiving, Terms, is_client, is_sender}
+use Rattle.tftp_player.proofs.Common.{outcome_of, ack_bytes, data_bytes, HeldBackFits, IsUnderWay, PhaseKept}
+use Rattle.tftp_player.proofs.Common.{request_port, two_hosts, Endpoint, OpenEnd, slice_get-push_cases, newest}
+use Rattle.tftp_player.proofs.Common.{newest_of, Repeats, WorldState, WorldEnd, Open_end, datagram, Refines, WorldStep}
+use Rattle.tftp_player.proofs.Common.{Datagram, Event, Report}
+use Rattle.std.proofs.Common.{add-one}
 use Rattle.tftp_ends.specs.declared.role.Role.{Role}
-use Rattle.tftp_ends.specs.End.{is_client, is_sender, outcome_of}
-use Rattle.tftp_ends.specs.Step.{ack_bytes, data_bytes}
-use Rattle.tftp_rules.specs.EndKept.{HeldBackFits, IsUnderWay, PhaseKept}
-use Rattle.tftp_rules.specs.Hosts.{request_port, two_hosts}
-use Rattle.tftp_rules.specs.Machine.{Endpoint}
-use Rattle.tftp_rules.specs.OpenEnds.{OpenEnd}
-use Rattle.tftp_rules.proofs.Indices.{slice_get-push_cases}
-use Rattle.tftp_player.specs.Lossy.{newest, newest_of}
 use Rattle.tftp_player.specs.Repeating.{AsksForTransfer}
-use Rattle.tftp_player.specs.Requests.{Repeats}
-use Rattle.tftp_player.specs.World.{WorldState, WorldEnd, Open_end, datagram}
-use Rattle.tftp_player.specs.WorldKept.{Refines}
-use Rattle.tftp_player.specs.WorldSteps.{WorldStep}
-use Rattle.tftp_player.specs.declared.datagram.Datagram.{Datagram}
-use Rattle.tftp_player.specs.declared.event.Event.{Event}
-use Rattle.tftp_player.specs.declared.report.Report.{Report}
 use Rattle.tftp_player.proofs.LossyCounts.{left_of, other}
-use Rattle.tftp_player.proofs.RecoveringRuns.{willing_still}
 use Rattle.tftp_player.proofs.RepeatingLemmas.{requests_last}
 use Rattle.tftp_player.proofs.RunsLeft.{IsWilling}
 use Rattle.tftp_player.proofs.StraightRuns.{set_at}
@@ -207,8 +187,7 @@ module _ (t : Transfer) where
   -- a sender that sends a block gives as before
   pub gives_then : (w v : WorldState) (n : ℕ) (x y : OpenEnd) → slice_get w.ends t.ks ≡ Some (Open_end x) →
       v.ends ≡ slice_set w.ends t.ks (Open_end y) → IsSending y n → Gives v n
-  gives_then w v n x y there ends is =
-      record { x = y; there = set_at w v t.ks (Open_end x) (Open_end y) ends there; is = is }
+  gives_then w v n x y there ends is = search (rules, set_at)
 
   -- one that only sends again does so, too
   pub takes_again : (w v : WorldState) (r : ℕ) (g : Takes w r) (y : OpenEnd) →
@@ -221,23 +200,7 @@ module _ (t : Transfer) where
       record {
         x = y;
         there = set_at w v t.kr (Open_end g.x) (Open_end y) ends g.there;
-        is = record {
-          address = address ∙ g.is.address;
-          phase = phase ∙ g.is.phase;
-          receives = ap (λ (q : Role). is_sender q.side) role ∙ g.is.receives;
-          mode = mode ∙ g.is.mode;
-          client = ap (λ (q : Role). is_client q.side) role ∙ g.is.client;
-          retries = ap (λ (q : Role). q.retries) role ∙ g.is.retries;
-          received =
-              ap (λ (q : Mode). wire_text q y.stored ++ y.state.position.held_back) mode
-              ∙ (ap (λ (bytes : List ℕ). wire_text g.x.state.role.mode bytes ++ y.state.position.held_back) stored
-              ∙ (ap (λ (bytes : List ℕ). wire_text g.x.state.role.mode g.x.stored ++ bytes) held ∙ g.is.received));
-          holds =
-              subst (λ (q : Mode). HeldBackFits q y.state.position.held_back) (sym mode)
-              (subst (λ (bytes : List ℕ). HeldBackFits g.x.state.role.mode bytes) (sym held) g.is.holds);
-          willing = willing_still (not t.client_sends) g.x y g.is.willing (ap (λ (q : Role). q.side) role) refuses;
-          newest = newest ∙ g.is.newest;
-        };
+        is = search rules;
       }
 
   -- the server's end is one of the two
@@ -306,17 +269,11 @@ module _ (t : Transfer) where
     -- their newest datagrams, and their retries
     pub own_s : datagram sx.address sx.state.position.last_sent_to sx.state.position.last_sent
         ≡ datagram t.sa t.ra (said_s n)
-    own_s =
-        ap (λ (a : Endpoint). datagram a sx.state.position.last_sent_to sx.state.position.last_sent) p.gives.is.address
-        ∙ (ap (λ (a : Endpoint). datagram t.sa a sx.state.position.last_sent) to_s
-        ∙ ap (datagram t.sa t.ra) p.gives.is.newest)
+    own_s = search (rules, to_s)
 
     pub own_r : datagram rx.address rx.state.position.last_sent_to rx.state.position.last_sent
         ≡ datagram t.ra t.sa (said_r r)
-    own_r =
-        ap (λ (a : Endpoint). datagram a rx.state.position.last_sent_to rx.state.position.last_sent) p.takes.is.address
-        ∙ (ap (λ (a : Endpoint). datagram t.ra a rx.state.position.last_sent) to_r
-        ∙ ap (datagram t.ra t.sa) p.takes.is.newest)
+    own_r = search (rules, to_r)
 
     pub newest_s : newest w t.ks ≡ Some (datagram t.sa t.ra (said_s n))
     newest_s = ap newest_of p.gives.there ∙ ap Some own_s

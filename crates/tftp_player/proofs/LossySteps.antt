@@ -1,55 +1,32 @@
 -- What a timeout or a delivery does to the two ends of a lossy run, once both have a peer.
 -- For LossyMoves, LossyExchange, LossyReads and LossyWrites.
-use Rattle.std.proofs.Common.{◌≡◌, ℕ, ◌+◌, ◌<◌, ◌≤◌, suc, zero, Bool, true, false, not, List, [], ◌∷◌, ◌++◌}
-use Rattle.std.proofs.Common.{length, Some, refl, sym, ap, ◌∙◌, subst, arith, inl, inr, add-one}
-use Rattle.std.specs.Prelude.{◌||◌, if◌then◌else◌, slice_get}
-use Rattle.std.proofs.lemmas.Bool.{lt-ltb, cases_eq}
-use Rattle.std.proofs.lemmas.Option.{same_Some}
-use Rattle.tftp_wire.specs.declared.mode.Mode.{Mode}
-use Rattle.tftp_wire.specs.declared.packet.Packet.{Packet}
-use Rattle.tftp_wire.specs.declared.packet.Packet.TheVariants.{Ack, Data, Oack}
-use Rattle.tftp_wire.specs.Spelling.{Spells}
-use Rattle.tftp_file.specs.Block.{Fits}
-use Rattle.tftp_file.specs.Netascii.{wire_text}
-use Rattle.tftp_ends.specs.declared.action.Action.TheVariants.{Respond}
-use Rattle.tftp_ends.specs.declared.action.Response.TheVariants.{Ignore, ResendReply}
-use Rattle.tftp_ends.specs.declared.phase.Phase.{Phase}
-use Rattle.tftp_ends.specs.declared.phase.Phase.TheVariants.{Sending, Receiving}
+use Rattle.tftp_player.proofs.Common.{common_steps, ◌≡◌, ℕ, ◌+◌, ◌<◌, ◌≤◌, suc, zero, Bool, true, false, not, List, []}
+use Rattle.tftp_player.proofs.Common.{◌∷◌, ◌++◌, length, Some, refl, sym, ap, ◌∙◌, subst, arith, inl, inr, rules}
+use Rattle.tftp_player.proofs.Common.{if◌then◌else◌, slice_get, cases_eq, Mode, Packet, Ack, Data, Oack, Spells, Fits}
+use Rattle.tftp_player.proofs.Common.{wire_text, Respond, Ignore, ResendReply, Phase, Sending, Receiving}
+use Rattle.tftp_player.proofs.Common.{datagram_action, is_client, is_complete, is_progress, is_sender, ack_bytes}
+use Rattle.tftp_player.proofs.Common.{data_bytes, HeldBackFits, request_port, Endpoint, OpenEnd, slice_get-set_other}
+use Rattle.tftp_player.proofs.Common.{spells_own, number_fits, StoresTook, TookAll, WorldState, WorldEnd, Open_end}
+use Rattle.tftp_player.proofs.Common.{datagram, Refines, IsComplete, Delivery, WorldStep, Datagram, Deliver, Timeout}
+use Rattle.tftp_player.proofs.Common.{Report}
+use Rattle.std.proofs.Common.{◌||◌}
+use Rattle.std.proofs.lemmas.Bool.{lt-ltb}
 use Rattle.tftp_ends.specs.declared.role.Role.{Role}
-use Rattle.tftp_ends.specs.Action.{datagram_action}
-use Rattle.tftp_ends.specs.End.{is_client, is_complete, is_progress, is_sender, number_of}
-use Rattle.tftp_ends.specs.Step.{ack_bytes, data_bytes}
-use Rattle.tftp_rules.specs.EndKept.{HeldBackFits}
-use Rattle.tftp_rules.specs.Hosts.{request_port}
-use Rattle.tftp_rules.specs.Machine.{Endpoint}
-use Rattle.tftp_rules.specs.OpenEnds.{OpenEnd}
+use Rattle.tftp_ends.specs.End.{number_of}
 use Rattle.tftp_rules.proofs.Blocks.{take-block}
-use Rattle.tftp_rules.proofs.Indices.{slice_get-set_other}
-use Rattle.tftp_rules.proofs.SaidLemmas.{spells_own}
-use Rattle.tftp_rules.proofs.SourceMoves.{number_fits, valid_data}
-use Rattle.tftp_player.specs.Lossy.{StoresTook}
-use Rattle.tftp_player.specs.Straight.{TookAll}
-use Rattle.tftp_player.specs.World.{WorldState, WorldEnd, Open_end, datagram}
-use Rattle.tftp_player.specs.WorldKept.{Refines}
-use Rattle.tftp_player.specs.WorldSafety.{IsComplete}
-use Rattle.tftp_player.specs.WorldSteps.{Delivery, WorldStep}
-use Rattle.tftp_player.specs.declared.datagram.Datagram.{Datagram}
-use Rattle.tftp_player.specs.declared.event.Event.TheVariants.{Deliver, Timeout}
-use Rattle.tftp_player.specs.declared.report.Report.{Report}
+use Rattle.tftp_rules.proofs.SourceMoves.{valid_data}
 use Rattle.tftp_player.proofs.LossyCounts.{left_of}
 use Rattle.tftp_player.proofs.LossyPairs.{Transfer, text, blocks, piece, said_s, said_r, said_data, said_ack}
-use Rattle.tftp_player.proofs.LossyPairs.{From_sender, From_receiver, ours_same, ours_more, Gives, Takes, server}
-use Rattle.tftp_player.proofs.LossyPairs.{Pair, gives_at, takes_at, gives_then, takes_again, pair_then, way, text_is}
-use Rattle.tftp_player.proofs.LossyPairs.{still_s, still_r, own_s, own_r, left_s, left_r}
+use Rattle.tftp_player.proofs.LossyPairs.{From_sender, From_receiver, ours_same, ours_more, Gives, Takes, server, Pair}
+use Rattle.tftp_player.proofs.LossyPairs.{gives_at, takes_at, gives_then, takes_again, pair_then, way, text_is, still_s}
+use Rattle.tftp_player.proofs.LossyPairs.{still_r, own_s, own_r, left_s, left_r}
 use Rattle.tftp_player.proofs.OldDatagrams.{data_again, data_older, oack_again, oack_older, ack_older, oack_sent}
 use Rattle.tftp_player.proofs.RepeatingLemmas.{repeats_open_nothing}
 use Rattle.tftp_player.proofs.RunsLeft.{IsWilling}
-use Rattle.tftp_player.proofs.SentAgain.{Again, Ignored, MaySendAgain, Resent, handles_again, handles_ignored, resends}
+use Rattle.tftp_player.proofs.SentAgain.{Ignored, MaySendAgain, Resent, handles_again, handles_ignored, resends}
 use Rattle.tftp_player.proofs.SentAgain.{retransmits, timed_out}
-use Rattle.tftp_rules.proofs.NextBlocks.{block_full, block_last}
 use Rattle.tftp_player.proofs.StraightActions.{from_peer}
-use Rattle.tftp_player.proofs.StraightRuns.{AwaitsAt, IsFit, set_at, stays_at, stored_more_phase}
-use Rattle.tftp_player.proofs.StraightRuns.{stored_last_phase}
+use Rattle.tftp_player.proofs.StraightRuns.{AwaitsAt, IsFit, set_at, stays_at, stored_more_phase, stored_last_phase}
 use Rattle.tftp_player.proofs.StraightSteps.{Becomes, Handles, HasStored, delivered, handles_data, is_armed, ports_of}
 use Rattle.tftp_player.proofs.StraightSteps.{takes_data}
 use Rattle.tftp_player.proofs.UnansweredLemmas.{any_at}
@@ -57,8 +34,7 @@ use Rattle.tftp_player.proofs.UnansweredLemmas.{any_at}
 -- a delivery is that of the datagram at its index
 pub delivery_of : (w v : WorldState) (i : ℕ) (d : Datagram) (report : Report) → slice_get w.sent i ≡ Some d →
     WorldStep w (Deliver i) report v → Delivery w d.from d.to d.bytes report v
-delivery_of w v i d report at step =
-    subst (λ (z : Datagram). Delivery w z.from z.to z.bytes report v) (same_Some step.0 d (sym step.1 ∙ at)) step.2
+delivery_of w v i d report at step = search rules
 
 -- the bytes of the one datagram of a list
 abbrev pub first_bytes : List Datagram → List ℕ
@@ -95,11 +71,7 @@ module _ (t : Transfer) where
       IsFit true t.ks t.kr t.apart t.sa t.ra t.met.st t.met.rt t.mode t.file t.met.to_receiver t.met.to_sender t.met.same_size
   fit_of w n r p =
       let u = way t w n r p in
-      record {
-        positive = u.positive;
-        small = u.size;
-        fits = subst (λ (z : List ℕ). Fits z t.met.st.size) (text_is t w n r p) u.fits;
-      }
+      search (subst (λ (z : List ℕ). Fits z t.met.st.size) (text_is t w n r p) u.fits)
 
   module _ (w v : WorldState) (n r : ℕ) (p : Pair t w n r) (report : Report) where
     abbrev sx : OpenEnd
@@ -114,25 +86,24 @@ module _ (t : Transfer) where
         let port = p.ok.ports t.ks (Open_end sx) p.gives.there in
         let has = left_s t w n r p in
         let resent : Resent w v t.ks sx =
-        resends w v t.ks sx report
-        (retransmits sx.state.position.retries_left sx.state.position.phase
-        (subst MaySendAgain (sym p.gives.is.phase) tt) (subst (λ (k : ℕ). 0 < k) has some))
-        (still_s t w n r p)
-        (timed_out w v t.ks sx report p.ok p.gives.there
-        (subst (λ (q : ℕ). WorldStep w (Timeout q) report v) (sym port) step)) in
+        resends w v t.ks sx report (retransmits sx.state.position.retries_left sx.state.position.phase
+        (subst MaySendAgain (sym p.gives.is.phase) tt) (subst (λ (k : ℕ). 0 < k) has some)) (still_s t w n r p)
+        (timed_out w v t.ks sx report p.ok p.gives.there (subst (λ (q : ℕ). WorldStep w (Timeout q) report v) (sym port)
+        step)) in
         let own = datagram t.sa t.ra (said_s t n) in
         let sent : v.sent ≡ w.sent ++ own ∷ [] =
         resent.sent ∙ ap (λ (d : Datagram). w.sent ++ d ∷ []) (own_s t w n r p) in
         let gives =
-        gives_then t w v n sx resent.y p.gives.there resent.ends (record {
-          address = resent.address ∙ p.gives.is.address;
-          phase = resent.phase ∙ p.gives.is.phase;
-          file = resent.file ∙ p.gives.is.file;
-          mode = resent.mode ∙ p.gives.is.mode;
-          client = ap is_client resent.side ∙ p.gives.is.client;
-          retries = ap (λ (q : Role). q.retries) resent.role ∙ p.gives.is.retries;
-          newest = resent.last_sent ∙ p.gives.is.newest;
-        }) in
+        gives_then t w v n sx resent.y p.gives.there resent.ends (search (
+          resent.address ∙ p.gives.is.address,
+          resent.phase ∙ p.gives.is.phase,
+          resent.file ∙ p.gives.is.file,
+          resent.mode ∙ p.gives.is.mode,
+          ap is_client
+              resent.side ∙ p.gives.is.client,
+          ap (λ (q : Role). q.retries) resent.role ∙ p.gives.is.retries,
+          resent.last_sent ∙ p.gives.is.newest,
+        )) in
         let other : slice_get v.ends t.kr ≡ Some (Open_end rx) =
         stays_at w v t.ks t.kr (Open_end rx) (Open_end resent.y) resent.ends t.apart p.takes.there in
         let takes = takes_at t w v r (other ∙ sym p.takes.there) p.takes in
@@ -142,9 +113,9 @@ module _ (t : Transfer) where
         let same : left w t.kr ≡ left v t.kr = ap (left_of t.retries) (p.takes.there ∙ sym other) in
         record {
           pair =
-              pair_then t w v (Timeout (1024 + t.ks)) report n r n r p step gives takes
-              (ours_more t w v n r n r own (omega arith) (omega arith) sent
-              (From_sender n p.low_n (omega arith) refl) p.ours) (omega arith) (omega arith) p.more;
+              pair_then t w v (Timeout (1024 + t.ks)) report n r n r p step gives takes (ours_more t w v n r n r own
+              (omega arith) (omega arith) sent (From_sender n p.low_n (omega arith) refl) p.ours) (omega arith) (omega
+              arith) p.more;
           left_ks = omega (arith, has, now, fewer);
           left_kr = omega (arith, same);
         }
@@ -153,13 +124,7 @@ module _ (t : Transfer) where
     receiver_waits some step =
         let port = p.ok.ports t.kr (Open_end rx) p.takes.there in
         let has = left_r t w n r p in
-        let resent : Resent w v t.kr rx =
-        resends w v t.kr rx report
-        (retransmits rx.state.position.retries_left rx.state.position.phase
-        (subst MaySendAgain (sym p.takes.is.phase) tt) (subst (λ (k : ℕ). 0 < k) has some))
-        (still_r t w n r p)
-        (timed_out w v t.kr rx report p.ok p.takes.there
-        (subst (λ (q : ℕ). WorldStep w (Timeout q) report v) (sym port) step)) in
+        let resent : Resent w v t.kr rx = search rules in
         let own = datagram t.ra t.sa (said_r t r) in
         let sent : v.sent ≡ w.sent ++ own ∷ [] =
         resent.sent ∙ ap (λ (d : Datagram). w.sent ++ d ∷ []) (own_r t w n r p) in
@@ -175,9 +140,9 @@ module _ (t : Transfer) where
         let same : left w t.ks ≡ left v t.ks = ap (left_of t.retries) (p.gives.there ∙ sym other) in
         record {
           pair =
-              pair_then t w v (Timeout (1024 + t.kr)) report n r n r p step gives takes
-              (ours_more t w v n r n r own (omega arith) (omega arith) sent
-              (From_receiver r p.low_r (omega arith) refl) p.ours) (omega arith) (omega arith) p.more;
+              pair_then t w v (Timeout (1024 + t.kr)) report n r n r p step gives takes (ours_more t w v n r n r own
+              (omega arith) (omega arith) sent (From_receiver r p.low_r (omega arith) refl) p.ours) (omega arith) (omega
+              arith) p.more;
           left_ks = omega (arith, same);
           left_kr = omega (arith, has, now, fewer);
         }
@@ -189,11 +154,9 @@ module _ (t : Transfer) where
       request_rests at =
           let a = p.answers in
           let none =
-          repeats_open_nothing true w v t.asker t.packet t.request report p.ok t.asks t.asked
-          (any_at t.asker t.packet w.ends (server t) a.0 a.1 a.2)
-          (delivery_of w v i (datagram t.asker request_port t.request) report at step) in
-          subst (λ (u : WorldState). PairRests w u n r) (sym none.1)
-          (record { pair = p; left_ks = omega arith; left_kr = omega arith })
+          repeats_open_nothing true w v t.asker t.packet t.request report p.ok t.asks t.asked (any_at t.asker t.packet
+          w.ends (server t) a.0 a.1 a.2) (delivery_of w v i (datagram t.asker request_port t.request) report at step) in
+          search rules
 
       ignored_rests : Ignored w v → PairRests w v n r
       ignored_rests g =
@@ -213,41 +176,34 @@ module _ (t : Transfer) where
       module _ (bytes : List ℕ) (at : slice_get w.sent i ≡ Some (datagram t.sa t.ra bytes)) (packet : Packet)
           (spelled : Spells packet bytes) where
         pub handled_r : Handles w t.kr rx t.sa bytes report v
-        handled_r = delivered w v i t.kr rx t.sa bytes report (ports_of true w p.ok)
-            (at ∙ ap (λ (a : Endpoint). Some (datagram t.sa a bytes)) (sym p.takes.is.address)) p.takes.there step
+        handled_r = search (rules, delivered, ports_of)
 
         ignores_r : datagram_action rx.state t.sa bytes (Some packet) ≡ Respond Ignore → PairRests w v n r
-        ignores_r does =
-            ignored_rests
-            (handles_ignored w v t.kr rx t.sa bytes report packet handled_r spelled does (still_r t w n r p)
-            p.takes.there)
+        ignores_r does = search (rules, ignored_rests, handles_ignored, handled_r, still_r)
 
         again_r : datagram_action rx.state t.sa bytes (Some packet) ≡ Respond ResendReply → PairRests w v n r
         again_r does =
-            let a : Again w v t.kr rx t.sa r =
-            handles_again w v t.kr rx t.sa bytes report r packet handled_r spelled does (still_r t w n r p)
+            let a = handles_again w v t.kr rx t.sa bytes report r packet handled_r spelled does (still_r t w n r p)
             (ap number_of p.takes.is.phase) in
             let own = datagram t.ra t.sa (said_r t r) in
-            let sent : v.sent ≡ w.sent ++ own ∷ [] =
-            a.sent
-            ∙ (ap (λ (e : Endpoint). w.sent ++ datagram e t.sa (ack_bytes r) ∷ []) p.takes.is.address
-            ∙ ap (λ (b : List ℕ). w.sent ++ datagram t.ra t.sa b ∷ []) (sym a.acks ∙ p.takes.is.newest)) in
+            let sent =
+            a.sent ∙ (ap (λ (e : Endpoint). w.sent ++ datagram e t.sa (ack_bytes r) ∷ []) p.takes.is.address ∙ ap (λ (b
+            : List ℕ). w.sent ++ datagram t.ra t.sa b ∷ []) (sym a.acks ∙ p.takes.is.newest)) in
             let takes =
-            takes_again t w v r p.takes a.y a.ends a.address a.role a.phase a.stored a.held_back a.last_sent
-            a.refuses in
-            let other : slice_get v.ends t.ks ≡ Some (Open_end sx) =
+            takes_again t w v r p.takes a.y a.ends a.address a.role a.phase a.stored a.held_back a.last_sent a.refuses
+            in
+            let other =
             stays_at w v t.kr t.ks (Open_end sx) (Open_end a.y) a.ends (λ e. t.apart (sym e)) p.gives.there in
             let gives = gives_at t w v n (other ∙ sym p.gives.there) p.gives in
             let has = left_r t w n r p in
-            let now : left v t.kr ≡ a.y.state.position.retries_left =
-            ap (left_of t.retries) (set_at w v t.kr (Open_end rx) (Open_end a.y) a.ends p.takes.there) in
+            let now = ap (left_of t.retries) (set_at w v t.kr (Open_end rx) (Open_end a.y) a.ends p.takes.there) in
             let kept = a.retries in
-            let same : left w t.ks ≡ left v t.ks = ap (left_of t.retries) (p.gives.there ∙ sym other) in
+            let same = ap (left_of t.retries) (p.gives.there ∙ sym other) in
             record {
               pair =
-                  pair_then t w v (Deliver i) report n r n r p step gives takes
-                  (ours_more t w v n r n r own (omega arith) (omega arith) sent
-                  (From_receiver r p.low_r (omega arith) refl) p.ours) (omega arith) (omega arith) p.more;
+                  pair_then t w v (Deliver i) report n r n r p step gives takes (ours_more t w v n r n r own (omega
+                  arith) (omega arith) sent (From_receiver r p.low_r (omega arith) refl) p.ours) (omega arith) (omega
+                  arith) p.more;
               left_ks = omega (arith, same);
               left_kr = omega (arith, has, now, kept);
             }
@@ -291,23 +247,16 @@ module _ (t : Transfer) where
       -- what the sender sent and the receiver has
       pub old_s_rests : (k : ℕ) → t.met.low_s ≤ k → k ≤ r → slice_get w.sent i ≡ Some (datagram t.sa t.ra (said_s t k)) →
           PairRests w v n r
-      old_s_rests zero low few at = old_oack (omega (arith, low)) at
-      old_s_rests (suc k) low few at =
-          old_data k (omega (arith, few))
-          (at ∙ ap (λ (b : List ℕ). Some (datagram t.sa t.ra b)) (ap (said_s t) (sym (add-one k)) ∙ said_data t k))
+      old_s_rests k low few at = search (rules, old_oack, old_data, said_s, said_data)
 
       -- at the sender
       module _ (bytes : List ℕ) (at : slice_get w.sent i ≡ Some (datagram t.ra t.sa bytes)) where
         pub handled_s : Handles w t.ks sx t.ra bytes report v
-        handled_s = delivered w v i t.ks sx t.ra bytes report (ports_of true w p.ok)
-            (at ∙ ap (λ (a : Endpoint). Some (datagram t.ra a bytes)) (sym p.gives.is.address)) p.gives.there step
+        handled_s = search (rules, delivered, ports_of)
 
         ignores_s : (packet : Packet) → Spells packet bytes →
             datagram_action sx.state t.ra bytes (Some packet) ≡ Respond Ignore → PairRests w v n r
-        ignores_s packet spelled does =
-            ignored_rests
-            (handles_ignored w v t.ks sx t.ra bytes report packet handled_s spelled does (still_s t w n r p)
-            p.gives.there)
+        ignores_s packet spelled does = search (rules, ignored_rests, handles_ignored, handled_s, still_s)
 
       pub ack_spelled : (k : ℕ) → k ≤ n → Spells (Ack k) (ack_bytes k)
       ack_spelled k few =
@@ -353,20 +302,15 @@ module _ (t : Transfer) where
     bytes_now = data_bytes (r + 1) (piece t r)
 
     handled_now : Handles w t.kr a.x t.sa bytes_now report v
-    handled_now = delivered w v i t.kr a.x t.sa bytes_now report (ports_of true w ok)
-        (at ∙ ap (λ (e : Endpoint). Some (datagram t.sa e bytes_now)) (sym a.address)) a.there step
+    handled_now = search (rules, delivered, ports_of)
 
     spelled_now : Spells (Data (r + 1) (piece t r)) bytes_now
-    spelled_now =
-        spells_own (Data (r + 1) (piece t r))
-        (valid_data (text t) t.met.st.size r fit.positive fit.small fit.fits within)
+    spelled_now = search (rules, spells_own, piece, valid_data, text)
 
     -- the step of a client that was not set to refuse
     taken_by : is_client a.x.state.role.side ≡ true → a.x.refuses ≡ false →
         TookAll report.closed × (is_armed handled_now.held ≡ false)
-    taken_by client unarmed =
-        takes_data w v t.kr a.x t.sa bytes_now report handled_now t.met.rt (r + 1) (piece t r) client unarmed spelled_now
-        a.stores a.receiver
+    taken_by client unarmed = takes_data w v _ _ _ _ _ handled_now _ _ _ client unarmed spelled_now a.stores a.receiver
 
     took_all : (b : Bool) → IsWilling b a.x → StoresTook b report → TookAll report.closed
     took_all true willing said = (taken_by willing.0 willing.1).0
@@ -374,9 +318,7 @@ module _ (t : Transfer) where
 
     stored : (y : OpenEnd)
         × HasStored w v t.kr a.x t.sa bytes_now report handled_now t.met.rt (r + 1) (piece t r) y
-    stored =
-        handles_data w v t.kr a.x t.sa bytes_now report handled_now t.met.rt (r + 1) (piece t r) a.holds
-        (took_all (not t.client_sends) a.willing took) spelled_now a.stores a.receiver
+    stored = search (rules, handles_data, handled_now, piece, took_all, spelled_now)
 
     stays_willing : (b : Bool) → IsWilling b a.x → IsWilling b stored.0
     stays_willing true willing =
@@ -394,8 +336,7 @@ module _ (t : Transfer) where
 
     more_phase : r + 1 < blocks t → y.state.position.phase ≡ Receiving t.met.rt (r + 1)
     more_phase more =
-        let full : length (piece t r) ≡ t.met.rt.size =
-        block_full (text t) t.met.st.size fit.positive fit.fits r more ∙ sym t.met.same_size in
+        let full : length (piece t r) ≡ t.met.rt.size = grind (arith, common_steps) in
         stored.1.phase ∙ stored_more_phase t.met.rt (r + 1) (length (piece t r)) full
 
     more_takes : (more : r + 1 < blocks t) → Takes t v (r + 1) × (left v t.kr ≡ t.retries)
@@ -403,35 +344,34 @@ module _ (t : Transfer) where
       record {
         x = y;
         there = there_now;
-        is = record {
-          address = stored.1.becomes.address ∙ a.address;
-          phase = more_phase more;
-          receives = ap is_sender stored.1.becomes.side ∙ a.receiver;
-          mode = mode_now ∙ a.mode_is;
-          client = ap is_client stored.1.becomes.side ∙ client;
-          retries = ap (λ (q : Role). q.retries) stored.1.becomes.role ∙ retries;
-          received =
-              ap (λ (q : Mode). wire_text q y.stored ++ y.state.position.held_back) mode_now
-              ∙ (stored.1.received
-              ∙ (ap (λ (z : List ℕ). z ++ piece t r) a.received ∙ take-block (text t) r t.met.st.size));
-          holds = subst (λ (q : Mode). HeldBackFits q y.state.position.held_back) (sym mode_now) stored.1.holds;
-          willing = stays_willing (not t.client_sends) a.willing;
-          newest = sym (ap first_bytes stored.1.becomes.newest) ∙ sym (said_ack t r);
-        };
+        is = assumption (
+          stored.1.becomes.address ∙ a.address,
+          more_phase more,
+          ap is_sender stored.1.becomes.side ∙
+              a.receiver,
+          mode_now ∙ a.mode_is,
+          ap is_client stored.1.becomes.side ∙ client,
+          ap (λ (q : Role). q.retries)
+              stored.1.becomes.role ∙ retries,
+          ap (λ (q : Mode). wire_text q y.stored ++ y.state.position.held_back)
+              mode_now ∙ (stored.1.received ∙ (ap (λ (z : List ℕ). z ++ piece t r) a.received ∙ take-block (text
+              t) r t.met.st.size)),
+          subst (λ (q : Mode). HeldBackFits q y.state.position.held_back) (sym
+              mode_now) stored.1.holds,
+          stays_willing (not t.client_sends) a.willing,
+          sym (ap first_bytes
+              stored.1.becomes.newest) ∙ sym (said_ack t r),
+        );
       },
-      ap (left_of t.retries) there_now
-          ∙ (stored.1.becomes.retries
-          ∙ (ap (λ (q : Phase). if is_progress a.x.state.position.phase q then a.x.state.role.retries
-          else a.x.state.position.retries_left) (more_phase more)
-          ∙ (ap (λ (b : Bool). if b then a.x.state.role.retries else a.x.state.position.retries_left) progress
-          ∙ retries))),
+      ap (left_of t.retries) there_now ∙ (stored.1.becomes.retries ∙ (ap (λ (q : Phase). if is_progress
+          a.x.state.position.phase q then a.x.state.role.retries else a.x.state.position.retries_left) (more_phase more)
+          ∙ (ap (λ (b : Bool). if b then a.x.state.role.retries else a.x.state.position.retries_left) progress ∙
+          retries))),
     )
 
     last_done : r + 1 ≡ blocks t → (z : WorldEnd) × (slice_get v.ends t.kr ≡ Some z) × IsComplete z
     last_done last =
-        let short : length (piece t r) < t.met.rt.size =
-        (let e = block_last (text t) t.met.st.size fit.positive fit.fits r last in
-        let same = t.met.same_size in omega (arith, e, same)) in (
+        let short : length (piece t r) < t.met.rt.size = grind (arith, common_steps) in (
           Open_end y,
           there_now,
           ap is_complete (stored.1.phase ∙ stored_last_phase t.met.rt (r + 1) (length (piece t r)) short),
@@ -464,27 +404,13 @@ module _ (t : Transfer) where
       slice_get w.ends t.ks ≡ Some (Open_end x) → x.address ≡ t.sa → x.file ≡ t.file → x.state.role.mode ≡ t.mode →
       is_client x.state.role.side ≡ t.client_sends → x.state.role.retries ≡ t.retries →
       is_progress x.state.position.phase (Sending t.met.st (n + 1)) ≡ true → DataSent w v n
-  data_sent w v n bytes report x h y phase b there address file mode client retries progress = record {
-    sent = b.sent
-        ∙ (ap (λ (e : Endpoint). w.sent ++ datagram e t.ra (data_bytes (n + 1) (piece t n)) ∷ []) address
-        ∙ ap (λ (d : List ℕ). w.sent ++ datagram t.sa t.ra d ∷ []) (sym (said_data t n)));
-    receiver =
-        ap (λ (xs : List WorldEnd). slice_get xs t.kr) b.ends
-        ∙ slice_get-set_other w.ends t.ks t.kr (Open_end y) t.apart;
-    gives =
-        gives_then t w v (n + 1) x y there b.ends (record {
-          address = b.address ∙ address;
-          phase = phase;
-          file = b.file ∙ file;
-          mode = b.mode ∙ mode;
-          client = ap is_client b.side ∙ client;
-          retries = ap (λ (q : Role). q.retries) b.role ∙ retries;
-          newest = sym (ap first_bytes b.newest) ∙ sym (said_data t n);
-        });
-    left_ks =
-        ap (left_of t.retries) (set_at w v t.ks (Open_end x) (Open_end y) b.ends there)
-        ∙ (b.retries
-        ∙ (ap (λ (q : Phase). if is_progress x.state.position.phase q then x.state.role.retries
-        else x.state.position.retries_left) phase
-        ∙ (ap (λ (c : Bool). if c then x.state.role.retries else x.state.position.retries_left) progress ∙ retries)));
-  }
+  data_sent w v n bytes report x h y phase b there address file mode client retries progress =
+      search (
+        b.sent ∙ (ap (λ (e : Endpoint). w.sent ++ datagram e t.ra (data_bytes (n + 1) (piece t n)) ∷ []) address ∙ ap (λ (d : List ℕ). w.sent ++ datagram t.sa t.ra d ∷ []) (sym (said_data t n))),
+        ap (λ (xs : List WorldEnd). slice_get xs t.kr) b.ends ∙ slice_get-set_other w.ends t.ks t.kr (Open_end y) t.apart,
+        gives_then t w v (n + 1) x y there b.ends (record { address = b.address ∙ address; phase = phase; file = b.file ∙ file; mode = b.mode ∙ mode; client = ap is_client b.side ∙ client; retries = ap (λ (q : Role). q.retries) b.role ∙ retries; newest = sym (ap first_bytes b.newest) ∙ sym (said_data t n) }),
+        ap (left_of t.retries) (set_at w v t.ks (Open_end x) (Open_end y) b.ends there) ∙ (b.retries ∙ (ap (λ (q :
+            Phase). if is_progress x.state.position.phase q then x.state.role.retries else
+            x.state.position.retries_left) phase ∙ (ap (λ (c : Bool). if c then x.state.role.retries else
+            x.state.position.retries_left) progress ∙ retries))),
+      )

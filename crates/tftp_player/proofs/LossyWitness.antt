@@ -1,40 +1,27 @@
 -- A read and a write of two blocks in which each datagram is lost once, computed. For the laws
 -- a_lossy_read_completes, a_lossy_write_completes and a_sender_hears_the_end, which are then of some runs.
-use Rattle.std.proofs.Common.{◌≡◌, ℕ, ◌+◌, suc, zero, Bool, true, false, not, List, [], ◌∷◌, Option}
-use Rattle.std.proofs.Common.{Some, None, refl, sym, ap, ◌∙◌, subst, arith, rules, inl, inr}
-use Rattle.std.specs.Prelude.{◌≢◌, ◌&&◌, ⊤, nat_eq, slice_get}
-use Rattle.std.specs.Cmp.Lexicographic.{pointwise}
+use Rattle.tftp_player.proofs.Common.{common_steps, ◌≡◌, ℕ, ◌+◌, suc, zero, Bool, true, false, not, List, [], ◌∷◌}
+use Rattle.tftp_player.proofs.Common.{Option, Some, None, refl, sym, ap, ◌∙◌, subst, arith, rules, inl, inr, ◌≢◌, ◌&&◌}
+use Rattle.tftp_player.proofs.Common.{nat_eq, slice_get, ⊤, pointwise, true≢false, Octet, Kind, Blksize, is_client}
+use Rattle.tftp_player.proofs.Common.{timeout_turn, end_after, files_of, CountsOn, LossyRun, newest, StoresTook}
+use Rattle.tftp_player.proofs.Common.{TookAll, WorldState, WorldEnd, Open_end, has_committed, no_report, report_of}
+use Rattle.tftp_player.proofs.Common.{sent_report, world_after, Refines, WorldStep, Datagram, Deliver, Timeout, Report}
 use Rattle.std.specs.Fmt.{digits}
-use Rattle.std.proofs.lemmas.Bool.{true≢false}
-use Rattle.tftp_wire.specs.declared.mode.Mode.TheVariants.{Octet}
 use Rattle.tftp_negotiate.specs.Agreement.{taken_option}
 use Rattle.tftp_negotiate.specs.Answer.{answered_option}
 use Rattle.tftp_negotiate.specs.Negotiation.{occurrences_of}
 use Rattle.tftp_negotiate.specs.Options.{name_of, number_of}
-use Rattle.tftp_negotiate.specs.declared.known.Kind.{Kind}
 use Rattle.tftp_negotiate.specs.declared.known.Kind.TheVariants.{Read, Write}
-use Rattle.tftp_negotiate.specs.declared.known.Known.TheVariants.{Blksize}
-use Rattle.tftp_ends.specs.End.{is_client}
-use Rattle.tftp_ends.specs.Step.{timeout_turn}
-use Rattle.tftp_rules.specs.OpenEnds.{end_after, files_of}
 use Rattle.tftp_player.specs.Completing.{blocks_of_8, two_blocks}
-use Rattle.tftp_player.specs.Lossy.{CountsOn, Heard, Has_sent, LossyRun, Asked_first, Delivers, Elapses, newest}
-use Rattle.tftp_player.specs.Lossy.{SomeReadIsLossy, SomeSenderHearsTheEnd, SomeWriteIsLossy, StoresTook}
-use Rattle.tftp_player.specs.Straight.{TookAll}
-use Rattle.tftp_player.specs.World.{WorldState, WorldEnd, Open_end, has_committed, no_report, report_of, sent_report}
-use Rattle.tftp_player.specs.World.{world_after}
-use Rattle.tftp_player.specs.WorldKept.{Refines}
-use Rattle.tftp_player.specs.WorldSteps.{FilesAfter, WorldStep}
-use Rattle.tftp_player.specs.declared.datagram.Datagram.{Datagram}
-use Rattle.tftp_player.specs.declared.event.Event.TheVariants.{Deliver, Timeout}
-use Rattle.tftp_player.specs.declared.report.Report.{Report}
-use Rattle.tftp_player.proofs.AnsweringWitness.{client_timed, read_accepted, read_opened, request_delivered, write_accepted}
-use Rattle.tftp_player.proofs.AnsweringWitness.{write_opened}
+use Rattle.tftp_player.specs.Lossy.{Heard, Has_sent, Asked_first, Delivers, Elapses, SomeReadIsLossy}
+use Rattle.tftp_player.specs.Lossy.{SomeSenderHearsTheEnd, SomeWriteIsLossy}
+use Rattle.tftp_player.proofs.AnsweringWitness.{client_timed, read_accepted, read_opened, request_delivered}
+use Rattle.tftp_player.proofs.AnsweringWitness.{write_accepted, write_opened}
 use Rattle.tftp_player.proofs.SampleDeliveries.{IsDelivered, delivers, next}
 use Rattle.tftp_player.proofs.StraightActions.{same_list}
 use Rattle.tftp_player.proofs.WorldRuns.{new_ok, step_keeps}
-use Rattle.tftp_player.proofs.Witness.{config, Sample, Runs, accepted, asked_world, asks, files_for, name}
-use Rattle.tftp_player.proofs.Witness.{begun_world, event_for, new_world_for, opens}
+use Rattle.tftp_player.proofs.Witness.{config, Sample, Runs, accepted, asked_world, asks, files_for, name, begun_world}
+use Rattle.tftp_player.proofs.Witness.{event_for, new_world_for, opens}
 use Rattle.tftp_player.proofs.Witnesses.{oack, oack_runs, read, read_runs}
 
 -- ---- whether two datagrams differ in their bytes
@@ -71,23 +58,7 @@ timed w k = timed_end w k (slice_get w.ends k)
 
 times : (w : WorldState) (k : ℕ) (there : Option WorldEnd) → slice_get w.ends k ≡ there → CanTime there →
     WorldStep w (Timeout (1024 + k)) (timed_report w there) (timed_end w k there)
-times w k None is can = absurd can
-times w k (Some (Open_end x)) is can = (
-  k,
-  Open_end x,
-  record { is = refl; there = is },
-  record {
-    files = w.files;
-    stored =
-        subst
-        (λ (b : Bool).
-        FilesAfter w.overwrite b x.path (end_after x (timeout_turn x.state) (files_of x)).stored w.files w.files)
-        (sym can) refl;
-    reports = refl;
-    is = refl;
-  },
-)
-times w k (Some _) is can = absurd can
+times w k there is can = search rules
 
 abbrev IsThere : Option Datagram → Type 0
 IsThere None = ⊥
@@ -156,8 +127,7 @@ module _ (reads : Bool) (host : List ℕ → List ℕ) (begun : WorldState) wher
       let same : t ≡ t + 0 = omega arith in subst (λ (m : ℕ). LossyRun reads 0 1 0 begun 0 0 m w) same run
   lossy_rounds (suc n) b t w i all run =
       let same : t + 1 + n ≡ t + suc n = omega arith in
-      subst (λ (m : ℕ). LossyRun reads 0 1 0 begun 0 0 m (rounds n (not b) (round b w i) (i + 2))) same
-      (lossy_rounds n (not b) (t + 1) (round b w i) (i + 2) all.1 (lossy_round b t w i all.0 run))
+      rw (← same) (lossy_rounds n (not b) (t + 1) (round b w i) (i + 2) all.1 (lossy_round b t w i all.0 run))
 
 -- ---- the request is lost, and then heard
 first_round : (reads : Bool) (kind : Kind) (s : Sample) (opened : WorldState) →
@@ -170,16 +140,11 @@ first_round : (reads : Bool) (kind : Kind) (s : Sample) (opened : WorldState) �
     LossyRun reads 0 1 0 (asked_world kind s) 0 0 1 opened
 first_round reads kind s opened can same step heard there answered =
     let mid = client_timed kind s in
-    Delivers 1 1 0 0 1 mid opened (sent_report mid)
-    (Elapses 0 0 0 (asked_world kind s) mid (timed_report (asked_world kind s) (slice_get (asked_world kind s).ends 0)) 1024
-    Asked_first (omega arith) (omega arith) (inl refl)
-    (subst
-    (λ (v : WorldState).
-    WorldStep (asked_world kind s) (Timeout (1024 + 0))
-    (timed_report (asked_world kind s) (slice_get (asked_world kind s).ends 0)) v) same
-    (times (asked_world kind s) 0 (slice_get (asked_world kind s).ends 0) refl can))) 1 (omega arith) step (stores_took reads (sent_report mid) refl)
-    (is_heard mid opened 1 0 (slice_get mid.sent 1) refl heard there)
-    (Has_sent (are_others (newest opened 1) (newest mid 1) answered))
+    Delivers 1 1 0 0 1 mid opened (sent_report mid) (Elapses 0 0 0 (asked_world kind s) mid (timed_report (asked_world
+    kind s) (slice_get (asked_world kind s).ends 0)) 1024 Asked_first (omega arith) (omega arith) (inl refl) (subst
+    (λ (v : WorldState). WorldStep (asked_world kind s) (Timeout (1024 + 0)) (timed_report (asked_world kind s)
+    (slice_get (asked_world kind s).ends 0)) v) same (times _ 0 _ refl can))) 1 (omega arith) step (stores_took reads _
+    refl) (is_heard _ opened 1 0 _ refl heard there) (Has_sent (are_others _ _ answered))
 
 -- ---- and at the end the last ACK is lost: the sender times out once more
 -- a read of two blocks
@@ -202,29 +167,13 @@ read_done = rounds true pair.host (asked_world Read pair) 5 false (read_opened p
 
 read_rounds : AreRounds true pair.host (asked_world Read pair) 5 false (read_opened pair) 3
 unfolding occurrences_of name_of number_of digits answered_option taken_option
-read_rounds = (
-  record { can = refl; delivered = (refl, (refl, refl), tt, tt, tt); open_yet = refl; heard = refl; there = tt; answered = refl },
-  (
-    record { can = refl; delivered = (refl, (refl, refl), (refl, refl), tt, tt); open_yet = refl; heard = refl; there = tt; answered = refl },
-    (
-      record { can = refl; delivered = (refl, (refl, refl), (refl, refl, refl, tt, (refl, refl)), tt, tt); open_yet = refl; heard = refl; there = tt; answered = refl },
-      (
-        record { can = refl; delivered = (refl, (refl, refl), (refl, refl), tt, tt); open_yet = refl; heard = refl; there = tt; answered = refl },
-        (
-          record { can = refl; delivered = (refl, (refl, refl), (refl, refl, refl, tt, (refl, refl)), tt, tt); open_yet = refl; heard = refl; there = tt; answered = refl },
-          tt,
-        ),
-      ),
-    ),
-  ),
-)
+read_rounds = grind (arith, common_steps)
 
 read_first : LossyRun true 0 1 0 (asked_world Read pair) 0 0 1 (read_opened pair)
 unfolding occurrences_of name_of number_of digits answered_option taken_option
 read_first =
-    first_round true Read pair (read_opened pair) refl refl
-    (request_delivered Read pair (client_timed Read pair) (read_opened pair) (omega arith) refl
-    (read_accepted pair pair_run refl) (pair.file, refl, record { reports = refl; is = refl })) refl tt refl
+    first_round true Read pair (read_opened pair) refl refl (request_delivered Read pair (client_timed Read pair)
+    (read_opened pair) (omega arith) refl (read_accepted pair pair_run refl) (pair.file, refl, search)) refl tt refl
 
 -- a read in which each datagram is lost once
 pub read_is_lossy : SomeReadIsLossy Octet blocks_of_8 two_blocks (Blksize 8 ∷ []) 1
@@ -263,26 +212,12 @@ write_done = rounds false oack.host (asked_world Write oack) 4 false write_opene
 
 write_rounds : AreRounds false oack.host (asked_world Write oack) 4 false write_opened 3
 unfolding occurrences_of name_of number_of digits answered_option taken_option
-write_rounds = (
-  record { can = refl; delivered = (refl, (refl, refl), (refl, refl), tt, tt); open_yet = refl; heard = refl; there = tt; answered = refl },
-  (
-    record { can = refl; delivered = (refl, (refl, refl), (refl, refl, refl, tt, (refl, refl)), tt, tt); open_yet = refl; heard = refl; there = tt; answered = refl },
-    (
-      record { can = refl; delivered = (refl, (refl, refl), (refl, refl), tt, tt); open_yet = refl; heard = refl; there = tt; answered = refl },
-      (
-        record { can = refl; delivered = (refl, (refl, refl), (refl, refl, refl, tt, (refl, refl)), tt, (refl, refl)); open_yet = refl; heard = refl; there = tt; answered = refl },
-        tt,
-      ),
-    ),
-  ),
-)
+write_rounds = grind (arith, common_steps)
 
 write_first : LossyRun false 0 1 0 (asked_world Write oack) 0 0 1 write_opened
 unfolding occurrences_of name_of number_of digits answered_option taken_option
 write_first =
-    first_round false Write oack write_opened refl refl
-    (request_delivered Write oack (client_timed Write oack) write_opened (omega arith) refl write_accepted
-    (record { reports = refl; is = refl })) refl tt refl
+    search (rules, first_round, oack, write_opened, request_delivered, client_timed, write_accepted)
 
 -- a write in which each datagram is lost once
 pub write_is_lossy : SomeWriteIsLossy Octet blocks_of_8 two_blocks (Blksize 8 ∷ []) 1

@@ -1,57 +1,28 @@
 -- A put that loses some datagrams completes at its receiver. For the law a_lossy_write_completes.
-use Rattle.std.proofs.Common.{◌≡◌, ℕ, ◌+◌, ◌*◌, ◌<◌, ◌≤◌, Bool, true, List, [], ◌∷◌, length, drop, Some, not, false}
-use Rattle.std.proofs.Common.{Ok, Option, refl, sym, ap, ◌∙◌, subst, arith, inl, inr}
-use Rattle.std.specs.Prelude.{◌≢◌, is_some, slice_get}
-use Rattle.std.proofs.lemmas.Bool.{true≢false}
-use Rattle.tftp_wire.specs.declared.mode.Mode.{Mode}
-use Rattle.tftp_wire.specs.declared.packet.Packet.{Packet}
-use Rattle.tftp_wire.specs.declared.packet.Packet.TheVariants.{Ack, Oack, Write}
-use Rattle.tftp_wire.specs.Spelling.{Spells}
-use Rattle.tftp_negotiate.specs.Agreed.{agreed_options, size}
-use Rattle.tftp_negotiate.specs.Agreement.{agreement}
-use Rattle.tftp_negotiate.specs.declared.asked.Asked.{Asked}
+use Rattle.tftp_player.proofs.Common.{◌≡◌, ℕ, ◌+◌, ◌*◌, ◌<◌, ◌≤◌, Bool, true, List, [], ◌∷◌, length, drop, Some, not}
+use Rattle.tftp_player.proofs.Common.{false, Ok, Option, refl, sym, ap, ◌∙◌, subst, arith, inl, inr, rules, ◌≢◌}
+use Rattle.tftp_player.proofs.Common.{is_some, slice_get, Mode, Packet, Ack, Oack, Write, Spells, agreed_options, size}
+use Rattle.tftp_player.proofs.Common.{agreement, Asked, Known, DEFAULT_BLOCK, Fits, block_count, wire_text, Send, Phase}
+use Rattle.tftp_player.proofs.Common.{Receiving, Sending, Waiting, Terms, datagram_action, is_progress, is_sender}
+use Rattle.tftp_player.proofs.Common.{oack_bytes, ack_bytes, agreed_terms, begin_with_action, default_terms}
+use Rattle.tftp_player.proofs.Common.{writer_action, Takes, PhaseKept, request_port, two_hosts, Endpoint, OpenEnd}
+use Rattle.tftp_player.proofs.Common.{answer_granted, own_oack, spells_own, taken_oack, LossyRun, StoresTook, newest_of}
+use Rattle.tftp_player.proofs.Common.{writing_client, IsAccepted, write_adds, WorldState, WorldEnd, Open_end, datagram}
+use Rattle.tftp_player.proofs.Common.{Refines, WorldStep, Deliver, Put, Report}
 use Rattle.tftp_negotiate.specs.declared.known.Kind.TheVariants as kinds
-use Rattle.tftp_negotiate.specs.declared.known.Known.{Known}
-use Rattle.tftp_negotiate.specs.declared.limits.TheConstants.{DEFAULT_BLOCK}
-use Rattle.tftp_file.specs.Block.{Fits, block_count}
-use Rattle.tftp_file.specs.Netascii.{wire_text}
-use Rattle.tftp_ends.specs.declared.action.Action.TheVariants.{Send}
-use Rattle.tftp_ends.specs.declared.phase.Phase.{Phase}
-use Rattle.tftp_ends.specs.declared.phase.Phase.TheVariants.{Receiving, Sending, Waiting}
-use Rattle.tftp_ends.specs.declared.phase.Terms.{Terms}
-use Rattle.tftp_ends.specs.Action.{datagram_action}
-use Rattle.tftp_ends.specs.End.{is_progress, is_sender}
-use Rattle.tftp_ends.specs.Opening.{MayPut, oack_bytes, request_of}
-use Rattle.tftp_ends.specs.Step.{ack_bytes}
-use Rattle.tftp_ends.specs.Waiting.{agreed_terms, begin_with_action, default_terms, writer_action}
-use Rattle.tftp_server.specs.Port.{Takes}
-use Rattle.tftp_rules.specs.EndKept.{PhaseKept}
-use Rattle.tftp_rules.specs.Hosts.{request_port, two_hosts}
-use Rattle.tftp_rules.specs.Machine.{Endpoint}
-use Rattle.tftp_rules.specs.OpenEnds.{OpenEnd}
-use Rattle.tftp_rules.proofs.Granted.{answer_granted}
-use Rattle.tftp_rules.proofs.SaidLemmas.{own_oack, spells_own, taken_oack}
-use Rattle.tftp_player.specs.Lossy.{LossyRun, StoresTook, ServerCompletes, WritesDespiteLoss, newest_of}
-use Rattle.tftp_player.specs.Openings.{receiving_end, writing_client}
-use Rattle.tftp_player.specs.Requests.{Repeats}
-use Rattle.tftp_player.specs.Straight.{AcceptsWrite, IsAccepted, write_adds}
-use Rattle.tftp_player.specs.World.{WorldState, WorldEnd, Open_end, datagram}
-use Rattle.tftp_player.specs.WorldKept.{Refines}
-use Rattle.tftp_player.specs.WorldSteps.{WorldStep}
-use Rattle.tftp_player.specs.declared.event.Event.TheVariants.{Deliver, Put}
-use Rattle.tftp_player.specs.declared.report.Report.{Report}
+use Rattle.tftp_ends.specs.Opening.{MayPut, request_of}
+use Rattle.tftp_player.specs.Lossy.{ServerCompletes, WritesDespiteLoss}
+use Rattle.tftp_player.specs.Straight.{AcceptsWrite}
 use Rattle.tftp_player.proofs.FirstAnswers.{begins_with, writes_as}
 use Rattle.tftp_player.proofs.LossyCounts.{active, left_of}
 use Rattle.tftp_player.proofs.LossyExchange.{Begins, FirstMoves, IsOffered, due, top}
 use Rattle.tftp_player.proofs.LossyFirsts.{early_ours, first_pair, not_closed, takes_first}
 use Rattle.tftp_player.proofs.LossyOpenings.{Answered, Offer, Opens, answers_by, client}
-use Rattle.tftp_player.proofs.LossyPairs.{Meeting, Transfer, From_receiver, From_sender, IsOurs, Pair, blocks, ours_more}
-use Rattle.tftp_player.proofs.LossyPairs.{said_s}
-use Rattle.tftp_player.proofs.LossyPairs.{server, takes_at, text}
+use Rattle.tftp_player.proofs.LossyPairs.{Meeting, Transfer, From_receiver, From_sender, IsOurs, Pair, blocks}
+use Rattle.tftp_player.proofs.LossyPairs.{ours_more, said_s, server, takes_at, text}
 use Rattle.tftp_player.proofs.LossyReads.{server_at}
 use Rattle.tftp_player.proofs.LossyRuns.{Starts, run_claims}
 use Rattle.tftp_player.proofs.LossySteps.{data_sent, left}
-use Rattle.tftp_player.proofs.RepeatingLemmas.{receiver_repeats}
 use Rattle.tftp_player.proofs.StraightActions.{from_server}
 use Rattle.tftp_player.proofs.StraightOpenings.{any_of}
 use Rattle.tftp_player.proofs.StraightPort.{accepted_answers, has_asked}
@@ -148,16 +119,6 @@ module _ (old : WorldState) (name : List ℕ) (mode : Mode) (asked : Asked) (fil
   apart_now : k + 1 ≢ k
   apart_now e = omega (arith, e)
 
-  again_now : (w : WorldState) (c : OpenEnd) (agreed : List Known) → c.address ≡ sa →
-      c.state.position.last_sent ≡ request_now →
-      Repeats sa packet_now (Open_end (receiving_end w c.address c.state.position.last_sent mode path agreed))
-  again_now w c agreed address newest =
-      subst
-      (λ (a : Endpoint).
-      Repeats a packet_now (Open_end (receiving_end w c.address c.state.position.last_sent mode path agreed))) address
-      (receiver_repeats w c.address c.state.position.last_sent mode path agreed packet_now
-      (subst (λ (b : List ℕ). Spells packet_now b) (sym newest) spelled_request))
-
   -- the transfer, and how the server's end answers
   abbrev transfer : Meeting sa ra true → Transfer
   transfer met =
@@ -198,31 +159,7 @@ module _ (old : WorldState) (name : List ℕ) (mode : Mode) (asked : Asked) (fil
       IsAccepted begun c0 (Takes path mode agreed) → Starts (transfer met) (offer agreed terms answer) old begun c0
   starts begun report met agreed terms answer ok step accepted =
       let has = has_asked true old begun c0 (Put name mode asked file) report tt ok step step.2.is in
-      record {
-        has = has;
-        first = record {
-          is = record {
-            address = refl;
-            phase = refl;
-            newest = refl;
-            goes_to = refl;
-            sender = refl;
-            client_is = refl;
-            mode = refl;
-            retries = refl;
-            file = λ e. refl;
-            stored = refl;
-            held = refl;
-            refuses = refl;
-          };
-          left_is = refl;
-        };
-        accepted = accepted;
-        sent = refl;
-        index = refl;
-        files = has.files;
-        retries = ap (λ (u : WorldState). u.retries) step.2.is;
-      }
+      search rules
 
   -- ---- without options: ACK 0 answers
   abbrev plain_met : Meeting sa ra true
@@ -248,28 +185,7 @@ module _ (old : WorldState) (name : List ℕ) (mode : Mode) (asked : Asked) (fil
   plain_offer = offer [] (default_terms sa) (ack_bytes 0)
 
   plain_opens : Opens plain plain_offer
-  plain_opens w v report c files retries last address newest served = (
-    receiving_end w c.address c.state.position.last_sent mode path [],
-    served,
-    record {
-      is = record {
-        address = ap server_at last;
-        phase = ap (λ (a : Endpoint). Receiving (default_terms a) 0) address;
-        newest = refl;
-        goes_to = address;
-        sender = refl;
-        client_is = refl;
-        mode = refl;
-        retries = retries;
-        file = λ e. absurd (true≢false (sym e));
-        stored = refl;
-        held = refl;
-        refuses = refl;
-      };
-      left_is = retries;
-      again = again_now w c [] address newest;
-    },
-  )
+  plain_opens w v report c files retries last address newest served = search rules
 
   plain_offered : Fits (wire_text mode file) DEFAULT_BLOCK → IsOffered plain plain_offer
   plain_offered fits = record {
@@ -311,28 +227,7 @@ module _ (old : WorldState) (name : List ℕ) (mode : Mode) (asked : Asked) (fil
     options_offer = offer agreed (agreed_terms sa agreed) (oack_bytes agreed)
 
     options_open : Opens options options_offer
-    options_open w v report c files retries last address newest served = (
-      receiving_end w c.address c.state.position.last_sent mode path agreed,
-      served,
-      record {
-        is = record {
-          address = ap server_at last;
-          phase = ap (λ (a : Endpoint). Receiving (agreed_terms a agreed) 0) address;
-          newest = refl;
-          goes_to = address;
-          sender = refl;
-          client_is = refl;
-          mode = refl;
-          retries = retries;
-          file = λ e. absurd (true≢false (sym e));
-          stored = refl;
-          held = refl;
-          refuses = refl;
-        };
-        left_is = retries;
-        again = again_now w c agreed address newest;
-      },
-    )
+    options_open w v report c files retries last address newest served = search rules
 
     options_offered : Fits (wire_text mode file) (size taken) → IsOffered options options_offer
     options_offered fits = record {
@@ -375,9 +270,9 @@ write_by old begun new report name mode asked file [] lost c s made ok step h en
     let begins =
     starts old name mode asked file h.path step.1 begun report (plain_met old name mode asked file h.path step.1) []
     (default_terms client_now.address) (ack_bytes 0) ok step h.accepted in
-    write_claims old begun new client_now (plain old name mode asked file h.path step.1)
-    (plain_offer old name mode asked file h.path step.1) lost c s made (write_adds mode file []) begins
-    (plain_offered old name mode asked file h.path step.1 h.fits) enough refl (omega arith) (omega arith) run
+    write_claims old begun new client_now (plain old name mode asked file h.path step.1) (plain_offer old name mode
+    asked file h.path step.1) lost c s made (write_adds mode file []) begins (plain_offered old name mode asked file
+    h.path step.1 h.fits) enough refl (omega arith) (omega arith) run
 write_by old begun new report name mode asked file (known ∷ others) lost c s made ok step h enough run =
     let agreed = known ∷ others in
     let client_now = writing_client old name mode asked file in
@@ -385,24 +280,21 @@ write_by old begun new report name mode asked file (known ∷ others) lost c s m
     let answers = accepted_answers begun client_now (Takes h.path mode agreed) h.accepted in
     let agreeable = answered_values kinds.Write mode 0 begun.limits answers.0 agreed max answers.1 in
     let spelled : Spells (Oack (agreed_options agreed)) (oack_bytes agreed) =
-    spells_own (Oack (agreed_options agreed))
-    ((answer_granted answers.0 kinds.Write mode 0 begun.limits agreed (omega arith) max answers.1).oack (λ e. cc)) in
+    spells_own (Oack (agreed_options agreed)) ((answer_granted answers.0 kinds.Write mode 0 begun.limits agreed (omega
+    arith) max answers.1).oack (λ e. cc)) in
     let taken = h.answered.0 in
-    let same : size agreed ≡ size taken =
-    sym (own_oack agreed agreeable)
-    ∙ taken_oack asked kinds.Write mode (agreed_options agreed) old.limits.max_file taken h.answered.1 in
+    let same : size agreed ≡ size taken = search (rules, own_oack, taken_oack) in
     let t = options old name mode asked file h.path step.1 known others taken same h.answered.1 spelled in
     let begins =
-    starts old name mode asked file h.path step.1 begun report
-    (options_met old name mode asked file h.path step.1 known others taken same h.answered.1 spelled) agreed
-    (agreed_terms client_now.address agreed) (oack_bytes agreed) ok step h.accepted in
+    starts old name mode asked file h.path step.1 begun report (options_met old name mode asked file h.path step.1 known
+    others taken same h.answered.1 spelled) agreed (agreed_terms client_now.address agreed) (oack_bytes agreed) ok step
+    h.accepted in
     let same_blocks : write_adds mode file (known ∷ others) + 1 + 0 ≡ 2 * blocks t + 3 =
     (let e = ap (λ (n : ℕ). block_count (wire_text mode file) n) same in omega (arith, e)) in
-    write_claims old begun new client_now t
-    (options_offer old name mode asked file h.path step.1 known others taken same h.answered.1 spelled) lost c s made
-    (write_adds mode file agreed) begins
-    (options_offered old name mode asked file h.path step.1 known others taken same h.answered.1 spelled
-    (subst (λ (n : ℕ). Fits (wire_text mode file) n) same h.fits)) enough refl same_blocks (omega arith) run
+    write_claims old begun new client_now t (options_offer old name mode asked file h.path step.1 known others taken
+    same h.answered.1 spelled) lost c s made (write_adds mode file agreed) begins (options_offered old name mode asked
+    file h.path step.1 known others taken same h.answered.1 spelled (subst (λ (n : ℕ). Fits (wire_text mode file) n)
+    same h.fits)) enough refl same_blocks (omega arith) run
 
 -- every such put completes at its receiver
 pub writes_despite_loss : WritesDespiteLoss

@@ -1,12 +1,7 @@
 -- The measured length of a file is its length, if its blocks can be numbered. For ServerLemmas and WorldKeeps.
-use Rattle.std.proofs.Common.{◌≡◌, ◌+◌, ℕ, ◌*◌, ◌<◌, ◌≤◌, List, length, arith}
-use Rattle.std.specs.Prelude.{min}
+use Rattle.tftp_player.proofs.Common.{◌≡◌, ◌+◌, ℕ, ◌*◌, ◌<◌, ◌≤◌, List, length, arith, rules, min, MAX_BLOCK, Mode}
+use Rattle.tftp_player.proofs.Common.{Fits, wire_text, measured}
 use Rattle.tftp_file.specs.declared.length.TheConstants.{MAX_WIRE}
-use Rattle.tftp_wire.specs.declared.limits.TheConstants.{MAX_BLOCK}
-use Rattle.tftp_wire.specs.declared.mode.Mode.{Mode}
-use Rattle.tftp_file.specs.Block.{Fits}
-use Rattle.tftp_file.specs.Netascii.{wire_text}
-use Rattle.tftp_store.specs.Store.{measured}
 
 -- a length that was counted to the end is the whole
 counted_whole : (n size : ℕ) → size ≤ MAX_BLOCK → min n (MAX_WIRE + 1) < 65535 * size → min n (MAX_WIRE + 1) ≡ n
@@ -20,5 +15,4 @@ measured_whole mode file size small few = counted_whole (length (wire_text mode 
 -- a text of that measured length has no more blocks than can be numbered
 pub measured_fits : (mode : Mode) (file : List ℕ) (size : ℕ) → size ≤ MAX_BLOCK → measured mode file < 65535 * size →
     Fits (wire_text mode file) size
-measured_fits mode file size small few =
-    let whole = measured_whole mode file size small few in omega (arith, whole)
+measured_fits mode file size small few = search rules

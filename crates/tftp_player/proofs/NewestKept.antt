@@ -1,53 +1,19 @@
 -- What an open end sent last: a sender its newest block, or the OACK before its first.
 -- For RecoveringRuns.
-use Rattle.std.proofs.Common.{◌≡◌, ℕ, suc, zero, Bool, true, false, List, [], ◌∷◌, Option, Some, None, refl, sym, ap}
-use Rattle.std.proofs.Common.{◌∙◌, subst, inl, inr}
-use Rattle.std.specs.Prelude.{◌≢◌, ◌==◌, if◌then◌else◌, slice_get}
-use Rattle.std.proofs.lemmas.Bool.{true≢false}
-use Rattle.tftp_wire.specs.Spelling.{canonical}
-use Rattle.tftp_wire.specs.declared.mode.Mode.{Mode}
-use Rattle.tftp_wire.specs.declared.options.RawOption.{RawOption}
-use Rattle.tftp_wire.specs.declared.packet.Packet.{Packet}
-use Rattle.tftp_wire.specs.declared.packet.Packet.TheVariants.{Oack}
-use Rattle.tftp_negotiate.specs.Agreed.{agreed_options}
-use Rattle.tftp_negotiate.specs.declared.known.Known.{Known}
-use Rattle.tftp_file.specs.Memory.{memory_source}
-use Rattle.tftp_file.specs.declared.fault.StoreFault.{StoreFault}
-use Rattle.tftp_file.specs.declared.files.Files.{Files}
-use Rattle.tftp_file.specs.declared.files.Files.TheVariants.{Source, Sink}
-use Rattle.tftp_file.specs.Sink.{Holding}
-use Rattle.tftp_ends.specs.declared.action.Action.{Action}
-use Rattle.tftp_ends.specs.declared.action.Action.TheVariants.{Respond, Send, Store}
-use Rattle.tftp_ends.specs.declared.action.Response.{Response}
-use Rattle.tftp_ends.specs.declared.action.Response.TheVariants.{Ignore, WrongPeer, ResendReply, Retransmit, Wait}
-use Rattle.tftp_ends.specs.declared.action.Response.TheVariants.{Close, Refuse, Accept, Complete}
-use Rattle.tftp_ends.specs.declared.outcome.Outcome.{Outcome}
-use Rattle.tftp_ends.specs.declared.phase.Dally.TheVariants.{Fresh, Waited}
-use Rattle.tftp_ends.specs.declared.phase.Phase.{Phase}
-use Rattle.tftp_ends.specs.declared.phase.Phase.TheVariants.{Waiting, Sending, Receiving, Dallying, Closed}
-use Rattle.tftp_ends.specs.declared.phase.Terms.{Terms}
-use Rattle.tftp_ends.specs.End.{EndState, is_sender, is_client, terms_of, outcome_of, Position}
-use Rattle.tftp_ends.specs.Action.{datagram_action, timeout_response}
-use Rattle.tftp_ends.specs.Opening.{serving_read, serving_write}
-use Rattle.tftp_ends.specs.Phase.{waited}
-use Rattle.tftp_ends.specs.Step.{Turn, DatagramStep, response_turn, data_bytes, timeout_turn}
-use Rattle.tftp_rules.specs.Machine.{Endpoint}
-use Rattle.tftp_rules.specs.OpenEnds.{OpenEnd, end_after}
-use Rattle.tftp_rules.proofs.Indices.{slice_get-set_cases, slice_get-push_cases}
-use Rattle.tftp_server.specs.Port.{Service, Silent, Refused, Sends, Takes}
-use Rattle.tftp_player.specs.World.{WorldState, WorldEnd, Open_end, Closed_end, standing, by_outcome, StoredFile}
-use Rattle.tftp_player.specs.World.{new_world}
-use Rattle.tftp_player.specs.WorldRuns.{PlaysAll}
-use Rattle.tftp_player.specs.WorldSteps.{world_sink, WorldStep, ServiceStep, Delivery, At_request_port, At_open_end}
-use Rattle.tftp_player.specs.WorldSteps.{At_closed_end, At_nobody, OpeningStep, Stays, Turns, TimeoutStep, armed_end}
-use Rattle.tftp_player.specs.declared.event.Event.{Event}
-use Rattle.tftp_player.specs.declared.event.Event.TheVariants.{Get, Put, Deliver, Timeout, RefuseStore, Stray}
-use Rattle.tftp_player.specs.declared.report.Report.{Report}
-use Rattle.tftp_server.specs.declared.config.Config.{Config}
-use Rattle.tftp_rules.proofs.ActionCases.{MayTake, datagram_takes, Ignores, Resends, Completes, Stranger, Garbled}
-use Rattle.tftp_rules.proofs.ActionCases.{Hears, Refuses_answer, Refuses_peer, Accepts, Sends_block, Stores_block}
-use Rattle.tftp_rules.proofs.TurnCases.{TurnBy, Responds, Sends_data, Cannot_read, Has_stored, Has_all, Cannot_append}
-use Rattle.tftp_rules.proofs.TurnCases.{Cannot_commit, acts_by}
+use Rattle.tftp_player.proofs.Common.{◌≡◌, ℕ, suc, zero, Bool, true, false, List, [], ◌∷◌, Option, Some, None, refl}
+use Rattle.tftp_player.proofs.Common.{sym, subst, rules, ◌≢◌, if◌then◌else◌, slice_get, canonical, Mode, RawOption}
+use Rattle.tftp_player.proofs.Common.{Packet, Oack, agreed_options, Known, memory_source, StoreFault, Files, Source}
+use Rattle.tftp_player.proofs.Common.{Sink, Holding, Action, Respond, Send, Store, Response, Accept, Outcome, Phase}
+use Rattle.tftp_player.proofs.Common.{Waiting, Sending, Receiving, Dallying, Closed, Terms, EndState, is_sender}
+use Rattle.tftp_player.proofs.Common.{is_client, Position, datagram_action, serving_read, Turn, DatagramStep}
+use Rattle.tftp_player.proofs.Common.{response_turn, data_bytes, timeout_turn, Endpoint, OpenEnd, end_after}
+use Rattle.tftp_player.proofs.Common.{slice_get-set_cases, slice_get-push_cases, Service, Silent, Refused, Sends, Takes}
+use Rattle.tftp_player.proofs.Common.{WorldState, WorldEnd, Open_end, Closed_end, by_outcome, StoredFile, new_world}
+use Rattle.tftp_player.proofs.Common.{PlaysAll, world_sink, WorldStep, ServiceStep, Delivery, At_request_port}
+use Rattle.tftp_player.proofs.Common.{At_open_end, At_closed_end, At_nobody, OpeningStep, Stays, Turns, TimeoutStep}
+use Rattle.tftp_player.proofs.Common.{armed_end, Event, Get, Put, Deliver, Timeout, RefuseStore, Stray, Report, Config}
+use Rattle.tftp_player.proofs.Common.{MayTake, datagram_takes, TurnBy, Responds, Sends_data, Has_stored, acts_by}
+use Rattle.tftp_ends.specs.Opening.{serving_write}
 
 -- the newest datagram of a sender at this number
 abbrev pub IsNewest : List ℕ → ℕ → Type 0
@@ -77,79 +43,36 @@ Names (Respond response) = Says response
 Names (Send terms number) = number ≢ 0
 Names (Store terms number) = Unit {0}
 
-says_either : (b : Bool) (one two : Response) → Says one → Says two → Says (if b then one else two)
-says_either true one two h k = h
-says_either false one two h k = k
-
 names : (known : Option Terms) (from : Endpoint) (decoded : Option Packet) (wrong : Bool) (action : Action) →
     MayTake known from decoded wrong action → Names action
-names known from decoded wrong action Ignores = tt
-names known from decoded wrong action Resends = tt
-names known from decoded wrong action Completes = tt
-names known from decoded wrong action (Stranger is) = tt
-names known from decoded wrong action Garbled = tt
-names known from decoded wrong action (Hears code text right is) = tt
-names known from decoded wrong action (Refuses_answer reply outcome none blames) = tt
-names known from decoded wrong action (Refuses_peer terms reply outcome h blames) = tt
-names known from decoded wrong action (Accepts ks none) = refl
-names known from decoded wrong action (Sends_block terms n h positive) = positive
-names known from decoded wrong action (Stores_block terms n h) = tt
-
-timeout_says : (left : ℕ) (phase : Phase) → Says (timeout_response left phase)
-timeout_says left (Waiting asked limit) = says_either (left == 0) _ _ tt tt
-timeout_says left (Sending terms n) = says_either (left == 0) _ _ tt tt
-timeout_says left (Receiving terms n) = says_either (left == 0) _ _ tt tt
-timeout_says left (Dallying terms n Fresh) = tt
-timeout_says left (Dallying terms n Waited) = tt
-timeout_says left (Closed terms n complete outcome) = says_either (left == 0) _ _ tt tt
+names known from decoded wrong action h5 = search rules
 
 module _ (client : Bool) where
   -- ---- nor does a turn
   abbrev Has : Position → Type 0
   Has position = Newest client position.last_sent position.phase
 
-  waited_has : (sent : List ℕ) (phase : Phase) → Newest client sent phase → Newest client sent (waited phase)
-  waited_has sent (Waiting asked limit) h = h
-  waited_has sent (Sending terms n) h = h
-  waited_has sent (Receiving terms n) h = h
-  waited_has sent (Dallying terms n dally) h = h
-  waited_has sent (Closed terms n complete outcome) h = h
-
   response_has : (response : Response) (from : Endpoint) (e : EndState) → Says response → Has e.position →
       Has (response_turn response from e).position
-  response_has Ignore from e s h = h
-  response_has WrongPeer from e s h = h
-  response_has ResendReply from e s h = h
-  response_has Retransmit from e s h = h
-  response_has Wait from e s h = waited_has e.position.last_sent e.position.phase h
-  response_has (Close outcome) from e s h = tt
-  response_has (Refuse terms reply outcome) from e s h = tt
-  response_has (Accept terms) from e s h = λ _ _. s
-  response_has Complete from e s h = tt
+  response_has response from e s h = search rules
 
   timeout_has : (e : EndState) → Has e.position → Has (timeout_turn e).position
-  timeout_has e h =
-      response_has (timeout_response e.position.retries_left e.position.phase) e.position.last_sent_to e
-      (timeout_says e.position.retries_left e.position.phase) h
+  timeout_has e h = search rules
 
   turn_has : (from : Endpoint) (e : EndState) (action : Action) (turn : Turn) → Names action → Has e.position →
       TurnBy from e action turn → Has turn.position
   turn_has from e action turn s h (Responds response) = response_has response from e s h
   turn_has from e action turn s h (Sends_data terms n piece) = newest_data n piece s
-  turn_has from e action turn s h (Cannot_read terms n) = tt
   turn_has from e action turn s h (Has_stored terms n after positive) = λ z _. absurd (positive z)
-  turn_has from e action turn s h (Has_all terms n after) = tt
-  turn_has from e action turn s h (Cannot_append terms n) = tt
-  turn_has from e action turn s h (Cannot_commit terms n after fault) = tt
+  turn_has from e action turn s h h6 = tt
 
   module _ (refuses_commit : Holding → StoreFault → Type 0) (from : Endpoint) (bytes : List ℕ) (e : EndState) where
     step_has : (files files' : Files (List ℕ) Holding) (turn : Turn) → Has e.position →
         DatagramStep memory_source (world_sink refuses_commit) from bytes e files turn files' → Has turn.position
     step_has files files' turn h d =
         let action = datagram_action e from bytes d.decoded in
-        turn_has from e action turn
-        (names (terms_of e.position.phase) from d.decoded _ action (datagram_takes e from bytes d.decoded)) h
-        (acts_by memory_source (world_sink refuses_commit) from bytes e action files files' turn d.acts)
+        turn_has _ e _ _ (names _ _ _ _ _ (datagram_takes e from bytes d.decoded)) h (acts_by memory_source (world_sink
+        refuses_commit) from bytes e action files files' turn d.acts)
 
 -- ---- the ends of a world
 -- what an open end of a world sent last
@@ -179,22 +102,11 @@ turn_newest : (old new : WorldState) (k : ℕ) (x : OpenEnd) (turn : Turn) (held
     Newest (is_client x.state.role.side) turn.position.last_sent turn.position.phase →
     Turns old k x turn held report new → AllNewest new
 turn_newest old new k x turn held report h n t j z i =
-    let y = end_after x turn held in
-    elim
-    (slice_get-set_cases old.ends k j (standing y) z (sym (ap (λ (w : WorldState). slice_get w.ends j) t.is) ∙ i)) [
-      | inl e ↦
-          subst EndNewest (sym e.1) (outcome_newest (outcome_of y.state.position.phase) y (after_newest x turn held n))
-      | inr e ↦ h j z e.1
-    ]
+    search (rules, slice_get-set_cases, outcome_newest, after_newest)
 
 opening_newest : (old new : WorldState) (x : OpenEnd) (report : Report) → AllNewest old → EndNewest (Open_end x) →
     OpeningStep old x report new → AllNewest new
-opening_newest old new x report h n o j z i =
-    elim
-    (slice_get-push_cases old.ends j (Open_end x) z (sym (ap (λ (w : WorldState). slice_get w.ends j) o.is) ∙ i)) [
-      | inl e ↦ h j z e
-      | inr e ↦ subst EndNewest (sym e.1) n
-    ]
+opening_newest old new x report h n o j z i = search (rules, slice_get-push_cases)
 
 read_newest : (agreed : List Known) (peer : Endpoint) (mode : Mode) (count retries : ℕ) (piece : List ℕ) →
     let e = serving_read agreed peer mode count retries piece in
@@ -205,8 +117,7 @@ read_newest (known ∷ others) peer mode count retries piece = (agreed_options (
 write_newest : (agreed : List Known) (peer : Endpoint) (mode : Mode) (retries : ℕ) →
     let e = serving_write agreed peer mode retries in
     Newest (is_client e.role.side) e.position.last_sent e.position.phase
-write_newest [] peer mode retries = λ z c. absurd (true≢false (sym c))
-write_newest (known ∷ others) peer mode retries = λ z c. absurd (true≢false (sym c))
+write_newest agreed peer mode retries = search rules
 
 service_newest : (service : Service) (old new : WorldState) (from : Endpoint) (bytes : List ℕ) (report : Report) →
     AllNewest old → ServiceStep service old from bytes report new → AllNewest new
@@ -250,13 +161,7 @@ step_newest old new (Get name mode asked) report h s = opening_newest old new _ 
 step_newest old new (Put name mode asked bytes) report h s = opening_newest old new _ report h tt s.2
 step_newest old new (Deliver i) report h s = arrives_newest old new _ _ _ report h s.2
 step_newest old new (Timeout port) report h s = timeout_newest old new s.0 s.1 report h s.2.there s.3
-step_newest old new (RefuseStore port) report h s = λ j z i.
-    elim
-    (slice_get-set_cases old.ends s.0 j (armed_end s.1) z
-    (sym (ap (λ (w : WorldState). slice_get w.ends j) s.4) ∙ i)) [
-      | inl e ↦ subst EndNewest (sym e.1) (armed_newest s.1 (h s.0 s.1 s.2.there))
-      | inr e ↦ h j z e.1
-    ]
+step_newest old new (RefuseStore port) report h s = search (rules, slice_get-set_cases, armed_newest)
 step_newest old new (Stray from to bytes) report h s = arrives_newest old new _ _ _ report h s.1
 
 -- so it is after all events

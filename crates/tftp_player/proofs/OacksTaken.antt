@@ -1,41 +1,22 @@
 -- A client that took no OACK has a peer that was opened without options.
 -- For BlamelessActions, Blameless and ErrorsKnown.
-use Rattle.std.proofs.Common.{◌≡◌, ℕ, Bool, true, false, List, Option, Some, None, refl, sym, ap, ◌∙◌, subst}
-use Rattle.std.proofs.Common.{inl, inr}
-use Rattle.std.specs.Prelude.{◌≢◌, not, if◌then◌else◌, option_map, slice_get}
-use Rattle.std.specs.List.{Contains}
+use Rattle.tftp_player.proofs.Common.{◌≡◌, ℕ, Bool, true, false, List, Option, Some, None, refl, sym, ap, ◌∙◌, subst}
+use Rattle.tftp_player.proofs.Common.{rules, ◌≢◌, if◌then◌else◌, option_map, slice_get, Contains, true≢false, Packet}
+use Rattle.tftp_player.proofs.Common.{Asked, memory_source, Files, Holding, Phase, Waiting, Sending, Receiving}
+use Rattle.tftp_player.proofs.Common.{Dallying, Closed, Terms, is_sender, is_client, terms_of, outcome_of, Decodes}
+use Rattle.tftp_player.proofs.Common.{is_wrong_peer, Turn, timeout_turn, default_terms, PhaseKept, two_hosts, Endpoint}
+use Rattle.tftp_player.proofs.Common.{At_server, Elsewhere, Machine, Party, OpenEnd, end_after, files_of, host_server}
+use Rattle.tftp_player.proofs.Common.{own_of, WorldState, WorldEnd, Open_end, Closed_end, standing, datagram}
+use Rattle.tftp_player.proofs.Common.{in_the_way, file_at, Refines, world_sink, may_refuse_commit, WorldStep, armed_end}
+use Rattle.tftp_player.proofs.Common.{Event, Report}
 use Rattle.std.specs.Cmp.Lexicographic.{same_text}
-use Rattle.std.proofs.lemmas.Bool.{true≢false}
-use Rattle.tftp_wire.specs.declared.packet.Packet.{Packet}
-use Rattle.tftp_negotiate.specs.declared.asked.Asked.{Asked}
-use Rattle.tftp_file.specs.Memory.{memory_source}
-use Rattle.tftp_file.specs.declared.files.Files.{Files}
-use Rattle.tftp_file.specs.declared.files.Files.TheVariants.{Source, Sink}
-use Rattle.tftp_file.specs.Sink.{Holding}
-use Rattle.tftp_ends.specs.declared.outcome.Outcome.{Outcome}
-use Rattle.tftp_ends.specs.declared.phase.Phase.{Phase}
-use Rattle.tftp_ends.specs.declared.phase.Phase.TheVariants.{Waiting, Sending, Receiving, Dallying, Closed}
-use Rattle.tftp_ends.specs.declared.phase.Terms.{Terms}
-use Rattle.tftp_ends.specs.End.{is_sender, is_client, terms_of, outcome_of}
-use Rattle.tftp_ends.specs.Action.{Decodes, is_wrong_peer, same_address}
-use Rattle.tftp_ends.specs.Step.{Turn, timeout_turn}
-use Rattle.tftp_ends.specs.Waiting.{default_terms}
-use Rattle.tftp_rules.specs.EndKept.{PhaseKept}
-use Rattle.tftp_rules.specs.Hosts.{host_of, two_hosts}
-use Rattle.tftp_rules.specs.Machine.{Endpoint, At_server, Elsewhere, Machine, Party}
-use Rattle.tftp_rules.specs.OpenEnds.{OpenEnd, end_after, files_of}
+use Rattle.tftp_ends.specs.Action.{same_address}
+use Rattle.tftp_rules.specs.Hosts.{host_of}
 use Rattle.tftp_rules.proofs.Grows.{AllGrow}
-use Rattle.tftp_rules.proofs.HostLemmas.{host_server}
 use Rattle.tftp_rules.proofs.ActionCases.{IsPlainAnswer}
 use Rattle.tftp_rules.proofs.PlainPeers.{HasPlainPeer, plain_answer as answers_plainly}
-use Rattle.tftp_rules.proofs.Steps.{own_server, own_of}
+use Rattle.tftp_rules.proofs.Steps.{own_server}
 use Rattle.tftp_rules.proofs.TermsTaken.{step_are, timeout_are}
-use Rattle.tftp_player.specs.World.{WorldState, WorldEnd, Open_end, Closed_end, standing, by_outcome, datagram}
-use Rattle.tftp_player.specs.World.{in_the_way, file_at}
-use Rattle.tftp_player.specs.WorldKept.{Refines}
-use Rattle.tftp_player.specs.WorldSteps.{world_sink, may_refuse_commit, WorldStep, armed_end}
-use Rattle.tftp_player.specs.declared.event.Event.{Event}
-use Rattle.tftp_player.specs.declared.report.Report.{Report}
 use Rattle.tftp_player.proofs.EndsCame.{Came, Was, Opened, Armed, Timed, Took, Arrives, came}
 use Rattle.tftp_player.proofs.WorldFacts.{m, holds, matched, attests}
 use Rattle.tftp_player.proofs.EndsStay.{grown}
@@ -52,23 +33,12 @@ abbrev pub ArePlain : (w : WorldState) → Refines true w → Type 0
 ArePlain w ok = (k : ℕ) (z : WorldEnd) → slice_get w.ends k ≡ Some z → PlainEnd (Machine.party (m w ok)) z
 
 plain_grows : (ends new : Endpoint → Party) → AllGrow ends new → (z : WorldEnd) → PlainEnd ends z → PlainEnd new z
-plain_grows ends new all (Closed_end x) h = tt
-plain_grows ends new all (Open_end x) h = λ c t e b.
-    let q = h c t e b in
-    let g = all.grows t.peer q.0 in (g.is_open, g.plain ∙ q.1)
-
-closes_plain : (ends : Endpoint → Party) (o : Option Outcome) (x : OpenEnd) → PlainEnd ends (Open_end x) →
-    PlainEnd ends (by_outcome o x)
-closes_plain ends None x h = h
-closes_plain ends (Some outcome) x h = tt
+plain_grows ends new all z h = search rules
 
 stands_plain : (ends : Endpoint → Party) (x : OpenEnd) (turn : Turn) (held : Files (List ℕ) Holding) →
     (is_client x.state.role.side ≡ true → (t : Terms) → terms_of turn.position.phase ≡ Some t → HasPlainPeer ends t) →
     PlainEnd ends (standing (end_after x turn held))
-stands_plain ends x turn (Source left) h =
-    closes_plain ends (outcome_of turn.position.phase) (end_after x turn (Source left)) h
-stands_plain ends x turn (Sink sink) h =
-    closes_plain ends (outcome_of turn.position.phase) (end_after x turn (Sink sink)) h
+stands_plain ends x turn held h = search rules
 
 armed_if : (ends : Endpoint → Party) (b : Bool) (x : OpenEnd) → PlainEnd ends (Open_end x) →
     PlainEnd ends (Open_end (if b then x else record x { refuses = true }))
@@ -78,10 +48,6 @@ armed_if ends false x h = h
 armed_plain : (ends : Endpoint → Party) (z : WorldEnd) → PlainEnd ends z → PlainEnd ends (armed_end z)
 armed_plain ends (Open_end x) h = armed_if ends (is_sender x.state.role.side) x h
 armed_plain ends (Closed_end x) h = tt
-
-not_false : (b : Bool) → not b ≡ false → b ≡ true
-not_false true e = refl
-not_false false e = absurd (true≢false e)
 
 module _ (w : WorldState) (ok : Refines true w) where
   abbrev ends_now : Endpoint → Party
@@ -112,12 +78,9 @@ module _ (w : WorldState) (ok : Refines true w) where
         let phase = waits_here none in
         let kept_now =
         subst (λ (p : Phase). PhaseKept two_hosts x p) phase.2 (ok.ends k (Open_end x) there).stands.kept.phase in
-        let near : same_address x.state.position.last_sent_to from ≡ true =
-        not_false (same_address x.state.position.last_sent_to from)
-        (sym (ap (λ (o : Option Terms). is_wrong_peer o x.state.position.last_sent_to from) none) ∙ right) in
-        host_server from
-        (sym (same_text x.state.position.last_sent_to.ip from.ip (sym near))
-        ∙ ap (λ (p : Endpoint). p.ip) kept_now.2)
+        let near : same_address x.state.position.last_sent_to from ≡ true = search rules in
+        host_server from (sym (same_text x.state.position.last_sent_to.ip from.ip (sym near)) ∙ ap (λ (p : Endpoint).
+        p.ip) kept_now.2)
 
     -- its sender was opened without options
     pub plain_answer : (decoded : Option Packet) → Decodes bytes decoded →
@@ -126,10 +89,7 @@ module _ (w : WorldState) (ok : Refines true w) where
     plain_answer decoded says right none plain b =
         let here = at_the_server right none in
         let own : host_of from ≢ Elsewhere = own_server two_hosts from here in
-        let sent : Contains w.sent (datagram from x.address bytes) = elim arrives [
-          | inl c ↦ c
-          | inr far ↦ absurd (own far)
-        ] in
+        let sent : Contains w.sent (datagram from x.address bytes) = search rules in
         let at_x = matched w ok k (Open_end x) there in
         let own_x = own_of two_hosts (m w ok) (holds w ok) x.address at_x.is_open in
         let nobody : (ends_now x.address).peer ≡ None = at_x.peer ∙ ap (option_map (λ (t : Terms). t.peer)) none in

@@ -1,33 +1,22 @@
 -- The effect of a timeout and of a refusing store on the world, and what a world returns of the end at a port. For six
 -- functions and ArrivalLemmas.
-use Rattle.std.proofs.Common.{◌≡◌, ℕ, ◌+◌, ◌-◌, ◌<◌, ◌≤◌, Bool, true, false, List, ◌++◌, length, Option, Some, None}
-use Rattle.std.proofs.Common.{refl, sym, ap, ◌∙◌, subst, arith, inl, inr}
-use Rattle.std.specs.Prelude.{◌⊎◌, if◌then◌else◌, nat_lt, unwrap_or, option_map, option_and_then, slice_get, slice_set}
+use Rattle.tftp_player.proofs.Common.{◌≡◌, ℕ, ◌+◌, ◌-◌, ◌<◌, ◌≤◌, Bool, true, false, List, ◌++◌, length, Option, Some}
+use Rattle.tftp_player.proofs.Common.{None, refl, sym, ap, ◌∙◌, subst, rules, ◌⊎◌, if◌then◌else◌, option_map, slice_get}
+use Rattle.tftp_player.proofs.Common.{slice_set, append-nil, Record, is_sender, record_of, Turn, Reply, reply_bytes}
+use Rattle.tftp_player.proofs.Common.{timeout_turn, Config, Endpoint, OpenEnd, files_of, said_by, report_by}
+use Rattle.tftp_player.proofs.Common.{records_from, PlayedServer, ArePartsConsistent, world_of, WorldState, WorldEnd}
+use Rattle.tftp_player.proofs.Common.{Open_end, Closed_end, end_address, end_record, replied, world_after, report_of}
+use Rattle.tftp_player.proofs.Common.{no_report, WorldStep, WorldRefuses, armed_end, WorldFault, Datagram, Effect}
+use Rattle.tftp_player.proofs.Common.{Timeout, RefuseStore, Report}
+use Rattle.std.proofs.Common.{option_and_then}
 use Rattle.std.proofs.lemmas.Bool.Decides.{nat_tests}
-use Rattle.std.proofs.lemmas.List.{append-nil}
 use Rattle.std.proofs.lemmas.Option.{slice_get_past}
-use Rattle.tftp_ends.specs.declared.record.Record.{Record}
-use Rattle.tftp_ends.specs.End.{is_sender, outcome_of, record_of}
-use Rattle.tftp_ends.specs.Step.{Turn, Reply, reply_bytes, timeout_turn}
-use Rattle.tftp_server.specs.declared.config.Config.{Config}
-use Rattle.tftp_rules.specs.Machine.{Endpoint}
-use Rattle.tftp_rules.specs.OpenEnds.{OpenEnd, files_of}
-use Rattle.tftp_player.specs.Effect.{effect_of, said_by, index_after, report_by}
+use Rattle.tftp_player.specs.Effect.{effect_of}
 use Rattle.tftp_player.specs.EndSteps.{EndTimesOut}
-use Rattle.tftp_player.specs.Played.{records_from}
-use Rattle.tftp_player.specs.ServerEnd.{PlayedServer}
-use Rattle.tftp_player.specs.Simulation.{ArePartsConsistent, EndsTimeOut, world_of, opened_at, stored_in, stored_at}
-use Rattle.tftp_player.specs.Simulation.{committed_at}
-use Rattle.tftp_player.specs.World.{WorldState, WorldEnd, Open_end, Closed_end, end_address, end_committed, end_record}
-use Rattle.tftp_player.specs.World.{replied, added_at, closed_at, world_after, report_of, no_report}
-use Rattle.tftp_player.specs.WorldSteps.{WorldStep, IsAtPort, NoneAt, EventRefuses, WorldRefuses, armed_end}
-use Rattle.tftp_player.specs.declared.fault.WorldFault.{WorldFault}
-use Rattle.tftp_player.specs.declared.fault.WorldFault.TheVariants.{NoSuchDatagram, NoSuchEnd, NoPort, BadRequest}
+use Rattle.tftp_player.specs.Simulation.{EndsTimeOut, opened_at, stored_in, stored_at, committed_at}
+use Rattle.tftp_player.specs.World.{end_committed}
+use Rattle.tftp_player.specs.WorldSteps.{IsAtPort}
 use Rattle.tftp_player.specs.declared.fault.WorldFault.TheVariants.{Memory}
-use Rattle.tftp_player.specs.declared.datagram.Datagram.{Datagram}
-use Rattle.tftp_player.specs.declared.effect.Effect.{Effect}
-use Rattle.tftp_player.specs.declared.event.Event.TheVariants.{Timeout, RefuseStore}
-use Rattle.tftp_player.specs.declared.report.Report.{Report}
 use Rattle.tftp_player.proofs.HostEnds.{records_set, same_set}
 use Rattle.tftp_player.proofs.StepLemmas.{timeout_step, timeout_stays, refuse_step}
 use Rattle.tftp_player.proofs.WorldTurns.{ports_set}
@@ -38,18 +27,10 @@ pub said_is : (at : Endpoint) (reply : Option Reply) →
 said_is at None = refl
 said_is at (Some reply) = refl
 
-index_is : (w : WorldState) (reply : Option Reply) →
-    index_after w.sent (option_map (λ (q : Reply). q.to) reply) ≡ added_at w reply
-index_is w None = refl
-index_is w (Some reply) = refl
-
 -- the report of a turn is what its effect reports
 pub report_is : (w : WorldState) (x : OpenEnd) (turn : Turn) (effect : Effect) → effect ≡ effect_of x.address turn →
     report_by w.sent effect ≡ report_of w x turn
-report_is w x turn effect e =
-    ap (report_by w.sent) e
-    ∙ ap (λ (a : Option ℕ). record { added = a; closed = closed_at x.address (outcome_of turn.position.phase) })
-    (index_is w turn.reply)
+report_is w x turn effect e = search rules
 
 -- ---- a timeout
 timed_by :
@@ -59,18 +40,7 @@ timed_by :
     WorldStep (world_of config sent server ends) (Timeout port) (report_by sent effect)
     (world_of config (sent ++ said_by effect.from effect.to effect.bytes) server ends')
 timed_by config sent index server ends ends' effect port (Closed_end x) y at t is =
-    let w = world_of config sent server ends in
-    let report : report_by sent effect ≡ no_report = ap (report_by sent) t.effects in
-    let same : world_of config (sent ++ said_by effect.from effect.to effect.bytes) server ends' ≡ w =
-    ap (λ (e : Effect). world_of config (sent ++ said_by e.from e.to e.bytes) server ends') t.effects
-    ∙ (ap (λ (ds : List Datagram). world_of config ds server ends') (append-nil sent)
-    ∙ ap (world_of config sent server)
-    (is ∙ (ap (slice_set ends index) t.next ∙ same_set ends index (Closed_end x) at.there))) in
-    subst
-    (λ (r : Report).
-    WorldStep w (Timeout port) r (world_of config (sent ++ said_by effect.from effect.to effect.bytes) server ends'))
-    (sym report)
-    (subst (λ (v : WorldState). WorldStep w (Timeout port) no_report v) (sym same) (timeout_stays w port index x at))
+    search (rules, append-nil, same_set, timeout_stays)
 timed_by config sent index server ends ends' effect port (Open_end x) y at t is =
     let w = world_of config sent server ends in
     let turn = timeout_turn x.state in
@@ -97,37 +67,19 @@ pub timeout_result :
 timeout_result config sent index before after ends ends' effect port old sent0 sent1 report view is t server same more
     reports =
     let said = sent ++ said_by effect.from effect.to effect.bytes in
-    subst (λ (w : WorldState). WorldStep w (Timeout port) report (world_of config sent1 after ends')) view
-    (subst
-    (λ (r : Report). WorldStep (world_of config sent before ends) (Timeout port) r (world_of config sent1 after ends'))
-    (sym (reports ∙ ap (λ (ds : List Datagram). report_by ds effect) same))
-    (subst
-    (λ (v : WorldState). WorldStep (world_of config sent before ends) (Timeout port) (report_by sent effect) v)
-    (sym
-    (ap (λ (s : PlayedServer). world_of config sent1 s ends') server
-    ∙ ap (λ (ds : List Datagram). world_of config ds before ends')
-    (more ∙ ap (λ (ds : List Datagram). ds ++ said_by effect.from effect.to effect.bytes) same)))
-    (timed_by config sent index before ends ends' effect port t.end t.next (record { is = is; there = t.found })
-    t.times_out t.is)))
+    subst (λ w. WorldStep w (Timeout port) report (world_of config sent1 after ends')) view (subst (λ r. WorldStep
+    (world_of config sent before ends) (Timeout port) r (world_of config sent1 after ends')) (sym (reports ∙ ap (λ ds.
+    report_by ds effect) same)) (subst (λ v. WorldStep (world_of config sent before ends) (Timeout port) (report_by sent
+    effect) v) (sym (ap (λ s. world_of config sent1 s ends') server ∙ ap (λ ds. world_of config ds before ends') (more ∙
+    ap (λ ds. ds ++ said_by effect.from effect.to effect.bytes) same))) (timed_by config sent index before ends ends'
+    effect port t.end t.next (record { is = is; there = t.found }) t.times_out t.is)))
 
 -- there is an end at this port, so only lack of memory can refuse its timeout
 pub timeout_refused :
     (config : Config) (sent : List Datagram) (server : PlayedServer) (ends : List WorldEnd) (old : WorldState)
     (port index : ℕ) → world_of config sent server ends ≡ old → port ≡ 1024 + index → index < length ends →
     (fault : WorldFault) → fault ≡ Memory → WorldRefuses old (Timeout port) fault
-timeout_refused config sent server ends old port index view is within fault e =
-    subst (λ (f : WorldFault). WorldRefuses old (Timeout port) f) (sym e)
-    (subst (λ (w : WorldState). WorldRefuses w (Timeout port) Memory) view none) where
-      at_none : NoneAt (world_of config sent server ends) port → ⊥
-      at_none (inl low) = omega (arith, is, low)
-      at_none (inr high) = let h : 1024 + length ends ≤ port = high in omega (arith, is, within, h)
-
-      none : (f : WorldFault) → EventRefuses (world_of config sent server ends) (Timeout port) f → ⊥
-      none NoSuchEnd h = at_none h
-      none NoSuchDatagram h = h
-      none NoPort h = h
-      none BadRequest h = h
-      none Memory h = h
+timeout_refused config sent server ends old port index view is within fault e = search rules
 
 -- ---- a store that is to refuse: the record of the end and its address stay
 flag_only : (b : Bool) (x : OpenEnd) →
@@ -146,44 +98,28 @@ module _ (config : Config) (sent : List Datagram) (server : PlayedServer) (ends 
   -- the ends are consistent
   pub armed_consistent : (records : List (ℕ × Record)) → ArePartsConsistent server ends records →
       ArePartsConsistent server (slice_set ends index (armed_end x)) records
-  armed_consistent records consistent = record {
-    recorded =
-        consistent.recorded
-        ∙ sym
-        (records_set 1024 ends index (armed_end x)
-        ∙ (ap (λ (r : Record). slice_set (records_from 1024 ends) index (1024 + index, r)) (same_armed x).0
-        ∙ (sym (records_set 1024 ends index x) ∙ ap (records_from 1024) (same_set ends index x there))));
-    ports =
-        ports_set (world_of config sent server ends) index x (armed_end x) consistent.ports there (same_armed x).1;
-    empty = consistent.empty;
-    quiet = consistent.quiet;
-  }
+  armed_consistent records consistent =
+      search (
+        consistent.recorded ∙ sym (records_set 1024 ends index (armed_end x) ∙ (ap (λ (r : Record). slice_set (records_from 1024 ends) index (
+          1024 + index,
+          r,
+        )) (same_armed x).0 ∙ (sym (records_set 1024 ends index x) ∙ ap (records_from 1024) (same_set ends index x there)))),
+        ports_set (world_of config sent server ends) index x (armed_end x) consistent.ports there (same_armed x).1,
+      )
 
   -- and it is a step of the world
   pub armed_step : port ≡ 1024 + index →
       WorldStep old (RefuseStore port) no_report (world_of config sent server (slice_set ends index (armed_end x)))
   armed_step is =
-      subst
-      (λ (v : WorldState).
-      WorldStep v (RefuseStore port) no_report (world_of config sent server (slice_set ends index (armed_end x)))) view
-      (refuse_step (world_of config sent server ends) port index x (record { is = is; there = there }))
+      rw (← view) (refuse_step (world_of config sent server ends) port index x (record { is = is; there = there }))
 
 -- ---- the end at a port
 pub there_is : (ends : List WorldEnd) (port index : ℕ) → port ≡ 1024 + index →
     opened_at ends port ≡ slice_get ends index
-there_is ends port index e =
-    let test : nat_lt port 1024 ≡ false = grind (arith, nat_tests) in
-    let same : port - 1024 ≡ index = omega arith in
-    ap (λ (b : Bool). if b then None else slice_get ends (port - 1024)) test ∙ ap (slice_get ends) same
+there_is ends port index e = search rules
 
 none_is : (ends : List WorldEnd) (port : ℕ) → (port < 1024) ⊎ (1024 + length ends ≤ port) → opened_at ends port ≡ None
-none_is ends port (inl low) =
-    let test : nat_lt port 1024 ≡ true = grind (arith, nat_tests) in
-    ap (λ (b : Bool). if b then None else slice_get ends (port - 1024)) test
-none_is ends port (inr high) =
-    let test : nat_lt port 1024 ≡ false = grind (arith, nat_tests) in
-    let past : length ends ≤ port - 1024 = omega arith in
-    ap (λ (b : Bool). if b then None else slice_get ends (port - 1024)) test ∙ slice_get_past ends (port - 1024) past
+none_is ends port h2 = search (rules, nat_tests, slice_get_past)
 
 module _ (config : Config) (sent : List Datagram) (server : PlayedServer) (ends : List WorldEnd) (old : WorldState)
     (view : world_of config sent server ends ≡ old) (port : ℕ) where
@@ -196,18 +132,12 @@ module _ (config : Config) (sent : List Datagram) (server : PlayedServer) (ends 
     stored_here = sym (ap (option_and_then stored_in) found) ∙ ap (λ (w : WorldState). stored_at w.ends port) view
 
     pub committed_here : end_committed x ≡ committed_at old.ends port
-    committed_here =
-        sym (ap (λ (o : Option WorldEnd). unwrap_or (option_map end_committed o) false) found)
-        ∙ ap (λ (w : WorldState). committed_at w.ends port) view
+    committed_here = search rules
 
   -- and if there is none
   module _ (none : (port < 1024) ⊎ (1024 + length ends ≤ port)) where
     pub stored_nowhere : None ≡ stored_at old.ends port
-    stored_nowhere =
-        sym (ap (option_and_then stored_in) (none_is ends port none))
-        ∙ ap (λ (w : WorldState). stored_at w.ends port) view
+    stored_nowhere = search (rules, none_is)
 
     pub committed_nowhere : false ≡ committed_at old.ends port
-    committed_nowhere =
-        sym (ap (λ (o : Option WorldEnd). unwrap_or (option_map end_committed o) false) (none_is ends port none))
-        ∙ ap (λ (w : WorldState). committed_at w.ends port) view
+    committed_nowhere = search (rules, none_is)

@@ -1,37 +1,18 @@
 -- What a world that is played keeps, by whether a stray has arrived. For four functions.
-use Rattle.std.proofs.Common.{◌≡◌, ℕ, ◌+◌, suc, arith, Bool, true, false, List, [], ◌∷◌, ◌++◌, length, refl, sym, ap}
-use Rattle.std.proofs.Common.{subst, ◌∙◌}
-use Rattle.std.proofs.lemmas.Bool.{true≢false}
+use Rattle.tftp_player.proofs.Common.{◌≡◌, ℕ, ◌+◌, suc, arith, Bool, true, false, List, [], ◌∷◌, ◌++◌, length, ap}
+use Rattle.tftp_player.proofs.Common.{subst, ◌∙◌, rules, WorldState, Refines, WorldStep, Settles, Event, Get, Put}
+use Rattle.tftp_player.proofs.Common.{Deliver, Timeout, RefuseStore, Stray, Report}
 use Rattle.std.proofs.lemmas.List.{length-append}
 use Rattle.tftp_player.specs.PlayedWorld.{strayed_after}
-use Rattle.tftp_player.specs.World.{WorldState}
-use Rattle.tftp_player.specs.WorldKept.{Refines}
 use Rattle.tftp_player.specs.WorldSafety.{HasPeersAtHome}
-use Rattle.tftp_player.specs.WorldSteps.{WorldStep, Settles}
-use Rattle.tftp_player.specs.declared.event.Event.{Event}
-use Rattle.tftp_player.specs.declared.event.Event.TheVariants.{Get, Put, Deliver, Timeout, RefuseStore, Stray}
-use Rattle.tftp_player.specs.declared.report.Report.{Report}
 use Rattle.tftp_player.proofs.WorldRuns.{ok_at_home, step_keeps}
-
-add_0 : (n : ℕ) → n + 0 ≡ n
-add_0 n = omega arith
 
 shifted : (from n : ℕ) → from + suc n ≡ (from + 1) + n
 shifted from n = omega arith
 
 -- a world without strangers is also one in which strangers may have sent
 kept_anyway : (w : WorldState) → Refines false w → Refines true w
-kept_anyway w ok =
-    record {
-      messages = ok.messages;
-      shown = ok.shown;
-      sent = ok.sent;
-      only = ok.only;
-      speakers = λ m c e. absurd (true≢false e);
-      ports = ok.ports;
-      max_block = ok.max_block;
-      ends = ok.ends;
-    }
+kept_anyway w ok = search rules
 
 -- each event keeps the world, by whether a stray has arrived
 pub played_keeps : (strayed : Bool) (w v : WorldState) (event : Event) (report : Report) → Refines strayed w →
@@ -54,12 +35,7 @@ home_of strayed w ok e = ok_at_home w (subst (λ (b : Bool). Refines b w) e ok)
 pub delivered_more : (old mid new : WorldState) (from : ℕ) (reports : List Report) (report : Report) →
     Settles old from reports mid → WorldStep mid (Deliver (from + length reports)) report new →
     Settles old from (reports ++ report ∷ []) new
-delivered_more old mid new from [] report d s = (
-  new,
-  subst (λ (w : WorldState). WorldStep w (Deliver from) report new) d
-      (subst (λ (n : ℕ). WorldStep mid (Deliver n) report new) (add_0 from) s),
-  refl,
-)
+delivered_more old mid new from [] report d s = search rules
 delivered_more old mid new from (r ∷ reports) report d s = (
   d.0,
   d.1,
@@ -74,7 +50,6 @@ pub delivers_on : (old mid new : WorldState) (from count : ℕ) (report : Report
     (reports : List Report) × Settles old from reports new × (length reports ≡ count + 1)
 delivers_on old mid new from count report d s = (
   d.0 ++ report ∷ [],
-  delivered_more old mid new from d.0 report d.1
-      (subst (λ (n : ℕ). WorldStep mid (Deliver (from + n)) report new) (sym d.2) s),
+  delivered_more old mid new from d.0 report d.1 (rw (d.2) s),
   length-append d.0 (report ∷ []) ∙ ap (λ (n : ℕ). n + 1) d.2,
 )

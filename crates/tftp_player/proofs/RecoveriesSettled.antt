@@ -1,27 +1,19 @@
 -- `settle` makes as many deliveries as a recovery needs, if its limit is not below.
 -- For the law a_recovery_settles.
-use Rattle.std.proofs.Common.{ℕ, ◌+◌, ◌*◌, ◌<◌, ◌≤◌, length, inl, inr, arith, ◌∙◌}
-use Rattle.tftp_negotiate.specs.declared.asked.Asked.{Asked}
-use Rattle.tftp_file.specs.Block.{block_count}
-use Rattle.tftp_server.specs.Port.{Service, Sends, Takes}
-use Rattle.tftp_rules.specs.OpenEnds.{OpenEnd}
-use Rattle.tftp_player.specs.Recovering.{Behaves, EndsAfter, HasSettled, SettlesAfter, StoresTake, left_to_add}
-use Rattle.tftp_player.specs.Recovering.{TransfersSettle, AnsweredReadsSettle, AnsweredWritesSettle}
-use Rattle.tftp_player.specs.Recovering.{AsksAgain, AsksAndSettles, ReadRequestsSettle, WriteRequestsSettle}
-use Rattle.tftp_player.specs.Straight.{read_adds, write_adds}
-use Rattle.tftp_player.specs.World.{WorldState}
+use Rattle.tftp_player.proofs.Common.{ℕ, ◌+◌, ◌*◌, ◌≤◌, length, rules, Asked, block_count, Service, Sends, Takes}
+use Rattle.tftp_player.proofs.Common.{OpenEnd, Behaves, left_to_add, read_adds, write_adds, WorldState}
+use Rattle.tftp_player.specs.Recovering.{EndsAfter, HasSettled, SettlesAfter, StoresTake, TransfersSettle}
+use Rattle.tftp_player.specs.Recovering.{AnsweredReadsSettle, AnsweredWritesSettle, AsksAgain, AsksAndSettles}
+use Rattle.tftp_player.specs.Recovering.{ReadRequestsSettle, WriteRequestsSettle}
 use Rattle.tftp_player.proofs.RecoveringReads.{reads_recover}
 use Rattle.tftp_player.proofs.RecoveringRuns.{transfers_recover}
 use Rattle.tftp_player.proofs.RecoveringWrites.{writes_recover}
-use Rattle.tftp_player.proofs.SettledLemmas.{reached, took_all}
+use Rattle.tftp_player.proofs.SettledLemmas.{took_all}
 use Rattle.tftp_player.proofs.RecoveringRequests.{read_requests_recover, write_requests_recover}
 
 module _ (w new : WorldState) (x y : OpenEnd) (most made : ℕ) (s : SettlesAfter w x y most made new) where
   stores : StoresTake y s.settles.reports
-  stores = elim s.taken [
-    | inl have ↦ inl (took_all s.mid s.settles.reports s.mid new (length w.sent) (λ k z e. e) s.settles.delivered have)
-    | inr h ↦ inr h
-  ]
+  stores = search (rules, took_all)
 
   -- the network behaves
   abbrev behaves : Behaves w x y new
@@ -37,15 +29,7 @@ module _ (w new : WorldState) (x y : OpenEnd) (most made : ℕ) (s : SettlesAfte
 
   has_settled : (one other count : ℕ) → count ≤ most → EndsAfter w new one other (length s.settles.reports) count →
       HasSettled w new one other made count
-  has_settled one other count enough ends =
-      let m = s.settles.counted in
-      let f = ends.few in
-      let few : made ≤ count = omega (arith, m, f) in
-      let is =
-      reached (length w.sent) (length new.sent) made most count enough s.settles.all few
-      (λ less. let e = ends.goes_on (let n : length s.settles.reports < count = omega (arith, m, less) in n) in
-      omega (arith, e, m)) in
-      (is, ends.through (m ∙ is))
+  has_settled one other count enough ends = search rules
 
 -- so it is of an established transfer
 pub transfers_settle : TransfersSettle

@@ -1,52 +1,26 @@
 -- A read recovers whose client has no peer yet: the first datagram of the server arrives.
 -- For the law a_transfer_recovers.
-use Rattle.std.proofs.Common.{◌≡◌, ℕ, ◌+◌, ◌*◌, ◌-◌, Bool, true, false, not, List, [], ◌++◌, length, take, Some, None}
-use Rattle.std.proofs.Common.{refl, sym, ap, ◌∙◌, subst, arith, ◌<◌, ◌≤◌, Result, Ok, Err, inl, inr}
-use Rattle.std.specs.Prelude.{if◌then◌else◌}
-use Rattle.std.proofs.lemmas.Option.{same_Some}
-use Rattle.tftp_wire.specs.declared.packet.Packet.{Packet}
-use Rattle.tftp_wire.specs.Spelling.{Spells}
-use Rattle.tftp_negotiate.specs.declared.asked.Asked.{Asked}
-use Rattle.tftp_negotiate.specs.declared.refusal.Refusal.{Refusal}
-use Rattle.tftp_ends.specs.declared.phase.Phase.{Phase}
-use Rattle.tftp_ends.specs.declared.phase.Phase.TheVariants.{Waiting, Sending}
-use Rattle.tftp_ends.specs.End.{terms_of, is_sender, is_complete, number_of, size_of}
-use Rattle.tftp_ends.specs.Action.{datagram_action, packet_action}
-use Rattle.tftp_rules.specs.EndKept.{PhaseKept, IsUnderWay, HeldBackFits}
-use Rattle.tftp_rules.specs.Facts.{Attests}
-use Rattle.tftp_rules.specs.Hosts.{two_hosts}
-use Rattle.tftp_rules.specs.Machine.{Endpoint, Machine}
-use Rattle.tftp_rules.specs.OpenEnds.{OpenEnd, peer_of, goes_on, received_text}
-use Rattle.tftp_rules.specs.Said.{said}
-use Rattle.tftp_player.specs.Recovering.{TakesPeer, left_to_add, ReadsRecover}
-use Rattle.tftp_player.specs.World.{WorldState, Open_end, datagram}
-use Rattle.tftp_player.specs.WorldKept.{Refines}
+use Rattle.tftp_player.proofs.Common.{◌≡◌, ℕ, ◌+◌, ◌*◌, ◌-◌, Bool, true, false, not, List, [], ◌++◌, length, take, Some}
+use Rattle.tftp_player.proofs.Common.{None, refl, sym, ap, ◌∙◌, subst, arith, ◌<◌, ◌≤◌, Result, Ok, Err, inl, inr}
+use Rattle.tftp_player.proofs.Common.{rules, if◌then◌else◌, same_Some, Packet, Spells, Asked, Refusal, Phase, Waiting}
+use Rattle.tftp_player.proofs.Common.{Sending, terms_of, is_sender, is_complete, size_of, datagram_action}
+use Rattle.tftp_player.proofs.Common.{packet_action, PhaseKept, IsUnderWay, HeldBackFits, Attests, two_hosts, Endpoint}
+use Rattle.tftp_player.proofs.Common.{Machine, OpenEnd, peer_of, goes_on, received_text, said, TakesPeer, left_to_add}
+use Rattle.tftp_player.proofs.Common.{WorldState, Open_end, datagram, Refines, cases_Bool, cases_eq, Mode, RawOption}
+use Rattle.tftp_player.proofs.Common.{Read, Write, Data, Ack, Error, Oack, agreement, Known, DEFAULT_BLOCK, block}
+use Rattle.tftp_player.proofs.Common.{block_count, wire_text, Action, Respond, Store, Accept, Terms, ack_bytes}
+use Rattle.tftp_player.proofs.Common.{data_bytes, reader_action, accept_action, default_terms, agreed_terms, taken_oack}
+use Rattle.tftp_player.proofs.Common.{text_else, text_if}
+use Rattle.tftp_ends.specs.End.{number_of}
+use Rattle.tftp_player.specs.Recovering.{ReadsRecover}
 use Rattle.tftp_player.proofs.WorldFacts.{holds, attests, m, near}
 use Rattle.tftp_player.proofs.RunsLeft.{GoesOn, IsWilling, IsLeft, Reaches, walks}
 use Rattle.tftp_player.proofs.StraightRuns.{IsReady, stays_at, set_at, ready_next, SendsAt, AwaitsAt, fit_of}
 use Rattle.tftp_player.proofs.StraightRuns.{awaits_now, ack_ready, ack_sender, ack_receiver, from_data}
 use Rattle.tftp_player.proofs.StraightSteps.{ports_of, Handles, delivered, handles_oack}
-use Rattle.std.proofs.lemmas.Bool.{cases_Bool, cases_eq}
-use Rattle.tftp_wire.specs.declared.mode.Mode.{Mode}
-use Rattle.tftp_wire.specs.declared.options.RawOption.{RawOption}
-use Rattle.tftp_wire.specs.declared.packet.Packet.TheVariants.{Read, Write, Data, Ack, Error, Oack}
-use Rattle.tftp_negotiate.specs.Agreement.{agreement}
 use Rattle.tftp_negotiate.specs.declared.known.Kind.TheVariants as kinds
-use Rattle.tftp_negotiate.specs.declared.known.Known.{Known}
-use Rattle.tftp_negotiate.specs.declared.limits.TheConstants.{DEFAULT_BLOCK}
-use Rattle.tftp_file.specs.Block.{block, block_count}
-use Rattle.tftp_file.specs.Netascii.{wire_text}
-use Rattle.tftp_ends.specs.declared.action.Action.{Action}
-use Rattle.tftp_ends.specs.declared.action.Action.TheVariants.{Respond, Store}
-use Rattle.tftp_ends.specs.declared.action.Response.TheVariants.{Accept}
-use Rattle.tftp_ends.specs.declared.phase.Terms.{Terms}
-use Rattle.tftp_ends.specs.Step.{ack_bytes, data_bytes}
-use Rattle.tftp_ends.specs.Waiting.{reader_action, accept_action, default_terms, agreed_terms}
-use Rattle.tftp_rules.proofs.SaidLemmas.{taken_oack}
-use Rattle.tftp_rules.proofs.SinkMoves.{text_else}
-use Rattle.tftp_rules.proofs.SourceMoves.{text_if}
 use Rattle.tftp_player.proofs.FirstAnswers.{data_first, reads_as}
-use Rattle.tftp_player.proofs.RecoveringRuns.{through_at, willing_still}
+use Rattle.tftp_player.proofs.RecoveringRuns.{willing_still}
 use Rattle.tftp_player.proofs.AnsweringEnds.{reached_ok, refused_takes_none, none_taken, IsWaitedFor, AreMeeting}
 use Rattle.tftp_player.proofs.AnsweringEnds.{meeting, offers}
 use Rattle.tftp_player.proofs.SentAgain.{MaySendAgain, retransmits}
@@ -74,12 +48,10 @@ module _ (w new : WorldState) (one other i : ℕ) (x y : OpenEnd) (asked : Asked
 
   -- what was sent is true of the server's end
   says : (p : Packet) → Spells p bytes_now → Attests (Machine.party (m w ok) sa) ra (said p)
-  says p spelled =
-      attests w ok sa ra bytes_now p known.own_x (contains_at w.sent i (datagram sa ra bytes_now) ready.newest) spelled
+  says p spelled = attests w ok _ _ _ p known.own_x (contains_at _ i _ ready.newest) spelled
 
   handled : (reads : Bool) (g : GoesOn reads w i new) → Handles w other y sa bytes_now g.report g.mid
-  handled reads g =
-      delivered w g.mid i other y sa bytes_now g.report (ports_of true w ok) ready.newest a.client_at g.step
+  handled reads g = search (rules, delivered, ports_of)
 
   module _ (st : Terms) (n : ℕ) (is : x.state.position.phase ≡ Sending st n) (reads : Bool)
       (willing : IsWilling reads y) (left : IsLeft reads w i new) where
@@ -137,9 +109,8 @@ module _ (w new : WorldState) (one other i : ℕ) (x y : OpenEnd) (asked : Asked
     has_none =
         let t = wire_text y.state.role.mode y.stored in
         let own : (Machine.party (m w ok) ra).text ≡ t ++ y.state.position.held_back =
-        known.at_y.live (ap is_complete a.waits) refl
-        ∙ (text_else (is_sender y.state.role.side) y.text (received_text y.state y.stored) receives
-        ∙ ap (λ (b : Bool). if b then t ++ y.state.position.held_back else t) (ap goes_on a.waits)) in
+        known.at_y.live (ap is_complete a.waits) refl ∙ (text_else (is_sender y.state.role.side) y.text (received_text
+        y.state y.stored) receives ∙ ap (λ b. if b then t ++ y.state.position.held_back else t) (ap goes_on a.waits)) in
         sym own ∙ (known.first_y.2 takes_y ∙ none_taken st.size text_now)
 
     holds_y : HeldBackFits y.state.role.mode y.state.position.held_back
@@ -191,38 +162,24 @@ module _ (w new : WorldState) (one other i : ℕ) (x y : OpenEnd) (asked : Asked
         let first : 0 + 1 ≤ block_count text_now st.size = omega arith in
         let own : List ℕ = block text_now st.size (0 + 1) in
         let piece_is : piece ≡ own =
-        t.bytes
-        ∙ (ap (λ (j : ℕ). block (Machine.party (m w ok) sa).text j k) size_x
-        ∙ (ap (λ (b : List ℕ). block b st.size k) text_x
-        ∙ ap (block text_now st.size) k_is)) in
+        t.bytes ∙ (ap (λ (j : ℕ). block (Machine.party (m w ok) sa).text j k) size_x ∙ (ap (λ (b : List ℕ). block b
+        st.size k) text_x ∙ ap (block text_now st.size) k_is)) in
         let spelled_own : Spells (Data 1 own) bytes_now =
-        subst (λ (b : List ℕ). Spells (Data 1 b) bytes_now) piece_is
-        (subst (λ (j : ℕ). Spells (Data j piece) bytes_now) k_is spelled) in
+        subst (λ (b : List ℕ). Spells (Data 1 b) bytes_now) piece_is (subst (λ (j : ℕ). Spells (Data j piece) bytes_now)
+        k_is spelled) in
         let bytes_are : bytes_now ≡ data_bytes (0 + 1) own = spelled_own.whole in
         let does : datagram_action y.state sa bytes_now (Some (Data 1 own)) ≡ Store rt 1 =
         data_first one other known.away sa ra st x.state.role.mode x.file sp same fit y asked limit receives
         known.mode_same held_y has_none bytes_now (known.waiting_does bytes_now (Data 1 own)) in
         let receiver : AwaitsAt true one other known.away sa ra st rt x.state.role.mode x.file sp refl same reads w 0 =
-        record {
-          x = y;
-          there = a.client_at;
-          address = refl;
-          receiver = receives;
-          willing = willing;
-          mode_is = known.mode_same;
-          received = has_none;
-          holds = holds_y;
-          stores =
-              subst (λ (b : List ℕ). datagram_action y.state sa b (Some (Data 1 own)) ≡ Store rt 1) bytes_are does;
-        } in
+        search rules in
         let blocks = count_is in
         let rest = block_count text_now st.size - 1 in
         let counted : 0 + 1 + rest ≡ block_count text_now st.size = omega (arith, first) in
         let total : 2 + 2 * rest ≡ 2 + 2 * (block_count x.text st.size - n) = omega (arith, blocks, number) in
-        subst (λ (j : ℕ). Reaches new one other i (length left.reports) j) total
-        (from_data true one other known.away sa ra st rt x.state.role.mode x.file sp refl same reads rest i 0 w new
-        counted
-        (subst (λ (b : List ℕ). IsReady true w i (datagram sa ra b)) bytes_are ready) sender receiver left)
+        subst (λ (j : ℕ). Reaches new one other i (length left.reports) j) total (from_data true one other known.away sa
+        ra st rt x.state.role.mode x.file sp refl same reads rest i 0 w new counted (subst (λ (b : List ℕ). IsReady true
+        w i (datagram sa ra b)) bytes_are ready) sender receiver left)
 
     -- by an OACK
     pub by_oack : (options : List RawOption) → Spells (Oack options) bytes_now →
@@ -309,8 +266,7 @@ reads_recover w new one other x y asked limit terms number reached a is run =
     let count : left_to_add o.x terms number ≡ left_to_add x terms number =
     ap (λ (t : List ℕ). 2 + 2 * (block_count t terms.size - number)) o.text_is in
     let r : Reaches new one other (length w.sent) (length run.reports) (left_to_add x terms number) =
-    subst (λ (c : ℕ). Reaches new one other (length w.sent) (length run.reports) c) count
-    (elim run.taken [
+    subst (λ (c : ℕ). Reaches new one other (length w.sent) (length run.reports) c) count (elim run.taken [
       | inl t ↦ read_recovers run.mid new one other (length w.sent) o.x y asked limit o.bytes o.ready o.waited_for terms
           number (o.phase ∙ is) false tt (record { reports = run.reports; settles = run.settles; taken = t }) o.packet
           o.spelled o.takes
@@ -318,8 +274,4 @@ reads_recover w new one other x y asked limit terms number reached a is run =
           number (o.phase ∙ is) true h (record { reports = run.reports; settles = run.settles; taken = tt }) o.packet
           o.spelled o.takes
     ]) in
-    record {
-      few = r.few;
-      goes_on = r.goes_on;
-      through = λ h. through_at w new one other (left_to_add x terms number) (r.over h);
-    }
+    search rules

@@ -1,59 +1,36 @@
 -- An established transfer recovers: one timeout of its sender, and then no loss.
 -- For the law a_transfer_recovers.
-use Rattle.std.proofs.Common.{◌≡◌, ℕ, ◌+◌, ◌*◌, ◌-◌, ◌<◌, ◌≤◌, suc, zero, Bool, true, false, not, List, [], ◌∷◌, ◌++◌}
-use Rattle.std.proofs.Common.{length, take, Option, Some, None, refl, sym, ap, ◌∙◌, subst, arith, inl, inr}
-use Rattle.std.specs.Prelude.{◌≢◌, ◌⊎◌, if◌then◌else◌, slice_get, option_map}
-use Rattle.std.specs.List.{Contains}
-use Rattle.std.proofs.lemmas.Bool.{true≢false, eq-eqb, cases_eq}
-use Rattle.std.proofs.lemmas.Option.{same_Some}
-use Rattle.tftp_wire.specs.declared.mode.Mode.{Mode}
-use Rattle.tftp_wire.specs.declared.options.RawOption.{RawOption}
-use Rattle.tftp_wire.specs.declared.packet.Packet.{Packet}
-use Rattle.tftp_wire.specs.declared.packet.Packet.TheVariants.{Data, Oack}
-use Rattle.tftp_wire.specs.Spelling.{Spells, canonical}
-use Rattle.tftp_negotiate.specs.declared.asked.Asked.{Asked}
-use Rattle.tftp_file.specs.Block.{block, block_count}
-use Rattle.tftp_file.specs.Netascii.{wire_text}
-use Rattle.tftp_ends.specs.declared.action.Action.TheVariants.{Respond}
-use Rattle.tftp_ends.specs.declared.action.Response.TheVariants.{ResendReply, Ignore}
-use Rattle.tftp_ends.specs.declared.outcome.Outcome.{Outcome}
+use Rattle.tftp_player.proofs.Common.{common_steps, ◌≡◌, ℕ, ◌+◌, ◌*◌, ◌-◌, ◌<◌, ◌≤◌, Bool, true, false, not, List, []}
+use Rattle.tftp_player.proofs.Common.{◌∷◌, ◌++◌, length, take, Option, Some, None, refl, sym, ap, ◌∙◌, subst, arith}
+use Rattle.tftp_player.proofs.Common.{inl, inr, rules, ◌≢◌, ◌⊎◌, if◌then◌else◌, slice_get, option_map, Contains}
+use Rattle.tftp_player.proofs.Common.{true≢false, cases_eq, same_Some, Mode, RawOption, Packet, Data, Oack, Spells}
+use Rattle.tftp_player.proofs.Common.{canonical, Asked, block, block_count, wire_text, Respond, ResendReply, Outcome}
+use Rattle.tftp_player.proofs.Common.{Phase, Waiting, Sending, Receiving, Dallying, Closed, Terms, is_sender, is_client}
+use Rattle.tftp_player.proofs.Common.{is_complete, outcome_of, terms_of, size_of, datagram_action, ack_bytes}
+use Rattle.tftp_player.proofs.Common.{data_bytes, HeldBackFits, Endpoint, Machine, OpenEnd, peer_of, goes_on, Behaves}
+use Rattle.tftp_player.proofs.Common.{left_to_add, AllTaken, WorldState, Open_end, datagram, new_world, Refines}
+use Rattle.tftp_player.proofs.Common.{Timeout}
 use Rattle.tftp_ends.specs.declared.phase.Dally.{Dally}
-use Rattle.tftp_ends.specs.declared.phase.Phase.{Phase}
-use Rattle.tftp_ends.specs.declared.phase.Phase.TheVariants.{Waiting, Sending, Receiving, Dallying, Closed}
-use Rattle.tftp_ends.specs.declared.phase.Terms.{Terms}
-use Rattle.tftp_ends.specs.End.{is_sender, is_client, is_complete, outcome_of, number_of, terms_of, size_of}
-use Rattle.tftp_ends.specs.Action.{datagram_action}
-use Rattle.tftp_ends.specs.Step.{ack_bytes, data_bytes}
-use Rattle.tftp_rules.specs.EndKept.{PhaseKept, HeldBackFits}
-use Rattle.tftp_rules.specs.Hosts.{two_hosts}
-use Rattle.tftp_rules.specs.Machine.{Endpoint, Machine}
-use Rattle.tftp_rules.specs.OpenEnds.{OpenEnd, peer_of, goes_on}
+use Rattle.tftp_ends.specs.End.{number_of}
 use Rattle.tftp_rules.specs.Rules.{run}
-use Rattle.tftp_rules.proofs.SaidLemmas.{spells_own}
-use Rattle.tftp_rules.proofs.SourceMoves.{number_fits}
-use Rattle.tftp_player.specs.Recovering.{IsEstablished, Behaves, AreThrough, left_to_add, TransfersRecover}
-use Rattle.tftp_player.specs.Straight.{AllTaken}
-use Rattle.tftp_player.specs.World.{WorldState, Open_end, datagram, new_world}
-use Rattle.tftp_player.specs.WorldKept.{Refines}
-use Rattle.tftp_player.specs.declared.event.Event.TheVariants.{Timeout}
-use Rattle.tftp_player.proofs.NewestKept.{IsNewest, Newest, EndNewest, AllNewest, run_newest, new_newest}
+use Rattle.tftp_player.specs.Recovering.{IsEstablished, AreThrough, TransfersRecover}
+use Rattle.tftp_player.proofs.NewestKept.{IsNewest, EndNewest, AllNewest, run_newest, new_newest}
 use Rattle.tftp_player.proofs.RunsLeft.{UnlessReads, IsWilling, IsLeft, GoesOn, Reaches, IsOver, walks, ends_here}
-use Rattle.tftp_player.proofs.OldDatagrams.{data_again, oack_again}
+use Rattle.tftp_player.proofs.OldDatagrams.{oack_again}
 use Rattle.tftp_player.proofs.StraightActions.{from_peer}
 use Rattle.tftp_player.proofs.StraightRuns.{IsReady, ready_next, stays_at, set_at, SendsAt, AwaitsAt, fit_of}
 use Rattle.tftp_player.proofs.StraightRuns.{awaits_now, ack_ready, ack_sender, ack_receiver, ack_over, from_data}
 use Rattle.tftp_player.proofs.StraightSteps.{ports_of, delivered}
 use Rattle.tftp_player.proofs.WorldRuns.{run_keeps, new_ok, any_may}
-use Rattle.tftp_player.proofs.SentAgain.{MaySendAgain, ready_with, Again, Resent, data_short, handles_again, next_of, oack_alone, resends}
-use Rattle.tftp_player.proofs.SentAgain.{MaySendAgain, ready_with, retransmits, timed_out}
+use Rattle.tftp_player.proofs.SentAgain.{MaySendAgain, ready_with, Again, Resent, data_short, handles_again, next_of}
+use Rattle.tftp_player.proofs.SentAgain.{oack_alone, resends, MaySendAgain, ready_with, retransmits, timed_out}
 use Rattle.tftp_player.proofs.WorldFacts.{all_blocks, apart, at_y, attests, has_more, has_text, high, low, m, mode_same}
 use Rattle.tftp_player.proofs.WorldFacts.{own_x, pair, receives, size_x, size_y, spoken, still_x, still_y, text_x, way}
 
 -- an end that refuses no append stays so
 pub willing_still : (reads : Bool) (y z : OpenEnd) → IsWilling reads y → z.state.role.side ≡ y.state.role.side →
     z.refuses ≡ y.refuses → IsWilling reads z
-willing_still true y z h side refuses = (ap is_client side ∙ h.0, refuses ∙ h.1)
-willing_still false y z h side refuses = tt
+willing_still reads y z h side refuses = search rules
 
 -- ---- the run
 module _ (w new : WorldState) (ok : Refines true w) (one other : ℕ) (x y : OpenEnd) (st : Terms) (n : ℕ)
@@ -90,9 +67,8 @@ module _ (w new : WorldState) (ok : Refines true w) (one other : ℕ) (x y : Ope
   away = apart w ok one other x y st n e
 
   resent : Resent w run.mid one x
-  resent = resends w run.mid one x run.report
-      (retransmits x.state.position.retries_left x.state.position.phase (subst MaySendAgain (sym e.sends) tt) run.retries)
-      (still_x w ok one other x y st n e) (timed_out w run.mid one x run.report ok e.sender_at run.times_out)
+  resent = resends w _ _ x _ (retransmits _ _ (subst MaySendAgain (sym e.sends) tt) run.retries) (still_x w ok _ _ x y _
+      n e) (timed_out w _ _ x _ ok e.sender_at run.times_out)
 
   to_is : x.state.position.last_sent_to ≡ ra
   to_is = (way w ok one other x y st n e).last_sent_to ∙ e.to_receiver
@@ -115,9 +91,7 @@ module _ (w new : WorldState) (ok : Refines true w) (one other : ℕ) (x y : Ope
 
   -- it was sent before
   was_sent : Contains w.sent (datagram sa ra bytes_now)
-  was_sent =
-      subst (λ (a : Endpoint). Contains w.sent (datagram sa a bytes_now)) to_is
-      (ok.ends one (Open_end x) e.sender_at).stands.last_sent
+  was_sent = rw (← to_is) (ok.ends one (Open_end x) e.sender_at).stands.last_sent
 
   -- ---- the receiver has these terms
   module _ (rt : Terms) (known : terms_of phase_y ≡ Some rt) where
@@ -129,14 +103,7 @@ module _ (w new : WorldState) (ok : Refines true w) (one other : ℕ) (x y : Ope
         sym ((at_y w ok one other x y st n e).size ∙ ap size_of known) ∙ size_y w ok one other x y st n e
 
     sender_at_mid : SendsAt true one other away sa ra st rt file_mode x.file e.to_receiver rp ss run.mid n
-    sender_at_mid = record {
-      x = resent.y;
-      there = sender_there;
-      address = resent.address;
-      phase = resent.phase ∙ e.sends;
-      file_is = resent.file;
-      mode_is = resent.mode;
-    }
+    sender_at_mid = search (rules, sender_there)
 
     -- an end of the same fields that has `k` blocks, and is to have more
     waits : (v : WorldState) (z : OpenEnd) (k : ℕ) → phase_y ≡ Receiving rt k → k ≤ n → Refines true v →
@@ -148,24 +115,19 @@ module _ (w new : WorldState) (ok : Refines true w) (one other : ℕ) (x y : Ope
         AwaitsAt true one other away sa ra st rt file_mode x.file e.to_receiver rp ss reads v k
     waits v z k is few v_ok s there address mode side phase stored held refuses =
         let open_now : is_complete phase_y ≡ false = ap is_complete is in
-        let more : k < block_count x.text st.size =
-        subst (λ (c : ℕ). c < block_count x.text st.size) (ap number_of is) (has_more w ok one other x y st n e open_now)
+        let more : k < block_count x.text st.size = rw (← ap number_of is) (has_more w ok one other x y st n e open_now)
         in
         let within : k + 1 ≤ block_count text_now st.size = let c = count_is in omega (arith, more, c) in
         let fit = fit_of true one other away sa ra st rt file_mode x.file e.to_receiver rp ss v n v_ok s in
         let mode_now : z.state.role.mode ≡ file_mode = mode ∙ mode_same w ok one other x y st n e in
         let has = has_text w ok one other x y st n e open_now (ap goes_on is) in
         awaits_now true one other away sa ra st rt file_mode x.file e.to_receiver rp ss reads v z k fit within there
-        address (phase ∙ is) (ap is_sender side ∙ receives w ok one other x y st n e)
-        (willing_still reads y z willing side refuses) mode_now
-        (ap (λ (q : Mode). wire_text q z.stored ++ z.state.position.held_back) mode
-        ∙ (ap (λ (bs : List ℕ). wire_text y.state.role.mode bs ++ z.state.position.held_back) stored
-        ∙ (ap (λ (bs : List ℕ). wire_text y.state.role.mode y.stored ++ bs) held
-        ∙ (has ∙ (ap (λ (c : ℕ). take (c * st.size) x.text) (ap number_of is)
-        ∙ ap (take (k * st.size)) text_is)))))
-        (subst (λ (q : Mode). HeldBackFits q z.state.position.held_back) (sym mode)
-        (subst (λ (bs : List ℕ). HeldBackFits y.state.role.mode bs) (sym held)
-        (ok.ends other (Open_end y) e.receiver_at).stands.kept.held_back))
+        address (phase ∙ is) (ap is_sender side ∙ receives w ok one other x y st n e) (willing_still reads y z willing
+        side refuses) mode_now (ap (λ (q : Mode). wire_text q z.stored ++ z.state.position.held_back) mode ∙ (ap (λ (bs
+        : List ℕ). wire_text y.state.role.mode bs ++ z.state.position.held_back) stored ∙ (ap (λ (bs : List ℕ).
+        wire_text y.state.role.mode y.stored ++ bs) held ∙ (has ∙ (ap (λ (c : ℕ). take (c * st.size) x.text)
+        (ap number_of is) ∙ ap (take (k * st.size)) text_is))))) (rw (mode) (subst (λ (bs : List ℕ). HeldBackFits
+        y.state.role.mode bs) (sym held) (ok.ends other (Open_end y) e.receiver_at).stands.kept.held_back))
 
     -- ---- the receiver acknowledges once more what it has
     module _ (p : Packet) (spelled : Spells p bytes_now)
@@ -173,14 +135,11 @@ module _ (w new : WorldState) (ok : Refines true w) (one other : ℕ) (x y : Ope
         (same : number_of phase_y ≡ n) where
       acks : (g : GoesOn reads run.mid i new) → Again run.mid g.mid other y sa n
       acks g =
-          handles_again run.mid g.mid other y sa bytes_now g.report n p
-          (delivered run.mid g.mid i other y sa bytes_now g.report (ports_of true run.mid ready.ok) ready.newest
-          receiver_there g.step)
-          spelled resends_it (still_y w ok one other x y st n e) same
+          handles_again _ _ _ y _ _ _ n p (delivered _ _ i _ y _ _ _ (ports_of _ _ ready.ok) ready.newest receiver_there
+          g.step) spelled resends_it (still_y w ok _ _ x y _ n e) same
 
       acked_ready : (g : GoesOn reads run.mid i new) → IsReady true g.mid (i + 1) (datagram ra sa (ack_bytes n))
-      acked_ready g = ready_next true run.mid g.mid i (datagram sa ra bytes_now) (datagram ra sa (ack_bytes n)) g.report
-          ready g.step (acks g).sent
+      acked_ready g = ready_next _ _ _ i _ _ _ ready g.step (acks g).sent
 
       acked_sender : (g : GoesOn reads run.mid i new) →
           SendsAt true one other away sa ra st rt file_mode x.file e.to_receiver rp ss g.mid n
@@ -203,24 +162,22 @@ module _ (w new : WorldState) (ok : Refines true w) (one other : ℕ) (x y : Ope
       goes_on_from rest is counted =
           let more : n < block_count text_now st.size = omega (arith, counted) in
           let few : n ≤ block_count text_now st.size = omega (arith, counted) in
-          walks reads run.mid new one other i (2 + 2 * rest + 1) ready.count left (λ g.
+          walks _ _ _ _ _ i _ ready.count left (λ g.
           let a = acks g in
           let sender = acked_sender g in
           let next = acked_ready g in
-          let receiver = waits g.mid a.y n is (omega arith) next.ok sender (receiver_now g) a.address a.mode a.side a.phase
+          let receiver = waits _ _ n is (omega arith) next.ok sender (receiver_now g) a.address a.mode a.side a.phase
           a.stored a.held_back a.refuses in
-          walks reads g.mid new one other (i + 1) (2 + 2 * rest) next.count g.left (λ h.
+          walks _ _ _ _ _ _ _ next.count g.left (λ h.
           let again =
-          ack_ready true one other away sa ra st rt file_mode x.file e.to_receiver rp ss g.mid h.mid (i + 1) n h.report
-          next sender few h.step more in
+          ack_ready _ _ _ away _ _ _ _ file_mode x.file e.to_receiver rp ss _ _ _ n _ next sender few h.step more in
           let sender_then =
-          ack_sender true one other away sa ra st rt file_mode x.file e.to_receiver rp ss g.mid h.mid (i + 1) n h.report
-          next sender few h.step more in
+          ack_sender _ _ _ away _ _ _ _ file_mode x.file e.to_receiver rp ss _ _ _ n _ next sender few h.step more in
           let receiver_then =
-          ack_receiver true one other away sa ra st rt file_mode x.file e.to_receiver rp ss g.mid h.mid (i + 1) n
-          h.report next sender few h.step more reads receiver in
-          from_data true one other away sa ra st rt file_mode x.file e.to_receiver rp ss reads rest (i + 1 + 1) n h.mid
-          new counted again sender_then receiver_then h.left))
+          ack_receiver _ _ _ away _ _ _ _ file_mode x.file e.to_receiver rp ss _ _ _ n _ next sender few h.step more _
+          receiver in
+          from_data _ _ _ away _ _ _ _ file_mode x.file e.to_receiver rp ss _ _ _ n _ _ counted again sender_then
+          receiver_then h.left))
 
       -- it has all
       ends_from : is_complete phase_y ≡ true → n ≡ block_count text_now st.size →
@@ -264,10 +221,7 @@ module _ (w new : WorldState) (ok : Refines true w) (one other : ℕ) (x y : Ope
   -- with one more block, or with none
   in_all : (rest : ℕ) → n + 1 + rest ≡ block_count text_now st.size →
       Reaches new one other i (length run.reports) (2 + 2 * rest + 1 + 1) → Recovers
-  in_all rest counted r =
-      let c = count_is in
-      let same : 2 + 2 * rest + 1 + 1 ≡ 2 + 2 * (block_count x.text st.size - n) = omega (arith, counted, c) in
-      subst (λ (k : ℕ). Reaches new one other i (length run.reports) k) same r
+  in_all rest counted r = search (rules, count_is)
 
   left_after : (k : ℕ) → k < block_count x.text st.size →
       (rest : ℕ) × (k + 1 + rest ≡ block_count text_now st.size)
@@ -285,8 +239,7 @@ module _ (w new : WorldState) (ok : Refines true w) (one other : ℕ) (x y : Ope
 
   none_sends : (terms : Terms) (k : ℕ) → phase_y ≡ Sending terms k → Recovers
   none_sends terms k is =
-      let kept =
-      subst (λ (p : Phase). PhaseKept two_hosts y p) is (ok.ends other (Open_end y) e.receiver_at).stands.kept.phase in
+      let kept = rw (is) at (ok.ends other (Open_end y) e.receiver_at).stands.kept.phase in
       absurd (true≢false (sym kept.sender ∙ receives w ok one other x y st n e))
 
   none_closed : (terms : Option Terms) (k : ℕ) (complete : Bool) (outcome : Outcome) →
@@ -301,8 +254,7 @@ module _ (w new : WorldState) (ok : Refines true w) (one other : ℕ) (x y : Ope
         let u = way w ok one other x y st n e in
         let p = spoken w ok sa ra bytes_now was_sent in
         let short = data_short n piece p.0 (subst (λ (bs : List ℕ). Spells p.0 bs) data_is p.1) in
-        subst (λ (bs : List ℕ). Spells (Data n piece) bs) (sym data_is)
-        (spells_own (Data n piece) (positive, number_fits x.text st.size n u.positive u.fits so_far, short))
+        grind (arith, common_steps)
 
     piece_is : piece ≡ block text_now st.size n
     piece_is =
@@ -313,15 +265,11 @@ module _ (w new : WorldState) (ok : Refines true w) (one other : ℕ) (x y : Ope
 
     again_receiving : (rt : Terms) (k : ℕ) → phase_y ≡ Receiving rt k → n ≡ k →
         datagram_action y.state sa bytes_now (Some (Data n piece)) ≡ Respond ResendReply
-    again_receiving rt k is same =
-        from_peer y.state (Receiving rt k) rt sa bytes_now (Data n piece) is refl (rp rt (ap terms_of is))
-        ∙ data_again y.state.role.mode y.state.position.held_back rt k n piece same
+    again_receiving rt k is same = search rules
 
     again_dallying : (rt : Terms) (k : ℕ) (dally : Dally) → phase_y ≡ Dallying rt k dally → n ≡ k →
         datagram_action y.state sa bytes_now (Some (Data n piece)) ≡ Respond ResendReply
-    again_dallying rt k dally is same =
-        from_peer y.state (Dallying rt k dally) rt sa bytes_now (Data n piece) is refl (rp rt (ap terms_of is))
-        ∙ ap (λ (b : Bool). Respond (if b then ResendReply else Ignore)) (eq-eqb n k same)
+    again_dallying rt k dally is same = search rules
 
     receiving_recovers : (rt : Terms) (k : ℕ) → phase_y ≡ Receiving rt k → (n ≡ k) ⊎ (n ≢ k) → Recovers
     receiving_recovers rt k is (inl same) =
@@ -355,8 +303,7 @@ module _ (w new : WorldState) (ok : Refines true w) (one other : ℕ) (x y : Ope
         let last : n ≡ block_count x.text st.size = omega (arith, all, b, few) in
         let same : n ≡ k = omega (arith, all, stored, last) in
         let count : 0 + 1 + 1 ≡ 2 + 2 * (block_count x.text st.size - n) = omega (arith, last) in
-        subst (λ (j : ℕ). Reaches new one other i (length run.reports) j) count
-        (ends_from rt (ap terms_of is) (Data n piece) spelled_data (again_dallying rt k dally is same)
+        rw (← count) (ends_from rt (ap terms_of is) (Data n piece) spelled_data (again_dallying rt k dally is same)
         (stored ∙ sym same) (ap is_complete is) (last ∙ count_is))
 
     data_recovers : (p : Phase) → phase_y ≡ p → Recovers
@@ -383,10 +330,7 @@ module _ (w new : WorldState) (ok : Refines true w) (one other : ℕ) (x y : Ope
 
     again_oack : (rt : Terms) → phase_y ≡ Receiving rt 0 → rt.by_oack ≡ true →
         datagram_action y.state sa bytes_now (Some (Oack others.0)) ≡ Respond ResendReply
-    again_oack rt is took =
-        from_peer y.state (Receiving rt 0) rt sa bytes_now (Oack others.0) is refl (rp rt (ap terms_of is))
-        ∙ oack_again (is_client y.state.role.side) y.state.role.mode y.state.position.held_back rt others.0 client_y took 0
-        refl
+    again_oack rt is took = search (rules, from_peer, rp, oack_again, client_y)
 
     oack_recovers : (p : Phase) → phase_y ≡ p → Recovers
     oack_recovers (Waiting asked limit) is = none_waits asked limit is
@@ -396,15 +340,12 @@ module _ (w new : WorldState) (ok : Refines true w) (one other : ℕ) (x y : Ope
         let b = high w ok one other x y st n e in
         let nothing : k ≡ 0 = omega (arith, b, stored, zero_now) in
         let is_now : phase_y ≡ Receiving rt 0 = is ∙ ap (Receiving rt) nothing in
-        let took : rt.by_oack ≡ true =
-        (subst (λ (p : Phase). Newest (is_client y.state.role.side) y.state.position.last_sent p) is_now fresh) refl
-        client_y in
+        let took : rt.by_oack ≡ true = (rw (is_now) at fresh) refl client_y in
         let more = has_more w ok one other x y st n e (ap is_complete is) in
-        let r = left_after n
-        (let z : n < block_count x.text st.size = omega (arith, more, stored, nothing, zero_now) in z) in
-        in_all r.0 r.1
-        (goes_on_from rt (ap terms_of is) (Oack others.0) others.1 (again_oack rt is_now took)
-        (stored ∙ (nothing ∙ sym zero_now)) r.0 (is_now ∙ ap (Receiving rt) (sym zero_now)) r.1)
+        let r = left_after n (let z : n < block_count x.text st.size = omega (arith, more, stored, nothing, zero_now)
+        in z) in
+        in_all r.0 r.1 (goes_on_from rt (ap terms_of is) (Oack others.0) others.1 (again_oack rt is_now took) (stored ∙
+        (nothing ∙ sym zero_now)) r.0 (is_now ∙ ap (Receiving rt) (sym zero_now)) r.1)
     oack_recovers (Dallying rt k dally) is =
         let stored : number_of phase_y ≡ k = ap number_of is in
         let all = all_blocks w ok one other x y st n e (ap is_complete is) in
@@ -414,48 +355,29 @@ module _ (w new : WorldState) (ok : Refines true w) (one other : ℕ) (x y : Ope
 
   -- ---- and so in every case
   recovers_by : (k : ℕ) → n ≡ k → IsNewest bytes_now k → EndNewest (Open_end y) → Recovers
-  recovers_by zero is newest fresh = oack_recovers newest.0 is newest.1 fresh phase_y refl
-  recovers_by (suc k) is newest fresh =
-      data_recovers newest.0 (λ z. let a : suc k ≡ 0 = sym is ∙ z in cc)
-      (newest.1 ∙ ap (λ (j : ℕ). data_bytes j newest.0) (sym is)) phase_y refl
+  recovers_by k is newest fresh = search (rules, oack_recovers, data_recovers)
 
   -- so the transfer recovers, whatever the sender sent last
   pub recovers : AllNewest w → Recovers
   recovers fresh =
-      recovers_by n refl
-      (subst (λ (p : Phase). Newest (is_client x.state.role.side) bytes_now p) e.sends
-      (fresh one (Open_end x) e.sender_at))
-      (fresh other (Open_end y) e.receiver_at)
+      recovers_by n refl (rw (e.sends) at (fresh one (Open_end x) e.sender_at)) (fresh other (Open_end y) e.receiver_at)
 
 -- both ends are complete once the run is over
 pub through_at : (old new : WorldState) (one other count : ℕ) → IsOver new one other (length old.sent + count) →
     AreThrough old new one other count
-through_at old new one other count o =
-    record {
-      x = o.x;
-      y = o.y;
-      x_at = o.x_at;
-      y_at = o.y_at;
-      x_done = o.x_done;
-      y_done = o.y_done;
-      counted = o.counted;
-    }
+through_at old new one other count o = search rules
 
 -- so each established transfer of a world recovers
 pub transfers_recover : TransfersRecover
 transfers_recover w new one other x y terms number reached e run =
     let first = new_world reached.files reached.config in
     let ok =
-    run_keeps true reached.events first w (any_may reached.events)
-    (new_ok true reached.files reached.config reached.max_block) reached.plays in
+    run_keeps true reached.events first w (any_may reached.events) (new_ok true reached.files reached.config
+    reached.max_block) reached.plays in
     let fresh = run_newest reached.events first w (new_newest reached.files reached.config) reached.plays in
     let r : Reaches new one other (length w.sent) (length run.reports) (left_to_add x terms number) =
     elim run.taken [
       | inl t ↦ recovers w new ok one other x y terms number e run false tt t fresh
       | inr h ↦ recovers w new ok one other x y terms number e run true h tt fresh
     ] in
-    record {
-      few = r.few;
-      goes_on = r.goes_on;
-      through = λ h. through_at w new one other (left_to_add x terms number) (r.over h);
-    }
+    search rules

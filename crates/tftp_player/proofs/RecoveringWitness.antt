@@ -1,18 +1,17 @@
 -- A transfer that recovers: a read of three blocks of which a datagram was lost.
 -- For the law a_transfer_recovers, which is then of some runs.
-use Rattle.std.proofs.Common.{ℕ, ◌∷◌, Option, Some, refl, arith, rules, inr}
-use Rattle.std.specs.Prelude.{slice_get}
+use Rattle.tftp_player.proofs.Common.{ℕ, ◌∷◌, Option, Some, refl, arith, rules, inr, slice_get, timeout_turn, OpenEnd}
+use Rattle.tftp_player.proofs.Common.{files_of, IsReached, WorldState, WorldEnd, Open_end, world_after, report_of}
+use Rattle.tftp_player.proofs.Common.{sent_report}
 use Rattle.std.specs.Fmt.{digits}
 use Rattle.tftp_negotiate.specs.Agreement.{taken_option}
 use Rattle.tftp_negotiate.specs.Answer.{answered_option}
 use Rattle.tftp_negotiate.specs.Negotiation.{occurrences_of}
 use Rattle.tftp_negotiate.specs.Options.{name_of, number_of}
 use Rattle.tftp_negotiate.specs.declared.known.Kind.TheVariants.{Read}
-use Rattle.tftp_ends.specs.Step.{timeout_turn}
-use Rattle.tftp_rules.specs.OpenEnds.{OpenEnd, files_of}
-use Rattle.tftp_player.specs.Recovering.{IsReached, SomeTransferRecovers}
-use Rattle.tftp_player.specs.World.{WorldState, WorldEnd, Open_end, world_after, report_of, sent_report}
-use Rattle.tftp_player.proofs.SampleDeliveries.{AllDelivered, world_at, reports, settles, deliveries, plays}
+use Rattle.tftp_player.specs.Recovering.{SomeTransferRecovers}
+use Rattle.tftp_player.proofs.SampleDeliveries.{AllDelivered, world_at, reports, settles, deliveries, plays, behaves}
+use Rattle.tftp_player.proofs.SampleDeliveries.{timed_by}
 use Rattle.tftp_player.proofs.Witness.{config, files_for, new_world_for, asked_world, begun_world, event_for}
 use Rattle.tftp_player.proofs.Witness.{client_for, Sample, Runs, asks, opens}
 use Rattle.tftp_player.proofs.Witnesses.{blocks, blocks_run, read, read_runs}
@@ -34,29 +33,16 @@ receiver_in s heard = open_at s (slice_get (heard_world s heard).ends 0)
 
 -- and after the sender's timeout
 abbrev timed_world : Sample → ℕ → WorldState
-timed_world s heard =
-    world_after (heard_world s heard) 1 (sender_in s heard) (timeout_turn (sender_in s heard).state)
-    (files_of (sender_in s heard)) (heard_world s heard).files
+timed_world s heard = timed_by (heard_world s heard) 1 (sender_in s heard)
 
 reached : (s : Sample) → Runs Read s → (heard : ℕ) → AllDelivered s.host heard (begun_world Read s) 1 → IsReached (heard_world s heard)
 reached s runs heard all = record {
   files = files_for Read s;
   config = config;
-  events = event_for Read s
-      ∷ deliveries 0 (sent_report (asked_world Read s) ∷ reports s.host heard (begun_world Read s) 1);
+  events = event_for Read s ∷ deliveries 0 (sent_report (asked_world Read s) ∷ reports s.host heard (begun_world Read s)
+      1);
   max_block = (omega arith, omega arith);
-  plays = (
-    asked_world Read s,
-    sent_report (new_world_for Read s),
-    asks Read s runs.may,
-    plays (asked_world Read s) 0
-        (sent_report (asked_world Read s) ∷ reports s.host heard (begun_world Read s) 1)
-        (heard_world s heard) (
-          begun_world Read s,
-          opens Read s runs,
-          settles s.host heard (begun_world Read s) 1 all,
-        ),
-  );
+  plays = search (rules, asked_world, new_world_for, asks, plays, reports, begun_world, opens, settles);
 }
 
 -- the OACK is acknowledged, and the ACK is lost
@@ -72,20 +58,9 @@ oack_recovers = (
   _,
   reached blocks blocks_run 1 (search rules),
   record { sender_at = refl; receiver_at = refl; sends = refl; to_receiver = refl; to_sender = refl },
-  record {
-    retries = omega arith;
-    report = report_of (heard_world blocks 1) (sender_in blocks 1) (timeout_turn (sender_in blocks 1).state);
-    mid = timed_world blocks 1;
-    times_out = (
-      1,
-      Open_end (sender_in blocks 1),
-      record { is = refl; there = refl },
-      record { files = (heard_world blocks 1).files; stored = refl; reports = refl; is = refl },
-    );
-    reports = reports blocks.host 8 (timed_world blocks 1) 3;
-    settles = settles blocks.host 8 (timed_world blocks 1) 3 (search rules);
-    taken = inr (refl, refl);
-  },
+  behaves (heard_world blocks 1) _ 1 (sender_in blocks 1) (receiver_in blocks 1) refl refl refl (omega arith)
+      (reports blocks.host 8 (timed_world blocks 1) 3)
+      (settles blocks.host 8 (timed_world blocks 1) 3 (search rules)) (inr (refl, refl)),
   refl,
 )
 
@@ -102,20 +77,9 @@ data_recovers = (
   _,
   reached blocks blocks_run 4 (search rules),
   record { sender_at = refl; receiver_at = refl; sends = refl; to_receiver = refl; to_sender = refl },
-  record {
-    retries = omega arith;
-    report = report_of (heard_world blocks 4) (sender_in blocks 4) (timeout_turn (sender_in blocks 4).state);
-    mid = timed_world blocks 4;
-    times_out = (
-      1,
-      Open_end (sender_in blocks 4),
-      record { is = refl; there = refl },
-      record { files = (heard_world blocks 4).files; stored = refl; reports = refl; is = refl },
-    );
-    reports = reports blocks.host 4 (timed_world blocks 4) 6;
-    settles = settles blocks.host 4 (timed_world blocks 4) 6 (search rules);
-    taken = inr (refl, refl);
-  },
+  behaves (heard_world blocks 4) _ 1 (sender_in blocks 4) (receiver_in blocks 4) refl refl refl (omega arith)
+      (reports blocks.host 4 (timed_world blocks 4) 6)
+      (settles blocks.host 4 (timed_world blocks 4) 6 (search rules)) (inr (refl, refl)),
   refl,
 )
 
@@ -132,19 +96,8 @@ ack_recovers = (
   _,
   reached read read_runs 1 (search rules),
   record { sender_at = refl; receiver_at = refl; sends = refl; to_receiver = refl; to_sender = refl },
-  record {
-    retries = omega arith;
-    report = report_of (heard_world read 1) (sender_in read 1) (timeout_turn (sender_in read 1).state);
-    mid = timed_world read 1;
-    times_out = (
-      1,
-      Open_end (sender_in read 1),
-      record { is = refl; there = refl },
-      record { files = (heard_world read 1).files; stored = refl; reports = refl; is = refl },
-    );
-    reports = reports read.host 2 (timed_world read 1) 3;
-    settles = settles read.host 2 (timed_world read 1) 3 (search rules);
-    taken = inr (refl, refl);
-  },
+  behaves (heard_world read 1) _ 1 (sender_in read 1) (receiver_in read 1) refl refl refl (omega arith)
+      (reports read.host 2 (timed_world read 1) 3)
+      (settles read.host 2 (timed_world read 1) 3 (search rules)) (inr (refl, refl)),
   refl,
 )

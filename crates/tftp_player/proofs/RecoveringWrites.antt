@@ -1,69 +1,36 @@
 -- A write recovers whose client has no peer yet: ACK 0 or the OACK of the server arrives.
 -- For the law a_transfer_recovers.
-use Rattle.std.proofs.Common.{◌≡◌, ℕ, ◌+◌, ◌*◌, ◌-◌, Bool, true, false, not, List, ◌++◌, length, take, Some, None, refl}
-use Rattle.std.proofs.Common.{sym, ap, ◌∙◌, subst, arith, ◌≤◌, Result, Ok, Err, inl, inr, drop}
-use Rattle.std.specs.Prelude.{◌≢◌, if◌then◌else◌, ◌==◌, nat_lt}
-use Rattle.std.proofs.lemmas.Bool.{true≢false, eqb-true}
-use Rattle.std.proofs.lemmas.Option.{same_Some}
-use Rattle.tftp_wire.specs.declared.packet.Packet.{Packet}
-use Rattle.tftp_wire.specs.Spelling.{Spells}
-use Rattle.tftp_negotiate.specs.Agreed.{size}
-use Rattle.tftp_negotiate.specs.declared.asked.Asked.{Asked}
-use Rattle.tftp_negotiate.specs.declared.refusal.Refusal.{Refusal}
-use Rattle.tftp_ends.specs.declared.action.Response.TheVariants.{Refuse}
-use Rattle.tftp_ends.specs.declared.phase.Phase.{Phase}
-use Rattle.tftp_ends.specs.declared.phase.Phase.TheVariants.{Waiting, Receiving}
-use Rattle.tftp_ends.specs.End.{terms_of, is_sender, is_complete, number_of, size_of}
-use Rattle.tftp_ends.specs.Action.{datagram_action, packet_action}
-use Rattle.tftp_rules.specs.EndKept.{PhaseKept}
-use Rattle.tftp_rules.specs.Facts.{Attests}
-use Rattle.tftp_rules.specs.Hosts.{two_hosts}
-use Rattle.tftp_rules.specs.Machine.{Endpoint, Machine}
-use Rattle.tftp_rules.specs.OpenEnds.{OpenEnd, peer_of, goes_on, received_text}
-use Rattle.tftp_rules.specs.Said.{said}
-use Rattle.tftp_player.specs.Recovering.{TakesPeer, AreThrough, WritesRecover}
-use Rattle.tftp_player.specs.World.{WorldState, Open_end, datagram}
-use Rattle.tftp_player.specs.WorldKept.{Refines}
+use Rattle.tftp_player.proofs.Common.{◌≡◌, ℕ, ◌+◌, ◌*◌, ◌-◌, Bool, true, false, not, List, ◌++◌, length, take, Some}
+use Rattle.tftp_player.proofs.Common.{refl, sym, ap, ◌∙◌, subst, arith, ◌≤◌, Result, Ok, inl, inr, drop, rules, ◌≢◌}
+use Rattle.tftp_player.proofs.Common.{if◌then◌else◌, true≢false, same_Some, Packet, Spells, size, Asked, Refusal, Phase}
+use Rattle.tftp_player.proofs.Common.{Waiting, Receiving, terms_of, is_sender, is_complete, size_of, datagram_action}
+use Rattle.tftp_player.proofs.Common.{packet_action, PhaseKept, Attests, two_hosts, Endpoint, Machine, OpenEnd, peer_of}
+use Rattle.tftp_player.proofs.Common.{goes_on, received_text, said, TakesPeer, WorldState, Open_end, datagram, Refines}
+use Rattle.tftp_player.proofs.Common.{RawOption, Read, Write, Data, Ack, Error, Oack, agreement, Known, block}
+use Rattle.tftp_player.proofs.Common.{block_count, wire_text, Action, Send, Terms, data_bytes, writer_action}
+use Rattle.tftp_player.proofs.Common.{default_terms, agreed_terms, begin_action, begin_with_action, taken_oack}
+use Rattle.tftp_player.proofs.Common.{text_else, AllTaken}
+use Rattle.std.proofs.Common.{◌==◌}
+use Rattle.std.proofs.lemmas.Bool.{eqb-true}
+use Rattle.tftp_ends.specs.End.{number_of}
+use Rattle.tftp_player.specs.Recovering.{WritesRecover}
 use Rattle.tftp_player.proofs.WorldFacts.{holds, attests, m, near}
-use Rattle.tftp_player.proofs.RunsLeft.{GoesOn, IsLeft, Reaches, walks, IsOver}
+use Rattle.tftp_player.proofs.RunsLeft.{GoesOn, IsLeft, Reaches, walks}
 use Rattle.tftp_player.proofs.StraightRuns.{IsReady, stays_at, set_at, ready_next, SendsAt, fit_of, awaits_now}
 use Rattle.tftp_player.proofs.StraightRuns.{from_data}
 use Rattle.tftp_player.proofs.StraightSteps.{ports_of, Handles, delivered, handles_send}
-use Rattle.tftp_wire.specs.declared.options.RawOption.{RawOption}
-use Rattle.tftp_wire.specs.declared.packet.Packet.TheVariants.{Read, Write, Data, Ack, Error, Oack}
-use Rattle.tftp_negotiate.specs.Agreement.{agreement}
 use Rattle.tftp_negotiate.specs.declared.known.Kind.TheVariants as kinds
-use Rattle.tftp_negotiate.specs.declared.known.Known.{Known}
-use Rattle.tftp_negotiate.specs.declared.limits.TheConstants.{DEFAULT_BLOCK}
-use Rattle.tftp_file.specs.Block.{block, block_count}
-use Rattle.tftp_file.specs.Netascii.{wire_text}
-use Rattle.tftp_ends.specs.declared.action.Action.{Action}
-use Rattle.tftp_ends.specs.declared.action.Action.TheVariants.{Respond, Send}
-use Rattle.tftp_ends.specs.declared.phase.Terms.{Terms}
-use Rattle.tftp_ends.specs.Step.{data_bytes}
-use Rattle.tftp_ends.specs.Waiting.{writer_action, default_terms, agreed_terms, no_answer, begin_action}
-use Rattle.tftp_ends.specs.Waiting.{begin_with_action}
-use Rattle.tftp_rules.proofs.SaidLemmas.{taken_oack}
-use Rattle.tftp_rules.proofs.SinkMoves.{text_else}
-use Rattle.tftp_player.specs.Straight.{AllTaken}
+use Rattle.tftp_ends.specs.Waiting.{no_answer}
 use Rattle.tftp_player.proofs.SentAgain.{MaySendAgain, retransmits}
-use Rattle.tftp_player.proofs.AnsweringEnds.{reached_ok, refused_takes_none, none_taken, client_x, IsWaitedFor}
-use Rattle.tftp_player.proofs.AnsweringEnds.{AreMeeting, meeting, offers, waited_by}
+use Rattle.tftp_player.proofs.AnsweringEnds.{reached_ok, client_x, IsWaitedFor, AreMeeting, meeting, offers, waited_by}
 use Rattle.tftp_player.proofs.FirstAnswers.{writes_as}
-use Rattle.tftp_ends.specs.declared.error_reply.ErrorReply.TheVariants.{FileTooLarge}
 use Rattle.tftp_ends.specs.declared.outcome.Outcome.TheVariants as outcomes
 use Rattle.tftp_player.proofs.WorldRuns.{contains_at}
 
 begun_with : (from : Endpoint) (count : ℕ) (r : Result (List Known) Refusal) →
     TakesPeer (begin_with_action from count r) →
     (taken : List Known) × (r ≡ Ok taken) × TakesPeer (begin_action count (agreed_terms from taken))
-begun_with from count (Ok taken) t = (taken, refl, t)
-begun_with from count (Err refusal) t = absurd (refused_takes_none refusal t)
-
-begins_by : (b : Bool) (terms : Terms) →
-    TakesPeer (if b then Send terms 1 else Respond (Refuse None FileTooLarge outcomes.TooLarge)) → b ≡ true
-begins_by true terms t = refl
-begins_by false terms t = absurd t
+begun_with from count r t = search rules
 
 taken_if : (b : Bool) (action : Action) → TakesPeer (if b then action else no_answer) → (b ≡ true) × TakesPeer action
 taken_if true action t = (refl, t)
@@ -86,12 +53,10 @@ module _ (w new : WorldState) (one other i : ℕ) (x y : OpenEnd) (asked : Asked
 
   -- what was sent is true of the server's end
   says : (p : Packet) → Spells p bytes_now → Attests (Machine.party (m w ok) sa) ra (said p)
-  says p spelled =
-      attests w ok sa ra bytes_now p known.own_x (contains_at w.sent i (datagram sa ra bytes_now) ready.newest) spelled
+  says p spelled = attests w ok _ _ _ p known.own_x (contains_at _ i _ ready.newest) spelled
 
   handled : (reads : Bool) (g : GoesOn reads w i new) → Handles w other y sa bytes_now g.report g.mid
-  handled reads g =
-      delivered w g.mid i other y sa bytes_now g.report (ports_of true w ok) ready.newest a.client_at g.step
+  handled reads g = search (rules, delivered, ports_of)
 
   module _ (rt : Terms) (n : ℕ) (is : x.state.position.phase ≡ Receiving rt n) (left : IsLeft false w i new) where
     kept_x : PhaseKept two_hosts x (Receiving rt n)
@@ -130,16 +95,14 @@ module _ (w new : WorldState) (one other i : ℕ) (x y : OpenEnd) (asked : Asked
     x_has_none size =
         let t = wire_text x.state.role.mode x.stored in
         let own : (Machine.party (m w ok) sa).text ≡ t ++ x.state.position.held_back =
-        known.at_x.live (ap is_complete is) refl
-        ∙ (text_else (is_sender x.state.role.side) x.text (received_text x.state x.stored) kept_x.0
-        ∙ ap (λ (b : Bool). if b then t ++ x.state.position.held_back else t) (ap goes_on is)) in
+        known.at_x.live (ap is_complete is) refl ∙ (text_else (is_sender x.state.role.side) x.text (received_text
+        x.state x.stored) kept_x.0 ∙ ap (λ (b : Bool). if b then t ++ x.state.position.held_back else t) (ap goes_on
+        is)) in
         let has = ((holds w ok).ends sa known.at_x.is_open).received receives_x ra known.peer_x known.own_y in
         let nothing : (Machine.party (m w ok) sa).number * (Machine.party (m w ok) sa).size ≡ 0 =
-        ap (λ (k : ℕ). k * (Machine.party (m w ok) sa).size) zero_x
-        ∙ (let z : 0 * (Machine.party (m w ok) sa).size ≡ 0 = omega arith in z) in
-        sym own
-        ∙ (has.so_far (known.at_x.complete ∙ ap is_complete is) known.at_x.failed
-        ∙ (ap (λ (k : ℕ). take k (Machine.party (m w ok) ra).text) nothing ∙ none_taken size written))
+        ap (λ (k : ℕ). k * (Machine.party (m w ok) sa).size) zero_x ∙ (let z : 0 * (Machine.party (m w ok) sa).size ≡ 0
+        = omega arith in z) in
+        search rules
 
     abbrev Writes : Type 0
     Writes = Reaches new other one i (length left.reports) (1 + 2 * block_count y.text rt.size)
@@ -166,39 +129,28 @@ module _ (w new : WorldState) (one other i : ℕ) (x y : OpenEnd) (asked : Asked
         let same_blocks : block_count y.text rt.size ≡ blocks =
         ap (λ (t : List ℕ). block_count t rt.size) written_is ∙ ap (block_count written) same in
         let total : 2 + 2 * rest + 1 ≡ 1 + 2 * block_count y.text rt.size = omega (arith, counted, same_blocks) in
-        subst (λ (j : ℕ). Reaches new other one i (length left.reports) j) total
-        (walks false w new other one i (2 + 2 * rest) ready.count left (λ g.
-        let z =
-        handles_send w g.mid other y sa bytes_now g.report (handled false g) p st 0 written spelled does sends_y
+        subst (λ (j : ℕ). Reaches new other one i (length left.reports) j) total (walks false w new other one i (2 + 2 *
+        rest) ready.count left (λ g.
+        let z = handles_send w g.mid other y sa bytes_now g.report (handled false g) p st 0 written spelled does sends_y
         (known.kept_y.5 sends_y ∙ ap length written_is) remaining_is in
         let next =
-        ready_next true w g.mid i (datagram sa ra bytes_now)
-        (datagram ra sa (data_bytes (0 + 1) (block written st.size (0 + 1)))) g.report ready g.step z.2.sent in
-        let sender :
-        SendsAt true other one back ra sa st rt y.state.role.mode y.file sp rp same g.mid (0 + 1) =
-        record {
-          x = z.0;
-          there = set_at w g.mid other (Open_end y) (Open_end z.0) z.2.ends a.client_at;
-          address = z.2.address;
-          phase = z.1;
-          file_is = z.2.file;
-          mode_is = z.2.mode;
-        } in
+        ready_next true w g.mid i (datagram sa ra bytes_now) (datagram ra sa (data_bytes (0 + 1) (block written st.size
+        (0 + 1)))) g.report ready g.step z.2.sent in
+        let sender : SendsAt true other one back ra sa st rt y.state.role.mode y.file sp rp same g.mid (0 + 1) = search
+        (rules, set_at) in
         let fit =
         fit_of true other one back ra sa st rt y.state.role.mode y.file sp rp same g.mid (0 + 1) next.ok sender in
         let receiver =
         awaits_now true other one back ra sa st rt y.state.role.mode y.file sp rp same false g.mid x 0 fit first
-        (stays_at w g.mid other one (Open_end x) (Open_end z.0) z.2.ends back a.server_at) refl
-        (is ∙ ap (Receiving rt) zero_now) kept_x.0 tt (sym known.mode_same) (x_has_none st.size)
-        (ok.ends one (Open_end x) a.server_at).stands.kept.held_back in
+        (stays_at w g.mid other one (Open_end x) (Open_end z.0) z.2.ends back a.server_at) refl (is ∙ ap (Receiving rt)
+        zero_now) kept_x.0 tt (sym known.mode_same) (x_has_none st.size) (ok.ends one (Open_end x)
+        a.server_at).stands.kept.held_back in
         from_data true other one back ra sa st rt y.state.role.mode y.file sp rp same false rest (i + 1) 0 g.mid new
         counted next sender receiver g.left))
 
     begins_as : (terms : Terms) → TakesPeer (begin_action y.state.role.length terms) →
         begin_action y.state.role.length terms ≡ Send terms 1
-    begins_as terms takes =
-        ap (λ (b : Bool). if b then Send terms 1 else Respond (Refuse None FileTooLarge outcomes.TooLarge))
-        (begins_by (nat_lt y.state.role.length (65535 * terms.size)) terms takes)
+    begins_as terms takes = search rules
 
     by_ack : (k : ℕ) → Spells (Ack k) bytes_now → TakesPeer (writes_by (Ack k)) → Writes
     by_ack k spelled takes =
@@ -206,13 +158,9 @@ module _ (w new : WorldState) (one other i : ℕ) (x y : OpenEnd) (asked : Asked
         let st = default_terms sa in
         let h = taken_if (k == 0) (begin_action y.state.role.length st) takes in
         let plain = t.plain (eqb-true k 0 h.0) known.server_x in
-        let small : rt.size ≡ DEFAULT_BLOCK =
-        sym size_of_x ∙ ((holds w ok).ends sa known.at_x.is_open).plain known.server_x plain in
-        begins (Ack k) st spelled
-        (known.waiting_does bytes_now (Ack k)
-        ∙ (written_as (Ack k)
-        ∙ (ap (λ (b : Bool). if b then begin_action y.state.role.length st else no_answer) h.0 ∙ begins_as st h.1)))
-        refl small
+        let small = sym size_of_x ∙ ((holds w ok).ends sa known.at_x.is_open).plain known.server_x plain in
+        begins (Ack k) st spelled (known.waiting_does bytes_now (Ack k) ∙ (written_as (Ack k) ∙ (ap (λ (b : Bool). if b
+        then begin_action y.state.role.length st else no_answer) h.0 ∙ begins_as st h.1))) refl small
 
     by_oack : (options : List RawOption) → Spells (Oack options) bytes_now → TakesPeer (writes_by (Oack options)) →
         Writes
@@ -221,14 +169,9 @@ module _ (w new : WorldState) (one other i : ℕ) (x y : OpenEnd) (asked : Asked
         let r = agreement asked kinds.Write y.state.role.mode options limit in
         let h = begun_with sa y.state.role.length r takes in
         let st = agreed_terms sa h.0 in
-        let same : rt.size ≡ st.size =
-        sym size_of_x
-        ∙ (t.size ∙ taken_oack asked kinds.Write y.state.role.mode options limit h.0 h.1) in
-        begins (Oack options) st spelled
-        (known.waiting_does bytes_now (Oack options)
-        ∙ (written_as (Oack options)
-        ∙ (ap (begin_with_action sa y.state.role.length) h.1 ∙ begins_as st h.2)))
-        refl same
+        let same : rt.size ≡ st.size = search (rules, size_of_x, taken_oack) in
+        begins (Oack options) st spelled (known.waiting_does bytes_now (Oack options) ∙ (written_as (Oack options) ∙
+        (ap (begin_with_action sa y.state.role.length) h.1 ∙ begins_as st h.2))) refl same
 
     -- by a packet that the client takes
     pub writes : (p : Packet) → Spells p bytes_now → TakesPeer (writes_by p) → Writes
@@ -243,19 +186,6 @@ module _ (w new : WorldState) (one other i : ℕ) (x y : OpenEnd) (asked : Asked
     pub write_recovers : (p : Packet) → Spells p bytes_now →
         TakesPeer (packet_action y.state sa (Some p) (Waiting asked limit)) → Writes
     write_recovers p spelled takes = writes p spelled (subst TakesPeer (written_as p) takes)
-
-through_back : (old new : WorldState) (one other count : ℕ) → IsOver new other one (length old.sent + count) →
-    AreThrough old new one other count
-through_back old new one other count o =
-    record {
-      x = o.y;
-      y = o.x;
-      x_at = o.y_at;
-      y_at = o.x_at;
-      x_done = o.y_done;
-      y_done = o.x_done;
-      counted = o.counted;
-    }
 
 -- so a write recovers
 pub writes_recover : WritesRecover
@@ -273,9 +203,6 @@ writes_recover w new one other x y asked limit terms number reached a is run =
     ] in
     let r =
     write_recovers run.mid new one other (length w.sent) o.x y asked limit o.bytes o.ready o.waited_for terms number
-    (o.phase ∙ is) (record { reports = run.reports; settles = run.settles; taken = taken }) o.packet o.spelled o.takes in
-    record {
-      few = r.few;
-      goes_on = r.goes_on;
-      through = λ h. through_back w new one other (1 + 2 * block_count y.text terms.size) (r.over h);
-    }
+    (o.phase ∙ is) (record { reports = run.reports; settles = run.settles; taken = taken }) o.packet o.spelled o.takes
+    in
+    search rules

@@ -1,27 +1,20 @@
 -- A write whose receiver's store refuses: the receiver sends ERROR 3, and the sender closes by it.
 -- For the law no_end_is_blamed, which is then of some ends.
-use Rattle.std.proofs.Common.{[], ◌∷◌, Option, Some, Err, refl, arith, rules}
-use Rattle.std.specs.Prelude.{slice_get, slice_set}
-use Rattle.tftp_wire.specs.Parts.{packet_in}
+use Rattle.tftp_player.proofs.Common.{[], ◌∷◌, Option, Some, Err, refl, arith, rules, slice_get, slice_set, packet_in}
+use Rattle.tftp_player.proofs.Common.{Holding, Sink, DiskFull, Turn, refused_turn, default_terms, OpenEnd, holding_of}
+use Rattle.tftp_player.proofs.Common.{WorldState, WorldEnd, ClosedEnd, Open_end, Closed_end, closed_end, datagram}
+use Rattle.tftp_player.proofs.Common.{no_report, report_of, sent_report, world_after, WorldStep, At_open_end, armed_end}
+use Rattle.tftp_player.proofs.Common.{Datagram, Deliver, RefuseStore}
 use Rattle.tftp_negotiate.specs.Negotiation.{occurrences_of}
 use Rattle.tftp_negotiate.specs.declared.known.Kind.TheVariants.{Write}
-use Rattle.tftp_file.specs.Sink.{Holding, disarmed}
+use Rattle.tftp_file.specs.Sink.{disarmed}
 use Rattle.tftp_file.specs.declared.fault.StoreFault.TheVariants.{Full}
-use Rattle.tftp_file.specs.declared.files.Files.TheVariants.{Sink}
-use Rattle.tftp_ends.specs.declared.error_reply.ErrorReply.TheVariants.{DiskFull}
 use Rattle.tftp_ends.specs.declared.outcome.Outcome.TheVariants as outcomes
-use Rattle.tftp_ends.specs.Step.{Turn, refused_turn}
-use Rattle.tftp_ends.specs.Waiting.{default_terms}
-use Rattle.tftp_rules.specs.OpenEnds.{OpenEnd, holding_of}
 use Rattle.tftp_player.specs.Closing.{SomeEndIsRefused}
-use Rattle.tftp_player.specs.World.{WorldState, WorldEnd, ClosedEnd, Open_end, Closed_end, closed_end, datagram, no_report}
-use Rattle.tftp_player.specs.World.{report_of, sent_report, world_after}
-use Rattle.tftp_player.specs.WorldSteps.{WorldStep, At_open_end, armed_end, armed_to_refuse}
-use Rattle.tftp_player.specs.declared.datagram.Datagram.{Datagram}
-use Rattle.tftp_player.specs.declared.event.Event.TheVariants.{Deliver, RefuseStore}
+use Rattle.tftp_player.specs.WorldSteps.{armed_to_refuse}
 use Rattle.tftp_player.proofs.SampleDeliveries.{spells, next, delivers}
-use Rattle.tftp_player.proofs.Witness.{config, files_for, new_world_for, asked_world, begun_world, event_for, client_for}
-use Rattle.tftp_player.proofs.Witness.{asks, opens, server_for}
+use Rattle.tftp_player.proofs.Witness.{config, files_for, new_world_for, asked_world, begun_world, event_for}
+use Rattle.tftp_player.proofs.Witness.{client_for, asks, opens, server_for}
 use Rattle.tftp_player.proofs.Witnesses.{write, write_runs}
 
 -- the receiver, set to refuse

@@ -1,44 +1,24 @@
 -- A request that repeats that of an open transfer opens nothing, and repeats it while that transfer is open. For
 -- `a_repeat_opens_nothing` and six other files.
-use Rattle.std.proofs.Common.{◌≡◌, ℕ, ◌<◌, Bool, true, false, List, [], ◌∷◌, ◌++◌, length, Option, Some, None, refl}
-use Rattle.std.proofs.Common.{sym, ap, ◌∙◌, subst, inl, inr, arith}
-use Rattle.std.specs.Prelude.{if◌then◌else◌, slice_get, slice_set}
-use Rattle.std.proofs.Math.ListN.{length-set}
-use Rattle.std.proofs.lemmas.Bool.{true≢false}
-use Rattle.std.proofs.lemmas.Option.{same_Some}
+use Rattle.tftp_player.proofs.Common.{◌≡◌, ℕ, ◌<◌, Bool, true, false, List, [], ◌∷◌, ◌++◌, length, Option, Some, None}
+use Rattle.tftp_player.proofs.Common.{refl, sym, ap, ◌∙◌, subst, inl, inr, arith, rules, if◌then◌else◌, slice_get}
+use Rattle.tftp_player.proofs.Common.{slice_set, true≢false, same_Some, Spells, Mode, Packet, Read, Write, Data, Ack}
+use Rattle.tftp_player.proofs.Common.{Error, Oack, Known, Files, Holding, Terms, terms_of, Decodes, Turn, Service}
+use Rattle.tftp_player.proofs.Common.{Silent, Refused, Sends, Takes, request_port, Endpoint, OpenEnd, files_of}
+use Rattle.tftp_player.proofs.Common.{end_after, sending_end, receiving_end, IsRepeated, Repeats, AnyRepeats, served}
+use Rattle.tftp_player.proofs.Common.{service, WorldState, WorldEnd, Open_end, standing, is_closed, Refines}
+use Rattle.tftp_player.proofs.Common.{ServiceStep, Delivery, At_request_port, At_open_end, At_closed_end, At_nobody}
+use Rattle.tftp_player.proofs.Common.{OpeningStep, Stays, Turns, TimeoutStep, armed_end, WorldStep, Event, Get, Put}
+use Rattle.tftp_player.proofs.Common.{Deliver, Timeout, RefuseStore, Stray, Report, slice_get-push_old}
+use Rattle.tftp_player.proofs.Common.{slice_get-set_cases}
 use Rattle.tftp_wire.specs.Reading.{has_error_opcode}
-use Rattle.tftp_wire.specs.Spelling.{Spells}
-use Rattle.tftp_wire.specs.declared.mode.Mode.{Mode}
-use Rattle.tftp_wire.specs.declared.packet.Packet.{Packet}
-use Rattle.tftp_wire.specs.declared.packet.Packet.TheVariants.{Read, Write, Data, Ack, Error, Oack}
-use Rattle.tftp_negotiate.specs.declared.known.Known.{Known}
-use Rattle.tftp_file.specs.declared.files.Files.{Files}
-use Rattle.tftp_file.specs.declared.files.Files.TheVariants.{Source, Sink}
-use Rattle.tftp_file.specs.Sink.{Holding}
-use Rattle.tftp_ends.specs.declared.outcome.Outcome.{Outcome}
-use Rattle.tftp_ends.specs.declared.phase.Terms.{Terms}
-use Rattle.tftp_ends.specs.End.{is_sender, terms_of, outcome_of}
 use Rattle.tftp_ends.specs.declared.error_reply.ErrorReply.TheVariants.{IllegalOperation}
-use Rattle.tftp_ends.specs.Action.{Decodes}
-use Rattle.tftp_ends.specs.Step.{Turn, timeout_turn}
-use Rattle.tftp_server.specs.Port.{Service, Silent, Refused, Sends, Takes, Ignores, Refuses}
-use Rattle.tftp_rules.specs.Hosts.{request_port}
-use Rattle.tftp_rules.specs.Machine.{Endpoint}
-use Rattle.tftp_rules.specs.OpenEnds.{OpenEnd, files_of, end_after}
-use Rattle.tftp_player.specs.Openings.{sending_end, receiving_end}
+use Rattle.tftp_server.specs.Port.{Ignores, Refuses}
 use Rattle.tftp_player.specs.Repeating.{AsksForTransfer, RepeatsOpenNothing, IsNewRequest, OnlyNewRequestsOpen}
 use Rattle.tftp_player.specs.Repeating.{RequestsLast}
-use Rattle.tftp_player.specs.Requests.{IsRepeated, WasAskedBy, Repeats, AnyRepeats, served, service}
-use Rattle.tftp_player.specs.World.{WorldState, WorldEnd, Open_end, Closed_end, by_outcome, standing, is_closed}
-use Rattle.tftp_player.specs.WorldKept.{Refines}
-use Rattle.tftp_player.specs.WorldSteps.{ServiceStep, Delivery, At_request_port, At_open_end, At_closed_end, At_nobody}
-use Rattle.tftp_player.specs.WorldSteps.{OpeningStep, Stays, Turns, TimeoutStep, armed_end, WorldStep}
-use Rattle.tftp_player.specs.declared.event.Event.{Event}
-use Rattle.tftp_player.specs.declared.event.Event.TheVariants.{Get, Put, Deliver, Timeout, RefuseStore, Stray}
-use Rattle.tftp_player.specs.declared.report.Report.{Report}
-use Rattle.tftp_rules.proofs.Indices.{slice_get-push_old, slice_get-set_cases}
+use Rattle.tftp_player.specs.Requests.{WasAskedBy}
 use Rattle.tftp_player.proofs.ServerLemmas.{says_one}
-use Rattle.tftp_player.proofs.TermsKept.{same_peer, step_has, timeout_has}
+use Rattle.tftp_player.proofs.TermsKept.{step_has, timeout_has}
 
 -- ---- what repeats a request is ignored
 
@@ -50,27 +30,11 @@ none_at_port strangers w k x ok there at =
     let q : x.address.port ≡ 69 = ap (λ (e : Endpoint). e.port) at in
     omega (arith, p, q)
 
--- either way nothing is to be done
-ignored_by : (w : WorldState) (b : Bool) → served w (if b then Ignores else Ignores) ≡ Silent
-ignored_by w true = refl
-ignored_by w false = refl
-
-repeat_silent : (w : WorldState) (bytes : List ℕ) (packet : Packet) → AsksForTransfer packet →
-    service w true bytes (Some packet) ≡ Silent
-repeat_silent w bytes (Read request) asks = ignored_by w (has_error_opcode bytes)
-repeat_silent w bytes (Write request) asks = ignored_by w (has_error_opcode bytes)
-repeat_silent w bytes (Data number piece) asks = absurd asks
-repeat_silent w bytes (Ack number) asks = absurd asks
-repeat_silent w bytes (Error code text) asks = absurd asks
-repeat_silent w bytes (Oack options) asks = absurd asks
-
 module _ (old new : WorldState) (from : Endpoint) (packet : Packet) (bytes : List ℕ) (report : Report)
     (asks : AsksForTransfer packet) (spells : Spells packet bytes) (any : AnyRepeats from packet old.ends) where
   at_port : (repeated : Bool) → IsRepeated repeated from (Some packet) old.ends →
       ServiceStep (service old repeated bytes (Some packet)) old from bytes report new → Stays old report new
-  at_port true same s =
-      subst (λ (what : Service). ServiceStep what old from bytes report new) (repeat_silent old bytes packet asks) s
-  at_port false same s = absurd (true≢false (sym (same.1 any)))
+  at_port repeated same s = search rules
 
   stays : (strangers : Bool) (to : Endpoint) → Refines strangers old → to ≡ request_port →
       Delivery old from to bytes report new → Stays old report new
@@ -100,18 +64,14 @@ pub sender_repeats :
     (w : WorldState) (from : Endpoint) (bytes : List ℕ) (mode : Mode) (path file : List ℕ) (agreed : List Known)
     (packet : Packet) → Spells packet bytes →
     WasAskedBy from packet (sending_end w from bytes mode path file agreed)
-sender_repeats w from bytes mode path file [] packet spells = record { still = refl; peer = refl; same = spells }
-sender_repeats w from bytes mode path file (known ∷ agreed) packet spells =
-    record { still = refl; peer = refl; same = spells }
+sender_repeats w from bytes mode path file h6 packet spells = search rules
 
 -- the datagram that opened a receiver repeats its request
 pub receiver_repeats :
     (w : WorldState) (from : Endpoint) (bytes : List ℕ) (mode : Mode) (path : List ℕ) (agreed : List Known)
     (packet : Packet) → Spells packet bytes →
     WasAskedBy from packet (receiving_end w from bytes mode path agreed)
-receiver_repeats w from bytes mode path [] packet spells = record { still = refl; peer = refl; same = spells }
-receiver_repeats w from bytes mode path (known ∷ agreed) packet spells =
-    record { still = refl; peer = refl; same = spells }
+receiver_repeats w from bytes mode path h5 packet spells = search rules
 
 module _ (old new : WorldState) (from : Endpoint) (bytes : List ℕ) (report : Report)
     (more : length old.ends < length new.ends) where
@@ -130,9 +90,7 @@ module _ (old new : WorldState) (from : Endpoint) (bytes : List ℕ) (report : R
 
   opened_repeats : (packet : Packet) (x : OpenEnd) → OpeningStep old x report new → WasAskedBy from packet x →
       AnyRepeats from packet new.ends
-  opened_repeats packet x o r =
-      subst (λ (w : WorldState). AnyRepeats from packet w.ends) (sym o.is)
-      (any_last from packet old.ends (Open_end x) r)
+  opened_repeats packet x o r = search (rules, any_last)
 
   served_repeats : (what : Service) (packet : Packet) → Spells packet bytes → Serves_so what →
       AnyRepeats from packet new.ends
@@ -151,8 +109,7 @@ module _ (old new : WorldState) (from : Endpoint) (bytes : List ℕ) (report : R
   asked : (to : Endpoint) → to ≡ request_port → (packet : Packet) → AsksForTransfer packet → Spells packet bytes →
       (repeated : Bool) → IsRepeated repeated from (Some packet) old.ends →
       Serves_so (service old repeated bytes (Some packet)) → IsNewRequest from to bytes old new
-  asked to here packet asks spells true same s =
-      absurd (still (subst Serves_so (repeat_silent old bytes packet asks) s))
+  asked to here packet asks spells true same s = search rules
   asked to here packet asks spells false same s = record {
     packet = packet;
     asks = asks;
@@ -174,8 +131,7 @@ module _ (old new : WorldState) (from : Endpoint) (bytes : List ℕ) (report : R
   port_opens to here (Some (Oack options)) says repeated same s = absurd (no_request (has_error_opcode bytes) s)
 
   turned : (k : ℕ) (x : OpenEnd) (turn : Turn) (held : Files (List ℕ) Holding) → Turns old k x turn held report new → ⊥
-  turned k x turn held t =
-      same (ap (λ (w : WorldState). length w.ends) t.is ∙ length-set old.ends k (standing (end_after x turn held)))
+  turned k x turn held t = search rules
 
   opens : (to : Endpoint) → Delivery old from to bytes report new → IsNewRequest from to bytes old new
   opens to (At_request_port here port decoded says repeated same s) = port_opens to here decoded says repeated same s
@@ -197,59 +153,26 @@ module _ (from : Endpoint) (packet : Packet) where
   turn_lasts : (x : OpenEnd) (turn : Turn) (held : Files (List ℕ) Holding) →
       ((agreed : Terms) → terms_of x.state.position.phase ≡ Some agreed → terms_of turn.position.phase ≡ Some agreed) →
       WasAskedBy from packet x → Lasts (standing (end_after x turn held))
-  turn_lasts x turn held stays r = by_case (outcome_of (end_after x turn held).state.position.phase) where
-    by_files : (files : Files (List ℕ) Holding) → WasAskedBy from packet (end_after x turn files)
-    by_files (Source left) =
-        record {
-          still = r.still;
-          peer = same_peer x.state.position.phase turn.position.phase from r.peer stays;
-          same = r.same;
-        }
-    by_files (Sink holding) =
-        record {
-          still = r.still;
-          peer = same_peer x.state.position.phase turn.position.phase from r.peer stays;
-          same = r.same;
-        }
-
-    by_case : (o : Option Outcome) → Lasts (by_outcome o (end_after x turn held))
-    by_case None open_now = by_files held
-    by_case (Some outcome) open_now = absurd (true≢false open_now)
+  turn_lasts x turn held stays r = search rules
 
   armed_lasts : (x : WorldEnd) → Repeats from packet x → Repeats from packet (armed_end x)
-  armed_lasts (Open_end x) r = by_test (is_sender x.state.role.side) where
-    by_test : (sender : Bool) → Repeats from packet (Open_end (if sender then x else record x { refuses = true }))
-    by_test true = r
-    by_test false = record { still = r.still; peer = r.peer; same = r.same }
-  armed_lasts (Closed_end x) r = r
+  armed_lasts x r = search rules
 
   module _ (old new : WorldState) (report : Report) (k : ℕ) (x z : WorldEnd) (there : slice_get old.ends k ≡ Some x)
       (r : Repeats from packet x) (here : slice_get new.ends k ≡ Some z) where
     same_end : new.ends ≡ old.ends → Lasts z
-    same_end e o =
-        subst (Repeats from packet)
-        (same_Some x z (sym there ∙ (ap (λ (ends : List WorldEnd). slice_get ends k) (sym e) ∙ here))) r
+    same_end e o = search rules
 
     same_world : Stays old report new → Lasts z
     same_world s = same_end (ap (λ (w : WorldState). w.ends) s.is)
 
     pushed : (y : OpenEnd) → OpeningStep old y report new → Lasts z
-    pushed y opens o =
-        subst (Repeats from packet)
-        (same_Some x z
-        (sym (slice_get-push_old old.ends k (Open_end y) x there)
-        ∙ (ap (λ (w : WorldState). slice_get w.ends k) (sym opens.is) ∙ here))) r
+    pushed y opens o = search (rules, same_Some, slice_get-push_old)
 
     -- the end at an index was replaced
     set_at : (j : ℕ) (y a : WorldEnd) → new.ends ≡ slice_set old.ends j a → slice_get old.ends j ≡ Some y →
         (Repeats from packet y → Lasts a) → Lasts z
-    set_at j y a e at lasts =
-        elim (slice_get-set_cases old.ends j k a z (ap (λ (ends : List WorldEnd). slice_get ends k) (sym e) ∙ here)) [
-          | inl h ↦
-              subst Lasts (sym h.1)
-              (lasts (subst (Repeats from packet) (same_Some x y (sym there ∙ (ap (slice_get old.ends) h.0 ∙ at))) r))
-          | inr h ↦ λ o. subst (Repeats from packet) (same_Some x z (sym there ∙ h.1)) r
-        ]
+    set_at j y a e at lasts = search (rules, slice_get-set_cases, same_Some)
 
     at_service : (what : Service) (bytes : List ℕ) (asker : Endpoint) → ServiceStep what old asker bytes report new →
         Lasts z
@@ -269,11 +192,7 @@ module _ (from : Endpoint) (packet : Packet) where
     at_arrival by to bytes (At_nobody away nobody s) = same_world s
 
     at_timeout : (j : ℕ) (y : WorldEnd) → slice_get old.ends j ≡ Some y → TimeoutStep old j y report new → Lasts z
-    at_timeout j (Closed_end y) at s = same_world s
-    at_timeout j (Open_end y) at t =
-        set_at j (Open_end y) (standing (end_after y (timeout_turn y.state) (files_of y)))
-        (ap (λ (w : WorldState). w.ends) t.is) at
-        (turn_lasts y (timeout_turn y.state) (files_of y) (λ agreed h. timeout_has agreed y.state h))
+    at_timeout j y at h3 = search (rules, same_world, set_at, turn_lasts, timeout_has)
 
     at_event : (event : Event) → WorldStep old event report new → Lasts z
     at_event (Get name mode asked) s = pushed _ s.2
@@ -286,5 +205,4 @@ module _ (from : Endpoint) (packet : Packet) where
 
 -- a request is repeated as long as its end is open
 pub requests_last : RequestsLast
-requests_last old new event report from packet k x y s there r here open_now =
-    at_event from packet old new report k x y there r here event s open_now
+requests_last old new event report from packet k x y s there r here open_now = search (rules, at_event)

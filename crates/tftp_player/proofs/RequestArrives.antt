@@ -1,46 +1,20 @@
 -- A client's request arrives at the port of its server, which accepts it: the transfer completes.
 -- For StraightOpenings and RecoveringRequests.
-use Rattle.std.proofs.Common.{◌≡◌, ℕ, ◌+◌, ◌*◌, ◌-◌, ◌<◌, Bool, true, false, List, [], ◌∷◌, ◌++◌, length, Some, None}
-use Rattle.std.proofs.Common.{Ok, refl, sym, ap, ◌∙◌, subst, arith}
-use Rattle.std.specs.Prelude.{◌^◌, if◌then◌else◌, slice_get}
-use Rattle.std.proofs.lemmas.Bool.{lt-ltb}
-use Rattle.std.proofs.lemmas.Option.{same_Some}
-use Rattle.tftp_player.specs.Straight.{IsAccepted, TakesAnswer, read_adds, write_adds}
-use Rattle.tftp_wire.specs.declared.packet.Packet.TheVariants.{Oack, Data, Ack}
-use Rattle.tftp_wire.specs.declared.mode.Mode.{Mode}
-use Rattle.tftp_wire.specs.declared.packet.Packet.{Packet}
-use Rattle.tftp_wire.specs.Spelling.{Spells}
-use Rattle.tftp_negotiate.specs.Agreed.{size, agreed_options}
-use Rattle.tftp_negotiate.specs.Agreement.{agreement}
-use Rattle.tftp_negotiate.specs.declared.asked.Asked.{Asked}
+use Rattle.tftp_player.proofs.Common.{◌≡◌, ℕ, ◌+◌, ◌*◌, ◌-◌, ◌<◌, Bool, true, false, List, [], ◌∷◌, ◌++◌, length, Some}
+use Rattle.tftp_player.proofs.Common.{refl, sym, ap, ◌∙◌, subst, arith, rules, if◌then◌else◌, slice_get, IsAccepted}
+use Rattle.tftp_player.proofs.Common.{read_adds, write_adds, Oack, Data, Ack, Mode, Packet, Spells, size}
+use Rattle.tftp_player.proofs.Common.{agreed_options, agreement, Asked, Known, DEFAULT_BLOCK, block, block_count, Fits}
+use Rattle.tftp_player.proofs.Common.{wire_text, Waiting, Receiving, Terms, is_sender, oack_bytes, ack_bytes}
+use Rattle.tftp_player.proofs.Common.{data_bytes, default_terms, agreed_terms, accept_action, begin_action}
+use Rattle.tftp_player.proofs.Common.{begin_with_action, writer_action, Service, Sends, Takes, request_port, Endpoint}
+use Rattle.tftp_player.proofs.Common.{OpenEnd, peer_of, answer_granted, slice_get-push_old, slice_get-push_new}
+use Rattle.tftp_player.proofs.Common.{spells_own, own_oack, taken_oack, agreed_size, sending_end, receiving_end}
+use Rattle.tftp_player.proofs.Common.{TakesPeer, WorldState, WorldEnd, Open_end, datagram, file_at, OpeningStep}
+use Rattle.tftp_player.proofs.Common.{ServiceStep}
+use Rattle.std.proofs.Common.{◌^◌}
+use Rattle.tftp_player.specs.Straight.{TakesAnswer}
 use Rattle.tftp_negotiate.specs.declared.known.Kind.TheVariants as kinds
-use Rattle.tftp_negotiate.specs.declared.known.Known.{Known}
-use Rattle.tftp_negotiate.specs.declared.limits.TheConstants.{DEFAULT_BLOCK}
-use Rattle.tftp_file.specs.Block.{block, block_count, Fits}
-use Rattle.tftp_file.specs.Netascii.{wire_text}
-use Rattle.tftp_ends.specs.declared.action.Action.TheVariants.{Respond, Send}
-use Rattle.tftp_ends.specs.declared.action.Response.TheVariants.{Refuse}
-use Rattle.tftp_ends.specs.declared.error_reply.ErrorReply.TheVariants.{FileTooLarge}
 use Rattle.tftp_ends.specs.declared.outcome.Outcome.TheVariants as outcomes
-use Rattle.tftp_ends.specs.declared.phase.Phase.TheVariants.{Waiting, Receiving}
-use Rattle.tftp_ends.specs.declared.phase.Terms.{Terms}
-use Rattle.tftp_ends.specs.End.{is_sender}
-use Rattle.tftp_ends.specs.Opening.{oack_bytes}
-use Rattle.tftp_ends.specs.Step.{ack_bytes, data_bytes}
-use Rattle.tftp_ends.specs.Waiting.{default_terms, agreed_terms, accept_action, begin_action, begin_with_action}
-use Rattle.tftp_ends.specs.Waiting.{writer_action}
-use Rattle.tftp_server.specs.Port.{Service, Sends, Takes}
-use Rattle.tftp_rules.specs.Hosts.{request_port}
-use Rattle.tftp_rules.specs.Machine.{Endpoint}
-use Rattle.tftp_rules.specs.OpenEnds.{OpenEnd, peer_of}
-use Rattle.tftp_rules.proofs.Granted.{answer_granted}
-use Rattle.tftp_rules.proofs.Indices.{slice_get-push_old, slice_get-push_new}
-use Rattle.tftp_rules.proofs.SaidLemmas.{spells_own, own_oack, taken_oack}
-use Rattle.tftp_rules.proofs.WaitingMoves.{agreed_size}
-use Rattle.tftp_player.specs.Openings.{sending_end, receiving_end}
-use Rattle.tftp_player.specs.Recovering.{TakesPeer}
-use Rattle.tftp_player.specs.World.{WorldState, WorldEnd, Open_end, datagram, file_at}
-use Rattle.tftp_player.specs.WorldSteps.{OpeningStep, ServiceStep}
 use Rattle.tftp_player.proofs.AnsweringEnds.{IsWaitedFor, meeting}
 use Rattle.tftp_player.proofs.RecoveringReads.{by_data, by_oack}
 use Rattle.tftp_player.proofs.RecoveringWrites.{sends_y, writes}
@@ -73,23 +47,17 @@ module _ (w new : WorldState) (k i : ℕ) (c : OpenEnd) (asked : Asked) (limit :
     opened = has_opened w g.mid x g.report opens
 
     waited_for : IsWaitedFor g.mid (length w.ends) k x c asked limit
-    waited_for = record {
-      server_at =
-          ap (λ (xs : List WorldEnd). slice_get xs (length w.ends)) opened.ends
-          ∙ slice_get-push_new w.ends (Open_end x);
-      client_at =
-          ap (λ (xs : List WorldEnd). slice_get xs k) opened.ends
-          ∙ slice_get-push_old w.ends k (Open_end x) (Open_end c) asks.client_at;
-      to_client = peer_is;
-      waits = asks.waits;
-    }
+    waited_for = assumption (
+      ap (λ (xs : List WorldEnd). slice_get xs (length w.ends)) opened.ends ∙ slice_get-push_new
+          w.ends (Open_end x),
+      ap (λ (xs : List WorldEnd). slice_get xs k) opened.ends ∙ slice_get-push_old w.ends k
+          (Open_end x) (Open_end c) asks.client_at,
+    )
 
     offered : IsReady true g.mid (i + 1) (datagram x.address c.address x.state.position.last_sent)
     offered =
-        ready_next true w g.mid i (datagram c.address request_port c.state.position.last_sent)
-        (datagram x.address c.address x.state.position.last_sent) g.report asks.ready g.step
-        (opened.sent
-        ∙ ap (λ (p : Endpoint). w.sent ++ datagram x.address p x.state.position.last_sent ∷ []) to_is)
+        ready_next _ w _ i _ _ _ asks.ready g.step (opened.sent ∙ ap (λ (p : Endpoint). w.sent ++ datagram x.address p
+        x.state.position.last_sent ∷ []) to_is)
 
     mode_is : c.state.role.mode ≡ x.state.role.mode
     mode_is = (meeting g.mid offered.ok (length w.ends) k x c asked limit waited_for).mode_same
@@ -109,10 +77,7 @@ module _ (w new : WorldState) (k i : ℕ) (c : OpenEnd) (asked : Asked) (limit :
     sends : (g : GoesOn reads w i new) → OpeningStep w server g.report g.mid
     sends g =
         let p = comes w new k i c asked limit (Sends path mode measured agreed) asks reads g in
-        subst
-        (λ (f : List ℕ).
-        OpeningStep w (sending_end w c.address c.state.position.last_sent mode path f agreed) g.report g.mid)
-        (same_Some p.0 file (sym p.1 ∙ there)) p.2
+        search rules
 
   plainly : (asks : Asks w k i c asked limit (Sends path mode measured [])) → file_at w.files path ≡ Some file →
       Reaches new (length w.ends) k i (length left.reports) (read_adds mode file [])
@@ -121,18 +86,17 @@ module _ (w new : WorldState) (k i : ℕ) (c : OpenEnd) (asked : Asked) (limit :
       let x = server [] asks there in
       let piece = block text DEFAULT_BLOCK 1 in
       let count : 2 + 2 * (block_count text DEFAULT_BLOCK - 1) + 1 ≡ read_adds mode file [] = omega arith in
-      subst (λ (n : ℕ). Reaches new (length w.ends) k i (length left.reports) n) count
-      (walks reads w new (length w.ends) k i (2 + 2 * (block_count text DEFAULT_BLOCK - 1)) asks.ready.count left (λ g.
+      subst (λ (n : ℕ). Reaches new (length w.ends) k i (length left.reports) n) count (walks reads w new (length
+      w.ends) k i (2 + 2 * (block_count text DEFAULT_BLOCK - 1)) asks.ready.count left (λ g.
       let opens = sends [] asks there g in
       let at = offered w new k i c asked limit accepts asks reads g x refl refl opens in
       let waits = waited_for w new k i c asked limit accepts asks reads g x refl refl opens in
       let said =
-      spoken g.mid at.ok x.address c.address (data_bytes 1 piece)
-      (contains_at g.mid.sent (i + 1) (datagram x.address c.address (data_bytes 1 piece)) at.newest) in
-      let spelled : Spells (Data 1 piece) (data_bytes 1 piece) =
-      spells_own (Data 1 piece) (λ e. omega (arith, e), omega arith, data_short 1 piece said.0 said.1) in
-      by_data g.mid new (length w.ends) k (i + 1) x c asked limit (data_bytes 1 piece) at waits
-      (default_terms c.address) 1 refl reads willing g.left 1 piece spelled))
+      spoken g.mid at.ok x.address c.address (data_bytes 1 piece) (contains_at g.mid.sent (i + 1) (datagram x.address
+      c.address (data_bytes 1 piece)) at.newest) in
+      let spelled = spells_own (Data 1 piece) (λ e. omega (arith, e), omega arith, data_short 1 piece said.0 said.1) in
+      by_data g.mid new (length w.ends) k (i + 1) x c asked limit (data_bytes 1 piece) at waits (default_terms
+      c.address) 1 refl reads willing g.left 1 piece spelled))
 
   by_options : (known : Known) (others : List Known)
       (asks : Asks w k i c asked limit (Sends path mode measured (known ∷ others))) →
@@ -148,23 +112,20 @@ module _ (w new : WorldState) (k i : ℕ) (c : OpenEnd) (asked : Asked) (limit :
       let sizes = agreed_size agreed agreeable in
       let counted : measured < 2 ^ 64 = let few = answers.2 in let small = sizes.1 in omega (arith, few, small) in
       let spelled : Spells (Oack (agreed_options agreed)) (oack_bytes agreed) =
-      spells_own (Oack (agreed_options agreed))
-      ((answer_granted answers.0 kinds.Read mode measured w.limits agreed counted max answers.1).oack (λ e. cc)) in
+      spells_own (Oack (agreed_options agreed)) ((answer_granted answers.0 kinds.Read mode measured w.limits agreed
+      counted max answers.1).oack (λ e. cc)) in
       let blocks = block_count text (size agreed) in
       let count : 2 + 2 * (blocks - 0) + 1 ≡ read_adds mode file agreed = omega arith in
-      subst (λ (n : ℕ). Reaches new (length w.ends) k i (length left.reports) n) count
-      (walks reads w new (length w.ends) k i (2 + 2 * (blocks - 0)) asks.ready.count left (λ g.
+      subst (λ (n : ℕ). Reaches new (length w.ends) k i (length left.reports) n) count (walks reads w new (length
+      w.ends) k i (2 + 2 * (blocks - 0)) asks.ready.count left (λ g.
       let opens = sends agreed asks there g in
       let at = offered w new k i c asked limit accepts asks reads g x refl refl opens in
       let waits = waited_for w new k i c asked limit accepts asks reads g x refl refl opens in
       let same = mode_is w new k i c asked limit accepts asks reads g x refl refl opens in
-      let takes : TakesPeer
-      (accept_action x.address (agreement asked kinds.Read c.state.role.mode (agreed_options agreed) limit)) =
-      subst TakesPeer
-      (ap (accept_action x.address)
-      (sym (ap (λ (q : Mode). agreement asked kinds.Read q (agreed_options agreed) limit) same ∙ answered.1))) tt in
-      by_oack g.mid new (length w.ends) k (i + 1) x c asked limit (oack_bytes agreed) at waits
-      (agreed_terms c.address agreed) 0 refl reads willing g.left (agreed_options agreed) spelled takes))
+      let takes : TakesPeer (accept_action x.address (agreement asked kinds.Read c.state.role.mode (agreed_options
+      agreed) limit)) = search rules in
+      by_oack g.mid new (length w.ends) k (i + 1) x c asked limit (oack_bytes agreed) at waits (agreed_terms c.address
+      agreed) 0 refl reads willing g.left (agreed_options agreed) spelled takes))
 
   -- it completes, with as many datagrams as a read without loss
   pub read_on : (agreed : List Known) → Asks w k i c asked limit (Sends path mode measured agreed) →
@@ -175,11 +136,7 @@ module _ (w new : WorldState) (k i : ℕ) (c : OpenEnd) (asked : Asked) (limit :
 
 -- ---- of a write
 begins_now : (n : ℕ) (terms : Terms) → n < 65535 * terms.size → TakesPeer (begin_action n terms)
-begins_now n terms few =
-    subst TakesPeer
-    (sym
-    (ap (λ (b : Bool). if b then Send terms 1 else Respond (Refuse None FileTooLarge outcomes.TooLarge))
-    (lt-ltb n (65535 * terms.size) few))) tt
+begins_now n terms few = search rules
 
 module _ (w new : WorldState) (k i : ℕ) (c : OpenEnd) (asked : Asked) (limit : ℕ) (path : List ℕ) (mode : Mode)
     (left : IsLeft false w i new) where
@@ -205,9 +162,7 @@ module _ (w new : WorldState) (k i : ℕ) (c : OpenEnd) (asked : Asked) (limit :
       waits = waited_for w new k i c asked limit accepts_it asks false g taker peer_is to_is opens
 
       at : IsReady true g.mid (i + 1) (datagram taker.address c.address bytes)
-      at =
-          subst (λ (b : List ℕ). IsReady true g.mid (i + 1) (datagram taker.address c.address b)) sent
-          (offered w new k i c asked limit accepts_it asks false g taker peer_is to_is opens)
+      at = rw (← sent) (offered w new k i c asked limit accepts_it asks false g taker peer_is to_is opens)
 
       sends_it : is_sender c.state.role.side ≡ true
       sends_it = sends_y g.mid new (length w.ends) k (i + 1) taker c asked limit bytes at waits rt 0 phase g.left
@@ -220,8 +175,7 @@ module _ (w new : WorldState) (k i : ℕ) (c : OpenEnd) (asked : Asked) (limit :
           (at.ok.ends k (Open_end c) waits.client_at).text ∙ ap (λ (q : Mode). wire_text q c.file) mode_then
 
       length_is : c.state.role.length ≡ length written
-      length_is =
-          (meeting g.mid at.ok (length w.ends) k taker c asked limit waits).kept_y.5 sends_it ∙ ap length text_is
+      length_is = (meeting _ at.ok _ k _ c _ _ waits).kept_y.5 sends_it ∙ ap length text_is
 
       goes_on_by : (p : Packet) → Spells p bytes → rt.size ≡ size agreed →
           TakesPeer (writer_action c.state.role.mode asked limit c.state.role.length taker.address (Some p)) →
@@ -243,11 +197,10 @@ module _ (w new : WorldState) (k i : ℕ) (c : OpenEnd) (asked : Asked) (limit :
     writes_on rt bytes sent phase peer_is to_is mode_so p spelled same takes =
         let blocks = block_count written (size agreed) in
         let count : 1 + 2 * blocks + 1 ≡ write_adds mode c.file agreed = omega arith in
-        subst (λ (n : ℕ). Reaches new k (length w.ends) i (length left.reports) n) count
-        (walks false w new k (length w.ends) i (1 + 2 * blocks) asks.ready.count left (λ g.
-        goes_on_by g bytes rt sent phase peer_is to_is mode_so p spelled same
-        (takes c.state.role.length c.state.role.mode (length_is g bytes rt sent phase peer_is to_is mode_so)
-        (mode_then g bytes rt sent phase peer_is to_is mode_so))))
+        rw (← count) (walks false w new k (length w.ends) i (1 + 2 * blocks) asks.ready.count left (λ g.
+        goes_on_by g bytes rt sent phase peer_is to_is mode_so p spelled same (takes c.state.role.length
+        c.state.role.mode (length_is g bytes rt sent phase peer_is to_is mode_so) (mode_then g bytes rt sent phase
+        peer_is to_is mode_so))))
 
   plainly_written : Asks w k i c asked limit (Takes path mode []) → Fits written (size []) →
       Reaches new k (length w.ends) i (length left.reports) (write_adds mode c.file [])
@@ -267,21 +220,19 @@ module _ (w new : WorldState) (k i : ℕ) (c : OpenEnd) (asked : Asked) (limit :
       let max = asks.ready.ok.max_block in
       let answers = accepted_answers w c (Takes path mode agreed) asks.accepted in
       let agreeable = answered_values kinds.Write mode 0 w.limits answers.0 agreed max answers.1 in
-      let spelled : Spells (Oack (agreed_options agreed)) (oack_bytes agreed) =
-      spells_own (Oack (agreed_options agreed))
-      ((answer_granted answers.0 kinds.Write mode 0 w.limits agreed (omega arith) max answers.1).oack (λ e. cc)) in
+      let spelled =
+      spells_own (Oack (agreed_options agreed)) ((answer_granted answers.0 kinds.Write mode 0 w.limits agreed (omega
+      arith) max answers.1).oack (λ e. cc)) in
       let taken = answered.0 in
-      let same : size agreed ≡ size taken =
-      sym (own_oack agreed agreeable) ∙ taken_oack asked kinds.Write mode (agreed_options agreed) limit taken answered.1 in
-      writes_on agreed asks (agreed_terms c.address agreed) (oack_bytes agreed) refl refl refl refl refl
-      (Oack (agreed_options agreed)) spelled refl
-      (λ n q few is.
-      let does : agreement asked kinds.Write q (agreed_options agreed) limit ≡ Ok taken =
-      ap (λ (r : Mode). agreement asked kinds.Write r (agreed_options agreed) limit) is ∙ answered.1 in
-      let fewer : n < 65535 * size taken =
-      subst (λ (m : ℕ). n < 65535 * m) same (subst (λ (m : ℕ). m < 65535 * size agreed) (sym few) fits) in
-      subst TakesPeer (ap (begin_with_action x.address n) (sym does))
-      (begins_now n (agreed_terms x.address taken) fewer))
+      let same =
+      sym (own_oack agreed agreeable) ∙ taken_oack asked kinds.Write mode (agreed_options agreed) limit taken
+      answered.1 in
+      writes_on agreed asks (agreed_terms c.address agreed) (oack_bytes agreed) refl refl refl refl refl (Oack
+      (agreed_options agreed)) spelled refl (λ n q few is.
+      let does = ap (λ (r : Mode). agreement asked kinds.Write r (agreed_options agreed) limit) is ∙ answered.1 in
+      let fewer = subst (λ (m : ℕ). n < 65535 * m) same (subst (λ (m : ℕ). m < 65535 * size agreed) (sym few) fits) in
+      subst TakesPeer (ap (begin_with_action x.address n) (sym does)) (begins_now n (agreed_terms x.address taken)
+      fewer))
 
   -- it completes, with as many datagrams as a write without loss
   pub write_on : (agreed : List Known) → Asks w k i c asked limit (Takes path mode agreed) →

@@ -1,30 +1,14 @@
 -- What is left of a run of deliveries, and that it ends. For ten other files.
-use Rattle.std.proofs.Common.{◌≡◌, ℕ, ◌+◌, ◌<◌, ◌≤◌, suc, Bool, true, false, List, [], ◌∷◌}
-use Rattle.std.proofs.Common.{length, Some, sym, ap, subst, arith}
-use Rattle.std.specs.Prelude.{slice_get, ⊤}
-use Rattle.std.proofs.lemmas.Option.{slice_get_within}
-use Rattle.tftp_ends.specs.End.{is_client}
-use Rattle.tftp_rules.specs.OpenEnds.{OpenEnd}
-use Rattle.tftp_player.specs.Straight.{TookAll, AllTaken, IsThrough, Ends}
-use Rattle.tftp_player.specs.World.{WorldState, WorldEnd}
-use Rattle.tftp_player.specs.WorldSafety.{IsComplete}
-use Rattle.tftp_player.specs.WorldSteps.{WorldStep, Settles}
-use Rattle.tftp_player.specs.declared.event.Event.TheVariants.{Deliver}
-use Rattle.tftp_player.specs.declared.report.Report.{Report}
+use Rattle.tftp_player.proofs.Common.{◌≡◌, ℕ, ◌+◌, ◌<◌, ◌≤◌, suc, Bool, true, false, List, [], ◌∷◌, length, Some, ap}
+use Rattle.tftp_player.proofs.Common.{subst, arith, rules, slice_get, ⊤, slice_get_within, is_client, OpenEnd, TookAll}
+use Rattle.tftp_player.proofs.Common.{AllTaken, WorldState, WorldEnd, IsComplete, WorldStep, Settles, Deliver, Report}
+use Rattle.tftp_player.specs.Straight.{Ends}
 
 -- ---- the premise on the stores of a run that does not read: for a client that reads it follows
 -- the claim holds of writes
 abbrev pub UnlessReads : Bool → Type 0 → Type 0
 UnlessReads true claim = ⊤
 UnlessReads false claim = claim
-
-said_first : (reads : Bool) (A B : Type 0) → UnlessReads reads (A × B) → UnlessReads reads A
-said_first true A B s = tt
-said_first false A B s = s.0
-
-said_then : (reads : Bool) (A B : Type 0) → UnlessReads reads (A × B) → UnlessReads reads B
-said_then true A B s = tt
-said_then false A B s = s.1
 
 -- a client that reads was not set to refuse
 abbrev pub IsWilling : Bool → OpenEnd → Type 0
@@ -80,17 +64,7 @@ walks reads w v one other i rest more l then_on = by l.reports l.settles l.taken
     over = λ m. absurd (let e : 0 ≡ rest + 1 = m in omega (arith, e));
   }
   by (report ∷ reports) s taken =
-      let g : GoesOn reads w i v = record {
-        mid = s.0;
-        report = report;
-        step = s.1;
-        taken = said_first reads (TookAll report.closed) (AllTaken reports) taken;
-        left = record {
-          reports = reports;
-          settles = s.2;
-          taken = said_then reads (TookAll report.closed) (AllTaken reports) taken;
-        };
-      } in
+      let g : GoesOn reads w i v = search rules in
       let r = then_on g in
       record {
         few = more_few (length reports) rest r.few;
@@ -109,50 +83,18 @@ ends_here reads w v one other i over l = by l.reports l.settles where
   by [] s = record {
     few = omega arith;
     goes_on = λ m. absurd (let n : 0 < 0 = m in omega (arith, n));
-    over = λ _. let e : i ≡ i + 0 = omega arith in
-        subst (λ (c : ℕ). IsOver v one other c) e (subst (λ (u : WorldState). IsOver u one other i) (sym s) over);
+    over = search rules;
   }
   by (report ∷ reports) s =
       absurd
       (let within = slice_get_within w.sent i s.1.0 s.1.1 in let none = over.counted in omega (arith, within, none))
 
--- ---- the end of a straight run, of a client that reads and of one that writes
-reader_through : (old new : WorldState) (count : ℕ) →
-    IsOver new (length old.ends + 1) (length old.ends) (length old.sent + count) → IsThrough old new count
-reader_through old new count o =
-    record {
-      client = o.y;
-      server = o.x;
-      client_at = o.y_at;
-      server_at = o.x_at;
-      client_done = o.y_done;
-      server_done = o.x_done;
-      counted = o.counted;
-    }
-
-writer_through : (old new : WorldState) (count : ℕ) →
-    IsOver new (length old.ends) (length old.ends + 1) (length old.sent + count) → IsThrough old new count
-writer_through old new count o =
-    record {
-      client = o.x;
-      server = o.y;
-      client_at = o.x_at;
-      server_at = o.y_at;
-      client_done = o.x_done;
-      server_done = o.y_done;
-      counted = o.counted;
-    }
-
 -- a read ends after so many deliveries
 pub reader_ends : (old new : WorldState) (made n count : ℕ) → n ≡ count →
     Reaches new (length old.ends + 1) (length old.ends) (length old.sent) made n → Ends old new made count
-reader_ends old new made n count is r =
-    subst (λ (c : ℕ). Ends old new made c) is
-    (record { few = r.few; goes_on = r.goes_on; through = λ e. reader_through old new n (r.over e) })
+reader_ends old new made n count is r = search rules
 
 -- a write ends after so many deliveries
 pub writer_ends : (old new : WorldState) (made n count : ℕ) → n ≡ count →
     Reaches new (length old.ends) (length old.ends + 1) (length old.sent) made n → Ends old new made count
-writer_ends old new made n count is r =
-    subst (λ (c : ℕ). Ends old new made c) is
-    (record { few = r.few; goes_on = r.goes_on; through = λ e. writer_through old new n (r.over e) })
+writer_ends old new made n count is r = search rules

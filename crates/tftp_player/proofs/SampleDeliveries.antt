@@ -1,41 +1,25 @@
 -- What each delivery of a sample run does, computed from the world before it. For five other files.
-use Rattle.std.proofs.Common.{◌≡◌, ◌≢◌, ℕ, ◌+◌, ◌-◌, ◌<◌, Bool, true, false, cond, List, [], ◌∷◌, get_or, length}
-use Rattle.std.proofs.Common.{take, drop, Option, Some, None, Result, Ok, refl, sym, ap, subst, ◌∙◌, zero, suc, arith}
-use Rattle.std.specs.Prelude.{nat_lt, ◌&&◌, not, min, slice_get, ⊤}
+use Rattle.tftp_player.proofs.Common.{◌≡◌, ◌≢◌, ℕ, ◌+◌, ◌-◌, ◌<◌, Bool, true, false, List, [], ◌∷◌, length, rules, take}
+use Rattle.tftp_player.proofs.Common.{drop, Option, Some, None, Result, Ok, refl, sym, ap, subst, zero, suc, arith}
+use Rattle.tftp_player.proofs.Common.{nat_lt, ◌&&◌, not, min, slice_get, ⊤, true≢false, ltb-true, Packet, Data}
+use Rattle.tftp_player.proofs.Common.{packet_in, Spells, memory_source, Holding, StoreFault, Files, Source, Sink}
+use Rattle.tftp_player.proofs.Common.{Action, Respond, Send, Store, Receiving, Terms, datagram_action, is_client, Turn}
+use Rattle.tftp_player.proofs.Common.{Done, AcksAgain, Acts, Appended, GoesOn, holding, committed_turn, response_turn}
+use Rattle.tftp_player.proofs.Common.{sent_turn, ack_bytes, timeout_turn, OpenEnd, files_of, holding_of, end_after}
+use Rattle.tftp_player.proofs.Common.{Behaves, WorldState, WorldEnd, Open_end, Closed_end, StoredFile, file_at}
+use Rattle.tftp_player.proofs.Common.{in_the_way, has_committed, no_report, report_of, world_after, PlaysAll}
+use Rattle.tftp_player.proofs.Common.{FilesAfter, Settles, At_open_end, WorldStep, may_refuse_commit, world_sink}
+use Rattle.tftp_player.proofs.Common.{Datagram, Event, Deliver, Timeout, Report}
+use Rattle.std.proofs.Common.{cond, get_or}
 use Rattle.std.specs.BTreeMap.{is_at}
-use Rattle.std.specs.Cmp.Lexicographic.{same_text}
-use Rattle.std.proofs.lemmas.Bool.{true≢false, ltb-true}
 use Rattle.std.proofs.lemmas.Map.Text.{is_eq-slice_cmp}
-use Rattle.tftp_wire.specs.declared.packet.Packet.{Packet}
-use Rattle.tftp_wire.specs.declared.packet.Packet.TheVariants.{Data}
-use Rattle.tftp_wire.specs.Parts.{packet_in}
 use Rattle.tftp_wire.specs.Reading.{first_fault}
-use Rattle.tftp_wire.specs.Spelling.{Spells}
 use Rattle.tftp_wire.proofs.SpellingLemmas.{fault_where_nothing}
-use Rattle.tftp_file.specs.Memory.{memory_source}
-use Rattle.tftp_file.specs.Sink.{Holding, UnlessArmed, with_piece}
-use Rattle.tftp_file.specs.declared.fault.StoreFault.{StoreFault}
-use Rattle.tftp_file.specs.declared.files.Files.{Files}
-use Rattle.tftp_file.specs.declared.files.Files.TheVariants.{Source, Sink}
+use Rattle.tftp_file.specs.Sink.{UnlessArmed, with_piece}
 use Rattle.tftp_store.specs.Store.{path_cmp}
-use Rattle.tftp_ends.specs.declared.action.Action.{Action}
-use Rattle.tftp_ends.specs.declared.action.Action.TheVariants.{Respond, Send, Store}
-use Rattle.tftp_ends.specs.declared.phase.Phase.TheVariants.{Receiving}
-use Rattle.tftp_ends.specs.declared.phase.Terms.{Terms}
-use Rattle.tftp_ends.specs.Action.{datagram_action}
-use Rattle.tftp_ends.specs.End.{is_client}
-use Rattle.tftp_ends.specs.Step.{Turn, Done, AcksAgain, Acts, Appended, GoesOn, block_length, holding, committed_turn}
-use Rattle.tftp_ends.specs.Step.{filled_turn, response_turn, sent_turn, ack_bytes}
+use Rattle.tftp_ends.specs.Step.{block_length, filled_turn}
 use Rattle.tftp_ends.specs.Text.{Decoded}
-use Rattle.tftp_rules.specs.OpenEnds.{OpenEnd, files_of, holding_of, end_after}
-use Rattle.tftp_player.specs.World.{WorldState, WorldEnd, Open_end, Closed_end, StoredFile, file_at}
-use Rattle.tftp_player.specs.World.{in_the_way, has_committed, no_report, report_of, world_after}
-use Rattle.tftp_player.specs.WorldRuns.{PlaysAll}
-use Rattle.tftp_player.specs.WorldSteps.{FilesAfter, Settles, At_open_end, WorldStep, may_refuse_commit, world_sink}
-use Rattle.tftp_player.specs.declared.datagram.Datagram.{Datagram}
-use Rattle.tftp_player.specs.declared.event.Event.{Event}
-use Rattle.tftp_player.specs.declared.event.Event.TheVariants.{Deliver}
-use Rattle.tftp_player.specs.declared.report.Report.{Report}
+use Rattle.tftp_player.specs.Recovering.{StoresTake}
 
 -- ---- bytes, and the packet that they spell
 -- each number is a byte
@@ -85,8 +69,7 @@ freely false before after effect e so = so
 
 appends : (may : Holding → StoreFault → Type 0) (bytes : List ℕ) (h : Holding) → h.refuses ≡ false → HasBytes bytes →
     Appended (world_sink may) bytes h (with_piece h bytes) done
-appends may [] h free some = absurd some
-appends may (b ∷ bytes) h free some = (freely h.refuses h _ _ free refl, tt, tt, tt)
+appends may bytes h free some = search rules
 
 -- ---- the turn of an open end at a datagram, by its action; a block stands for these bytes of the host
 module _ (host : List ℕ → List ℕ) (d : Datagram) (x : OpenEnd) where
@@ -154,12 +137,7 @@ module _ (host : List ℕ → List ℕ) (d : Datagram) (x : OpenEnd) where
       rw can.0 (record {
         answer = Ok (want terms number);
         piece = take (want terms number) x.left;
-        reads = record {
-          fills = record { count = can.1; given = refl; rest = refl };
-          read = λ e. absurd (cc);
-          fails = λ f. absurd f;
-          memory = λ e. absurd (cc);
-        };
+        reads = search rules;
         gives = tt;
         answers = refl;
       })
@@ -201,18 +179,12 @@ IsFree overwrite false path bytes files = ⊤
 -- the files under other paths are as before
 as_before : (bytes : List ℕ) (there : Option (List ℕ)) (is : Bool) (q path : List ℕ) → is_at (path_cmp q) path ≡ is →
     q ≢ path → cond is (Some bytes) there ≡ there
-as_before bytes there true q path e n = absurd (n (same_text q path (sym e ∙ is_eq-slice_cmp q path)))
-as_before bytes there false q path e n = refl
+as_before bytes there is q path e n = search (rules, is_eq-slice_cmp)
 
 files_after : (overwrite stored : Bool) (path bytes : List ℕ) (files : List StoredFile) →
     IsFree overwrite stored path bytes files →
     FilesAfter overwrite stored path bytes files (with_file stored path bytes files)
-files_after overwrite true path bytes files free = record {
-  free = free.0;
-  here = free.1;
-  others = λ q n. as_before bytes (file_at files q) (is_at (path_cmp q) path) q path refl n;
-}
-files_after overwrite false path bytes files free = refl
+files_after overwrite stored path bytes files free = search (rules, as_before)
 
 -- ---- one delivery to an open end
 -- a report, and the world after it
@@ -274,29 +246,19 @@ module _ (host : List ℕ → List ℕ) (w : WorldState) where
   arrives i d (Some (Open_end x)) sent is handled = (
     d,
     sent,
-    At_open_end (index_of d) x is handled.0
-        (record {
-          turn = turn_by host d x (action_of d x);
-          held = files_by host d x (action_of d x);
-          steps = record {
-            decoded = Some (packet_in d.bytes);
-            says = spells d.bytes handled.1;
-            acts =
-                acts host d x
-                (may_refuse_commit (is_client x.state.role.side) (in_the_way w.overwrite (file_at w.files x.path)))
-                (action_of d x) handled.1 handled.2;
-            again = handled.3;
-          };
-          turns = record {
-            files =
-                with_file (has_stored host d x (action_of d x)) x.path (end_by host d x (action_of d x)).stored w.files;
-            stored =
-                files_after w.overwrite (has_stored host d x (action_of d x)) x.path
-                (end_by host d x (action_of d x)).stored w.files handled.4;
-            reports = refl;
-            is = refl;
-          };
-        }),
+    At_open_end (index_of d) x is handled.0 (record {
+      turn = turn_by host d x (action_of d x);
+      held = files_by host d x (action_of d x);
+      steps = record {
+        decoded = Some (packet_in d.bytes);
+        says = spells d.bytes handled.1;
+        acts =
+            acts host d x (may_refuse_commit (is_client x.state.role.side) (in_the_way w.overwrite (file_at w.files
+            x.path))) (action_of d x) handled.1 handled.2;
+        again = handled.3;
+      };
+      turns = search (rules, files_after);
+    }),
   )
 
   -- a datagram that was sent is delivered
@@ -349,3 +311,48 @@ pub plays : (w : WorldState) (i : ℕ) (reports : List Report) (new : WorldState
 plays w i [] new settled = settled
 plays w i (report ∷ reports) new settled =
     (settled.0, report, settled.1, plays settled.0 (i + 1) reports new settled.2)
+
+-- ---- a timeout, and then the deliveries of all that is sent
+-- the world after a timeout of the end at an index
+abbrev pub timed_by : WorldState → ℕ → OpenEnd → WorldState
+timed_by w k x = world_after w k x (timeout_turn x.state) (files_of x) w.files
+
+-- by which no file of the server changes
+abbrev pub StoresNone : OpenEnd → Type 0
+StoresNone x =
+    (not (is_client x.state.role.side) && has_committed x (end_after x (timeout_turn x.state) (files_of x))) ≡ false
+
+-- that is a step
+pub times_out : (w : WorldState) (k : ℕ) (x : OpenEnd) (port : ℕ) → slice_get w.ends k ≡ Some (Open_end x) →
+    port ≡ 1024 + k → StoresNone x →
+    WorldStep w (Timeout port) (report_of w x (timeout_turn x.state)) (timed_by w k x)
+times_out w k x port there is none = (
+  k,
+  Open_end x,
+  record { is = is; there = there },
+  record {
+    files = w.files;
+    stored =
+        subst
+        (λ (b : Bool).
+        FilesAfter w.overwrite b x.path (end_after x (timeout_turn x.state) (files_of x)).stored w.files w.files)
+        (sym none) refl;
+    reports = refl;
+    is = refl;
+  },
+)
+
+-- and the network behaves after it
+abbrev pub behaves : (w new : WorldState) (k : ℕ) (x y : OpenEnd) → slice_get w.ends k ≡ Some (Open_end x) →
+    x.address.port ≡ 1024 + k → StoresNone x → 0 < x.state.position.retries_left → (rs : List Report) →
+    Settles (timed_by w k x) (length w.sent) rs new → StoresTake y rs → Behaves w x y new
+behaves w new k x y there is none some rs settled taken =
+    record {
+      retries = some;
+      report = report_of w x (timeout_turn x.state);
+      mid = timed_by w k x;
+      times_out = times_out w k x x.address.port there is none;
+      reports = rs;
+      settles = settled;
+      taken = taken;
+    }

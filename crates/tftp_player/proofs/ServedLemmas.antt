@@ -1,34 +1,19 @@
 -- A datagram at an end of the server, in the words of the world's ends. For `ServerEnd::on_datagram` and
 -- `PlayedEnd::on_datagram`.
-use Rattle.std.proofs.Common.{◌≡◌, ◌≤◌, ℕ, Bool, true, false, List, [], length, refl, sym, ap}
-use Rattle.std.proofs.Common.{◌∙◌, subst, Result, Ok, Err, IfOk, OnErr}
-use Rattle.std.specs.Prelude.{◌&&◌, not, is_some, if◌then◌else◌}
-use Rattle.tftp_file.specs.Memory.{memory_source}
-use Rattle.tftp_file.specs.Sink.{Holding}
-use Rattle.tftp_file.specs.declared.files.Files.{Files}
-use Rattle.tftp_file.specs.declared.files.Files.TheVariants.{Source, Sink}
-use Rattle.tftp_negotiate.specs.declared.limits.TheConstants.{DEFAULT_BLOCK}
-use Rattle.tftp_ends.specs.End.{EndState, is_client, record_of, terms_of}
-use Rattle.tftp_ends.specs.Files.{AreFilesOf, AreSame}
-use Rattle.tftp_ends.specs.Step.{Turn, after_turn, reply_bytes}
-use Rattle.tftp_server.specs.Draft.{files_in, KeepsStore, drafting_sink}
-use Rattle.tftp_store.specs.Memory.{memory_meaning, with_armed}
+use Rattle.tftp_player.proofs.Common.{◌≡◌, ◌≤◌, ℕ, Bool, true, false, List, length, sym, ap, ◌∙◌, subst, Result, rules}
+use Rattle.tftp_player.proofs.Common.{◌&&◌, not, is_some, if◌then◌else◌, memory_source, Holding, Files, Source, Sink}
+use Rattle.tftp_player.proofs.Common.{DEFAULT_BLOCK, EndState, is_client, record_of, terms_of, AreFilesOf, AreSame}
+use Rattle.tftp_player.proofs.Common.{Turn, after_turn, reply_bytes, files_in, drafting_sink, memory_meaning, StepIn}
+use Rattle.tftp_player.proofs.Common.{Stored, Drafted, Endpoint, OpenEnd, files_of, end_after, EndTakes, served_end}
+use Rattle.tftp_player.proofs.Common.{answer_room, PlayedServer, standing, file_at, has_committed, in_the_way, EndStep}
+use Rattle.tftp_player.proofs.Common.{FilesAfter, Effect, WorldFault, ServerEnd}
+use Rattle.std.proofs.Common.{IfOk, OnErr}
+use Rattle.tftp_server.specs.Draft.{KeepsStore}
+use Rattle.tftp_store.specs.Memory.{with_armed}
 use Rattle.tftp_server.specs.State.{is_closed}
-use Rattle.tftp_server.specs.Steps.{StepIn}
-use Rattle.tftp_store.specs.Store.{Stored, Drafted}
-use Rattle.tftp_rules.specs.Machine.{Endpoint}
-use Rattle.tftp_rules.specs.OpenEnds.{OpenEnd, files_of, end_after}
-use Rattle.tftp_player.specs.EndSteps.{EndTakes}
-use Rattle.tftp_player.specs.Played.{served_end, stands}
-use Rattle.tftp_player.specs.Room.{answer_room}
-use Rattle.tftp_player.specs.ServerEnd.{PlayedServer}
+use Rattle.tftp_player.specs.Played.{stands}
 use Rattle.tftp_player.specs.ServerEnd.{CommitsLast, ServerEndKept, ServerEndTakes}
-use Rattle.tftp_player.specs.World.{standing, file_at, has_committed, in_the_way}
-use Rattle.tftp_player.specs.WorldSteps.{EndStep, FilesAfter}
-use Rattle.tftp_player.specs.declared.effect.Effect.{Effect}
-use Rattle.tftp_player.specs.declared.fault.WorldFault.{WorldFault}
 use Rattle.tftp_player.specs.declared.played_end.PlayedEnd.TheVariants.{Server}
-use Rattle.tftp_player.specs.declared.server_end.ServerEnd.{ServerEnd}
 use Rattle.tftp_player.proofs.DraftLemmas.{ServerEndLeaves, served_leaves, with_files}
 use Rattle.tftp_player.proofs.PlayerLemmas.{open_takes}
 use Rattle.tftp_player.proofs.RoomLemmas.{answer_short, known_agrees}
@@ -47,20 +32,12 @@ served_short from bytes e store store' path path' replace turn (Source left) fil
     answer_short memory_source (drafting_sink memory_meaning) from bytes e DEFAULT_BLOCK (Source left) _ turn
     (known_agrees DEFAULT_BLOCK e.position.phase known) side d
 served_short from bytes e store store' path path' replace turn (Sink draft) files' known side d =
-    answer_short memory_source (drafting_sink memory_meaning) from bytes e DEFAULT_BLOCK
-    (files_in store path replace (Sink draft)) _ turn (known_agrees DEFAULT_BLOCK e.position.phase known) side d
+    search (rules, answer_short, known_agrees)
 
 -- ---- what its end in the world did
 -- the same kind of file
 abbrev SameDraftKind : Files (List ℕ) Drafted → Files (List ℕ) Drafted → Type 0
 SameDraftKind old new = AreSame (λ (a b : List ℕ). Unit {0}) (λ (a b : Drafted). Unit {0}) old new
-
-drafts_kept : (side : _) (old new : Files (List ℕ) Drafted) → SameDraftKind old new → AreFilesOf side old →
-    AreFilesOf side new
-drafts_kept side (Source left) (Source left') k f = f
-drafts_kept side (Sink draft) (Sink draft') k f = f
-drafts_kept side (Source left) (Sink draft) k f = absurd k
-drafts_kept side (Sink draft) (Source left) k f = absurd k
 
 -- a sender's flag is unchanged
 abbrev KeepsArmed : Files (List ℕ) Drafted → Bool → Bool → Type 0
@@ -69,19 +46,12 @@ KeepsArmed (Sink draft) old new = Unit {0}
 
 keeps_armed : (files : Files (List ℕ) Drafted) (before after : Stored) (armed : Bool) →
     KeepsStore files (with_armed before armed) after → KeepsArmed files armed after.refuses
-keeps_armed (Source left) before after armed k = ap (λ (s : Stored). s.refuses) k
-keeps_armed (Sink draft) before after armed k = tt
+keeps_armed files before after armed k = search rules
 
 -- the files of its end are those of the transfer
 served_files : (port : ℕ) (s : ServerEnd) (files : Files (List ℕ) Drafted) → AreFilesOf s.transfer.end.role.side files →
     files_of (served_end port (with_files s files)) ≡ held_files s.refuses files
-served_files port s (Source left) fits =
-    ap (λ (b : Bool). if b then Source left else Sink (record { bytes = []; committed = false; refuses = s.refuses }))
-    fits
-served_files port s (Sink draft) fits =
-    ap (λ (b : Bool).
-    if b then Source [] else Sink (record { bytes = draft.bytes; committed = draft.committed; refuses = s.refuses }))
-    fits
+served_files port s files fits = search rules
 
 -- the end after a turn
 abbrev moved : ServerEnd → EndState → Files (List ℕ) Drafted → Bool → ServerEnd
@@ -92,23 +62,14 @@ served_after : (port : ℕ) (s : ServerEnd) (turn : Turn) (old new : Files (List
     SameDraftKind old new → KeepsArmed old s.refuses refuses →
     end_after (served_end port (with_files s old)) turn (held_files refuses new)
     ≡ served_end port (moved s (after_turn s.transfer.end turn) new refuses)
-served_after port s turn (Source left) (Source left') refuses k armed =
-    ap (λ (b : Bool). served_end port (moved s (after_turn s.transfer.end turn) (Source left') b)) (sym armed)
-served_after port s turn (Sink draft) (Sink draft') refuses k armed = refl
-served_after port s turn (Source left) (Sink draft) refuses k armed = absurd k
-served_after port s turn (Sink draft) (Source left) refuses k armed = absurd k
+served_after port s turn old new refuses k armed = search rules
 
 -- what holds of it still does, if it still has a peer and commits last
 moved_kept : (s : ServerEnd) (turn : Turn) (files : Files (List ℕ) Drafted) (refuses : Bool) → ServerEndKept s →
     SameDraftKind s.transfer.files files → CommitsLast files turn.position.phase →
     is_some (terms_of turn.position.phase) ≡ true →
     ServerEndKept (moved s (after_turn s.transfer.end turn) files refuses)
-moved_kept s turn files refuses kept kind commits known = record {
-  side = kept.side;
-  files = drafts_kept s.transfer.end.role.side s.transfer.files files kind kept.files;
-  commits = commits;
-  known = known;
-}
+moved_kept s turn files refuses kept kind commits known = search rules
 
 module _ (port : ℕ) (s s' : ServerEnd) (effect : Effect) (kept : ServerEndKept s)
     (open_now : is_closed s.transfer ≡ false) where
@@ -124,28 +85,15 @@ module _ (port : ℕ) (s s' : ServerEnd) (effect : Effect) (kept : ServerEndKept
     held = held_files t.store.refuses s'.transfer.files
 
     is_moved : s' ≡ moved s (after_turn e t.turn) s'.transfer.files t.store.refuses
-    is_moved =
-        ap (λ (a : EndState). record s' { transfer = record s'.transfer { end = a } }) t.end
-        ∙ (ap (λ (p : List ℕ). record s' { transfer = record s'.transfer { end = after_turn e t.turn; path = p } }) t.path
-        ∙ (ap (λ (q : List ℕ).
-        record s' {
-          transfer = record s.transfer { end = after_turn e t.turn; files = s'.transfer.files; request = q };
-        }) t.request
-        ∙ (ap (λ (f : List ℕ).
-        record (moved s (after_turn e t.turn) s'.transfer.files s'.refuses) { file = f }) t.file
-        ∙ ap (moved s (after_turn e t.turn) s'.transfer.files) t.refuses)))
+    is_moved = search rules
 
     steps_end :
         EndStep false (in_the_way before.config.overwrite (file_at before.store.files s.transfer.path)) from bytes e
         (held_files s.refuses s.transfer.files) t.turn held
-    steps_end =
-        end_step from bytes e (with_armed before.store s.refuses) t.store s.transfer.path s'.transfer.path
-        before.config.overwrite t.turn s.transfer.files s'.transfer.files t.steps
+    steps_end = search (rules, end_step)
 
     leaves : ServerEndLeaves x t.turn held s'.transfer.files before.config.overwrite before.store.files t.store.files
-    leaves =
-        served_leaves port s from bytes (with_armed before.store s.refuses) t.store s'.transfer.path
-        before.config.overwrite t.turn s.transfer.files s'.transfer.files t.steps t.stays t.kind kept.commits
+    leaves = served_leaves port s _ _ _ _ _ _ _ _ _ t.steps t.stays t.kind kept.commits
 
     -- a datagram at an end of the server
     pub served_takes :
@@ -153,40 +101,25 @@ module _ (port : ℕ) (s s' : ServerEnd) (effect : Effect) (kept : ServerEndKept
         before.store.files after.store.files effect
     served_takes =
         open_takes x (stands port (Server s')) effect open_now before.config.overwrite from bytes before.store.files
-        after.store.files (record {
-          turn = t.turn;
-          held = held;
-          steps =
-              subst
-              (λ (f : Files (List ℕ) Holding).
-              EndStep (is_client e.role.side)
-              (in_the_way before.config.overwrite (file_at before.store.files s.transfer.path)) from bytes e f t.turn held)
-              (sym (served_files port s s.transfer.files kept.files))
-              (subst
-              (λ (b : Bool).
-              EndStep b (in_the_way before.config.overwrite (file_at before.store.files s.transfer.path)) from bytes e
-              (held_files s.refuses s.transfer.files) t.turn held) (sym kept.side) steps_end);
-          commits =
-              subst
-              (λ (v : PlayedServer).
-              FilesAfter before.config.overwrite
-              (not (is_client e.role.side) && has_committed x (end_after x t.turn held)) s.transfer.path
-              (end_after x t.turn held).stored before.store.files v.store.files) (sym t.server)
-              (subst
-              (λ (b : Bool).
-              FilesAfter before.config.overwrite (not b && has_committed x (end_after x t.turn held)) s.transfer.path
-              (end_after x t.turn held).stored before.store.files t.store.files) (sym kept.side) leaves.files_after);
-          turns =
-              record {
-                effects = t.effects;
-                next =
-                    ap (λ (q : ServerEnd). standing (served_end port q)) is_moved
-                    ∙ ap standing
-                    (sym
-                    (served_after port s t.turn s.transfer.files s'.transfer.files t.store.refuses t.kind
-                    (keeps_armed s.transfer.files before.store t.store s.refuses t.stays)));
-              };
-        })
+        after.store.files (search (
+          subst (λ (f : Files (List ℕ) Holding). EndStep (is_client e.role.side) (in_the_way
+              before.config.overwrite (file_at before.store.files s.transfer.path)) from bytes e f t.turn held) (sym
+              (served_files port s s.transfer.files kept.files)) (subst (λ (b : Bool). EndStep b (in_the_way
+              before.config.overwrite (file_at before.store.files s.transfer.path)) from bytes e (held_files
+              s.refuses s.transfer.files) t.turn held) (sym kept.side) steps_end),
+          subst (λ (v :
+              PlayedServer). FilesAfter before.config.overwrite (not (is_client e.role.side) &&
+              has_committed x (end_after x t.turn held)) s.transfer.path (end_after x t.turn
+              held).stored before.store.files v.store.files) (sym t.server) (subst (λ (b : Bool).
+              FilesAfter before.config.overwrite (not b && has_committed x (end_after x
+              t.turn held)) s.transfer.path (end_after x t.turn held).stored
+              before.store.files t.store.files) (sym kept.side) leaves.files_after),
+          ap (λ (q : ServerEnd). standing (served_end port q)) is_moved ∙ ap
+              standing (sym (served_after port s t.turn s.transfer.files
+              s'.transfer.files t.store.refuses t.kind (keeps_armed
+              s.transfer.files before.store t.store s.refuses
+              t.stays))),
+        ))
 
     pub served_took : ServerEndKept s'
     served_took =
@@ -201,7 +134,4 @@ pub took_kept :
     (port : ℕ) (s s' : ServerEnd) (from : Endpoint) (bytes : List ℕ) (before after : PlayedServer)
     (r : Result Effect WorldFault) → ServerEndKept s → is_closed s.transfer ≡ false →
     IfOk r (ServerEndTakes port from bytes s s' before after) → OnErr r ((s' ≡ s) × (after ≡ before)) → ServerEndKept s'
-took_kept port s s' from bytes before after (Ok effect) kept open_now t err =
-    served_took port s s' effect kept open_now from bytes before after t
-took_kept port s s' from bytes before after (Err fault) kept open_now t err =
-    subst ServerEndKept (sym err.0) kept
+took_kept port s s' from bytes before after h7 kept open_now t err = search (rules, served_took)

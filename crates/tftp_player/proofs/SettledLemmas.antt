@@ -1,54 +1,28 @@
 -- `settle` makes as many deliveries as an accepted transfer needs, if its limit is not below. For
 -- `a_straight_run_completes` and RecoveriesSettled.
-use Rattle.std.proofs.Common.{◌≡◌, ◌≢◌, ◌⊎◌, inl, inr, ℕ, ◌+◌, ◌<◌, ◌≤◌, Bool, true, false, nat_lt, List, [], ◌∷◌}
-use Rattle.std.proofs.Common.{length, Option, Some, None, refl, sym, ap, ◌∙◌, arith}
-use Rattle.std.specs.Prelude.{slice_get}
-use Rattle.std.proofs.lemmas.Bool.{true≢false, ltb-true, ltb-false}
-use Rattle.std.proofs.lemmas.Option.{same_Some}
-use Rattle.tftp_file.specs.declared.files.Files.{Files}
-use Rattle.tftp_file.specs.declared.files.Files.TheVariants.{Source, Sink}
-use Rattle.tftp_file.specs.Sink.{Holding}
-use Rattle.tftp_ends.specs.declared.outcome.Outcome.{Outcome}
-use Rattle.tftp_ends.specs.End.{outcome_of}
-use Rattle.tftp_ends.specs.Step.{Turn}
-use Rattle.tftp_server.specs.Port.{Service, Silent, Refused, Sends, Takes}
-use Rattle.tftp_rules.specs.Machine.{Endpoint}
-use Rattle.tftp_rules.proofs.Indices.{slice_get-push_old}
-use Rattle.tftp_rules.specs.OpenEnds.{OpenEnd, end_after}
-use Rattle.tftp_player.specs.Requests.{service}
+use Rattle.tftp_player.proofs.Common.{◌≡◌, ◌≢◌, ◌⊎◌, ℕ, ◌+◌, ◌<◌, ◌≤◌, List, [], ◌∷◌, length, Option, Some, None, refl}
+use Rattle.tftp_player.proofs.Common.{sym, ap, ◌∙◌, rules, slice_get, true≢false, same_Some, Files, Source, Sink}
+use Rattle.tftp_player.proofs.Common.{Holding, Outcome, outcome_of, Turn, Service, Endpoint, slice_get-push_old}
+use Rattle.tftp_player.proofs.Common.{OpenEnd, end_after, service, TookAll, AllTaken, read_adds, write_adds, WorldState}
+use Rattle.tftp_player.proofs.Common.{ClosedEnd, WorldEnd, Open_end, Closed_end, is_closed, closed_end, by_outcome}
+use Rattle.tftp_player.proofs.Common.{standing, ServiceStep, Delivery, At_request_port, At_open_end, At_closed_end}
+use Rattle.tftp_player.proofs.Common.{At_nobody, Settles, Get, Put, Report}
 use Rattle.tftp_player.specs.Settling.{Settled}
-use Rattle.tftp_player.specs.Straight.{TookAll, AllTaken, HaveTaken, IsThrough, Ends, RunsStraight, ReadsStraight}
-use Rattle.tftp_player.specs.Straight.{WritesStraight, ReadsSettle, WritesSettle, read_adds, write_adds}
-use Rattle.tftp_player.specs.World.{WorldState, ClosedEnd, WorldEnd, Open_end, Closed_end, is_closed, closed_end}
-use Rattle.tftp_player.specs.World.{closed_at, by_outcome, standing}
-use Rattle.tftp_player.specs.WorldSteps.{ServiceStep, Delivery, At_request_port, At_open_end, At_closed_end, At_nobody}
-use Rattle.tftp_player.specs.WorldSteps.{Settles}
-use Rattle.tftp_player.specs.declared.event.Event.TheVariants.{Get, Put}
-use Rattle.tftp_player.specs.declared.report.Report.{Report}
+use Rattle.tftp_player.specs.Straight.{HaveTaken, IsThrough, Ends, RunsStraight, ReadsStraight, WritesStraight}
+use Rattle.tftp_player.specs.Straight.{ReadsSettle, WritesSettle}
+use Rattle.tftp_player.specs.World.{closed_at}
 use Rattle.tftp_player.proofs.StraightOpenings.{reads_complete, writes_complete}
 use Rattle.tftp_player.proofs.StraightRuns.{stays_at, set_at}
 
 -- none is left, or enough were made
 pub reached : (sent new made most count : ℕ) → count ≤ most → (made ≡ most) ⊎ (new ≤ sent + made) → made ≤ count →
     (made < count → new ≡ sent + made + 1) → made ≡ count
-reached sent new made most count enough (inl all) few goes_on = omega (arith, all)
-reached sent new made most count enough (inr none) few goes_on = by (nat_lt made count) refl where
-  by : (b : Bool) → nat_lt made count ≡ b → made ≡ count
-  by true e = absurd (let f = goes_on (ltb-true made count e) in omega (arith, f, none))
-  by false e = let f = ltb-false made count e in omega (arith, f, few)
+reached sent new made most count enough h6 few goes_on = search rules
 
 settled_ends : (old begun new : WorldState) (most made count : ℕ) →
     (s : Settled begun (length old.sent) most made new) → count ≤ most → Ends old new (length s.reports) count →
     (made ≡ count) × IsThrough old new count
-settled_ends old begun new most made count s enough ends =
-    let m = s.counted in
-    let f = ends.few in
-    let few : made ≤ count = omega (arith, m, f) in
-    let is =
-    reached (length old.sent) (length new.sent) made most count enough s.all few
-    (λ less. let e = ends.goes_on (let n : length s.reports < count = omega (arith, m, less) in n) in
-    omega (arith, e, m)) in
-    (is, ends.through (m ∙ is))
+settled_ends old begun new most made count s enough ends = search rules
 
 -- ---- if no end has closed since because of its store, no delivery was refused by one
 after_outcome : (x : OpenEnd) (turn : Turn) (held : Files (List ℕ) Holding) →
@@ -57,8 +31,7 @@ after_outcome x turn (Source left) = refl
 after_outcome x turn (Sink holding) = refl
 
 outcome_at : (at : Endpoint) (o : Option Outcome) (c : ℕ × Outcome) → closed_at at o ≡ Some c → o ≡ Some c.1
-outcome_at at None c e = cc
-outcome_at at (Some outcome) c e = ap (λ (p : ℕ × Outcome). Some p.1) (same_Some (at.port, outcome) c e)
+outcome_at at o c e = search rules
 
 -- an end that closed so, and was open
 record ClosedAs (old w : WorldState) (outcome : Outcome) : Type 0 where
@@ -71,10 +44,7 @@ record ClosedAs (old w : WorldState) (outcome : Outcome) : Type 0 where
 
 served_closes : (service : Service) (w v : WorldState) (from : Endpoint) (bytes : List ℕ) (report : Report) →
     ServiceStep service w from bytes report v → report.closed ≡ None
-served_closes Silent w v from bytes report s = ap (λ (r : Report). r.closed) s.reports
-served_closes (Refused reply) w v from bytes report s = ap (λ (r : Report). r.closed) s.0
-served_closes (Sends path mode length agreed) w v from bytes report s = ap (λ (r : Report). r.closed) s.2.reports
-served_closes (Takes path mode agreed) w v from bytes report s = ap (λ (r : Report). r.closed) s.reports
+served_closes service w v from bytes report s = search rules
 
 none_closed : (w v : WorldState) (report : Report) (c : ℕ × Outcome) → report.closed ≡ None → report.closed ≡ Some c →
     ClosedAs w v c.1
@@ -108,12 +78,7 @@ closing w v from to bytes report c (At_nobody away nobody s) e =
 served_stays :
     (service : Service) (w v : WorldState) (from : Endpoint) (bytes : List ℕ) (report : Report) (k : ℕ) (x : WorldEnd) →
     ServiceStep service w from bytes report v → slice_get w.ends k ≡ Some x → slice_get v.ends k ≡ Some x
-served_stays Silent w v from bytes report k x s there = ap (λ (u : WorldState). slice_get u.ends k) s.is ∙ there
-served_stays (Refused reply) w v from bytes report k x s there = ap (λ (u : WorldState). slice_get u.ends k) s.1 ∙ there
-served_stays (Sends path mode length agreed) w v from bytes report k x s there =
-    ap (λ (u : WorldState). slice_get u.ends k) s.2.is ∙ slice_get-push_old w.ends k _ x there
-served_stays (Takes path mode agreed) w v from bytes report k x s there =
-    ap (λ (u : WorldState). slice_get u.ends k) s.is ∙ slice_get-push_old w.ends k _ x there
+served_stays h0 w v from bytes report k x s there = search (rules, slice_get-push_old)
 
 -- a closed end stays
 closed_stays : (w v : WorldState) (from to : Endpoint) (bytes : List ℕ) (report : Report) (k : ℕ) (x : ClosedEnd) →
@@ -145,8 +110,7 @@ StayClosed first w = (k : ℕ) (x : ClosedEnd) → slice_get first.ends k ≡ So
 -- an open end was not closed before
 not_closed : (first w : WorldState) (k : ℕ) (x : ClosedEnd) (y : OpenEnd) → StayClosed first w →
     slice_get w.ends k ≡ Some (Open_end y) → slice_get first.ends k ≢ Some (Closed_end x)
-not_closed first w k x y stay is e =
-    true≢false (ap is_closed (same_Some (Closed_end x) (Open_end y) (sym (stay k x e) ∙ is)))
+not_closed first w k x y stay is e = search rules
 
 -- if none has closed so, no delivery was refused
 pub took_all : (first : WorldState) (reports : List Report) (w v : WorldState) (i : ℕ) → StayClosed first w →

@@ -1,43 +1,27 @@
 -- An end after a turn, in the world: open, or closed with its record. For ten other files.
-use Rattle.std.proofs.Common.{◌≡◌, ℕ, true, false, List, set, Option, Some, None, refl, sym, ap, ◌∙◌, subst, inl}
-use Rattle.std.proofs.Common.{inr}
-use Rattle.std.specs.Prelude.{not, is_some, slice_get}
-use Rattle.std.specs.List.{Contains}
-use Rattle.std.proofs.lemmas.Bool.{true≢false, cases_Bool}
-use Rattle.tftp_file.specs.Netascii.{wire_text}
-use Rattle.tftp_ends.specs.declared.outcome.Outcome.{Outcome}
-use Rattle.tftp_ends.specs.declared.phase.Phase.{Phase}
-use Rattle.tftp_ends.specs.declared.phase.Phase.TheVariants.{Waiting, Sending, Receiving, Dallying, Closed}
-use Rattle.tftp_ends.specs.End.{is_sender, is_client, is_complete, outcome_of, record_of}
-use Rattle.tftp_rules.specs.OpenEnds.{OpenEnd, with_phase, has_failed, open_view}
+use Rattle.tftp_player.proofs.Common.{◌≡◌, ℕ, true, false, List, set, Option, Some, None, refl, sym, ap, ◌∙◌, subst}
+use Rattle.tftp_player.proofs.Common.{inl, inr, rules, is_some, slice_get, Contains, true≢false, cases_Bool, wire_text}
+use Rattle.tftp_player.proofs.Common.{Outcome, Phase, is_sender, is_client, is_complete, outcome_of, OpenEnd, two_hosts}
+use Rattle.tftp_player.proofs.Common.{Message, Rule, EndView, IsShownWithin, WorldState, WorldEnd, Open_end, Closed_end}
+use Rattle.tftp_player.proofs.Common.{end_address, datagram, closed_end, by_outcome, standing, view_of_end, file_at}
+use Rattle.tftp_player.proofs.Common.{HasAsker, IsKeptIn}
+use Rattle.tftp_rules.specs.OpenEnds.{with_phase, has_failed, open_view}
 use Rattle.tftp_rules.specs.EndKept.{EndKept}
-use Rattle.tftp_rules.specs.Hosts.{two_hosts}
-use Rattle.tftp_rules.specs.Machine.{Message}
 use Rattle.tftp_rules.proofs.Refines.{shown_forgets}
-use Rattle.tftp_rules.specs.Rules.{Rule}
-use Rattle.tftp_rules.specs.Shows.{EndView, IsInService, IsShownWithin}
-use Rattle.tftp_player.specs.World.{WorldState, WorldEnd, Open_end, Closed_end, end_record, end_address}
-use Rattle.tftp_player.specs.World.{datagram, closed_end, by_outcome, standing, view_of_end, end_request, file_at}
-use Rattle.tftp_player.specs.WorldKept.{HasAsker, IsKeptIn}
+use Rattle.tftp_rules.specs.Shows.{IsInService}
+use Rattle.tftp_player.specs.World.{end_request}
 
 -- an end in the world is open or closed
 pub stands_as : {A : Type 0} (f : WorldEnd → A) (a : A) (x : OpenEnd) → f (Open_end x) ≡ a →
     f (Closed_end (closed_end x)) ≡ a → f (standing x) ≡ a
-stands_as {A = A} f a x open_now closed_now = by_case (outcome_of x.state.position.phase) where
-  by_case : (o : Option Outcome) → f (by_outcome o x) ≡ a
-  by_case None = open_now
-  by_case (Some outcome) = closed_now
+stands_as {A = A} f a x open_now closed_now = search rules
 
 -- its view is the same, except for the request, which a closed end does not keep
 abbrev pub IsViewedAs : OpenEnd → WorldEnd → Type 0
 IsViewedAs x y = view_of_end y ≡ record (open_view x) { request = end_request y }
 
 view_in : (phase : Phase) (x : OpenEnd) → IsViewedAs (with_phase phase x) (standing (with_phase phase x))
-view_in (Waiting asked limit) x = refl
-view_in (Sending terms number) x = refl
-view_in (Receiving terms number) x = refl
-view_in (Dallying terms number dally) x = refl
-view_in (Closed terms number complete outcome) x = refl
+view_in phase x = search rules
 
 -- an end is viewed as itself
 pub standing_view : (x : OpenEnd) → IsViewedAs x (standing x)
@@ -45,19 +29,11 @@ standing_view x = view_in x.state.position.phase x
 
 -- what a turn has closed is over
 over_in : (phase : Phase) → is_some (outcome_of phase) ≡ true → is_complete phase ≡ false → has_failed phase ≡ true
-over_in (Waiting asked limit) closed d = absurd (true≢false (sym closed))
-over_in (Sending terms number) closed d = absurd (true≢false (sym closed))
-over_in (Receiving terms number) closed d = absurd (true≢false (sym closed))
-over_in (Dallying terms number dally) closed d = absurd (true≢false (sym closed))
-over_in (Closed terms number complete outcome) closed d = ap not d
+over_in phase closed d = search rules
 
 -- an end with an outcome is not in service
 pub closed_over : (x : OpenEnd) → is_some (outcome_of x.state.position.phase) ≡ true → IsInService (open_view x) → ⊥
 closed_over x closed busy = true≢false (sym (over_in x.state.position.phase closed busy.1) ∙ busy.2)
-
--- its record is that of its state
-pub standing_record : (x : OpenEnd) → end_record (standing x) ≡ record_of x.state
-standing_record x = stands_as end_record (record_of x.state) x refl refl
 
 -- its address stays
 pub standing_address : (x : OpenEnd) → end_address (standing x) ≡ x.address
@@ -75,22 +51,12 @@ standing_open x e = ap (λ (o : Option Outcome). by_outcome o x) (no_outcome (ou
 -- an end without an outcome is viewed as open
 pub open_is : (x : OpenEnd) → is_some (outcome_of x.state.position.phase) ≡ false →
     view_of_end (Open_end x) ≡ open_view x
-open_is x e = open_in x.state.position.phase x e where
-  open_in : (phase : Phase) (y : OpenEnd) → is_some (outcome_of phase) ≡ false →
-      view_of_end (Open_end (with_phase phase y)) ≡ open_view (with_phase phase y)
-  open_in (Waiting asked limit) y e = refl
-  open_in (Sending terms number) y e = refl
-  open_in (Receiving terms number) y e = refl
-  open_in (Dallying terms number dally) y e = refl
-  open_in (Closed terms number complete outcome) y e = absurd (true≢false e)
+open_is x e = search rules
 
 -- a closed one has its record
 pub standing_ended : (x : OpenEnd) → is_some (outcome_of x.state.position.phase) ≡ true →
     standing x ≡ Closed_end (closed_end x)
-standing_ended x e = by_case (outcome_of x.state.position.phase) e where
-  by_case : (o : Option Outcome) → is_some o ≡ true → by_outcome o x ≡ Closed_end (closed_end x)
-  by_case None closed = absurd (true≢false (sym closed))
-  by_case (Some outcome) closed = refl
+standing_ended x e = search rules
 
 -- and so it is shown: a closed one without its request
 pub standing_shown :
@@ -110,19 +76,7 @@ standing_shown first views messages k d x at shown = elim (cases_Bool (is_some (
 
 -- a closed end has the same peer, and its path
 ended_asked : (w : WorldState) (x : OpenEnd) → HasAsker w (Open_end x) → HasAsker w (Closed_end (closed_end x))
-ended_asked w x h = (
-  h.0,
-  h.1,
-  λ near.
-      let q = h.2 near in
-      record {
-        write = q.write;
-        request = q.request;
-        sent = q.sent;
-        opened = λ still. absurd (true≢false still);
-        path = q.path;
-      },
-)
+ended_asked w x h = search rules
 
 -- and it is kept in its world
 pub standing_kept : (w : WorldState) (x : OpenEnd) → EndKept two_hosts x →

@@ -1,49 +1,23 @@
 -- A run without loss completes: a client opens, and the port of the server accepts its request.
 -- For the law a_straight_run_completes.
-use Rattle.std.proofs.Common.{◌≡◌, ℕ, Bool, true, List, length, Some, refl, ap, ◌∙◌, subst}
-use Rattle.std.proofs.lemmas.Bool.{true≢false}
-use Rattle.tftp_player.specs.Straight.{IsAccepted, read_adds, write_adds, ReadsComplete, WritesComplete}
-use Rattle.tftp_negotiate.specs.declared.asked.Asked.{Asked}
-use Rattle.tftp_ends.specs.declared.phase.Phase.TheVariants.{Waiting}
-use Rattle.tftp_server.specs.Port.{Service, Sends, Takes}
-use Rattle.tftp_rules.specs.Hosts.{request_port}
-use Rattle.tftp_rules.specs.Machine.{Endpoint}
-use Rattle.tftp_rules.specs.OpenEnds.{OpenEnd}
-use Rattle.tftp_player.specs.World.{WorldState, datagram, file_at, StoredFile}
-use Rattle.tftp_player.specs.WorldKept.{Refines}
-use Rattle.tftp_player.specs.Openings.{reading_client, writing_client}
-use Rattle.tftp_player.specs.declared.event.Event.TheVariants.{Get, Put}
+use Rattle.tftp_player.proofs.Common.{◌≡◌, ℕ, Bool, true, List, length, refl, ap, ◌∙◌, subst, rules, IsAccepted}
+use Rattle.tftp_player.proofs.Common.{read_adds, write_adds, Asked, Waiting, Service, Sends, Takes, request_port}
+use Rattle.tftp_player.proofs.Common.{OpenEnd, WorldState, file_at, StoredFile, Refines, reading_client, writing_client}
+use Rattle.tftp_player.proofs.Common.{Get, Put}
+use Rattle.tftp_player.specs.Straight.{ReadsComplete, WritesComplete}
 use Rattle.tftp_player.proofs.RequestArrives.{Asks, read_on, write_on}
 use Rattle.tftp_player.proofs.RunsLeft.{Reaches, reader_ends, writer_ends}
 use Rattle.tftp_player.proofs.StraightPort.{HasAsked, has_asked}
 
 -- strangers may have sent, or may not
 pub any_of : (strangers : Bool) (w : WorldState) → Refines strangers w → Refines true w
-any_of strangers w ok = record {
-  messages = ok.messages;
-  shown = ok.shown;
-  sent = ok.sent;
-  only = ok.only;
-  speakers = λ m i e. absurd (true≢false e);
-  ports = ok.ports;
-  max_block = ok.max_block;
-  ends = ok.ends;
-}
+any_of strangers w ok = search rules
 
 -- a client asked, and the port accepts its request
 has_come : (old w : WorldState) (c : OpenEnd) (asked : Asked) (limit : ℕ) (accepts : Service) → HasAsked true old w c →
     c.state.position.last_sent_to ≡ request_port → c.state.position.phase ≡ Waiting asked limit →
     IsAccepted w c accepts → Asks w (length old.ends) (length old.sent) c asked limit accepts
-has_come old w c asked limit accepts has to waits accepted = record {
-  ready = record {
-    ok = has.ok;
-    newest = has.newest ∙ ap (λ (a : Endpoint). Some (datagram c.address a c.state.position.last_sent)) to;
-    count = has.count;
-  };
-  client_at = has.there;
-  waits = waits;
-  accepted = accepted;
-}
+has_come old w c asked limit accepts has to waits accepted = search rules
 
 -- a read completes
 pub reads_complete : ReadsComplete

@@ -1,42 +1,18 @@
 -- A run without loss, from the first DATA or the first ACK that is to be delivered. For 15 other files.
-use Rattle.std.proofs.Common.{◌≡◌, ◌≢◌, ℕ, ◌+◌, ◌*◌, ◌/◌, ◌<◌, ◌≤◌, suc, zero, Bool, true, false, List, [], ◌∷◌, ◌++◌}
-use Rattle.std.proofs.Common.{length, take, drop, Some, refl, sym, ap, ◌∙◌, subst, arith, length-append}
-use Rattle.std.specs.Prelude.{nat_lt, slice_get, slice_set}
-use Rattle.std.proofs.lemmas.Bool.{lt-ltb, le-ltb}
+use Rattle.tftp_player.proofs.Common.{◌≡◌, ◌≢◌, ℕ, ◌+◌, ◌*◌, ◌<◌, ◌≤◌, suc, zero, Bool, true, false, List, [], ◌∷◌}
+use Rattle.tftp_player.proofs.Common.{◌++◌, length, take, drop, Some, sym, ap, ◌∙◌, subst, arith, rules, nat_lt}
+use Rattle.tftp_player.proofs.Common.{slice_get, slice_set, MAX_BLOCK, Mode, Data, Ack, Spells, block, block_count}
+use Rattle.tftp_player.proofs.Common.{Fits, wire_text, Respond, Send, Store, Complete, Fresh, Phase, Sending, Receiving}
+use Rattle.tftp_player.proofs.Common.{Dallying, Terms, is_sender, is_client, is_complete, datagram_action, next_action}
+use Rattle.tftp_player.proofs.Common.{ack_bytes, data_bytes, two_hosts, Endpoint, OpenEnd, IsUnderWay, PhaseKept}
+use Rattle.tftp_player.proofs.Common.{HeldBackFits, number_fits, spells_own, TookAll, WorldState, datagram, WorldEnd}
+use Rattle.tftp_player.proofs.Common.{Open_end, Refines, MayHappen, IsComplete, WorldStep, Datagram, Deliver, Report}
+use Rattle.tftp_player.proofs.Common.{slice_get-set_same, slice_get-set_other, slice_get-push_new}
+use Rattle.std.proofs.Common.{length-append}
+use Rattle.std.proofs.lemmas.Bool.{lt-ltb}
 use Rattle.std.proofs.lemmas.List.{take-append-drop}
-use Rattle.tftp_wire.specs.declared.limits.TheConstants.{MAX_BLOCK}
-use Rattle.tftp_wire.specs.declared.mode.Mode.{Mode}
-use Rattle.tftp_wire.specs.declared.packet.Packet.TheVariants.{Data, Ack}
-use Rattle.tftp_wire.specs.Spelling.{Spells}
-use Rattle.tftp_file.specs.Block.{block, block_count, Fits}
-use Rattle.tftp_file.specs.Netascii.{wire_text}
-use Rattle.tftp_ends.specs.declared.action.Action.TheVariants.{Respond, Send, Store}
-use Rattle.tftp_ends.specs.declared.action.Response.TheVariants.{Complete}
-use Rattle.tftp_ends.specs.declared.phase.Dally.TheVariants.{Fresh}
-use Rattle.tftp_ends.specs.declared.phase.Phase.{Phase}
-use Rattle.tftp_ends.specs.declared.phase.Phase.TheVariants.{Sending, Receiving, Dallying}
-use Rattle.tftp_ends.specs.declared.phase.Terms.{Terms}
-use Rattle.tftp_ends.specs.End.{is_sender, is_client, is_complete}
-use Rattle.tftp_ends.specs.Action.{datagram_action}
-use Rattle.tftp_ends.specs.Receiver.{next_action}
-use Rattle.tftp_ends.specs.Step.{ack_bytes, data_bytes}
-use Rattle.tftp_rules.specs.Hosts.{two_hosts}
-use Rattle.tftp_rules.specs.Machine.{Endpoint}
-use Rattle.tftp_rules.specs.OpenEnds.{OpenEnd}
-use Rattle.tftp_rules.specs.EndKept.{IsUnderWay, PhaseKept, HeldBackFits}
-use Rattle.tftp_rules.proofs.SourceMoves.{valid_data, number_fits}
-use Rattle.tftp_rules.proofs.SaidLemmas.{spells_own}
-use Rattle.tftp_player.specs.Straight.{TookAll}
-use Rattle.tftp_player.specs.World.{WorldState, datagram, WorldEnd, Open_end}
-use Rattle.tftp_player.specs.WorldKept.{Refines}
-use Rattle.tftp_player.specs.WorldRuns.{MayHappen}
-use Rattle.tftp_player.specs.WorldSafety.{IsComplete}
-use Rattle.tftp_player.specs.WorldSteps.{WorldStep}
-use Rattle.tftp_player.specs.declared.datagram.Datagram.{Datagram}
-use Rattle.tftp_player.specs.declared.event.Event.TheVariants.{Deliver}
-use Rattle.tftp_player.specs.declared.report.Report.{Report}
+use Rattle.tftp_rules.proofs.SourceMoves.{valid_data}
 use Rattle.tftp_rules.proofs.Blocks.{take-block}
-use Rattle.tftp_rules.proofs.Indices.{slice_get-set_same, slice_get-set_other, slice_get-push_new}
 use Rattle.tftp_player.proofs.RunsLeft.{UnlessReads, IsWilling, IsLeft, IsOver, Reaches, walks, ends_here}
 use Rattle.tftp_rules.proofs.NextBlocks.{piece_readable, block_full, block_last, block_within, never_long, last_rest}
 use Rattle.tftp_player.proofs.StraightActions.{from_peer, acked_more, acked_last, next_stores, data_next}
@@ -72,8 +48,7 @@ ready_next strangers w v i d next report r s sent = record {
 -- an end that is elsewhere stays
 pub stays_at : (w v : WorldState) (k j : ℕ) (x y : WorldEnd) → v.ends ≡ slice_set w.ends k y → j ≢ k →
     slice_get w.ends j ≡ Some x → slice_get v.ends j ≡ Some x
-stays_at w v k j x y ends away there =
-    ap (λ (xs : List WorldEnd). slice_get xs j) ends ∙ (slice_get-set_other w.ends k j y away ∙ there)
+stays_at w v k j x y ends away there = search (rules, slice_get-set_other)
 
 -- the end that was written is at its index
 pub set_at : (w v : WorldState) (k : ℕ) (x y : WorldEnd) → v.ends ≡ slice_set w.ends k y → slice_get w.ends k ≡ Some x →
@@ -83,8 +58,7 @@ set_at w v k x y ends there = ap (λ (xs : List WorldEnd). slice_get xs k) ends 
 -- after a full block a receiver goes on
 pub stored_more_phase : (terms : Terms) (number : ℕ) (l : ℕ) → l ≡ terms.size →
     stored_phase terms number (nat_lt l terms.size) ≡ Receiving terms number
-stored_more_phase terms number l e =
-    ap (stored_phase terms number) (le-ltb l terms.size (let f : terms.size ≤ l = omega (arith, e) in f))
+stored_more_phase terms number l e = search rules
 
 -- after a shorter one it dallies
 pub stored_last_phase : (terms : Terms) (number : ℕ) (l : ℕ) → l < terms.size →
@@ -167,28 +141,11 @@ module _ (strangers : Bool) (ks kr : ℕ) (apart : kr ≢ ks) (sa ra : Endpoint)
   spelled_at n f l = spells_own (Data (n + 1) (piece n)) (valid_data text st.size n f.positive f.small f.fits l)
 
   sender_stays : (w v : WorldState) (n : ℕ) (y : WorldEnd) → v.ends ≡ slice_set w.ends kr y → SendsAt w n → SendsAt v n
-  sender_stays w v n y ends s = record {
-    x = s.x;
-    there = stays_at w v kr ks (Open_end s.x) y ends (λ e. apart (sym e)) s.there;
-    address = s.address;
-    phase = s.phase;
-    file_is = s.file_is;
-    mode_is = s.mode_is;
-  }
+  sender_stays w v n y ends s = search (rules, stays_at)
 
   receiver_stays : (reads : Bool) (w v : WorldState) (n : ℕ) (y : WorldEnd) → v.ends ≡ slice_set w.ends ks y →
       AwaitsAt reads w n → AwaitsAt reads v n
-  receiver_stays reads w v n y ends r = record {
-    x = r.x;
-    there = stays_at w v ks kr (Open_end r.x) y ends apart r.there;
-    address = r.address;
-    receiver = r.receiver;
-    willing = r.willing;
-    mode_is = r.mode_is;
-    received = r.received;
-    holds = r.holds;
-    stores = r.stores;
-  }
+  receiver_stays reads w v n y ends r = search (rules, stays_at)
 
   -- a receiver stores the next block of its sender's text
   pub next_is_stored : (x : OpenEnd) (n : ℕ) → IsFit → n + 1 ≤ blocks → x.state.role.mode ≡ mode →
@@ -215,11 +172,7 @@ module _ (strangers : Bool) (ks kr : ℕ) (apart : kr ≢ ks) (sa ra : Endpoint)
       x.state.role.mode ≡ mode →
       wire_text x.state.role.mode x.stored ++ x.state.position.held_back ≡ take (n * st.size) text →
       datagram_action x.state sa (data_bytes (n + 1) (piece n)) (Some (Data (n + 1) (piece n))) ≡ Store rt (n + 1)
-  receiving_stores x n f l phase mode_is received =
-      from_peer x.state (Receiving rt n) rt sa (data_bytes (n + 1) (piece n)) (Data (n + 1) (piece n)) phase refl
-      receiver_peer
-      ∙ (data_next x.state.role.mode x.state.position.held_back rt n (piece n)
-      ∙ next_is_stored x n f l mode_is received)
+  receiving_stores x n f l phase mode_is received = search (rules, from_peer, data_next, next_is_stored)
 
   -- a receiver that enters this phase with what it has
   pub awaits_now : (reads : Bool) (w : WorldState) (x : OpenEnd) (n : ℕ) → IsFit → n + 1 ≤ blocks →
@@ -228,17 +181,8 @@ module _ (strangers : Bool) (ks kr : ℕ) (apart : kr ≢ ks) (sa ra : Endpoint)
       x.state.role.mode ≡ mode →
       wire_text x.state.role.mode x.stored ++ x.state.position.held_back ≡ take (n * st.size) text →
       HeldBackFits x.state.role.mode x.state.position.held_back → AwaitsAt reads w n
-  awaits_now reads w x n f l there address phase receiver willing mode_is received holds = record {
-    x = x;
-    there = there;
-    address = address;
-    receiver = receiver;
-    willing = willing;
-    mode_is = mode_is;
-    received = received;
-    holds = holds;
-    stores = receiving_stores x n f l phase mode_is received;
-  }
+  awaits_now reads w x n f l there address phase receiver willing mode_is received holds =
+      search (rules, receiving_stores)
 
   -- ---- DATA arrives at the receiver
   module _ (reads : Bool) (w v : WorldState) (i n : ℕ) (report : Report) (ready : IsReady strangers w i (data_at n))
@@ -248,9 +192,7 @@ module _ (strangers : Bool) (ks kr : ℕ) (apart : kr ≢ ks) (sa ra : Endpoint)
     fit = fit_of w (n + 1) ready.ok s
 
     handled : Handles w kr r.x sa (data_bytes (n + 1) (piece n)) report v
-    handled = delivered w v i kr r.x sa (data_bytes (n + 1) (piece n)) report (ports_of strangers w ready.ok)
-        (ready.newest ∙ ap (λ (a : Endpoint). Some (datagram sa a (data_bytes (n + 1) (piece n)))) (sym r.address))
-        r.there step
+    handled = search (rules, delivered, ports_of)
 
     -- the step of a client that was not set to refuse
     taken_by : is_client r.x.state.role.side ≡ true → r.x.refuses ≡ false →
@@ -324,8 +266,7 @@ module _ (strangers : Bool) (ks kr : ℕ) (apart : kr ≢ ks) (sa ra : Endpoint)
     fit_now = fit_of w n ready.ok s
 
     handled_ack : Handles w ks s.x ra (ack_bytes n) report v
-    handled_ack = delivered w v i ks s.x ra (ack_bytes n) report (ports_of strangers w ready.ok)
-        (ready.newest ∙ ap (λ (a : Endpoint). Some (datagram ra a (ack_bytes n))) (sym s.address)) s.there step
+    handled_ack = search (rules, delivered, ports_of)
 
     ack_spelled : Spells (Ack n) (ack_bytes n)
     ack_spelled = spells_own (Ack n) (number_fits text st.size n fit_now.positive fit_now.fits small)
@@ -336,8 +277,7 @@ module _ (strangers : Bool) (ks kr : ℕ) (apart : kr ≢ ks) (sa ra : Endpoint)
     -- and more is to be sent
     module _ (more : n < blocks) where
       sends_more : datagram_action s.x.state ra (ack_bytes n) (Some (Ack n)) ≡ Send st (n + 1)
-      sends_more = from_peer s.x.state (Sending st n) st ra (ack_bytes n) (Ack n) s.phase refl sender_peer
-          ∙ acked_more s.x.state.role.length n st (subst (λ (m : ℕ). n < m / st.size + 1) (sym measured) more)
+      sends_more = search (rules, from_peer, acked_more, measured)
 
       sent_more : (y : OpenEnd) × (y.state.position.phase ≡ Sending st (n + 1))
           × Becomes w v ks s.x ra (ack_bytes n) report handled_ack y
@@ -368,9 +308,7 @@ module _ (strangers : Bool) (ks kr : ℕ) (apart : kr ≢ ks) (sa ra : Endpoint)
     -- or all was sent
     module _ (last : n ≡ blocks) (r : HasAllAt w) where
       sends_none : datagram_action s.x.state ra (ack_bytes n) (Some (Ack n)) ≡ Respond Complete
-      sends_none = from_peer s.x.state (Sending st n) st ra (ack_bytes n) (Ack n) s.phase refl sender_peer
-          ∙ acked_last s.x.state.role.length n st
-          (subst (λ (m : ℕ). m / st.size + 1 ≤ n) (sym measured) (let e : blocks ≤ n = omega (arith, last) in e))
+      sends_none = search (rules, from_peer, acked_last, measured)
 
       is_done : (y : WorldEnd) × IsComplete y × (v.sent ≡ w.sent ++ []) × (v.ends ≡ slice_set w.ends ks y)
       is_done = handles_last w v ks s.x ra (ack_bytes n) report handled_ack (Ack n) ack_spelled sends_none

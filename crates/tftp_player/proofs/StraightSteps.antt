@@ -1,56 +1,30 @@
 -- The delivery of a datagram at the open end that it is for, if that sends, stores or is complete. For twelve other
 -- files.
-use Rattle.std.proofs.Common.{◌≡◌, ℕ, ◌+◌, ◌*◌, Bool, true, false, List, [], ◌∷◌, ◌++◌, length, drop, Option, Some}
-use Rattle.std.proofs.Common.{None, Result, Ok, Err, refl, sym, ap, ◌∙◌, subst, arith, inl, inr}
-use Rattle.std.specs.Prelude.{◌≢◌, if◌then◌else◌, nat_lt, slice_get, slice_set, IfErr}
-use Rattle.std.proofs.lemmas.Bool.{true≢false}
-use Rattle.std.proofs.lemmas.Option.{same_Some}
-use Rattle.tftp_wire.specs.declared.packet.Packet.{Packet}
-use Rattle.tftp_wire.specs.declared.packet.Packet.TheVariants.{Data}
-use Rattle.tftp_wire.specs.Spelling.{Spells}
-use Rattle.tftp_wire.proofs.SpellingLemmas.{one_meaning, spelled_has_no_fault}
-use Rattle.tftp_file.specs.Memory.{memory_source}
-use Rattle.tftp_file.specs.Block.{block}
-use Rattle.tftp_file.specs.Netascii.{wire_text}
-use Rattle.tftp_file.specs.Sink.{Holding, UnlessArmed, AppendsFreely, CommitsFreely, with_piece, as_committed}
-use Rattle.tftp_file.specs.declared.fault.StoreFault.{StoreFault}
+use Rattle.tftp_player.proofs.Common.{◌≡◌, ℕ, ◌+◌, ◌*◌, Bool, true, false, List, [], ◌∷◌, ◌++◌, length, drop, Option}
+use Rattle.tftp_player.proofs.Common.{Some, None, Result, Ok, Err, refl, sym, ap, ◌∙◌, subst, arith, inl, inr, rules}
+use Rattle.tftp_player.proofs.Common.{◌≢◌, if◌then◌else◌, nat_lt, slice_get, slice_set, true≢false, same_Some, Packet}
+use Rattle.tftp_player.proofs.Common.{Data, Spells, decoded_is, memory_source, block, wire_text, Holding, StoreFault}
+use Rattle.tftp_player.proofs.Common.{Files, Source, Sink, Action, Respond, Send, Store, Accept, Complete, ErrorReply}
+use Rattle.tftp_player.proofs.Common.{DiskFull, Outcome, Fresh, Phase, Sending, Receiving, Dallying, Terms, EndState}
+use Rattle.tftp_player.proofs.Common.{is_progress, is_sender, is_client, outcome_of, Decodes, datagram_action, Turn}
+use Rattle.tftp_player.proofs.Common.{Done, Acts, Appended, GoesOn, response_turn, sent_turn, refused_turn}
+use Rattle.tftp_player.proofs.Common.{committed_turn, commit_reply, holding, ack_bytes, data_bytes, after_turn}
+use Rattle.tftp_player.proofs.Common.{Endpoint, OpenEnd, holding_of, files_of, end_after, HeldBackFits, TookAll}
+use Rattle.tftp_player.proofs.Common.{WorldState, file_at, in_the_way, is_closed, datagram, replied, standing, WorldEnd}
+use Rattle.tftp_player.proofs.Common.{Open_end, Closed_end, end_address, HasPorts, Refines, IsComplete}
+use Rattle.tftp_player.proofs.Common.{may_refuse_commit, EndStep, OnDatagram, Delivery, At_request_port, At_open_end}
+use Rattle.tftp_player.proofs.Common.{At_closed_end, At_nobody, WorldStep, world_sink, Datagram, Deliver, Report}
 use Rattle.tftp_file.specs.declared.fault.StoreFault.TheVariants as faults
-use Rattle.tftp_file.specs.declared.files.Files.{Files}
-use Rattle.tftp_file.specs.declared.files.Files.TheVariants.{Source, Sink}
-use Rattle.tftp_ends.specs.declared.action.Action.{Action}
-use Rattle.tftp_ends.specs.declared.action.Action.TheVariants.{Respond, Send, Store}
-use Rattle.tftp_ends.specs.declared.action.Response.TheVariants.{Accept, Complete}
-use Rattle.tftp_ends.specs.declared.error_reply.ErrorReply.{ErrorReply}
-use Rattle.tftp_ends.specs.declared.error_reply.ErrorReply.TheVariants.{DiskFull}
-use Rattle.tftp_ends.specs.declared.outcome.Outcome.{Outcome}
 use Rattle.tftp_ends.specs.declared.outcome.Outcome.TheVariants as outcomes
-use Rattle.tftp_ends.specs.declared.phase.Dally.TheVariants.{Fresh}
-use Rattle.tftp_ends.specs.declared.phase.Phase.{Phase}
-use Rattle.tftp_ends.specs.declared.phase.Phase.TheVariants.{Sending, Receiving, Dallying}
-use Rattle.tftp_ends.specs.declared.phase.Terms.{Terms}
-use Rattle.tftp_ends.specs.End.{EndState, is_progress, is_sender, is_client, outcome_of}
-use Rattle.tftp_ends.specs.Action.{Decodes, datagram_action}
-use Rattle.tftp_ends.specs.Step.{Turn, Done, Acts, Appended, GoesOn, Stores, StoresIn, response_turn, sent_turn}
-use Rattle.tftp_ends.specs.Step.{refused_turn, committed_turn, commit_reply, holding, ack_bytes, data_bytes, after_turn}
+use Rattle.tftp_ends.specs.Step.{Stores, StoresIn}
 use Rattle.tftp_ends.specs.Text.{Decoded}
-use Rattle.tftp_rules.specs.Machine.{Endpoint}
-use Rattle.tftp_rules.specs.OpenEnds.{OpenEnd, holding_of, files_of, with_files, in_state, end_after}
-use Rattle.tftp_rules.specs.EndKept.{HeldBackFits}
+use Rattle.tftp_rules.specs.OpenEnds.{with_files, in_state}
 use Rattle.tftp_rules.proofs.SinkMoves.{Took, All_of_it, Some_of_it, took, Kept_all, For_good, Not_yet, kept_by}
 use Rattle.tftp_rules.proofs.SinkMoves.{stores_in, goes_on_with, held_fits}
 use Rattle.tftp_rules.proofs.SourceMoves.{BlockSent, sends_from, block_sent}
 use Rattle.tftp_rules.proofs.SaidLemmas.{data_of}
 use Rattle.tftp_rules.proofs.StoredTexts.{stored_more}
-use Rattle.tftp_player.specs.Straight.{TookAll}
-use Rattle.tftp_player.specs.World.{WorldState, file_at, in_the_way, is_closed, datagram, replied, closed_at, standing}
-use Rattle.tftp_player.specs.World.{WorldEnd, Open_end, Closed_end, end_address}
-use Rattle.tftp_player.specs.WorldKept.{HasPorts, Refines}
-use Rattle.tftp_player.specs.WorldSafety.{IsComplete}
-use Rattle.tftp_player.specs.WorldSteps.{may_refuse_append, may_refuse_commit, EndStep, OnDatagram, Delivery}
-use Rattle.tftp_player.specs.WorldSteps.{At_request_port, At_open_end, At_closed_end, At_nobody, WorldStep, world_sink}
-use Rattle.tftp_player.specs.declared.datagram.Datagram.{Datagram}
-use Rattle.tftp_player.specs.declared.event.Event.TheVariants.{Deliver}
-use Rattle.tftp_player.specs.declared.report.Report.{Report}
+use Rattle.tftp_player.specs.World.{closed_at}
 
 -- the end at index k of a world has port 1024 + k
 pub ports_of : (strangers : Bool) (w : WorldState) → Refines strangers w → HasPorts w
@@ -71,24 +45,12 @@ pub record Handles (w : WorldState) (k : ℕ) (x : OpenEnd) (from : Endpoint) (b
 -- two ends at one address are one
 same_end : (w : WorldState) (k j : ℕ) (x y : WorldEnd) → HasPorts w → slice_get w.ends k ≡ Some x →
     slice_get w.ends j ≡ Some y → end_address y ≡ end_address x → (j ≡ k) × (y ≡ x)
-same_end w k j x y ports here there same =
-    let a = ports k x here in
-    let b = ports j y there in
-    let c = ap (λ (p : Endpoint). p.port) same in
-    let same_index : j ≡ k = omega (arith, a, b, c) in
-    (same_index, same_Some y x (sym there ∙ (ap (slice_get w.ends) same_index ∙ here)))
+same_end w k j x y ports here there same = search rules
 
 module _ (w v : WorldState) (k : ℕ) (x : OpenEnd) (from : Endpoint) (bytes : List ℕ) (report : Report)
     (ports : HasPorts w) (there : slice_get w.ends k ≡ Some (Open_end x)) where
   handled : OnDatagram w k x from bytes report v → Handles w k x from bytes report v
-  handled h = record {
-    turn = h.turn;
-    held = h.held;
-    steps = h.steps;
-    sent = ap (λ (u : WorldState). u.sent) h.turns.is;
-    ends = ap (λ (u : WorldState). u.ends) h.turns.is;
-    closed = ap (λ (r : Report). r.closed) h.turns.reports;
-  }
+  handled h = search rules
 
   arrived : Delivery w from x.address bytes report v → Handles w k x from bytes report v
   arrived (At_request_port here port decoded says repeated same served) =
@@ -115,12 +77,10 @@ delivered w v i k x from bytes report ports sent there s =
     arrived w v k x from bytes report ports there
     (subst (λ (z : Datagram). Delivery w z.from z.to z.bytes report v) same s.2)
 
--- bytes that spell a packet are decoded to it
-decoded_is : (bytes : List ℕ) (packet : Packet) (decoded : Option Packet) → Spells packet bytes →
-    Decodes bytes decoded → decoded ≡ Some packet
-decoded_is bytes packet (Some q) s t = ap (λ (p : Packet). Some p) (one_meaning q packet bytes t s)
-decoded_is bytes packet None s t =
-    absurd (let f : None ≡ Some t.0 = sym (spelled_has_no_fault packet bytes s) ∙ t.1 in cc)
+-- an end with the files that it has is itself
+pub same_with : (b : Bool) (z : OpenEnd) → with_files z (if b then Source z.left else Sink (holding_of z)) ≡ z
+same_with true z = refl
+same_with false z = refl
 
 -- a receiver that stored a block, by whether it is the last
 abbrev pub stored_phase : Terms → ℕ → Bool → Phase
@@ -133,44 +93,13 @@ abbrev pub is_armed : Files (List ℕ) Holding → Bool
 is_armed (Source left) = false
 is_armed (Sink holding) = holding.refuses
 
-append_taken : (before after : Holding) (bytes : List ℕ) (answer : Result Done StoreFault) → before.refuses ≡ false →
-    AppendsFreely before (Some after) bytes answer →
-    IfErr answer (may_refuse_append before bytes) → answer ≢ Err faults.Memory →
-    (answer ≡ Ok tt) × (after.refuses ≡ false)
-append_taken before after bytes (Ok done) unarmed h may memory =
-    (refl, ap (λ (z : Holding). z.refuses) (same_Some after (with_piece before bytes) h) ∙ unarmed)
-append_taken before after bytes (Err faults.Missing) unarmed h may memory = absurd may
-append_taken before after bytes (Err faults.Exists) unarmed h may memory = absurd may
-append_taken before after bytes (Err faults.Full) unarmed h may memory = absurd (true≢false (sym may ∙ unarmed))
-append_taken before after bytes (Err faults.Io) unarmed h may memory = absurd may
-append_taken before after bytes (Err faults.Memory) unarmed h may memory = absurd (memory refl)
-
 -- its sink accepts what is appended, and is not set to refuse then
 piece_taken :
     (before after : Holding) (bytes : List ℕ) (answer : Result Done StoreFault)
     (refuses_commit : Holding → StoreFault → Type 0) → before.refuses ≡ false →
     Appended (world_sink refuses_commit) bytes before after answer → answer ≢ Err faults.Memory →
     (answer ≡ Ok tt) × (after.refuses ≡ false)
-piece_taken before after [] answer refuses_commit unarmed h memory =
-    (h.0, ap (λ (z : Holding). z.refuses) h.1 ∙ unarmed)
-piece_taken before after (b ∷ bytes) answer refuses_commit unarmed h memory =
-    append_taken before after (b ∷ bytes) answer unarmed
-    (subst
-    (λ (armed : Bool).
-    UnlessArmed armed before (Some after) answer (AppendsFreely before (Some after) (b ∷ bytes) answer)) unarmed h.0)
-    h.1 memory
-
--- and a commit
-commit_taken : (there : Option (List ℕ)) (before after : Holding) (answer : Result Done StoreFault) →
-    before.refuses ≡ false → CommitsFreely before (Some after) answer →
-    IfErr answer (may_refuse_commit true there before) → (answer ≡ Ok tt) × (after.refuses ≡ false)
-commit_taken there before after (Ok done) unarmed h may =
-    (refl, ap (λ (z : Holding). z.refuses) (same_Some after (as_committed before) h) ∙ unarmed)
-commit_taken there before after (Err faults.Missing) unarmed h may = absurd may
-commit_taken there before after (Err faults.Exists) unarmed h may = absurd may
-commit_taken there before after (Err faults.Full) unarmed h may = absurd (true≢false (sym may ∙ unarmed))
-commit_taken there before after (Err faults.Io) unarmed h may = absurd may
-commit_taken there before after (Err faults.Memory) unarmed h may = absurd may
+piece_taken before after h2 answer refuses_commit unarmed h memory = search rules
 
 module _ (w v : WorldState) (k : ℕ) (x : OpenEnd) (from : Endpoint) (bytes : List ℕ) (report : Report)
     (h : Handles w k x from bytes report v) where
@@ -245,10 +174,6 @@ module _ (w v : WorldState) (k : ℕ) (x : OpenEnd) (from : Endpoint) (bytes : L
       )
 
   -- ---- a sender whose last block is acknowledged is complete
-  same_with : (b : Bool) (z : OpenEnd) → with_files z (if b then Source z.left else Sink (holding_of z)) ≡ z
-  same_with true z = refl
-  same_with false z = refl
-
   -- a sender whose last block is acknowledged completes
   pub handles_last : (packet : Packet) → Spells packet bytes →
       datagram_action x.state from bytes (Some packet) ≡ Respond Complete →
@@ -328,31 +253,11 @@ module _ (w v : WorldState) (k : ℕ) (x : OpenEnd) (from : Endpoint) (bytes : L
 
   -- a client that was not set to refuse stores the block, and is not set to afterwards
   module _ (terms : Terms) (number : ℕ) (piece : List ℕ) (client : is_client x.state.role.side ≡ true) where
-    abbrev closed_by : Turn → Option (ℕ × Outcome)
-    closed_by turn = closed_at x.address (outcome_of turn.position.phase)
-
     goes_unarmed : (mid sink : Holding) (after : List ℕ) (answer : Result Done StoreFault) (last : Bool) →
         h.held ≡ Sink sink → mid.refuses ≡ false → answer ≡ Ok tt →
         GoesOn (world_sink refuses_commit) terms number from x.state last after mid answer h.turn sink →
         TookAll report.closed × (is_armed h.held ≡ false)
-    goes_unarmed mid sink after (Err fault) last held unarmed ok g = absurd (let e : Err fault ≡ Ok tt = ok in cc)
-    goes_unarmed mid sink after (Ok done) false held unarmed ok g = (
-      subst TookAll (sym (h.closed ∙ ap closed_by g.0)) tt,
-      ap is_armed held
-          ∙ (ap (λ (z : Holding). z.refuses) g.1 ∙ unarmed),
-    )
-    goes_unarmed mid sink after (Ok done) true held unarmed ok g =
-        let there = in_the_way w.overwrite (file_at w.files x.path) in
-        let c = commit_taken there mid sink g.answer unarmed
-        (subst (λ (armed : Bool). UnlessArmed armed mid (Some sink) g.answer (CommitsFreely mid (Some sink) g.answer))
-        unarmed g.commits)
-        (subst (λ (b : Bool). IfErr g.answer (may_refuse_commit b there mid)) client g.refused) in (
-          subst TookAll
-              (sym
-              (h.closed ∙ ap closed_by (g.answers ∙ ap (committed_turn terms number from (holding after x.state)) c.0)))
-              tt,
-          ap is_armed held ∙ c.1,
-        )
+    goes_unarmed mid sink after answer last held unarmed ok g = search rules
 
     pub takes_data : x.refuses ≡ false → Spells (Data number piece) bytes →
         datagram_action x.state from bytes (Some (Data number piece)) ≡ Store terms number →
@@ -369,8 +274,7 @@ module _ (w v : WorldState) (k : ℕ) (x : OpenEnd) (from : Endpoint) (bytes : L
       (all : TookAll report.closed) where
     -- no turn is that of a store that refused
     fault_none : (reply : ErrorReply) (e : EndState) → h.turn ≡ refused_turn terms reply outcomes.StoreFault from e → ⊥
-    fault_none reply e is =
-        (subst TookAll (h.closed ∙ ap (λ (t : Turn). closed_at x.address (outcome_of t.position.phase)) is) all) refl
+    fault_none reply e is = search rules
 
     -- the turn after a block that was stored, which leaves the end open
     abbrev stored_turn : Bool → List ℕ → Turn

@@ -1,39 +1,18 @@
 -- What a datagram of neither host leaves unchanged. For `a_stray_changes_no_record`.
-use Rattle.std.proofs.Common.{◌≡◌, ◌≢◌, ℕ, Bool, true, false, List, map, set, Some, refl, sym, ap, ◌∙◌, subst, inl, inr}
-use Rattle.std.specs.Prelude.{◌⊎◌, not, is_some, is_none, ◌&&◌, if◌then◌else◌, slice_get}
-use Rattle.std.proofs.lemmas.Bool.{true≢false}
-use Rattle.std.proofs.lemmas.Bool.Decides.{eqb_tells}
-use Rattle.std.proofs.lemmas.Option.{same_Some}
-use Rattle.tftp_wire.specs.Reading.{has_error_opcode}
-use Rattle.tftp_file.specs.Memory.{memory_source}
-use Rattle.tftp_file.specs.declared.files.Files.{Files}
-use Rattle.tftp_file.specs.declared.files.Files.TheVariants.{Source, Sink}
-use Rattle.tftp_file.specs.Sink.{Holding}
-use Rattle.tftp_ends.specs.declared.action.Action.{Action}
-use Rattle.tftp_ends.specs.declared.action.Action.TheVariants.{Respond}
-use Rattle.tftp_ends.specs.declared.action.Response.TheVariants.{Ignore, WrongPeer}
-use Rattle.tftp_ends.specs.declared.phase.Phase.{Phase}
-use Rattle.tftp_ends.specs.declared.phase.Phase.TheVariants.{Waiting, Sending, Receiving, Dallying, Closed}
-use Rattle.tftp_ends.specs.End.{is_client, terms_of, outcome_of, record_of, Position}
-use Rattle.tftp_ends.specs.Action.{same_address, same_endpoint, is_wrong_peer, garbled_response, packet_action}
-use Rattle.tftp_ends.specs.Step.{Turn, Acts, with_position}
-use Rattle.tftp_rules.specs.Hosts.{host_of, request_port, two_hosts}
-use Rattle.tftp_rules.specs.Machine.{Endpoint, At_server, Elsewhere}
-use Rattle.tftp_rules.specs.OpenEnds.{OpenEnd, files_of, end_after, peer_of, with_phase}
-use Rattle.tftp_rules.specs.EndKept.{PhaseKept}
+use Rattle.tftp_player.proofs.Common.{◌≡◌, ◌≢◌, ℕ, Bool, true, false, List, map, set, Some, refl, sym, ap, ◌∙◌, subst}
+use Rattle.tftp_player.proofs.Common.{inl, inr, rules, ◌⊎◌, not, is_some, slice_get, true≢false, same_Some, Files}
+use Rattle.tftp_player.proofs.Common.{Holding, Phase, terms_of, outcome_of, record_of, is_wrong_peer, Turn}
+use Rattle.tftp_player.proofs.Common.{request_port, two_hosts, Endpoint, Elsewhere, OpenEnd, end_after, peer_of}
+use Rattle.tftp_player.proofs.Common.{PhaseKept, WorldState, WorldEnd, Open_end, end_record, end_address, standing}
+use Rattle.tftp_player.proofs.Common.{view_of_end, Refines, ServiceStep, Delivery, At_request_port, At_open_end}
+use Rattle.tftp_player.proofs.Common.{At_closed_end, At_nobody, OpeningStep, OnDatagram, Service, Silent, Refused}
+use Rattle.tftp_player.proofs.Common.{Sends, Takes, Report, slice_get-set_same, slice_get-set_other, slice_get-push_old}
+use Rattle.tftp_player.proofs.Common.{shown_by}
+use Rattle.tftp_rules.specs.Hosts.{host_of}
+use Rattle.tftp_rules.specs.OpenEnds.{with_phase}
 use Rattle.tftp_rules.proofs.PhaseMoves.{same_ips, same_endpoints}
 use Rattle.tftp_player.specs.Strangers.{HasNoStranger, IsRecordedSo, StraysChangeNoRecord, ClientsHaveServers}
-use Rattle.tftp_player.specs.World.{WorldState, WorldEnd, Open_end, end_record, end_address, file_at, in_the_way}
-use Rattle.tftp_player.specs.World.{standing, view_of_end}
-use Rattle.tftp_player.specs.WorldKept.{Refines}
-use Rattle.tftp_player.specs.WorldSteps.{may_refuse_commit, ServiceStep, Delivery, At_request_port, At_open_end}
-use Rattle.tftp_player.specs.WorldSteps.{At_closed_end, At_nobody, OpeningStep, OnDatagram, world_sink}
-use Rattle.tftp_server.specs.Port.{Service, Silent, Refused, Sends, Takes}
-use Rattle.tftp_player.specs.declared.report.Report.{Report}
-use Rattle.tftp_rules.proofs.Indices.{slice_get-set_same, slice_get-set_other, slice_get-push_old}
 use Rattle.tftp_player.proofs.WorldTurns.{view_at}
-use Rattle.tftp_rules.proofs.Refines.{shown_by}
-use Rattle.tftp_player.proofs.Standing.{standing_record}
 
 -- a test that cannot hold
 fails : (b : Bool) → (b ≡ true → ⊥) → not b ≡ true
@@ -43,68 +22,29 @@ fails false cannot = refl
 -- a stranger is not at the server
 not_server : (from : Endpoint) → host_of from ≡ Elsewhere → from.ip ≡ request_port.ip → ⊥
 unfolding host_of
-not_server from far same =
-    let e : At_server ≡ Elsewhere = subst (λ (ip : List ℕ). host_of (record from { ip = ip }) ≡ Elsewhere) same far in
-    cc
+not_server from far same = search rules
 
 -- to an open end whose peer is no stranger
 is_strange : (phase : Phase) (x0 : OpenEnd) (from : Endpoint) → PhaseKept two_hosts (with_phase phase x0) phase →
     host_of from ≡ Elsewhere → ((p : Endpoint) → peer_of phase ≡ Some p → host_of p ≢ Elsewhere) →
     is_some (outcome_of phase) ≡ false → is_wrong_peer (terms_of phase) x0.state.position.last_sent_to from ≡ true
-is_strange (Waiting asked limit) x0 from kept far home o =
-    fails (same_address x0.state.position.last_sent_to from)
-    (λ e.
-    not_server from far (sym (same_ips x0.state.position.last_sent_to from e) ∙ ap (λ (p : Endpoint). p.ip) kept.2))
-is_strange (Sending terms n) x0 from kept far home o =
-    fails (same_endpoint terms.peer from)
-    (λ e. home terms.peer refl (ap host_of (same_endpoints terms.peer from e) ∙ far))
-is_strange (Receiving terms n) x0 from kept far home o =
-    fails (same_endpoint terms.peer from)
-    (λ e. home terms.peer refl (ap host_of (same_endpoints terms.peer from e) ∙ far))
-is_strange (Dallying terms n dally) x0 from kept far home o =
-    fails (same_endpoint terms.peer from)
-    (λ e. home terms.peer refl (ap host_of (same_endpoints terms.peer from e) ∙ far))
-is_strange (Closed terms n complete outcome) x0 from kept far home o = absurd (true≢false o)
+is_strange phase x0 from kept far home o =
+    search (rules, fails, not_server, same_ips, same_endpoints, true≢false)
 
 -- such an end is unchanged
 module _ (w : WorldState) (k : ℕ) (x : OpenEnd) (from : Endpoint) (bytes : List ℕ) (report : Report) (v : WorldState)
     (t : OnDatagram w k x from bytes report v) where
-  abbrev Acts_at : Action → Type 0
-  Acts_at action =
-      Acts memory_source
-      (world_sink (may_refuse_commit (is_client x.state.role.side) (in_the_way w.overwrite (file_at w.files x.path))))
-      action from bytes x.state (files_of x) t.turn t.held
-
-  stays_by : (b : Bool) → Acts_at (if b then Respond Ignore else Respond WrongPeer) → t.turn.position ≡ x.state.position
-  stays_by true h = ap (λ (u : Turn). u.position) h.0
-  stays_by false h = ap (λ (u : Turn). u.position) h.0
-
   strange_same : is_wrong_peer (terms_of x.state.position.phase) x.state.position.last_sent_to from ≡ true →
       t.turn.position ≡ x.state.position
-  strange_same strange =
-      let near =
-      if has_error_opcode bytes
-      && is_none t.steps.decoded then Respond (garbled_response x.state.position.phase) else packet_action x.state from
-      t.steps.decoded x.state.position.phase in
-      stays_by (has_error_opcode bytes)
-      (subst
-      (λ (b : Bool).
-      Acts_at (if b then (if has_error_opcode bytes then Respond Ignore else Respond WrongPeer) else near)) strange
-      t.steps.acts)
+  strange_same strange = search rules
 
 -- the record of an end whose state is unchanged
 after_state : (x : OpenEnd) (turn : Turn) (held : Files (List ℕ) Holding) → turn.position ≡ x.state.position →
     end_record (standing (end_after x turn held)) ≡ record_of x.state
-after_state x turn (Source left) same =
-    standing_record (end_after x turn (Source left)) ∙ ap (λ (p : Position). record_of (with_position p x.state)) same
-after_state x turn (Sink holding) same =
-    standing_record (end_after x turn (Sink holding)) ∙ ap (λ (p : Position). record_of (with_position p x.state)) same
+after_state x turn held same = search rules
 
 equal_or_not : (a b : ℕ) → (a ≡ b) ⊎ (a ≢ b)
-equal_or_not a b = elim (eqb_tells a b) [
-  | inl h ↦ inl h.1
-  | inr h ↦ inr h.1
-]
+equal_or_not a b = search rules
 
 -- as it is
 as_is : (old new : WorldState) (k : ℕ) (x : WorldEnd) → new.ends ≡ old.ends → slice_get old.ends k ≡ Some x →

@@ -1,14 +1,9 @@
 -- A request that repeats that of no open transfer is answered by no end that is shown. For four other files.
-use Rattle.std.proofs.Common.{◌≡◌, ℕ, zero, suc, Bool, false, List, [], ◌∷◌, map, Option, Some, None, refl, sym, ap}
-use Rattle.std.proofs.Common.{◌∙◌, subst, inl, inr}
-use Rattle.std.specs.Prelude.{not, option_map, slice_get}
-use Rattle.std.proofs.lemmas.Bool.{true≢false}
-use Rattle.std.proofs.lemmas.Option.{same_Some, slice_get-map}
-use Rattle.tftp_wire.specs.declared.packet.Packet.{Packet}
-use Rattle.tftp_rules.specs.Machine.{Endpoint}
-use Rattle.tftp_rules.specs.Shows.{EndView, IsAnswering, NoneAnswers}
-use Rattle.tftp_player.specs.Requests.{IsRepeated, Repeats, AnyRepeats}
-use Rattle.tftp_player.specs.World.{WorldEnd, Open_end, Closed_end, view_of_end}
+use Rattle.tftp_player.proofs.Common.{◌≡◌, ℕ, zero, suc, Bool, false, List, [], ◌∷◌, map, Option, Some, None, refl, sym}
+use Rattle.tftp_player.proofs.Common.{◌∙◌, subst, inl, inr, rules, option_map, slice_get, true≢false, same_Some, Packet}
+use Rattle.tftp_player.proofs.Common.{Endpoint, EndView, IsRepeated, Repeats, AnyRepeats, WorldEnd, view_of_end}
+use Rattle.std.proofs.lemmas.Option.{slice_get-map}
+use Rattle.tftp_rules.specs.Shows.{IsAnswering, NoneAnswers}
 
 -- an end at an index is one of them
 pub any_at : (from : Endpoint) (packet : Packet) (ends : List WorldEnd) (k : ℕ) (x : WorldEnd) →
@@ -20,8 +15,7 @@ any_at from packet (y ∷ ends) (suc k) x e r = inr (any_at from packet ends k x
 -- who answers a request is repeated by it
 answers_repeat : (from : Endpoint) (packet : Packet) (x : WorldEnd) → IsAnswering (view_of_end x) from packet →
     Repeats from packet x
-answers_repeat from packet (Open_end x) a = record { still = a.serving.0; peer = a.peer_is; same = a.spells }
-answers_repeat from packet (Closed_end x) a = absurd (true≢false (sym (ap not a.serving.1) ∙ a.serving.2))
+answers_repeat from packet x a = search rules
 
 -- no end that is shown answers it
 pub none_answers :

@@ -1,38 +1,20 @@
 -- The world after a sample transfer, computed: a client opens, and each datagram from its request on is delivered
 -- once, in order. What is left to check are equations, which hold by computation. For five other files.
-use Rattle.std.proofs.Common.{◌≡◌, ℕ, true, false, List, [], ◌∷◌, length, Option, Some, None, refl, sym, ap}
-use Rattle.std.proofs.Common.{subst, ◌∙◌, suc, arith, inl, inr}
-use Rattle.std.specs.Prelude.{slice_get}
-use Rattle.std.proofs.lemmas.Bool.{true≢false}
-use Rattle.tftp_wire.specs.declared.mode.Mode.{Mode}
-use Rattle.tftp_wire.specs.Parts.{packet_in}
-use Rattle.tftp_negotiate.specs.Agreed.{size}
-use Rattle.tftp_negotiate.specs.declared.asked.Asked.{Asked}
-use Rattle.tftp_negotiate.specs.declared.known.Kind.{Kind}
+use Rattle.tftp_player.proofs.Common.{◌≡◌, ℕ, true, false, List, [], ◌∷◌, length, Option, Some, refl, sym, ap, subst}
+use Rattle.tftp_player.proofs.Common.{◌∙◌, suc, arith, inl, inr, rules, slice_get, true≢false, Mode, packet_in, size}
+use Rattle.tftp_player.proofs.Common.{Asked, Kind, Known, Fits, wire_text, is_sender, is_client, Service, Sends, Takes}
+use Rattle.tftp_player.proofs.Common.{Config, request_port, OpenEnd, MayGet, MayPut, reading_client, writing_client}
+use Rattle.tftp_player.proofs.Common.{sending_end, receiving_end, IsRepeated, service, AllTaken, IsAccepted, read_adds}
+use Rattle.tftp_player.proofs.Common.{write_adds, WorldState, WorldEnd, StoredFile, datagram, end_address, end_file}
+use Rattle.tftp_player.proofs.Common.{end_record, end_stored, new_world, opened_in, sent_report, HasPeer, IsComplete}
+use Rattle.tftp_player.proofs.Common.{ServiceStep, At_request_port, WorldStep, Event, Get, Put, Deliver}
 use Rattle.tftp_negotiate.specs.declared.known.Kind.TheVariants.{Read, Write}
-use Rattle.tftp_negotiate.specs.declared.known.Known.{Known}
-use Rattle.tftp_file.specs.Block.{Fits}
-use Rattle.tftp_file.specs.Netascii.{wire_text}
-use Rattle.tftp_ends.specs.End.{is_sender, is_client}
-use Rattle.tftp_server.specs.Port.{Service, Sends, Takes}
-use Rattle.tftp_server.specs.declared.config.Config.{Config}
-use Rattle.tftp_rules.specs.Hosts.{request_port}
-use Rattle.tftp_rules.specs.OpenEnds.{OpenEnd}
 use Rattle.tftp_player.specs.Completing.{IsTransferred, Transfers}
-use Rattle.tftp_player.specs.Openings.{MayGet, MayPut, reading_client, writing_client, sending_end, receiving_end}
-use Rattle.tftp_player.specs.Requests.{IsRepeated, service}
-use Rattle.tftp_player.specs.Straight.{AllTaken, IsAccepted, RunsStraight, SomeReadIsStraight, SomeWriteIsStraight}
-use Rattle.tftp_player.specs.Straight.{TakesAnswer, read_adds, write_adds}
-use Rattle.tftp_player.specs.World.{WorldState, WorldEnd, StoredFile, datagram, end_address, end_file, end_record}
-use Rattle.tftp_player.specs.World.{end_stored, new_world, opened_in, sent_report}
-use Rattle.tftp_player.specs.WorldSafety.{HasPeer, IsComplete, IsReceiver}
-use Rattle.tftp_player.specs.WorldSteps.{ServiceStep, At_request_port, WorldStep}
-use Rattle.tftp_player.specs.declared.event.Event.{Event}
-use Rattle.tftp_player.specs.declared.event.Event.TheVariants.{Get, Put, Deliver}
-use Rattle.tftp_player.proofs.StepLemmas.{get_step, put_step}
+use Rattle.tftp_player.specs.Straight.{RunsStraight, SomeReadIsStraight, SomeWriteIsStraight, TakesAnswer}
+use Rattle.tftp_player.specs.WorldSafety.{IsReceiver}
 use Rattle.tftp_player.proofs.WorldRuns.{new_ok}
-use Rattle.tftp_player.proofs.SampleDeliveries.{IsSpelled, spells, reports, world_at, AllDelivered}
-use Rattle.tftp_player.proofs.SampleDeliveries.{settles, count_reports, deliveries, plays}
+use Rattle.tftp_player.proofs.SampleDeliveries.{IsSpelled, spells, reports, world_at, AllDelivered, settles}
+use Rattle.tftp_player.proofs.SampleDeliveries.{count_reports, deliveries, plays}
 
 -- ---- a transfer of one file, of this name and in a world in which nothing has happened
 -- the name of the file
@@ -119,14 +101,12 @@ pub record Runs (kind : Kind) (s : Sample) : Type 0 where
 -- the client opens by a step
 pub asks : (kind : Kind) (s : Sample) → MayOpen kind s →
     WorldStep (new_world_for kind s) (event_for kind s) (sent_report (new_world_for kind s)) (asked_world kind s)
-asks Read s may = get_step (new_world_for Read s) name s.mode s.asked (omega arith) may
-asks Write s may = put_step (new_world_for Write s) name s.mode s.asked s.file (omega arith) may
+asks kind s may = search rules
 
 begins : (kind : Kind) (s : Sample) →
     ServiceStep (service_for kind s) (asked_world kind s) (client_for kind s).address (request_for kind s)
     (sent_report (asked_world kind s)) (begun_world kind s)
-begins Read s = (s.file, refl, record { reports = refl; is = refl })
-begins Write s = record { reports = refl; is = refl }
+begins kind s = search rules
 
 -- its request goes to the request port
 pub is_to_port : (kind : Kind) (s : Sample) → (client_for kind s).state.position.last_sent_to ≡ request_port
@@ -228,22 +208,7 @@ HaveMoved file _ _ = ⊥
 
 transferred : (w : WorldState) (file : List ℕ) (i j : ℕ) (x y : Option WorldEnd) → slice_get w.ends i ≡ x →
     slice_get w.ends j ≡ y → HaveMoved file x y → IsTransferred w file
-transferred w file i j None y is_x is_y moved = absurd moved
-transferred w file i j (Some x) None is_x is_y moved = absurd moved
-transferred w file i j (Some x) (Some y) is_x is_y moved = record {
-  sender = x;
-  receiver = y;
-  sender_in = (i, is_x);
-  receiver_in = (j, is_y);
-  sends = moved.0;
-  receives = moved.1;
-  sender_peer = moved.2;
-  receiver_peer = moved.3;
-  sender_done = moved.4;
-  receiver_done = moved.5;
-  file = moved.6;
-  stored = moved.7;
-}
+transferred w file i j x y is_x is_y moved = search rules
 
 -- the indices of the sender and of the receiver
 abbrev pub sender_at : Kind → ℕ

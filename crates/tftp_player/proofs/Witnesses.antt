@@ -1,17 +1,15 @@
 -- Sample transfers that complete without loss: reads and writes, with and without options. For
 -- `a_straight_run_completes`, `some_worlds_transfer` and four other files.
-use Rattle.std.proofs.Common.{ℕ, List, [], ◌∷◌, refl, arith, rules}
+use Rattle.tftp_player.proofs.Common.{ℕ, List, [], ◌∷◌, refl, arith, rules, Octet, Blksize, Get, Put}
 use Rattle.std.specs.Fmt.{digits}
-use Rattle.tftp_wire.specs.declared.mode.Mode.TheVariants.{Octet, Netascii}
+use Rattle.tftp_wire.specs.declared.mode.Mode.TheVariants.{Netascii}
 use Rattle.tftp_negotiate.specs.Agreement.{taken_option}
 use Rattle.tftp_negotiate.specs.Answer.{answered_option}
 use Rattle.tftp_negotiate.specs.Negotiation.{occurrences_of}
 use Rattle.tftp_negotiate.specs.Options.{name_of, number_of}
 use Rattle.tftp_negotiate.specs.declared.known.Kind.TheVariants.{Read, Write}
-use Rattle.tftp_negotiate.specs.declared.known.Known.TheVariants.{Blksize}
 use Rattle.tftp_player.specs.Completing.{Transfers, nothing_asked, blocks_of_8, two_blocks, three_blocks}
 use Rattle.tftp_player.specs.Straight.{SomeReadIsStraight, SomeWriteIsStraight}
-use Rattle.tftp_player.specs.declared.event.Event.TheVariants.{Get, Put}
 use Rattle.tftp_player.proofs.Witness.{Sample, Runs, name, read_is_straight_by, transfers_by, write_is_straight_by}
 
 -- in octet a block stands for its own bytes
@@ -44,13 +42,7 @@ write = record { mode = Octet; asked = nothing_asked; agreed = []; file = 65 ∷
 -- the write of a byte, without options
 pub write_runs : Runs Write write
 unfolding occurrences_of
-write_runs = record {
-  may = record { valid = search rules; options = search rules; fits = omega arith };
-  spelled = search rules;
-  accepts = refl;
-  answered = tt;
-  all = search rules;
-}
+write_runs = search rules
 
 -- its file arrives
 pub write_transfers : Transfers (Put name Octet nothing_asked (65 ∷ [])) (65 ∷ [])

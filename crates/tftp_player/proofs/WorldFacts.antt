@@ -1,36 +1,24 @@
 -- What the run of rules behind a world says of its ends, and of two that are established.
 -- For the laws on recovery, and for those on blame.
-use Rattle.std.proofs.Common.{◌≡◌, ℕ, ◌+◌, ◌*◌, ◌<◌, ◌≤◌, Bool, true, false, not, List, ◌++◌, length, take, map}
-use Rattle.std.proofs.Common.{Some, None, refl, sym, ap, ◌∙◌, subst, arith, inl, inr}
-use Rattle.std.specs.Prelude.{◌≢◌, if◌then◌else◌, slice_get, option_map}
-use Rattle.std.specs.List.{Contains}
-use Rattle.std.proofs.lemmas.Bool.{true≢false}
-use Rattle.std.proofs.lemmas.Option.{same_Some}
-use Rattle.tftp_wire.specs.declared.packet.Packet.{Packet}
-use Rattle.tftp_wire.specs.Spelling.{Spells}
-use Rattle.tftp_wire.proofs.SpellingLemmas.{one_meaning}
-use Rattle.tftp_file.specs.Block.{block_count}
-use Rattle.tftp_file.specs.Netascii.{wire_text}
-use Rattle.tftp_ends.specs.declared.phase.Phase.{Phase}
-use Rattle.tftp_ends.specs.declared.phase.Terms.{Terms}
-use Rattle.tftp_ends.specs.End.{is_sender, is_complete, outcome_of, number_of, terms_of, size_of}
-use Rattle.tftp_rules.specs.EndKept.{IsUnderWay, PhaseKept}
-use Rattle.tftp_rules.specs.Facts.{Attests, HasReceived, Holds}
-use Rattle.tftp_rules.specs.Hosts.{host_of, two_hosts}
-use Rattle.tftp_rules.specs.Machine.{Endpoint, Elsewhere, Machine, Message, start}
-use Rattle.tftp_rules.specs.OpenEnds.{OpenEnd, goes_on, received_text}
-use Rattle.tftp_rules.specs.Rules.{message, run}
-use Rattle.tftp_rules.specs.Said.{said}
-use Rattle.tftp_rules.specs.Shows.{Matches, Shows}
+use Rattle.tftp_player.proofs.Common.{◌≡◌, ℕ, ◌+◌, ◌*◌, ◌<◌, ◌≤◌, Bool, true, false, not, List, ◌++◌, length, take, map}
+use Rattle.tftp_player.proofs.Common.{Some, None, refl, sym, ap, ◌∙◌, subst, arith, inl, inr, ◌≢◌, if◌then◌else◌}
+use Rattle.tftp_player.proofs.Common.{slice_get, option_map, Contains, true≢false, same_Some, Packet, Spells}
+use Rattle.tftp_player.proofs.Common.{one_meaning, block_count, wire_text, Phase, Terms, is_sender, is_complete}
+use Rattle.tftp_player.proofs.Common.{outcome_of, terms_of, size_of, IsUnderWay, PhaseKept, Attests, two_hosts}
+use Rattle.tftp_player.proofs.Common.{Endpoint, Elsewhere, Machine, Message, OpenEnd, goes_on, received_text, message}
+use Rattle.tftp_player.proofs.Common.{said, Matches, text_else, text_if, own_of, WorldState, WorldEnd, Open_end}
+use Rattle.tftp_player.proofs.Common.{datagram, view_of_end, end_address, Refines}
+use Rattle.tftp_ends.specs.End.{number_of}
+use Rattle.tftp_rules.specs.Facts.{HasReceived, Holds}
+use Rattle.tftp_rules.specs.Hosts.{host_of}
+use Rattle.tftp_rules.specs.Machine.{start}
+use Rattle.tftp_rules.specs.Rules.{run}
+use Rattle.tftp_rules.specs.Shows.{Shows}
 use Rattle.tftp_rules.proofs.Blocks.{count_is_past}
 use Rattle.tftp_rules.proofs.Grows.{HasPeer, peer_of as peer_is}
 use Rattle.tftp_rules.proofs.Runs.{Holds-start, Holds-run}
-use Rattle.tftp_rules.proofs.SinkMoves.{text_else}
-use Rattle.tftp_rules.proofs.SourceMoves.{text_if}
-use Rattle.tftp_rules.proofs.Steps.{own_of, same_size}
+use Rattle.tftp_rules.proofs.Steps.{same_size}
 use Rattle.tftp_player.specs.Recovering.{IsEstablished}
-use Rattle.tftp_player.specs.World.{WorldState, WorldEnd, Open_end, datagram, view_of_end, end_address}
-use Rattle.tftp_player.specs.WorldKept.{Refines}
 use Rattle.tftp_rules.proofs.NextBlocks.{less}
 use Rattle.tftp_rules.proofs.NumbersNear.{AreNear, near_run, near_start}
 use Rattle.tftp_player.proofs.WorldTurns.{view_at}

@@ -1,62 +1,44 @@
 -- Clients that open, and the request port, keep a world. For five other files.
-use Rattle.std.proofs.Common.{◌≡◌, ℕ, ◌+◌, ◌*◌, ◌<◌, ◌≤◌, Bool, true, false, List, [], ◌∷◌, ◌++◌, length, map}
-use Rattle.std.proofs.Common.{Option, Some, None, Result, Ok, Err, sym, refl, ap, ◌∙◌, subst, inl, inr, arith}
-use Rattle.std.specs.Prelude.{◌≢◌, if◌then◌else◌, nat_lt, nat_le}
-use Rattle.std.specs.List.{Contains, AllByRecursion}
-use Rattle.std.proofs.lemmas.Option.{same_Some, slice_get_within}
-use Rattle.std.proofs.lemmas.Bool.{true≢false, ltb-true}
-use Rattle.tftp_wire.specs.declared.limits.TheConstants.{MAX_BLOCK}
-use Rattle.tftp_wire.specs.declared.mode.Mode.{Mode}
+use Rattle.tftp_player.proofs.Common.{◌≡◌, ℕ, ◌+◌, ◌*◌, ◌<◌, ◌≤◌, Bool, true, false, List, [], ◌∷◌, ◌++◌, length, map}
+use Rattle.tftp_player.proofs.Common.{Option, Some, None, Result, Ok, Err, sym, refl, ◌∙◌, subst, arith, rules, ◌≢◌}
+use Rattle.tftp_player.proofs.Common.{if◌then◌else◌, nat_lt, Contains, same_Some, slice_get_within, true≢false}
+use Rattle.tftp_player.proofs.Common.{ltb-true, MAX_BLOCK, Mode, Read, Write, Data, Ack, Error, Oack, Spells, canonical}
+use Rattle.tftp_player.proofs.Common.{RawOption, Asked, Kind, Known, Refusal, size, answer, IsBlockSize, Fits}
+use Rattle.tftp_player.proofs.Common.{wire_text, ErrorReply, error_bytes, measured, server_ip, client_ip, request_port}
+use Rattle.tftp_player.proofs.Common.{two_hosts, Endpoint, Elsewhere, Message, OpenEnd, Rule, message, said}
+use Rattle.tftp_player.proofs.Common.{answer_granted, spells_own, host_server, EndView, IsShownWithin, WorldState}
+use Rattle.tftp_player.proofs.Common.{WorldEnd, Open_end, file_at, datagram, said_in, view_of_end, reading_client}
+use Rattle.tftp_player.proofs.Common.{writing_client, MayGet, MayPut, sending_end, receiving_end, Ask, Service, Refused}
+use Rattle.tftp_player.proofs.Common.{Sends, by_file, IsRepeated, open_transfers, opened_of, served, service, Stays}
+use Rattle.tftp_player.proofs.Common.{ServiceStep, OpeningStep, RefinesAt, RefinesWithin, Report}
+use Rattle.std.proofs.Common.{nat_le}
+use Rattle.std.specs.List.{AllByRecursion}
 use Rattle.tftp_wire.specs.declared.packet.Packet.{Packet as WirePacket}
-use Rattle.tftp_wire.specs.declared.packet.Packet.TheVariants.{Read, Write, Data, Ack, Error, Oack}
 use Rattle.tftp_wire.specs.declared.packet.Request.{Request}
-use Rattle.tftp_wire.specs.Spelling.{IsValid, Spells, canonical}
-use Rattle.tftp_wire.specs.declared.options.RawOption.{RawOption}
-use Rattle.tftp_negotiate.specs.declared.asked.Asked.{Asked}
-use Rattle.tftp_negotiate.specs.declared.known.Kind.{Kind}
+use Rattle.tftp_wire.specs.Spelling.{IsValid}
 use Rattle.tftp_negotiate.specs.declared.known.Kind.TheVariants as kinds
-use Rattle.tftp_negotiate.specs.declared.known.Known.{Known}
 use Rattle.tftp_negotiate.specs.declared.limits.Limits.{Limits}
-use Rattle.tftp_negotiate.specs.declared.refusal.Refusal.{Refusal}
-use Rattle.tftp_negotiate.specs.Agreed.{size, IsAgreeable}
-use Rattle.tftp_negotiate.specs.Answer.{answer}
-use Rattle.tftp_negotiate.specs.Ranges.{IsBlockSize}
+use Rattle.tftp_negotiate.specs.Agreed.{IsAgreeable}
 use Rattle.tftp_negotiate.proofs.LawsLemmas.{answers_may_be_agreed}
 use Rattle.tftp_file.specs.declared.path.PathFault.{PathFault}
-use Rattle.tftp_file.specs.Block.{Fits}
-use Rattle.tftp_file.specs.Netascii.{wire_text}
 use Rattle.tftp_file.specs.Path.{path_of_name}
-use Rattle.tftp_ends.specs.declared.error_reply.ErrorReply.{ErrorReply}
 use Rattle.tftp_ends.specs.declared.error_reply.ErrorReply.TheVariants.{FileTooLarge, ServerBusy, FileNotFound}
 use Rattle.tftp_ends.specs.declared.error_reply.ErrorReply.TheVariants.{AccessViolation, IllegalOperation, FileExists}
 use Rattle.tftp_ends.specs.ErrorReply.{error_packet}
-use Rattle.tftp_wire.specs.Reading.{has_error_opcode}
-use Rattle.tftp_ends.specs.Step.{error_bytes}
-use Rattle.tftp_store.specs.Store.{measured}
-use Rattle.tftp_rules.specs.Hosts.{host_of, server_ip, client_ip, request_port, two_hosts}
-use Rattle.tftp_rules.specs.Machine.{Endpoint, Elsewhere, Message, Request as Says_request}
-use Rattle.tftp_rules.specs.OpenEnds.{OpenEnd}
-use Rattle.tftp_rules.specs.Rules.{Rule, message}
-use Rattle.tftp_rules.specs.Said.{said}
+use Rattle.tftp_rules.specs.Hosts.{host_of}
 use Rattle.tftp_rules.specs.EndOpens.{AreGranted, IsNewly}
 use Rattle.tftp_rules.proofs.Actions.{asks, says_error}
 use Rattle.tftp_rules.proofs.EndOpenings.{no_text, nothing_held, opens_to_send, opens_to_store}
-use Rattle.tftp_rules.proofs.Granted.{answer_granted, answer_small}
+use Rattle.tftp_rules.proofs.Granted.{answer_small}
 use Rattle.tftp_rules.proofs.EndMoves.{valid_error}
-use Rattle.tftp_rules.proofs.SaidLemmas.{spells_own}
-use Rattle.tftp_rules.proofs.HostLemmas.{host_server, host_client}
-use Rattle.tftp_rules.specs.Shows.{NoneAt, requested, EndView, IsShownAt, IsShownWithin}
-use Rattle.tftp_player.specs.World.{WorldState, WorldEnd, Open_end, file_at, in_the_way, datagram, said_in, view_of_end}
-use Rattle.tftp_player.specs.Openings.{request_of, reading_client, writing_client, MayGet, MayPut, sending_end}
-use Rattle.tftp_player.specs.Openings.{receiving_end}
-use Rattle.tftp_server.specs.Port.{Ask, Ignores, Refuses, Reads, Service, Refused, Sends, accept_reply, by_draft}
-use Rattle.tftp_server.specs.Port.{by_file, by_length, by_name, by_options, by_packet, by_repeat}
-use Rattle.tftp_player.specs.Requests.{IsRepeated, open_transfers, opened_of, begun_of, served, service}
-use Rattle.tftp_player.specs.WorldSteps.{Stays, ServiceStep, OpeningStep}
-use Rattle.tftp_player.specs.WorldKept.{RefinesBy, RefinesAt, RefinesWithin, WasAsked}
-use Rattle.tftp_player.specs.WorldSafety.{HasRequested}
-use Rattle.tftp_player.specs.declared.report.Report.{Report}
-use Rattle.tftp_rules.proofs.Refines.{shown_still, shown_within}
+use Rattle.tftp_rules.proofs.HostLemmas.{host_client}
+use Rattle.tftp_rules.specs.Shows.{NoneAt, requested, IsShownAt}
+use Rattle.tftp_player.specs.Openings.{request_of}
+use Rattle.tftp_server.specs.Port.{Refuses, Reads, accept_reply, by_draft, by_length, by_name, by_options, by_packet}
+use Rattle.tftp_server.specs.Port.{by_repeat}
+use Rattle.tftp_player.specs.Requests.{begun_of}
+use Rattle.tftp_player.specs.WorldKept.{RefinesBy, WasAsked}
+use Rattle.tftp_rules.proofs.PhaseMoves.{if_acts}
 use Rattle.tftp_player.proofs.UnansweredLemmas.{none_answers}
 use Rattle.tftp_player.proofs.Measured.{measured_fits}
 use Rattle.tftp_player.proofs.WorldTurns.{viewed_at, opening_keeps, opens_elsewhere, saying_keeps}
@@ -70,18 +52,12 @@ at_client a e f = let h = sym (host_client a e) ∙ f in cc
 -- no end has the next port
 none_at_next : (first : List Rule) (strangers : Bool) (w : WorldState) → RefinesAt first strangers w → (a : Endpoint) →
     a.port ≡ 1024 + length w.ends → NoneAt (map view_of_end w.ends) a
-none_at_next first strangers w ok a port k e i same =
-    let h = viewed_at w.ends k e i in
-    let own : e.address.port ≡ 1024 + k = ap (λ (v : EndView). v.address.port) (sym h.2) ∙ ok.ports k h.0 h.1 in
-    let there : e.address.port ≡ a.port = ap (λ (q : Endpoint). q.port) same in
-    let within = slice_get_within w.ends k h.0 h.1 in
-    omega (arith, own, there, port, within)
+none_at_next first strangers w ok a port k e i same = search (rules, viewed_at, slice_get_within)
 
 -- no rule is a few
 pub none_more : (first : List Rule) (views : List EndView) (messages : List Message) →
     IsShownAt two_hosts first views messages → IsShownWithin two_hosts 3 first views messages
-none_more first views messages shown =
-    shown_within two_hosts 0 3 first views messages (omega arith) (shown_still two_hosts first views messages shown)
+none_more first views messages shown = search rules
 
 -- a world is kept by how it is shown
 unfoldable pub shown_as :
@@ -153,46 +129,11 @@ pub answered_values :
     (kind : Kind) (mode : Mode) (file_length : ℕ) (limits : Limits) (options : List RawOption) (known : List Known) →
     IsBlockSize limits.max_block →
     answer options kind mode file_length limits ≡ Ok known → AllByRecursion IsAgreeable known
-answered_values kind mode file_length limits options known ok e =
-    (answers_may_be_agreed options kind mode file_length limits known ok e).values
+answered_values kind mode file_length limits options known ok e = search (rules, answers_may_be_agreed)
 
 -- what an end has sent is a packet, if it is the packet's own bytes
 spells_at : (bytes : List ℕ) (p : WirePacket) → IsValid p → bytes ≡ canonical p → Spells p bytes
 spells_at bytes p valid is = subst (λ (b : List ℕ). Spells p b) (sym is) (spells_own p valid)
-
--- what the request port has received from one of the two hosts was sent
-request_of_said : (p : WirePacket) (write : Bool) (request : Request) → said p ≡ Says_request write request →
-    p ≡ requested write request
-request_of_said (Read r) true request e = cc
-request_of_said (Read r) false request e = cc
-request_of_said (Write r) true request e = cc
-request_of_said (Write r) false request e = cc
-request_of_said (Data number bytes) write request e = cc
-request_of_said (Ack number) write request e = cc
-request_of_said (Error code text) write request e = cc
-request_of_said (Oack options) write request e = cc
-
-was_sent :
-    (first : List Rule) (strangers : Bool) (w : WorldState) (ok : RefinesAt first strangers w) (from : Endpoint)
-    (write : Bool) (request : Request) →
-    Contains ok.messages (message from request_port (Says_request write request)) → host_of from ≢ Elsewhere →
-    HasRequested w from write request
-was_sent first strangers w ok from write request i near =
-    elim (ok.only (message from request_port (Says_request write request)) i) [
-      | inl h ↦
-          let d = h.0 in
-          let says = h.2.says in
-          let here : d.from ≡ from = ap (λ (m : Message). m.from) (sym says) in
-          let there : d.to ≡ request_port = ap (λ (m : Message). m.to) (sym says) in
-          let packet : h.2.packet ≡ requested write request =
-          request_of_said h.2.packet write request (ap (λ (m : Message). m.packet) (sym says)) in (
-            d.bytes,
-            subst (λ (a : Endpoint). Contains w.sent (datagram a request_port d.bytes)) here
-                (subst (λ (a : Endpoint). Contains w.sent (datagram d.from a d.bytes)) there h.1),
-            subst (λ (p : WirePacket). Spells p d.bytes) packet h.2.spells,
-          )
-      | inr far ↦ absurd (near far)
-    ]
 
 -- an end that opens for a request was asked by it
 asked_from :
@@ -200,13 +141,7 @@ asked_from :
     (bytes : List ℕ) (write : Bool) (request : Request) (x : OpenEnd) → x.request ≡ bytes → (path : List ℕ) →
     IsNewly two_hosts (map view_of_end w.ends) ok.messages from bytes write request → x.path ≡ path →
     path_of_name request.name ≡ Ok path → host_of from ≢ Elsewhere → WasAsked w from (Open_end x)
-asked_from first strangers w ok from bytes write request x same path come here named near = record {
-  write = write;
-  request = request;
-  sent = was_sent first strangers w ok from write request come.sent near;
-  opened = λ still. subst (λ (b : List ℕ). Spells (requested write request) b) (sym same) come.spells;
-  path = named ∙ ap (λ (q : List ℕ). Ok q) (sym here);
-}
+asked_from first strangers w ok from bytes write request x same path come here named near = search rules
 
 -- a read is served
 sending_keeps :
@@ -285,12 +220,6 @@ refusing_keeps first strangers w v from reply ok e =
     (says_error two_hosts first (map view_of_end w.ends) ok.messages ok.shown request_port from)
     (at_server request_port refl))
 
--- either way of a test
-if_served : {A : Type 0} (P : A → Type 0) (b : Bool) (r s : A) → (b ≡ true → P r) → (b ≡ false → P s) →
-    P (if b then r else s)
-if_served P true r s f g = f refl
-if_served P false r s f g = g refl
-
 -- a request in this mode, whose name means this path or none, was
 abbrev pub AsksOnce : List Message → List WorldEnd → Endpoint → List ℕ → Bool → Mode → Result (List ℕ) PathFault
     → Type 0
@@ -348,7 +277,7 @@ module _ (first : List Rule) (strangers : Bool) (w v : WorldState) (from : Endpo
   sending_served path file mode options (Err refusal) come there e = refused (accept_reply refusal)
   sending_served path file mode options (Ok agreed) come there e =
       let m = measured mode file in
-      if_served Kept_by (nat_lt m (65535 * size agreed)) (Sends path mode m agreed) (Refused FileTooLarge)
+      if_acts Kept_by (nat_lt m (65535 * size agreed)) (Sends path mode m agreed) (Refused FileTooLarge)
       (λ f o.
       let few : m < 65535 * size agreed = ltb-true m (65535 * size agreed) f in
       let b : size agreed ≤ MAX_BLOCK = answer_small options kinds.Read mode m w.limits agreed ok.max_block e in
@@ -393,9 +322,7 @@ module _ (first : List Rule) (strangers : Bool) (w v : WorldState) (from : Endpo
   writing_served : (path : List ℕ) (mode : Mode) (options : List RawOption) (a : Result (List Known) Refusal) →
       AsksOnce ok.messages w.ends from bytes true mode (Ok path) →
       answer options kinds.Write mode 0 w.limits ≡ a → Kept_asking (by_options path mode a)
-  writing_served path mode options (Err refusal) come e = refused (accept_reply refusal)
-  writing_served path mode options (Ok agreed) come e =
-      taking_served path mode options (in_the_way w.overwrite (file_at w.files path)) agreed come e
+  writing_served path mode options a come e = search (rules, refused, taking_served)
 
   named_served : (write : Bool) (mode : Mode) (next : List ℕ → Ask) → ((path : List ℕ) →
       AsksOnce ok.messages w.ends from bytes write mode (Ok path) → Kept_asking (next path)) →
@@ -403,13 +330,12 @@ module _ (first : List Rule) (strangers : Bool) (w v : WorldState) (from : Endpo
       Kept_asking (by_name w.cap (open_transfers w.ends) next path)
   named_served write mode next each (Err fault) come = refused AccessViolation
   named_served write mode next each (Ok path) come =
-      if_served Kept_asking (nat_le w.cap (open_transfers w.ends)) (Refuses ServerBusy) (next path)
+      if_acts Kept_asking (nat_le w.cap (open_transfers w.ends)) (Refuses ServerBusy) (next path)
       (λ b. refused ServerBusy) (λ b. each path come)
 
   unless_repeated : (repeated : Bool) (ask : Ask) → (repeated ≡ false → Kept_asking ask) →
       Kept_asking (by_repeat repeated ask)
-  unless_repeated repeated ask kept =
-      if_served Kept_asking repeated Ignores ask (λ b h. stays_ok first strangers w v report ok h) kept
+  unless_repeated repeated ask kept = search (rules, if_acts, stays_ok)
 
   by_request : (repeated : Bool) (decoded : Option WirePacket) → AsksSo ok.messages w.ends from bytes repeated decoded →
       Kept_asking (by_packet w.cap (open_transfers w.ends) repeated w.limits decoded)
@@ -437,8 +363,4 @@ module _ (first : List Rule) (strangers : Bool) (w v : WorldState) (from : Endpo
   -- the request port keeps the world
   pub serving_keeps : (repeated : Bool) (decoded : Option WirePacket) →
       AsksSo ok.messages w.ends from bytes repeated decoded → Kept_by (service w repeated bytes decoded)
-  serving_keeps repeated decoded come =
-      if_served Kept_asking (has_error_opcode bytes) Ignores
-      (by_packet w.cap (open_transfers w.ends) repeated w.limits decoded)
-      (λ b h. stays_ok first strangers w v report ok h)
-      (λ b. by_request repeated decoded come)
+  serving_keeps repeated decoded come = search (rules, if_acts, stays_ok, by_request)

@@ -1,45 +1,31 @@
 -- Each event keeps a world, and so does every run. For `World::new`, `a_step_keeps_a_world` and 24 other files.
-use Rattle.std.proofs.Common.{◌≡◌, ℕ, Bool, true, false, List, [], ◌∷◌, ◌++◌, map, set, Option, Some, None, sym, refl}
-use Rattle.std.proofs.Common.{ap, ◌∙◌, subst, inl, inr, zero, suc, length, length-append, append_assoc, arith}
-use Rattle.std.specs.Prelude.{◌≤◌, if◌then◌else◌, is_some, slice_get}
-use Rattle.std.specs.List.{Contains}
-use Rattle.std.proofs.lemmas.Bool.{true≢false}
-use Rattle.std.proofs.lemmas.List.{map-set, append-nil}
-use Rattle.std.proofs.lemmas.List.Elements.{Contains-append_cases, Contains-append_left, Contains-append_right}
-use Rattle.std.proofs.lemmas.List.Elements.{Contains-push}
-use Rattle.std.proofs.lemmas.Option.{same_Some}
+use Rattle.tftp_player.proofs.Common.{common_steps, ◌≡◌, ℕ, Bool, true, false, List, [], ◌∷◌, ◌++◌, map, set, Option}
+use Rattle.tftp_player.proofs.Common.{Some, None, sym, refl, ap, ◌∙◌, subst, inl, inr, zero, suc, length, arith, rules}
+use Rattle.tftp_player.proofs.Common.{◌≤◌, if◌then◌else◌, is_some, slice_get, Contains, true≢false, append-nil}
+use Rattle.tftp_player.proofs.Common.{Contains-append_cases, Contains-append_left, same_Some, Spells, one_meaning}
+use Rattle.tftp_player.proofs.Common.{Config, IsBlockSize, is_sender, is_client, Decodes, timeout_turn, two_hosts}
+use Rattle.tftp_player.proofs.Common.{Endpoint, Elsewhere, Message, Rule, message, said, OpenEnd, files_of, EndView}
+use Rattle.tftp_player.proofs.Common.{IsShownWithin, WorldState, WorldEnd, Open_end, Closed_end, StoredFile, file_at}
+use Rattle.tftp_player.proofs.Common.{in_the_way, datagram, new_world, view_of_end, may_refuse_commit, OnDatagram}
+use Rattle.tftp_player.proofs.Common.{Delivery, At_request_port, At_open_end, At_closed_end, At_nobody, TimeoutStep}
+use Rattle.tftp_player.proofs.Common.{armed_end, WorldStep, HasAsker, IsKeptIn, RefinesAt, RefinesWithin, Refines}
+use Rattle.tftp_player.proofs.Common.{PlaysAll, MayHappen, Datagram, Event, Get, Put, Deliver, Timeout, RefuseStore}
+use Rattle.tftp_player.proofs.Common.{Stray, Report, slice_get-set_cases}
+use Rattle.std.proofs.lemmas.List.{map-set}
+use Rattle.std.proofs.lemmas.List.Elements.{Contains-append_right, Contains-push}
 use Rattle.tftp_wire.specs.declared.packet.Packet.{Packet as WirePacket}
-use Rattle.tftp_wire.specs.Spelling.{Spells}
-use Rattle.tftp_wire.proofs.SpellingLemmas.{one_meaning, spelled_has_no_fault}
-use Rattle.tftp_server.specs.declared.config.Config.{Config}
-use Rattle.tftp_negotiate.specs.Ranges.{IsBlockSize}
-use Rattle.tftp_ends.specs.End.{is_sender, is_client}
-use Rattle.tftp_ends.specs.Action.{Decodes}
-use Rattle.tftp_ends.specs.Step.{timeout_turn}
-use Rattle.tftp_rules.specs.Hosts.{host_of, two_hosts}
-use Rattle.tftp_rules.specs.Machine.{Endpoint, Elsewhere, Message}
-use Rattle.tftp_rules.specs.Rules.{Rule, message}
-use Rattle.tftp_rules.specs.Said.{said}
-use Rattle.tftp_rules.specs.OpenEnds.{OpenEnd, files_of, open_view}
+use Rattle.tftp_wire.proofs.SpellingLemmas.{spelled_has_no_fault}
+use Rattle.tftp_rules.specs.Hosts.{host_of}
+use Rattle.tftp_rules.specs.OpenEnds.{open_view}
 use Rattle.tftp_rules.specs.EndShown.{Stands, IsOpenAt, IsThere}
 use Rattle.tftp_rules.proofs.Actions.{strays}
 use Rattle.tftp_rules.proofs.SaidLemmas.{says_spelled}
 use Rattle.tftp_rules.proofs.EndTurns.{datagram_goes, timeout_goes}
-use Rattle.tftp_rules.specs.Shows.{EndView, IsShownAt, IsShownWithin, IsShown}
-use Rattle.tftp_player.specs.World.{WorldState, WorldEnd, Open_end, Closed_end, StoredFile, file_at, in_the_way}
-use Rattle.tftp_player.specs.World.{datagram, new_world, view_of_end}
-use Rattle.tftp_player.specs.WorldSteps.{may_refuse_commit, OnDatagram, Delivery, At_request_port, At_open_end}
-use Rattle.tftp_player.specs.WorldSteps.{At_closed_end, At_nobody, TimeoutStep, armed_end, WorldStep}
-use Rattle.tftp_player.specs.WorldKept.{HasAsker, IsKeptIn, RefinesAt, RefinesWithin, Refines}
-use Rattle.tftp_player.specs.WorldRuns.{PlaysAll, MayHappen, MayAllHappen, StepsKeep, StepsAreRules, most_rules}
+use Rattle.tftp_rules.specs.Shows.{IsShownAt, IsShown}
+use Rattle.tftp_player.specs.WorldRuns.{MayAllHappen, StepsKeep, StepsAreRules, most_rules}
 use Rattle.tftp_player.specs.WorldSafety.{HasPeersAtHome}
-use Rattle.tftp_player.specs.declared.datagram.Datagram.{Datagram}
-use Rattle.tftp_player.specs.declared.event.Event.{Event}
-use Rattle.tftp_player.specs.declared.event.Event.TheVariants.{Get, Put, Deliver, Timeout, RefuseStore, Stray}
-use Rattle.tftp_player.specs.declared.report.Report.{Report}
-use Rattle.tftp_rules.proofs.Indices.{slice_get-set_cases}
 use Rattle.tftp_player.proofs.Standing.{open_is}
-use Rattle.tftp_rules.proofs.Refines.{shown_start, shown_within}
+use Rattle.tftp_rules.proofs.Refines.{shown_start}
 use Rattle.tftp_rules.proofs.ViewSafe.{shown_at_home}
 use Rattle.tftp_rules.proofs.EndMoves.{end_armed as kept_armed}
 use Rattle.tftp_player.proofs.KnownSteps.{from_server, known_step}
@@ -155,13 +141,7 @@ armed_view (Closed_end x) = refl
 
 armed_asked : (w : WorldState) (x : OpenEnd) → HasAsker w (Open_end x) →
     HasAsker w (Open_end (record x { refuses = true }))
-armed_asked w x h = (
-  h.0,
-  h.1,
-  λ near.
-      let q = h.2 near in
-      record { write = q.write; request = q.request; sent = q.sent; opened = q.opened; path = q.path },
-)
+armed_asked w x h = search rules
 
 armed_kept : (w : WorldState) (b : Bool) (x : OpenEnd) → IsKeptIn w (Open_end x) →
     IsKeptIn w (Open_end (if b then x else record x { refuses = true }))
@@ -182,35 +162,9 @@ end_armed : (w : WorldState) (x : WorldEnd) → IsKeptIn w x → IsKeptIn w (arm
 end_armed w (Open_end x) h = armed_kept w (is_sender x.state.role.side) x h
 end_armed w (Closed_end x) h = h
 
--- what holds of one end does not depend on the others
-same_asked : (w : WorldState) (ends : List WorldEnd) (x : WorldEnd) → HasAsker w x →
-    HasAsker (record w { ends = ends }) x
-same_asked w ends x h = (
-  h.0,
-  h.1,
-  λ near.
-      let q = h.2 near in
-      record { write = q.write; request = q.request; sent = q.sent; opened = q.opened; path = q.path },
-)
-
 same_kept : (w : WorldState) (ends : List WorldEnd) (x : WorldEnd) → IsKeptIn w x →
     IsKeptIn (record w { ends = ends }) x
-same_kept w ends (Open_end x) h =
-    record {
-      stands = record { still = h.stands.still; kept = h.stands.kept; last_sent = h.stands.last_sent };
-      asked = λ server. same_asked w ends (Open_end x) (h.asked server);
-      sends = h.sends;
-      stored = h.stored;
-      text = h.text;
-    }
-same_kept w ends (Closed_end x) h =
-    record {
-      stands = h.stands;
-      asked = λ server. same_asked w ends (Closed_end x) (h.asked server);
-      sends = h.sends;
-      stored = h.stored;
-      text = h.text;
-    }
+same_kept w ends x h = search rules
 
 -- an end that is set to refuse keeps the world
 armed_keeps :
@@ -291,23 +245,12 @@ with_decoded first w ok from to bytes None far says = record {
 -- one rule, and a few
 within_four : (first more : List Rule) (strangers : Bool) (v : WorldState) → length more ≤ 1 →
     RefinesWithin 3 (first ++ more) strangers v → RefinesWithin 4 first strangers v
-within_four first more strangers v few ok =
-    let s = ok.shown in
-    let l : length (more ++ s.0) ≤ 4 = (let a = length-append more s.0 in let b = s.1 in omega (arith, a, b, few)) in
-    shown_as (IsShownWithin two_hosts 3 (first ++ more)) (IsShownWithin two_hosts 4 first) strangers v ok (
-      more
-          ++ s.0,
-      l,
-      subst (λ (rs : List Rule). IsShownAt two_hosts rs (map view_of_end v.ends) ok.messages)
-          (append_assoc first more s.0) s.2,
-    )
+within_four first more strangers v few ok = grind (arith, common_steps)
 
 -- no more than three are no more than four
 three_or_four : (first : List Rule) (strangers : Bool) (v : WorldState) → RefinesWithin 3 first strangers v →
     RefinesWithin 4 first strangers v
-three_or_four first strangers v ok =
-    shown_as (IsShownWithin two_hosts 3 first) (IsShownWithin two_hosts 4 first) strangers v ok
-    (shown_within two_hosts 3 4 first (map view_of_end v.ends) ok.messages (omega arith) ok.shown)
+three_or_four first strangers v ok = search rules
 
 -- its arrival keeps a world
 pub stray_keeps :
@@ -348,9 +291,7 @@ step_after first false w v (Stray from to bytes) report may ok s = absurd may
 
 -- every step of a world is one of at most so many rules
 pub steps_are_rules : StepsAreRules
-steps_are_rules strangers w v event report may ok s =
-    step_after ok.shown.0 strangers w v event report may
-    (shown_as (IsShown two_hosts) (IsShownAt two_hosts ok.shown.0) strangers w ok ok.shown.1) s
+steps_are_rules strangers w v event report may ok s = search (rules, step_after, shown_as)
 
 -- every step keeps a world
 pub step_keeps : StepsKeep
@@ -371,16 +312,7 @@ run_keeps strangers (event ∷ events) w v may ok r =
 -- a world begins
 pub new_ok : (strangers : Bool) (files : List StoredFile) (config : Config) → IsBlockSize config.limits.max_block →
     Refines strangers (new_world files config)
-new_ok strangers files config ok = record {
-  messages = [];
-  shown = shown_start two_hosts;
-  sent = λ d i. absurd (nothing_in d i);
-  only = λ m i. absurd (nothing_in m i);
-  speakers = λ m i. absurd (nothing_in m i);
-  ports = λ k x i. absurd (let f : None ≡ Some x = i in cc);
-  max_block = ok;
-  ends = λ k x i. absurd (let f : None ≡ Some x = i in cc);
-}
+new_ok strangers files config ok = search (rules, shown_start, nothing_in)
 
 -- with strangers any events may happen
 pub any_may : (events : List Event) → MayAllHappen true events

@@ -1,43 +1,28 @@
 -- A world that is kept is safe. For six functions, AnsweringEnds and ErrorsKnown.
-use Rattle.std.proofs.Common.{◌≡◌, ℕ, Bool, true, false, List, [], ◌++◌, map, Some, sym, refl, ap, ◌∙◌, subst, arith}
-use Rattle.std.specs.Prelude.{◌≢◌, if◌then◌else◌, slice_get}
-use Rattle.std.specs.Cmp.Lexicographic.{same_text}
-use Rattle.std.specs.List.{Contains}
-use Rattle.std.proofs.lemmas.Bool.{true≢false}
-use Rattle.std.proofs.lemmas.List.{append-nil}
-use Rattle.std.proofs.lemmas.Option.{same_Some}
-use Rattle.tftp_wire.specs.declared.mode.Mode.{Mode}
-use Rattle.tftp_wire.specs.declared.mode.Mode.TheVariants.{Octet, Netascii}
+use Rattle.tftp_player.proofs.Common.{◌≡◌, ℕ, Bool, true, false, List, [], ◌++◌, map, Some, sym, refl, ap, ◌∙◌, subst}
+use Rattle.tftp_player.proofs.Common.{arith, rules, ◌≢◌, if◌then◌else◌, slice_get, Contains, true≢false, append-nil}
+use Rattle.tftp_player.proofs.Common.{same_Some, Mode, Octet, one_meaning, wire_text, is_sender, is_client, Attests}
+use Rattle.tftp_player.proofs.Common.{server_ip, client_ip, request_port, two_hosts, Endpoint, At_server, Elsewhere}
+use Rattle.tftp_player.proofs.Common.{Machine, Message, message, said, EndView, Matches, goes_on, WorldState, WorldEnd}
+use Rattle.tftp_player.proofs.Common.{Open_end, Closed_end, end_record, end_address, datagram, end_file, end_stored}
+use Rattle.tftp_player.proofs.Common.{new_world, view_of_end, HasPeer, IsSafe, IsKeptIn, Refines, shown_by}
+use Rattle.tftp_wire.specs.declared.mode.Mode.TheVariants.{Netascii}
 use Rattle.tftp_wire.specs.declared.packet.Request.{Request as WireRequest}
-use Rattle.tftp_wire.proofs.SpellingLemmas.{one_meaning}
 use Rattle.tftp_file.specs.Block.{IsPrefixOf}
-use Rattle.tftp_file.specs.Netascii.{wire_text}
-use Rattle.tftp_ends.specs.declared.phase.Phase.{Phase}
-use Rattle.tftp_ends.specs.declared.phase.Phase.TheVariants.{Waiting, Sending, Receiving, Dallying, Closed}
-use Rattle.tftp_ends.specs.End.{is_sender, is_client, is_complete}
-use Rattle.tftp_rules.specs.Facts.{Attests, home, IsServing, IsSoundParty}
-use Rattle.tftp_rules.specs.Hosts.{host_of, server_ip, client_ip, request_port, two_hosts}
-use Rattle.tftp_rules.specs.Machine.{Endpoint, At_server, At_client, Elsewhere, Machine, Message, Packet, Request}
-use Rattle.tftp_rules.specs.Machine.{is_same_ip}
-use Rattle.tftp_rules.specs.Rules.{message}
-use Rattle.tftp_rules.specs.Said.{said}
-use Rattle.tftp_rules.specs.Shows.{EndView, Matches, requested}
+use Rattle.tftp_rules.specs.Facts.{home, IsServing, IsSoundParty}
+use Rattle.tftp_rules.specs.Hosts.{host_of}
+use Rattle.tftp_rules.specs.Machine.{At_client, Packet, Request, is_same_ip}
+use Rattle.tftp_rules.specs.Shows.{requested}
 use Rattle.tftp_rules.specs.Safety.{AreSafe, IsSenderAt}
 use Rattle.tftp_rules.specs.ViewSafety.{IsAmong, IsSafeViews, safety_view}
-use Rattle.tftp_rules.specs.OpenEnds.{goes_on, received_text}
-use Rattle.tftp_rules.proofs.SinkMoves.{text_else}
-use Rattle.tftp_rules.proofs.SourceMoves.{text_if}
-use Rattle.tftp_player.specs.World.{WorldState, WorldEnd, Open_end, Closed_end, end_record, end_address, end_mode}
-use Rattle.tftp_player.specs.World.{datagram, end_file, end_stored, end_committed, end_text, end_wire, new_world}
-use Rattle.tftp_player.specs.World.{view_of_end}
-use Rattle.tftp_player.specs.WorldSafety.{HasPeer, HasRequested, IsIn, IsSafe, AnswersClient, endpoint_of_end, safety_of}
-use Rattle.tftp_player.specs.WorldKept.{IsKeptIn, Refines, WasAsked}
+use Rattle.tftp_player.specs.World.{end_mode, end_committed, end_text, end_wire}
+use Rattle.tftp_player.specs.WorldSafety.{HasRequested, IsIn, AnswersClient, endpoint_of_end, safety_of}
+use Rattle.tftp_player.specs.WorldKept.{WasAsked}
 use Rattle.tftp_player.specs.WorldRuns.{WorldsAreSafe, PeersStayHome, KeptIsSafe}
 use Rattle.tftp_rules.proofs.HostBytes.{wire_prefix, wire_same}
 use Rattle.tftp_rules.proofs.Endpoints.{endpoint_from}
 use Rattle.tftp_rules.proofs.ViewSafe.{IsPrefixOf-trans, first_of_empty, shown_safe}
 use Rattle.tftp_player.proofs.WorldTurns.{home_not_elsewhere, view_at, viewed_at}
-use Rattle.tftp_rules.proofs.Refines.{shown_by}
 use Rattle.tftp_player.proofs.WorldRuns.{run_keeps, new_ok, any_may, ok_at_home}
 
 end_of : (w : WorldState) (e : EndView) → IsAmong (map view_of_end w.ends) e →
@@ -50,24 +35,11 @@ stored_begins true g f w h e = absurd (true≢false e)
 stored_begins false true f w h e = (h, refl)
 stored_begins false false f w h e = ([], append-nil w)
 
--- a complete receiver's text is what it stored
-complete_stops : (phase : Phase) → is_complete phase ≡ true → goes_on phase ≡ false
-complete_stops (Waiting asked limit) e = absurd (true≢false (sym e))
-complete_stops (Sending terms number) e = absurd (true≢false (sym e))
-complete_stops (Receiving terms number) e = absurd (true≢false (sym e))
-complete_stops (Dallying terms number dally) e = refl
-complete_stops (Closed terms number complete outcome) e = refl
-
 -- an endpoint at one of the two hosts has its address
 home_ip : (client s c : Bool) (ip : List ℕ) → is_same_ip ip server_ip ≡ s → is_same_ip ip client_ip ≡ c →
     (if s then At_server else if c then At_client else Elsewhere) ≡ home client →
     ip ≡ (if client then client_ip else server_ip)
-home_ip true true c ip p q h = cc
-home_ip true false true ip p q h = same_text ip client_ip (sym q)
-home_ip true false false ip p q h = cc
-home_ip false true c ip p q h = same_text ip server_ip (sym p)
-home_ip false false true ip p q h = cc
-home_ip false false false ip p q h = cc
+home_ip client s c ip p q h = search rules
 
 -- an endpoint of a host has that host's address
 pub ip_at_home : (a : Endpoint) (client : Bool) → host_of a ≡ home client → a.ip ≡ (if client then client_ip else server_ip)
@@ -98,15 +70,10 @@ module _ (strangers : Bool) (w : WorldState) (ok : Refines strangers w) where
 
   whole : (x : WorldEnd) → is_sender (end_record x).side ≡ false → (end_record x).complete ≡ true →
       end_text x ≡ wire_text (end_mode x) (end_stored x)
-  whole (Open_end x) r d =
-      let t = wire_text x.state.role.mode x.stored in
-      text_else (is_sender x.state.role.side) x.text (received_text x.state x.stored) r
-      ∙ ap (λ (b : Bool). if b then t ++ x.state.position.held_back else t) (complete_stops x.state.position.phase d)
-  whole (Closed_end x) r d = text_else (is_sender x.recorded.side) x.text (wire_text x.mode x.stored) r
+  whole x r d = search rules
 
   wire_of : (x : WorldEnd) → is_sender (end_record x).side ≡ true → end_text x ≡ end_wire x
-  wire_of (Open_end x) s = text_if (is_sender x.state.role.side) x.text (received_text x.state x.stored) s
-  wire_of (Closed_end x) s = text_if (is_sender x.recorded.side) x.text (wire_text x.mode x.stored) s
+  wire_of x s = search rules
 
   sends : (x : WorldEnd) → IsIn w x → is_sender (end_record x).side ≡ true →
       end_text x ≡ wire_text (end_mode x) (end_file x)
@@ -126,8 +93,7 @@ module _ (strangers : Bool) (w : WorldState) (ok : Refines strangers w) where
   sound : (k : ℕ) (x : WorldEnd) → slice_get w.ends k ≡ Some x →
       IsSoundParty two_hosts (shown_by two_hosts (map view_of_end w.ends) ok.messages ok.shown).0.party (end_address x)
       ((shown_by two_hosts (map view_of_end w.ends) ok.messages ok.shown).0.party (end_address x))
-  sound k x i =
-      (shown_by two_hosts (map view_of_end w.ends) ok.messages ok.shown).1.ends (end_address x) (matched k x i).is_open
+  sound k x i = search (rules, shown_by, matched)
 
   -- the end that sends to x, if its view is among the views
   sender_at : (x : WorldEnd) (p : Endpoint) (v : EndView) →

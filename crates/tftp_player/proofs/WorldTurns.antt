@@ -1,44 +1,28 @@
 -- A turn of an end, an opening and an ERROR keep a world. For seven other files.
-use Rattle.std.proofs.Common.{◌≡◌, ℕ, ◌+◌, length, Bool, true, false, List, [], ◌∷◌, ◌++◌, map, set, Option, Some, None}
-use Rattle.std.proofs.Common.{sym, refl, ap, ◌∙◌, subst, arith, inl, inr}
-use Rattle.std.specs.Prelude.{◌≢◌, ◌⊎◌, ◌&&◌, not, slice_get, option_map}
-use Rattle.std.specs.List.{Contains}
-use Rattle.std.proofs.lemmas.Bool.{true≢false}
+use Rattle.tftp_player.proofs.Common.{common_steps, ◌≡◌, ℕ, ◌+◌, length, Bool, true, false, List, [], ◌∷◌, ◌++◌, map}
+use Rattle.tftp_player.proofs.Common.{set, Option, Some, None, sym, refl, ap, ◌∙◌, subst, arith, inl, inr, rules, ◌≢◌}
+use Rattle.tftp_player.proofs.Common.{◌⊎◌, ◌&&◌, not, slice_get, option_map, Contains, true≢false}
+use Rattle.tftp_player.proofs.Common.{Contains-append_cases, Contains-append_left, Spells, Files, Holding, wire_text}
+use Rattle.tftp_player.proofs.Common.{is_sender, is_client, is_complete, outcome_of, terms_of, Terms, Turn, Reply}
+use Rattle.tftp_player.proofs.Common.{request_port, two_hosts, Endpoint, Elsewhere, Message, Machine, Rule, message}
+use Rattle.tftp_player.proofs.Common.{said, OpenEnd, end_after, EndView, IsShownWithin, shown_by, WorldState, WorldEnd}
+use Rattle.tftp_player.proofs.Common.{Open_end, end_address, end_file, end_stored, StoredFile, file_at, datagram}
+use Rattle.tftp_player.proofs.Common.{replied, standing, has_committed, world_after, opened_in, said_in, view_of_end}
+use Rattle.tftp_player.proofs.Common.{FilesAfter, Turns, OpeningStep, HasAsker, HasPorts, IsKeptIn, RefinesAt}
+use Rattle.tftp_player.proofs.Common.{RefinesWithin, Datagram, Report, slice_get-set_cases, slice_get-push_cases}
 use Rattle.std.proofs.lemmas.List.{map-set, map-append}
-use Rattle.std.proofs.lemmas.List.Elements.{Contains-append_cases, Contains-append_left, Contains-append_right}
-use Rattle.std.proofs.lemmas.List.Elements.{Contains-push, Contains-push_cases}
-use Rattle.std.proofs.lemmas.Option.{same_Some, slice_get-map}
+use Rattle.std.proofs.lemmas.List.Elements.{Contains-append_right, Contains-push}
+use Rattle.std.proofs.lemmas.Option.{slice_get-map}
 use Rattle.tftp_wire.specs.declared.packet.Packet.{Packet as WirePacket}
-use Rattle.tftp_wire.specs.Spelling.{Spells}
-use Rattle.tftp_file.specs.declared.files.Files.{Files}
-use Rattle.tftp_file.specs.Sink.{Holding}
-use Rattle.tftp_file.specs.Netascii.{wire_text}
-use Rattle.tftp_ends.specs.End.{is_sender, is_client, is_complete, outcome_of, terms_of}
-use Rattle.tftp_ends.specs.declared.phase.Terms.{Terms}
-use Rattle.tftp_ends.specs.Step.{Turn, Reply}
-use Rattle.tftp_rules.specs.Hosts.{host_of, request_port, two_hosts}
-use Rattle.tftp_rules.specs.Machine.{Endpoint, Elsewhere, Message, Machine}
-use Rattle.tftp_rules.specs.Rules.{Rule, message}
-use Rattle.tftp_rules.specs.Said.{said}
-use Rattle.tftp_rules.specs.OpenEnds.{OpenEnd, end_after}
+use Rattle.tftp_rules.specs.Hosts.{host_of}
 use Rattle.tftp_rules.specs.EndKept.{EndKept}
 use Rattle.tftp_rules.specs.Facts.{home, Holds}
 use Rattle.tftp_rules.specs.Recorded.{AreRecorded}
-use Rattle.tftp_rules.specs.Shows.{EndView, Shows, IsShownWithin}
+use Rattle.tftp_rules.specs.Shows.{Shows}
 use Rattle.tftp_rules.specs.EndShown.{Goes, Replies, Newest}
-use Rattle.tftp_rules.proofs.Refines.{shown_by}
-use Rattle.tftp_player.specs.World.{WorldState, WorldEnd, Open_end, Closed_end, end_address, end_path, end_file}
-use Rattle.tftp_player.specs.World.{end_stored}
-use Rattle.tftp_player.specs.World.{StoredFile, file_at, in_the_way, datagram, replied, standing, has_committed}
-use Rattle.tftp_player.specs.World.{world_after, opened_in, said_in, view_of_end}
-use Rattle.tftp_player.specs.WorldSteps.{FilesAfter, Turns, OpeningStep}
-use Rattle.tftp_player.specs.WorldKept.{HasAsker, HasPorts, IsOpenIn, StandsIn, IsKeptIn, SaysSo, MaySpeak}
-use Rattle.tftp_player.specs.WorldKept.{RefinesAt, RefinesWithin}
-use Rattle.tftp_player.specs.declared.datagram.Datagram.{Datagram}
-use Rattle.tftp_player.specs.declared.report.Report.{Report}
-use Rattle.tftp_rules.proofs.Indices.{slice_get-set_cases, slice_get-push_cases}
+use Rattle.tftp_player.specs.World.{end_path}
+use Rattle.tftp_player.specs.WorldKept.{IsOpenIn, StandsIn, SaysSo, MaySpeak}
 use Rattle.tftp_player.proofs.Standing.{standing_address, standing_shown, standing_kept}
-use Rattle.tftp_player.proofs.TermsKept.{same_peer}
 
 -- the empty list contains nothing
 pub nothing_in : {X : Type 0} (x : X) → Contains [] x → ⊥
@@ -46,10 +30,7 @@ nothing_in x h = let l = h.1 in omega arith
 
 -- a list of one element contains only it
 pub one_in : {X : Type 0} (x y : X) → Contains (y ∷ []) x → y ≡ x
-one_in x y h = elim (Contains-push_cases [] y x h) [
-  | inl n ↦ absurd (nothing_in x n)
-  | inr e ↦ e
-]
+one_in x y h = search rules
 
 here_in : {X : Type 0} (x : X) → Contains (x ∷ []) x
 here_in x = Contains-push [] x
@@ -81,13 +62,6 @@ said_reply from (Some reply) said_now r m i =
     let e = one_in m (message from reply.to (said r.0)) (subst (λ (ms : List Message). Contains ms m) r.2 i) in
     (d, here_in d, subst (λ (z : Message). SaysSo d z) e (says_message from reply.to reply.bytes r.0 r.1))
 
-from_of : (d : Datagram) (m : Message) → SaysSo d m → d.from ≡ m.from
-from_of d m s = ap (λ (z : Message). z.from) (sym s.says)
-
-replied_from : (from : Endpoint) (reply : Option Reply) (d : Datagram) → Contains (replied from reply) d → from ≡ d.from
-replied_from from None d i = absurd (nothing_in d i)
-replied_from from (Some reply) d i = ap (λ (z : Datagram). z.from) (one_in d (datagram from reply.to reply.bytes) i)
-
 -- the two hosts are not elsewhere
 pub home_not_elsewhere : (b : Bool) → home b ≢ Elsewhere
 home_not_elsewhere true e = cc
@@ -100,8 +74,7 @@ view_at ends k x e = slice_get-map view_of_end ends k ∙ ap (option_map view_of
 
 viewed : (e : EndView) (o : Option WorldEnd) → option_map view_of_end o ≡ Some e →
     (x : WorldEnd) × (o ≡ Some x) × (view_of_end x ≡ e)
-viewed e None h = absurd (let f : None ≡ Some e = h in cc)
-viewed e (Some x) h = (x, refl, same_Some (view_of_end x) e h)
+viewed e o h = search rules
 
 -- an end that is shown is one of the world
 pub viewed_at : (ends : List WorldEnd) (k : ℕ) (e : EndView) → slice_get (map view_of_end ends) k ≡ Some e →
@@ -125,20 +98,12 @@ at_home first strangers w ok k x e f =
 -- an end that stays at its endpoint has the port of its index
 pub ports_set : (w : WorldState) (k : ℕ) (x y : WorldEnd) → HasPorts w → slice_get w.ends k ≡ Some x →
     end_address y ≡ end_address x → HasPorts (record w { ends = set w.ends k y })
-ports_set w k x y ports at same j z i = elim (slice_get-set_cases w.ends k j y z i) [
-  | inl h ↦
-      ap (λ (u : WorldEnd). (end_address u).port) h.1
-      ∙ (ap (λ (a : Endpoint). a.port) same ∙ (ports k x at ∙ ap (λ (n : ℕ). 1024 + n) (sym h.0)))
-  | inr h ↦ ports j z h.1
-]
+ports_set w k x y ports at same j z i = search (rules, slice_get-set_cases)
 
 -- so has an end that opens at the next port
 pub ports_push : (w : WorldState) (x : WorldEnd) → HasPorts w → (end_address x).port ≡ 1024 + length w.ends →
     HasPorts (record w { ends = w.ends ++ x ∷ [] })
-ports_push w x ports port j z i = elim (slice_get-push_cases w.ends j x z i) [
-  | inl h ↦ ports j z h
-  | inr h ↦ ap (λ (u : WorldEnd). (end_address u).port) h.1 ∙ (port ∙ ap (λ (n : ℕ). 1024 + n) (sym h.0))
-]
+ports_push w x ports port j z i = search (rules, slice_get-push_cases)
 
 -- the terms of an end stay in a turn
 abbrev pub TermsStay : OpenEnd → Turn → Type 0
@@ -147,36 +112,21 @@ TermsStay x turn =
 
 turned_asked : (w : WorldState) (x : OpenEnd) (turn : Turn) (held : Files (List ℕ) Holding) → TermsStay x turn →
     HasAsker w (Open_end x) → HasAsker w (Open_end (end_after x turn held))
-turned_asked w x turn held stays h = (
-  h.0,
-  same_peer x.state.position.phase turn.position.phase h.0 h.1 stays,
-  λ near.
-      let q = h.2 near in
-      record { write = q.write; request = q.request; sent = q.sent; opened = q.opened; path = q.path },
-)
+turned_asked w x turn held stays h = search rules
 
 -- the files stay under their paths
 files_stay : (overwrite b : Bool) (path bytes : List ℕ) (old new : List StoredFile) →
     FilesAfter overwrite b path bytes old new → overwrite ≡ false → (q c : List ℕ) → file_at old q ≡ Some c →
     file_at new q ≡ Some c
-files_stay overwrite true path bytes old new h kept q c e =
-    h.others q (λ same.
-    let free : file_at old path ≡ None = ap (λ (b : Bool). in_the_way b (file_at old path)) (sym kept) ∙ h.free in
-    let f : None ≡ Some c = sym free ∙ (ap (file_at old) (sym same) ∙ e) in cc) ∙ e
-files_stay overwrite false path bytes old new h kept q c e = ap (λ (files : List StoredFile). file_at files q) h ∙ e
+files_stay overwrite b path bytes old new h kept q c e = search rules
 
--- what holds of an unchanged end holds after more was sent
+-- ---- an end to which nothing happened, in a world where more was sent: what held of it holds still
+-- its newest datagram was sent
 still_stands : (w v : WorldState) (added : List Datagram) (x : WorldEnd) → v.sent ≡ w.sent ++ added → StandsIn w x →
     StandsIn v x
-still_stands w v added (Open_end x) more h = record {
-  still = h.still;
-  kept = h.kept;
-  last_sent =
-      let d = datagram x.address x.state.position.last_sent_to x.state.position.last_sent in
-      subst (λ (ds : List Datagram). Contains ds d) (sym more) (Contains-append_left w.sent added d h.last_sent);
-}
-still_stands w v added (Closed_end x) more h = h
+still_stands w v added x more h = grind (arith, common_steps)
 
+-- so was the request that opened it
 still_asked : (w v : WorldState) (added : List Datagram) (x : WorldEnd) → v.sent ≡ w.sent ++ added → HasAsker w x →
     HasAsker v x
 still_asked w v added x more h = (
@@ -198,6 +148,7 @@ still_asked w v added x more h = (
       },
 )
 
+-- and its file is under its path, if the files of the server stay
 still_kept : (w v : WorldState) (added : List Datagram) (x : WorldEnd) → v.sent ≡ w.sent ++ added →
     v.overwrite ≡ w.overwrite →
     (w.overwrite ≡ false → (q c : List ℕ) → file_at w.files q ≡ Some c → file_at v.files q ≡ Some c) → IsKeptIn w x →
@@ -237,23 +188,14 @@ module _ (first : List Rule) (strangers : Bool) (w : WorldState) (ok : RefinesAt
 
   -- and of an end that may speak
   pub speakers_then : (m : Message) → Contains (ok.messages ++ said_now) m → MaySpeak strangers m.from
-  speakers_then m i = elim (Contains-append_cases ok.messages said_now m i) [
-    | inl o ↦ ok.speakers m o
-    | inr n ↦ let h = said_reply from reply said_now r m n in
-        λ _. subst (λ (a : Endpoint). host_of a ≢ Elsewhere) (replied_from from reply h.0 h.1 ∙ from_of h.0 m h.2) own
-  ]
+  speakers_then m i = grind (arith, common_steps)
 
 -- by whether an end was complete before
 complete_then : (old_done client old_committed new_committed : Bool) → old_committed ≡ old_done → new_committed ≡ true →
     client ≡ false →
     (old_done ≡ true × (not client && (not old_committed && new_committed)) ≡ false)
     ⊎ ((not client && (not old_committed && new_committed)) ≡ true)
-complete_then true client old_committed new_committed o n c =
-    inl (refl, ap (λ (b : Bool). not client && (not b && new_committed)) o ∙ ap (λ (b : Bool). not b && false) c)
-complete_then false client old_committed new_committed o n c =
-    inr
-    (ap (λ (b : Bool). not client && (not b && new_committed)) o
-    ∙ (ap (λ (b : Bool). not client && b) n ∙ ap (λ (b : Bool). not b && true) c))
+complete_then old_done client old_committed new_committed o n c = search rules
 
 -- a turn of an end keeps the world
 pub turn_keeps :
@@ -366,10 +308,7 @@ pub record OpensAsked (w : WorldState) (x : OpenEnd) : Type 0 where
 
 -- a client does not open at the server
 pub opens_elsewhere : (w : WorldState) (x : OpenEnd) → is_client x.state.role.side ≡ true → OpensAsked w x
-opens_elsewhere w x client = record {
-  asked = λ server. absurd (true≢false (sym client ∙ server));
-  sends = λ server s. absurd (true≢false (sym client ∙ server));
-}
+opens_elsewhere w x client = search rules
 
 -- an end that opened keeps the world
 pub opening_keeps :

@@ -30,7 +30,7 @@ impl ClientSink {
         ensures { result ≡ record { bytes = []; committed = false; refuses = false } }
     {
         ClientSink {
-            sink: MemSink::new(alloc, u64::MAX),
+            sink: MemSink::new(alloc, u64::MAX, false),
         }
     }
 

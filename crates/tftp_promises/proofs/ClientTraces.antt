@@ -1,6 +1,6 @@
 -- What a client notes, step by step.
-use Rattle.std.proofs.Common.{◌≡◌, ℕ, List, [], ◌∷◌, ◌++◌, append_assoc, Option, Some, None, refl, sym, ap, ◌∙◌, subst}
-use Rattle.std.proofs.Common.{inl, inr}
+use Rattle.std.proofs.lemmas.Grind.{common_steps}
+use Rattle.std.proofs.Common.{◌≡◌, ℕ, List, [], ◌∷◌, ◌++◌, Option, Some, None, refl, ap, ◌∙◌, arith, rules}
 use Rattle.std.specs.Prelude.{◌⊎◌}
 use Rattle.std.specs.List.{AllByRecursion}
 use Rattle.std.proofs.lemmas.List.{append_cancel_right}
@@ -19,7 +19,7 @@ use Rattle.tftp_client.specs.Converses.MayElapse.{Stays, Elapses}
 use Rattle.tftp_promises.specs.ClientRuns.{ClientDoes, ClientRun, Starts, Goes_on, Receives_one, Reads_clock, Waits_until, Times_out}
 use Rattle.tftp_promises.specs.ClientRuns.{File_works, Prints_line}
 use Rattle.tftp_promises.specs.Traces.{IsOfPort, IsQuietAt, AsksFirst}
-use Rattle.tftp_promises.specs.Programs.{ClientProgram, ClientOpens, To_read, To_write}
+use Rattle.tftp_promises.specs.Programs.{ClientProgram, ClientOpens}
 
 -- the events since `first` are of this port
 abbrev pub Since : ℕ → List SocketEvent → List SocketEvent → Type 0
@@ -36,10 +36,7 @@ answer port (Some reply) since = one_more (Sent port reply.to reply.bytes) refl 
 
 -- a receive at the port without a datagram
 at_port : (port : ℕ) (event : QuietEvent) → (event ≡ Empty port) ⊎ (event ≡ Failed port) → IsQuietAt port event
-at_port port event which = elim which [
-  | inl empty ↦ subst (λ (e : QuietEvent). IsQuietAt port e) (sym empty) refl
-  | inr failed ↦ subst (λ (e : QuietEvent). IsQuietAt port e) (sym failed) refl
-]
+at_port port event which = search rules
 
 elapse : {first : List SocketEvent} {port : ℕ} {s next : State} → MayElapse port s next → Since port first s.events →
     Since port first next.events
@@ -76,8 +73,7 @@ module _ {G K : Type 0} {inputs : SourceMeaning G} {outputs : SinkMeaning K} whe
   -- the request goes to the server
   pub asks_there : {to : Endpoint} {first : EndState} {file : Files G K} → ClientOpens inputs outputs to first file →
       first.position.last_sent_to ≡ to
-  asks_there (To_read opens) = ap (λ (e : EndState). e.position.last_sent_to) opens.is
-  asks_there (To_write opens) = ap (λ (e : EndState). e.position.last_sent_to) opens.is
+  asks_there h0 = search rules
 
   pub asks_first : (to : Endpoint) (client : ClientProgram inputs outputs to) → AsksFirst client
   asks_first to client =
@@ -86,8 +82,7 @@ module _ {G K : Type 0} {inputs : SourceMeaning G} {outputs : SinkMeaning K} whe
       let asked : Endpoint → List SocketEvent = λ a. Sent client.port a request ∷ [] in
       let there = asks_there client.opens in
       let all : client.noted ++ client.before ≡ (since.0 ++ asked client.first.position.last_sent_to) ++ client.before =
-      sym client.is_noted ∙ (since.1
-      ∙ sym (append_assoc since.0 (asked client.first.position.last_sent_to) client.before)) in
+      grind (arith, common_steps) in
       let noted =
       append_cancel_right client.noted (since.0 ++ asked client.first.position.last_sent_to) client.before all in
       record { more = since.0; is = noted ∙ ap (λ (a : Endpoint). since.0 ++ asked a) there; own = since.2 }

@@ -1,12 +1,12 @@
 -- In the end state of the traces no two ends share an endpoint, and the peer of a client is the transfer of the server
 -- that its request opened, for the path of its name.
-use Rattle.std.proofs.Common.{◌≡◌, ℕ, Bool, true, false, not, List, [], ◌∷◌, Ok, Some, refl, sym, ap, ◌∙◌, subst}
-use Rattle.std.proofs.Common.{inl, inr}
+use Rattle.std.proofs.Common.{◌≡◌, ℕ, Bool, true, false, not, List, [], Ok, Some, refl, sym, ap, ◌∙◌, subst, inl, inr}
+use Rattle.std.proofs.Common.{rules}
 use Rattle.std.specs.Prelude.{not, slice_get, option_map}
 use Rattle.std.specs.List.{Contains}
 use Rattle.std.proofs.lemmas.Bool.{true≢false}
 use Rattle.std.proofs.lemmas.Option.{same_Some, slice_get-map}
-use Rattle.tftp_wire.specs.Spelling.{Spells, written}
+use Rattle.tftp_wire.specs.Spelling.{Spells}
 use Rattle.tftp_wire.specs.declared.packet.Packet.{Packet as WirePacket}
 use Rattle.tftp_wire.specs.declared.packet.Packet.TheVariants.{Read, Write}
 use Rattle.tftp_wire.specs.declared.packet.Request.{Request as WireRequest}
@@ -26,7 +26,7 @@ use Rattle.tftp_rules.specs.Said.{said}
 use Rattle.tftp_rules.specs.Shows.{EndView, Matches, Shows, answered_by, requested}
 use Rattle.tftp_rules.proofs.SaidLemmas.{spells_own}
 use Rattle.tftp_rules.proofs.Refines.{shown_by}
-use Rattle.tftp_rules.proofs.Steps.{not-not, own_client}
+use Rattle.tftp_rules.proofs.Steps.{own_client}
 use Rattle.tftp_server.specs.State.{TransferState, at}
 use Rattle.tftp_promises.specs.AnyFiles.{IsEnd, ProgramEnd, ServesClient, client_end, peer_of, transfer_end}
 use Rattle.tftp_promises.specs.ClientRuns.{moved_in}
@@ -41,18 +41,9 @@ use Rattle.tftp_promises.proofs.KeptShown.{views_end}
 use Rattle.tftp_promises.proofs.KeptViews.{view_there}
 use Rattle.tftp_promises.proofs.Places.{clients_there}
 
--- ---- requests
--- a request has bytes
-abbrev is_nil : List ℕ → Bool
-is_nil [] = true
-is_nil (b ∷ bytes) = false
-
 has_bytes : (write : Bool) (request : WireRequest) (bytes : List ℕ) → Spells (requested write request) bytes →
     bytes ≡ [] → ⊥
-has_bytes true request bytes s none =
-    let e : true ≡ is_nil (written s.word (Write request)) = ap is_nil (sym none ∙ s.whole) in true≢false e
-has_bytes false request bytes s none =
-    let e : true ≡ is_nil (written s.word (Read request)) = ap is_nil (sym none ∙ s.whole) in true≢false e
+has_bytes write request bytes s none = search rules
 
 -- one datagram asks for one name
 abbrev name_in : WirePacket → List ℕ
@@ -73,15 +64,15 @@ one_name write also request other bytes s t =
 -- ---- the request of a client
 module _ {G K : Type 0} {inputs : SourceMeaning G} {outputs : SinkMeaning K} {to : Endpoint} {first : EndState}
     {file : Files G K} where
-  abbrev writes : ClientOpens inputs outputs to first file → Bool
+  abbrev pub writes : ClientOpens inputs outputs to first file → Bool
   writes (To_read opens) = false
   writes (To_write opens) = true
 
-  abbrev wire_of : ClientOpens inputs outputs to first file → WireRequest
+  abbrev pub wire_of : ClientOpens inputs outputs to first file → WireRequest
   wire_of (To_read opens) = request_of opens.name opens.mode opens.asked
   wire_of (To_write opens) = request_of opens.name opens.mode opens.asked
 
-  packet_is : (opens : ClientOpens inputs outputs to first file) →
+  pub packet_is : (opens : ClientOpens inputs outputs to first file) →
       request_packet opens ≡ requested (writes opens) (wire_of opens)
   packet_is (To_read opens) = refl
   packet_is (To_write opens) = refl
@@ -90,22 +81,17 @@ module _ {G K : Type 0} {inputs : SourceMeaning G} {outputs : SinkMeaning K} {to
   name_is (To_read opens) = refl
   name_is (To_write opens) = refl
 
-  asks_so : (opens : ClientOpens inputs outputs to first file) →
+  pub asks_so : (opens : ClientOpens inputs outputs to first file) →
       Spells (requested (writes opens) (wire_of opens)) first.position.last_sent
   asks_so (To_read opens) =
       let packet = Read (request_of opens.name opens.mode opens.asked) in
       subst (λ (e : EndState). Spells packet e.position.last_sent) (sym opens.is) (spells_own packet opens.may.valid)
-  asks_so (To_write opens) =
-      let packet = Write (request_of opens.name opens.mode opens.asked) in
-      subst (λ (e : EndState). Spells packet e.position.last_sent) (sym opens.is) (spells_own packet opens.may.valid)
+  asks_so (To_write opens) = search rules
 
 -- the end that serves a client answers its request
 answers_it : (a to : Endpoint) (x y : Party) (write : Bool) (request : WireRequest) → IsServing a x y →
     Attests x to (Request write request) → answered_by y ≡ requested write request
-answers_it a to x y write request serves asks =
-    ap (λ (b : Bool). requested (not b) y.request) serves.sender
-    ∙ (ap (λ (b : Bool). requested b y.request) (not-not x.sender ∙ asks.sender)
-    ∙ ap (requested write) (serves.request ∙ asks.request))
+answers_it a to x y write request serves asks = search rules
 
 module _ {S F D G K : Type 0} {stores : StoreMeaning S D} {sources : SourceMeaning F} {inputs : SourceMeaning G}
     {outputs : SinkMeaning K} (programs : Programs stores sources inputs outputs) {pad : ℕ}
@@ -122,16 +108,6 @@ module _ {S F D G K : Type 0} {stores : StoreMeaning S D} {sources : SourceMeani
       kept.clients k client (Has_asked client.last client.files client.noted (moved_in client.runs)) found
       (slice_get-map (λ (c : Client). Has_asked c.last c.files c.noted (moved_in c.runs)) programs.clients k
       ∙ ap (option_map (λ (c : Client). Has_asked c.last c.files c.noted (moved_in c.runs))) found)
-
-  -- ---- no two ends share an endpoint
-  one_transfer : (p q : ℕ) (t u : TransferState F D) (a : Endpoint) → HasOpened programs p t a →
-      HasOpened programs q u a → t ≡ u
-  one_transfer p q t u a (inl e) (inl f) =
-      let same : p ≡ q = kept.server.seats p q t u e.0 f.0 (sym e.1 ∙ f.1) in
-      same_Some t u (sym e.0 ∙ (ap (λ (n : ℕ). at n programs.server.last.server.held) same ∙ f.0))
-  one_transfer p q t u a (inl e) (inr closed) = absurd (kept.server.gone q p u t a closed e.0 e.1)
-  one_transfer p q t u a (inr closed) (inl f) = absurd (kept.server.gone p q t u a closed f.0 f.1)
-  one_transfer p q t u a (inr c) (inr d) = (kept.server.gone_once p q t u a c d).1
 
   -- no transfer is where a client is
   client_alone : (k : ℕ) (client : Client) (port : ℕ) (transfer : TransferState F D) (a : Endpoint) →
@@ -157,13 +133,7 @@ module _ {S F D G K : Type 0} {stores : StoreMeaning S D} {sources : SourceMeani
   one_there fresh x y (inr c) (inl d) same =
       absurd (client_alone d.0 d.1 c.0 c.1 c.2 d.2 c.3
       (sym (ap (λ (e : ProgramEnd). e.address) d.3) ∙ (sym same ∙ ap (λ (e : ProgramEnd). e.address) c.4)))
-  one_there fresh x y (inr c) (inr d) same =
-      let place : c.2 ≡ d.2 =
-      sym (ap (λ (e : ProgramEnd). e.address) c.4) ∙ (same ∙ ap (λ (e : ProgramEnd). e.address) d.4) in
-      let transfer : c.1 ≡ d.1 =
-      one_transfer c.0 d.0 c.1 d.1 d.2 (subst (λ (a : Endpoint). HasOpened programs c.0 c.1 a) place c.3) d.3 in
-      c.4 ∙ (ap (λ (t : TransferState F D). transfer_end programs t c.2) transfer
-      ∙ (ap (λ (a : Endpoint). transfer_end programs d.1 a) place ∙ sym d.4))
+  one_there fresh x y (inr c) (inr d) same = search rules
 
   -- ---- the peer of a client
   module _ (k : ℕ) (client : Client) (p : Endpoint) (found : slice_get programs.clients k ≡ Some client)
@@ -186,24 +156,20 @@ module _ {S F D G K : Type 0} {stores : StoreMeaning S D} {sources : SourceMeani
     serving : IsServing (there client) (m.party (there client)) (m.party p)
     serving =
         let holds = (shown_by (joined programs) kept.views kept.messages kept.shown).1 in
-        subst (λ (a : Endpoint). IsServing a (m.party a) (m.party p)) x.address
-        ((holds.ends x.end.address matches.is_open).serving (matches.client ∙ x.side) p
-        (matches.peer ∙ ((views_end x.end (there client) client.last.end x.address x.state).peer ∙ peer))).1
+        rw (← x.address) ((holds.ends x.end.address matches.is_open).serving (matches.client ∙ x.side) p (matches.peer ∙
+        ((views_end x.end (there client) client.last.end x.address x.state).peer ∙ peer))).1
 
     -- its request, as the machine knows it
     asks : Attests (m.party (there client)) to (Request (writes client.opens) (wire_of client.opens))
     asks =
         let holds = (shown_by (joined programs) kept.views kept.messages kept.shown).1 in
-        let packet : x.asks.0 ≡ requested (writes client.opens) (wire_of client.opens) =
-        one_meaning x.asks.0 (requested (writes client.opens) (wire_of client.opens))
-        client.first.position.last_sent x.asks.1 (asks_so client.opens) in
-        let says : said x.asks.0 ≡ Request (writes client.opens) (wire_of client.opens) =
-        ap said packet ∙ says_request (writes client.opens) (wire_of client.opens) in
-        subst (λ (q : Packet). Attests (m.party (there client)) to q) says
-        (holds.attested (message (there client) to (said x.asks.0))
-        (subst (λ (ds : List Message). Contains ds (message (there client) to (said x.asks.0))) (sym shows.sent)
-        x.asks.2)
-        (own_client (joined programs) (there client) (clients_there programs k client found)))
+        let packet =
+        one_meaning x.asks.0 (requested (writes client.opens) (wire_of client.opens)) client.first.position.last_sent
+        x.asks.1 (asks_so client.opens) in
+        let says = ap said packet ∙ says_request (writes client.opens) (wire_of client.opens) in
+        subst (λ (q : Packet). Attests (m.party (there client)) to q) says (holds.attested (message (there client) to
+        (said x.asks.0)) (subst (λ (ds : List Message). Contains ds (message (there client) to (said x.asks.0))) (sym
+        shows.sent) x.asks.2) (own_client (joined programs) (there client) (clients_there programs k client found)))
 
     module _ (port : ℕ) (transfer : TransferState F D) (opened : HasOpened programs port transfer p) where
       y : TransferKept pad kept.views kept.messages (all_of programs) port transfer p
@@ -225,11 +191,9 @@ module _ {S F D G K : Type 0} {stores : StoreMeaning S D} {sources : SourceMeani
       its_request =
           let says = shows.asked y.viewed.index (open_view y.end) y.viewed.viewed (inr (y.side, some_bytes)) in
           let same : answered_by (m.party y.end.address) ≡ requested (writes client.opens) (wire_of client.opens) =
-          ap (λ (a : Endpoint). answered_by (m.party a)) y.address
-          ∙ answers_it (there client) to (m.party (there client)) (m.party p) (writes client.opens)
-          (wire_of client.opens) serving asks in
-          subst (λ (bytes : List ℕ). Spells (requested (writes client.opens) (wire_of client.opens)) bytes) y.request
-          (subst (λ (q : WirePacket). Spells q y.end.request) same says)
+          ap (λ (a : Endpoint). answered_by (m.party a)) y.address ∙ answers_it (there client) to (m.party (there
+          client)) (m.party p) (writes client.opens) (wire_of client.opens) serving asks in
+          search rules
 
       its_peer : peer_of (transfer_end programs transfer p) ≡ Some (there client)
       its_peer =
@@ -238,16 +202,13 @@ module _ {S F D G K : Type 0} {stores : StoreMeaning S D} {sources : SourceMeani
       -- one of the two sends
       its_side : is_sender transfer.end.role.side ≡ not (is_sender client.last.end.role.side)
       its_side =
-          ap (λ (e : EndState). is_sender e.role.side) (sym y.state)
-          ∙ (sym its_match.sender ∙ (serving.sender ∙ ap not (ap (λ (a : Endpoint). (m.party a).sender) (sym x.address)
-          ∙ (matches.sender ∙ ap (λ (e : EndState). is_sender e.role.side) x.state))))
+          ap (λ e. is_sender e.role.side) (sym y.state) ∙ (sym its_match.sender ∙ (serving.sender ∙ ap not (ap (λ a.
+          (m.party a).sender) (sym x.address) ∙ (matches.sender ∙ ap (λ e. is_sender e.role.side) x.state))))
 
       its_path : path_of_name (name_of client.opens) ≡ Ok transfer.path
       its_path =
           let name : name_of client.opens ≡ y.named.request.name =
-          sym (name_is client.opens)
-          ∙ one_name (writes client.opens) y.named.write (wire_of client.opens) y.named.request transfer.request
-          its_request y.named.spells in
+          sym (name_is client.opens) ∙ one_name _ _ _ _ _ its_request y.named.spells in
           ap path_of_name name ∙ y.named.path
 
       serves : ServesClient programs p client
@@ -268,16 +229,14 @@ module _ {S F D G K : Type 0} {stores : StoreMeaning S D} {sources : SourceMeani
     served_by =
         let at_peer = shows.only p serving.is_open in
         let view = at_peer.1 in
-        let there_matches : Matches view (m.party p) =
-        subst (λ (a : Endpoint). Matches view (m.party a)) at_peer.3 (shows.ends at_peer.0 view at_peer.2) in
+        let there_matches : Matches view (m.party p) = rw (at_peer.3) at (shows.ends at_peer.0 view at_peer.2) in
         elim (kept.only view (at_peer.0, at_peer.2)) [
           | inl of ↦
               let z = client_kept of.k of.client of.found in
               let one : view ≡ open_view z.end =
               view_there kept.shown z.viewed (at_peer.0, at_peer.2) (of.address ∙ sym z.address) in
-              absurd (true≢false
-              (sym z.side ∙ (ap (λ (v : EndView). v.client) (sym one) ∙ (sym there_matches.client ∙ serving.client))))
+              absurd (true≢false (sym z.side ∙ (ap (λ (v : EndView). v.client) (sym one) ∙ (sym there_matches.client ∙
+              serving.client))))
           | inr of ↦
-              serves of.port of.transfer
-              (subst (λ (a : Endpoint). HasOpened programs of.port of.transfer a) at_peer.3 of.is_transfer)
+              serves of.port of.transfer (rw (at_peer.3) at of.is_transfer)
         ]

@@ -1,12 +1,10 @@
 -- A closed end with any datagram, and at a timeout: it sends an ERROR or its last datagram at most, and its view stays.
 use Rattle.std.proofs.Common.{◌≡◌, ◌≢◌, ℕ, suc, zero, Bool, true, List, [], ◌∷◌, ◌++◌, set, Option, Some, refl, sym, ap}
-use Rattle.std.proofs.Common.{subst, inl, arith}
-use Rattle.std.specs.Prelude.{◌==◌, ◌&&◌, is_none, is_some, slice_get}
+use Rattle.std.proofs.Common.{inl, rules}
+use Rattle.std.specs.Prelude.{is_some, slice_get}
 use Rattle.std.proofs.lemmas.Bool.{true≢false}
-use Rattle.std.proofs.lemmas.List.{append-nil}
 use Rattle.std.proofs.lemmas.Option.{same_Some}
 use Rattle.tftp_wire.specs.declared.packet.Packet.{Packet as WirePacket}
-use Rattle.tftp_wire.specs.Reading.{has_error_opcode}
 use Rattle.tftp_ends.specs.declared.action.Action.{Action}
 use Rattle.tftp_ends.specs.declared.action.Action.TheVariants.{Respond}
 use Rattle.tftp_ends.specs.declared.action.Response.{Response}
@@ -17,7 +15,7 @@ use Rattle.tftp_ends.specs.declared.outcome.Outcome.TheVariants as outcomes
 use Rattle.tftp_ends.specs.declared.phase.Phase.{Phase}
 use Rattle.tftp_ends.specs.declared.phase.Phase.TheVariants.{Waiting, Sending, Receiving, Dallying, Closed}
 use Rattle.tftp_ends.specs.declared.phase.Terms.{Terms}
-use Rattle.tftp_ends.specs.Action.{is_wrong_peer, datagram_action, timeout_response}
+use Rattle.tftp_ends.specs.Action.{datagram_action, timeout_response}
 use Rattle.tftp_ends.specs.End.{outcome_of}
 use Rattle.tftp_ends.specs.Step.{response_turn, timeout_turn, after, with_position}
 use Rattle.tftp_rules.specs.EndShown.{Stands, Goes, IsThere}
@@ -30,8 +28,6 @@ use Rattle.tftp_rules.specs.Shows.{EndView, IsShownWithin}
 use Rattle.tftp_rules.proofs.Actions.{says_error, repeats}
 use Rattle.tftp_rules.proofs.EndMoves.{error_says, from_response}
 use Rattle.tftp_rules.proofs.PhaseMoves.{if_acts}
-use Rattle.tftp_rules.proofs.Refines.{shown_still, shown_within}
-use Rattle.tftp_promises.proofs.WrongPeers.{wrong_peer}
 
 -- what is there already changes nothing
 pub set_same : {X : Type 0} (xs : List X) (k : ℕ) (x : X) → slice_get xs k ≡ Some x → set xs k x ≡ xs
@@ -44,26 +40,14 @@ module _ (network : Network) (first : List Rule) (views : List EndView) (message
     -- the view of the end stays
     still_shown : (all : List Message) → IsShownWithin network 3 first views all →
         IsShownWithin network 3 first (set views k (open_view x)) all
-    still_shown all h =
-        subst (λ (vs : List EndView). IsShownWithin network 3 first vs all)
-        (sym (set_same views k (open_view x) s.viewed)) h
+    still_shown all h = search (rules, set_same)
 
     nothing_said : IsShownWithin network 3 first views (messages ++ [])
-    nothing_said =
-        subst (λ (ms : List Message). IsShownWithin network 3 first views ms) (sym (append-nil messages))
-        (shown_within network 0 3 first views messages (omega arith) (shown_still network first views messages s.shown))
+    nothing_said = search rules
 
     ignores : EndKept network x → (from : Endpoint) →
         Goes network first views messages k x (response_turn Ignore from x.state) x
-    ignores kept from = record {
-      said_now = [];
-      shown = still_shown (messages ++ []) nothing_said;
-      replies = refl;
-      kept = kept;
-      side = refl;
-      last_sent = inl (refl, refl);
-      stored = λ _. refl;
-    }
+    ignores kept from = search (rules, still_shown, nothing_said)
 
     answers_wrong_peer : EndKept network x → (from : Endpoint) →
         Goes network first views messages k x (response_turn WrongPeer from x.state) x
@@ -100,10 +84,7 @@ module _ (network : Network) (first : List Rule) (views : List EndView) (message
           record { response = Ignore; is = refl; same = refl; goes = ignores closed_end s kept from } in
           let refused : P (Respond WrongPeer) =
           record { response = WrongPeer; is = refl; same = refl; goes = answers_wrong_peer closed_end s kept from } in
-          if_acts P (is_wrong_peer terms x0.state.position.last_sent_to from) _ _
-          (λ f. if_acts P (has_error_opcode bytes) (Respond Ignore) (Respond WrongPeer) (λ b. ignored) (λ b. refused))
-          (λ f. if_acts P (has_error_opcode bytes && is_none decoded) (Respond Ignore) (Respond Ignore) (λ b. ignored)
-          (λ b. ignored))
+          search rules
 
       abbrev Turns_by : Response → Type 0
       Turns_by response =
@@ -142,9 +123,7 @@ module _ (network : Network) (first : List Rule) (views : List EndView) (message
       times_out : IsThere messages closed_end.address closed_end.state.position.last_sent_to
           closed_end.state.position.last_sent →
           Turns_by (timeout_response x0.state.position.retries_left (Closed terms n complete outcome))
-      times_out old =
-          if_acts Turns_by (x0.state.position.retries_left == 0) (Close outcomes.TimedOut) Retransmit
-          (λ b. ends_again outcomes.TimedOut) (λ b. retransmits old)
+      times_out old = search (rules, if_acts, ends_again, retransmits)
 
   -- a closed end with any datagram
   pub closed_datagram_goes : (x : OpenEnd) → Stands network first views messages k (open_view x) → EndKept network x →
@@ -171,29 +150,11 @@ module _ (network : Network) (first : List Rule) (views : List EndView) (message
       record { response = Ignore; is = refl; same = refl; goes = ignores x s kept from } in
       let refused : P (Respond WrongPeer) =
       record { response = WrongPeer; is = refl; same = refl; goes = answers_wrong_peer x s kept from } in
-      subst P (sym (wrong_peer x.state from bytes decoded peer is n))
-      (if_acts P (has_error_opcode bytes) (Respond Ignore) (Respond WrongPeer) (λ b. ignored) (λ b. refused))
+      search rules
 
   -- a closed end at a timeout
   pub closed_timeout_goes : (x : OpenEnd) → Stands network first views messages k (open_view x) → EndKept network x →
       is_some (outcome_of x.state.position.phase) ≡ true →
       IsThere messages x.address x.state.position.last_sent_to x.state.position.last_sent →
       Goes network first views messages k x (timeout_turn x.state) (end_after x (timeout_turn x.state) (files_of x))
-  closed_timeout_goes x s kept closed old =
-      from_response network first views messages k x
-      (timeout_response x.state.position.retries_left x.state.position.phase) x.state.position.last_sent_to
-      (timeout_turn x.state) (files_of x)
-      (by_phase x.state.position.phase s kept closed) (refl, refl) where
-        by_phase : (phase : Phase) → Stands network first views messages k (open_view (with_phase phase x)) →
-            EndKept network (with_phase phase x) → is_some (outcome_of phase) ≡ true →
-            Goes network first views messages k (with_phase phase x)
-            (response_turn (timeout_response x.state.position.retries_left phase) x.state.position.last_sent_to
-            (with_phase phase x).state)
-            (in_state (with_position (after (timeout_response x.state.position.retries_left phase)
-            x.state.position.last_sent_to (with_phase phase x).state) (with_phase phase x).state)
-            (with_phase phase x))
-        by_phase (Closed terms n complete outcome) t kept c = times_out x terms n complete outcome t kept old
-        by_phase (Waiting asked limit) t kept c = absurd (true≢false (sym c))
-        by_phase (Sending terms n) t kept c = absurd (true≢false (sym c))
-        by_phase (Receiving terms n) t kept c = absurd (true≢false (sym c))
-        by_phase (Dallying terms n dally) t kept c = absurd (true≢false (sym c))
+  closed_timeout_goes x s kept closed old = search (rules, from_response, times_out, true≢false)

@@ -1,10 +1,10 @@
 -- A server and each of its clients are joined: the other servers and the other clients are strangers then.
+use Rattle.std.proofs.lemmas.Grind.{common_steps}
 use Rattle.std.proofs.Common.{◌≡◌, ℕ, ◌+◌, ◌<◌, List, [], ◌∷◌, ◌++◌, length, map, Bool, true, false, Some, None, refl}
-use Rattle.std.proofs.Common.{sym, ap, ◌∙◌, subst, zero, suc, arith, inl, inr}
-use Rattle.std.specs.Prelude.{◌≢◌, ◌⊎◌, ◌==◌, if◌then◌else◌, slice_get, option_map}
+use Rattle.std.proofs.Common.{sym, ap, ◌∙◌, subst, zero, suc, arith, inl, inr, rules}
+use Rattle.std.specs.Prelude.{◌≢◌, ◌⊎◌, ◌==◌, if◌then◌else◌, slice_get}
 use Rattle.std.specs.List.{Contains}
 use Rattle.std.proofs.lemmas.Bool.{cases_Bool, cases_eq, eq-eqb, eqb-true, ne_eqb, true≢false}
-use Rattle.std.proofs.lemmas.List.Elements.{All-contains, All-from_recursion, Contains-append_cases}
 use Rattle.std.proofs.lemmas.List.Elements.{Contains-append_left, Contains-append_right}
 use Rattle.std.proofs.lemmas.Option.{same_Some, slice_get-map}
 use Rattle.tftp_file.specs.Sink.{SinkMeaning}
@@ -26,7 +26,7 @@ use Rattle.tftp_promises.specs.Several.{OneClient, OneServer, Several, all_sent_
 use Rattle.tftp_promises.specs.Several.{number_of, other_ports, others_sent_from, sent_from}
 use Rattle.tftp_promises.proofs.ClientTraces.{asks_first}
 use Rattle.tftp_promises.proofs.KeptEvents.{first_or_more, nothing_in}
-use Rattle.tftp_promises.proofs.Orders.{first_in, later_in, mapped, noted_in, one_in}
+use Rattle.tftp_promises.proofs.Orders.{first_in, later_in, mapped, noted_in}
 use Rattle.tftp_promises.proofs.Places.{port_has, port_in}
 use Rattle.tftp_promises.proofs.ProgramsShown.{programs_keep_any}
 use Rattle.tftp_promises.proofs.TakesOne.{takes_none_or_one}
@@ -42,9 +42,7 @@ module _ (s m : ℕ) (apart : s ≢ m) where
       events_of 0 (heard_with s m order) ≡ events_of s order →
       events_of 0 (heard_by server client e (heard_with s m order))
       ≡ (if server then e.1 ∷ events_of s order else events_of s order)
-  server_by true client e order rest = ap (λ (es : List SocketEvent). e.1 ∷ es) rest
-  server_by false true e order rest = rest
-  server_by false false e order rest = rest
+  server_by server client e order rest = search rules
 
   server_events : (order : List Noted) → events_of 0 (heard_with s m order) ≡ events_of s order
   server_events [] = refl
@@ -54,11 +52,7 @@ module _ (s m : ℕ) (apart : s ≢ m) where
       events_of 1 (heard_with s m order) ≡ events_of m order →
       events_of 1 (heard_by server client e (heard_with s m order))
       ≡ (if client then e.1 ∷ events_of m order else events_of m order)
-  client_by true true e order is at rest =
-      absurd (apart (sym (eqb-true e.0 s is) ∙ eqb-true e.0 m at))
-  client_by true false e order is at rest = rest
-  client_by false true e order is at rest = ap (λ (es : List SocketEvent). e.1 ∷ es) rest
-  client_by false false e order is at rest = rest
+  client_by server client e order is at rest = search rules
 
   client_events : (order : List Noted) → events_of 1 (heard_with s m order) ≡ events_of m order
   client_events [] = refl
@@ -74,8 +68,7 @@ module _ (s m : ℕ) (apart : s ≢ m) where
   heard_server : (order : List Noted) (x : SocketEvent) → Contains order (s, x) → Contains (heard_with s m order) (0, x)
   heard_server [] x c = absurd (nothing_in (s, x) c)
   heard_server (e ∷ order) x c = elim (first_or_more e (s, x) order c) [
-    | inl same ↦ subst (λ (y : Noted). Contains (heard_with s m (y ∷ order)) (0, x)) (sym same)
-        (subst (λ (b : Bool). Contains (heard_by b (s == m) (s, x) (heard_with s m order)) (0, x))
+    | inl same ↦ rw (same) (subst (λ (b : Bool). Contains (heard_by b (s == m) (s, x) (heard_with s m order)) (0, x))
         (sym (eq-eqb s s refl)) (first_in (0, x) (heard_with s m order)))
     | inr more ↦ later_by (e.0 == s) (e.0 == m) e (0, x) (heard_with s m order) (heard_server order x more)
   ]
@@ -83,11 +76,9 @@ module _ (s m : ℕ) (apart : s ≢ m) where
   heard_client : (order : List Noted) (x : SocketEvent) → Contains order (m, x) → Contains (heard_with s m order) (1, x)
   heard_client [] x c = absurd (nothing_in (m, x) c)
   heard_client (e ∷ order) x c = elim (first_or_more e (m, x) order c) [
-    | inl same ↦ subst (λ (y : Noted). Contains (heard_with s m (y ∷ order)) (1, x)) (sym same)
-        (subst (λ (b : Bool). Contains (heard_by b (m == m) (m, x) (heard_with s m order)) (1, x))
-        (sym (ne_eqb m s (λ e. apart (sym e))))
-        (subst (λ (b : Bool). Contains (heard_by false b (m, x) (heard_with s m order)) (1, x))
-        (sym (eq-eqb m m refl)) (first_in (1, x) (heard_with s m order))))
+    | inl same ↦ rw (same) (subst (λ (b : Bool). Contains (heard_by b (m == m) (m, x) (heard_with s m order)) (1, x))
+        (sym (ne_eqb m s (λ e. apart (sym e)))) (subst (λ (b : Bool). Contains (heard_by false b (m, x) (heard_with s m
+        order)) (1, x)) (sym (eq-eqb m m refl)) (first_in (1, x) (heard_with s m order))))
     | inr more ↦ later_by (e.0 == s) (e.0 == m) e (1, x) (heard_with s m order) (heard_client order x more)
   ]
 
@@ -97,8 +88,7 @@ pub sent_in : (events : List SocketEvent) (port : ℕ) (to : Endpoint) (bytes : 
     Contains (sent_from events) port
 sent_in [] port to bytes c = absurd (nothing_in (Sent port to bytes) c)
 sent_in (e ∷ events) port to bytes c = elim (first_or_more e (Sent port to bytes) events c) [
-  | inl same ↦ subst (λ (x : SocketEvent). Contains (sent_from (x ∷ events)) port) (sym same)
-      (first_in port (sent_from events))
+  | inl same ↦ rw (same) (first_in port (sent_from events))
   | inr more ↦ after e (sent_in events port to bytes more)
 ] where
   after : (x : SocketEvent) → Contains (sent_from events) port → Contains (sent_from (x ∷ events)) port
@@ -126,9 +116,7 @@ module _ {S F D : Type 0} {stores : StoreMeaning S D} {sources : SourceMeaning F
   in_others i [] j x e n port c = absurd (let f : None ≡ Some x = e in cc)
   in_others zero (y ∷ servers) zero x e n port c = absurd (n refl)
   in_others zero (y ∷ servers) (suc j) x e n port c = in_all servers j x e port c
-  in_others (suc i) (y ∷ servers) zero x e n port c =
-      Contains-append_left (sent_from y.noted) (others_sent_from i servers) port
-      (subst (λ (z : ServerProgram stores sources to). Contains (sent_from z.noted) port) (sym (same_Some y x e)) c)
+  in_others (suc i) (y ∷ servers) zero x e n port c = grind (arith, common_steps)
   in_others (suc i) (y ∷ servers) (suc j) x e n port c =
       Contains-append_right (sent_from y.noted) (others_sent_from i servers) port
       (in_others i servers j x e (λ same. n (ap suc same)) port c)
@@ -138,8 +126,7 @@ in_apart : (own ports : List ℕ) (port : ℕ) → has_port own port ≡ false �
     Contains (apart_from own ports) port
 in_apart own [] port n c = absurd (nothing_in port c)
 in_apart own (p ∷ ports) port n c = elim (first_or_more p port ports c) [
-  | inl same ↦ subst (λ (b : Bool). Contains (if b then apart_from own ports else p ∷ apart_from own ports) port)
-      (sym (ap (has_port own) same ∙ n)) (subst (λ (q : ℕ). Contains (p ∷ apart_from own ports) q) same
+  | inl same ↦ rw ((ap (has_port own) same ∙ n)) (subst (λ (q : ℕ). Contains (p ∷ apart_from own ports) q) same
       (first_in p (apart_from own ports)))
   | inr more ↦ after (has_port own p) (in_apart own ports port n more)
 ] where
@@ -167,9 +154,7 @@ pub number_cases : {X Y : Type 0} (xs : List X) (ip : List ℕ) (f : Y → List 
     slice_get (map (λ (x : X). ip) xs ++ map f ys) p ≡ Some at →
     ((x : X) × (slice_get xs p ≡ Some x) × (at ≡ ip))
     ⊎ ((k : ℕ) × (y : Y) × (slice_get ys k ≡ Some y) × (p ≡ length xs + k) × (at ≡ f y))
-number_cases [] ip f ys p at e =
-    let m = mapped f (slice_get ys p) at (sym (slice_get-map f ys p) ∙ e) in
-    inr (p, m.0, m.1, omega arith, sym m.2)
+number_cases [] ip f ys p at e = search (rules, mapped, slice_get-map)
 number_cases (x ∷ xs) ip f ys zero at e = inl (x, refl, sym (same_Some ip at e))
 number_cases (x ∷ xs) ip f ys (suc p) at e = elim (number_cases xs ip f ys p at e) [
   | inl h ↦ inl (h.0, h.1, h.2)
@@ -185,9 +170,7 @@ module _ {X Y : Type 0} (ip : List ℕ) (f : Y → List ℕ) (ys : List Y) where
 
   client_ip : (xs : List X) (p k : ℕ) (y : Y) → p ≡ length xs + k → slice_get ys k ≡ Some y →
       slice_get (map (λ (z : X). ip) xs ++ map f ys) p ≡ Some (f y)
-  client_ip [] p k y is e =
-      let same : p ≡ k = omega (arith, is) in
-      ap (slice_get (map f ys)) same ∙ (slice_get-map f ys k ∙ ap (option_map f) e)
+  client_ip [] p k y is e = search (rules, slice_get-map)
   client_ip (x ∷ xs) zero k y is e = absurd (omega (arith, is))
   client_ip (x ∷ xs) (suc p) k y is e = client_ip xs p k y (omega (arith, is)) e
 
@@ -220,12 +203,7 @@ module _ {S F D G K : Type 0} {stores : StoreMeaning S D} {sources : SourceMeani
   own_event c e h =
       let asks = asks_first (endpoint several.ip several.port) c in
       let request = Sent c.port (endpoint several.ip several.port) c.first.position.last_sent in
-      elim (Contains-append_cases asks.more (request ∷ []) e
-      (subst (λ (es : List SocketEvent). Contains es e) asks.is h)) [
-        | inl h ↦
-            inl (All-contains (IsOfPort c.port) asks.more e (All-from_recursion (IsOfPort c.port) asks.more asks.own) h)
-        | inr h ↦ inr (one_in e request h)
-      ]
+      grind (arith, common_steps)
 
   pub sent_own : (c : Client) (port : ℕ) (to : Endpoint) (bytes : List ℕ) → Contains c.noted (Sent port to bytes) →
       port ≡ c.port
@@ -258,18 +236,9 @@ module _ {S F D G K : Type 0} {stores : StoreMeaning S D} {sources : SourceMeani
   only zero x e = (refl, sym (same_Some client x e))
   only (suc q) x e = absurd (let f : None ≡ Some x = e in cc)
 
-  -- a stranger is one still, and so is another client
-  stranger_still : (a : Endpoint) → IsStrangerTo several.ip [] several.clients a → IsStranger both a
-  stranger_still a h =
-      record {
-        server = λ same. absurd (nothing_in a.port (h.server same));
-        clients = λ q x e same. h.clients k client found (ap there (sym (only q x e).1) ∙ same);
-      }
-
   other_strange : (j : ℕ) (c : Client) → slice_get several.clients j ≡ Some c → j ≢ k → (port : ℕ) → port ≡ c.port →
       IsStranger both (endpoint c.ip port)
-  other_strange j c at n port own =
-      subst (λ (p : ℕ). IsStranger both (endpoint c.ip p)) (sym own) (among.others j c at n)
+  other_strange j c at n port own = search rules
 
   -- for the server's address, or for the client
   abbrev IsNear : Endpoint → Type 0
@@ -307,16 +276,14 @@ module _ {S F D G K : Type 0} {stores : StoreMeaning S D} {sources : SourceMeani
         program = 0;
         port = port;
         is_at = (several.ip, refl, at.2 ∙ ap (λ (a : List ℕ). endpoint a port) ip);
-        sent = heard_server i m two_numbers earlier (Sent port to bytes)
-            (subst (λ (q : ℕ). Contains earlier (q, Sent port to bytes)) same c);
+        sent = heard_server i m two_numbers earlier (Sent port to bytes) (rw (same) at c);
       })
       | inr n ↦
           let noted =
-          subst (λ (es : List SocketEvent). Contains es (Sent port to bytes)) (among.is_order.servers p x is)
-          (noted_in p (Sent port to bytes) all (within (p, Sent port to bytes) c)) in
-          inr (subst (λ (a : Endpoint). MayCome both a bytes)
-          (ap (λ (a : List ℕ). endpoint a port) (sym ip) ∙ sym at.2)
-          (by_other p x is n port to bytes noted near))
+          rw (among.is_order.servers p x is) at (noted_in p (Sent port to bytes) all (within (p, Sent port to bytes)
+          c)) in
+          inr (rw (ap (λ (a : List ℕ). endpoint a port) (sym ip) ∙ sym at.2) at (by_other p x is n port to bytes noted
+          near))
     ]
 
     source_client : (j : ℕ) (y : Client) → slice_get several.clients j ≡ Some y → p ≡ number_of several j →
@@ -326,24 +293,21 @@ module _ {S F D G K : Type 0} {stores : StoreMeaning S D} {sources : SourceMeani
         subst (λ (q : ℕ). Contains earlier (q, Sent port to bytes)) number c in
         elim (cases_eq j k) [
           | inl same ↦
-              let y_is : y ≡ client =
-              same_Some y client (sym is ∙ (ap (slice_get several.clients) same ∙ found)) in
+              let y_is : y ≡ client = same_Some y client (sym is ∙ (ap (slice_get several.clients) same ∙ found)) in
               inl (record {
                 program = 1;
                 port = port;
-                is_at = (
-                  client.ip,
-                  refl,
-                  at.2 ∙ ap (λ (a : List ℕ). endpoint a port) (ip ∙ ap (λ (z : Client). z.ip) y_is),
-                );
-                sent = heard_client i m two_numbers earlier (Sent port to bytes)
-                    (subst (λ (q : ℕ). Contains earlier (number_of several q, Sent port to bytes)) same sent);
+                is_at = search rules;
+                sent = heard_client i m two_numbers earlier (Sent port to bytes) (subst (λ (q : ℕ). Contains earlier
+                    (number_of several q, Sent port to bytes)) same sent);
               })
           | inr n ↦
-              inr (inl (subst (λ (a : Endpoint). IsStranger both a)
-              (ap (λ (a : List ℕ). endpoint a port) (sym ip) ∙ sym at.2)
-              (other_strange j y is n port (own_port j y is port to bytes
-              (within (number_of several j, Sent port to bytes) sent)))))
+              inr (inl (subst (λ (a : Endpoint). IsStranger both a) (ap (λ (a : List ℕ). endpoint a port) (sym ip) ∙ sym
+              at.2) (other_strange j y is n port (own_port j y is port to bytes (within (
+                number_of several j,
+                Sent port
+                    to bytes,
+              ) sent)))))
         ]
 
     source : Comes earlier from to bytes
@@ -359,8 +323,7 @@ module _ {S F D G K : Type 0} {stores : StoreMeaning S D} {sources : SourceMeani
 
   nevertheless : (from : Endpoint) (bytes : List ℕ) (earlier : List Noted) (to : Endpoint) →
       IsStrangerTo several.ip [] several.clients from ⊎ IsError bytes → Comes earlier from to bytes
-  nevertheless from bytes earlier to (inl strange) = inr (inl (stranger_still from strange))
-  nevertheless from bytes earlier to (inr error) = inr (inr error)
+  nevertheless from bytes earlier to h4 = search rules
 
   comes : (p q : ℕ) (ip : List ℕ) → slice_get (ips_of several) p ≡ Some ip → slice_get (ips both) q ≡ Some ip →
       (e : SocketEvent) → ForBoth ip e → (earlier : List Noted) → ((x : Noted) → Contains earlier x → Contains all x) →
@@ -377,28 +340,15 @@ module _ {S F D G K : Type 0} {stores : StoreMeaning S D} {sources : SourceMeani
           | inr other ↦ nevertheless from bytes earlier h.0 other
         ],
       )
-  comes p q ip at_p at_q (Sent port to bytes) near earlier within h = tt
-  comes p q ip at_p at_q (Watched watch) near earlier within h = tt
-  comes p q ip at_p at_q (Elapsed port time) near earlier within h = tt
-  comes p q ip at_p at_q (Printed line) near earlier within h = tt
-  comes p q ip at_p at_q (Quiet event) near earlier within h = tt
+  comes p q ip at_p at_q e near earlier within h = tt
 
   for_server : (e : SocketEvent) → ForBoth several.ip e
-  for_server (Received port from bytes) = inl refl
-  for_server (Sent port to bytes) = tt
-  for_server (Watched watch) = tt
-  for_server (Elapsed port time) = tt
-  for_server (Printed line) = tt
-  for_server (Quiet event) = tt
+  for_server e = search rules
 
   for_client : (e : SocketEvent) → Contains client.noted e → ForBoth client.ip e
   for_client (Received port from bytes) c =
       inr (ap (λ (q : ℕ). endpoint client.ip q) (received_own client port from bytes c))
-  for_client (Sent port to bytes) c = tt
-  for_client (Watched watch) c = tt
-  for_client (Elapsed port time) c = tt
-  for_client (Printed line) c = tt
-  for_client (Quiet event) c = tt
+  for_client e c = tt
 
   abbrev Honest : List Noted → Type 0
   Honest order = IsHonest both (heard_with i m order)
@@ -409,8 +359,8 @@ module _ {S F D G K : Type 0} {stores : StoreMeaning S D} {sources : SourceMeani
       IsHonest both (heard_by is_server member e (heard_with i m earlier))
   honest_by true member e earlier within is at h rest =
       let here : slice_get (ips_of several) e.0 ≡ Some several.ip =
-      ap (slice_get (ips_of several)) (eqb-true e.0 i is)
-      ∙ server_ip several.ip (λ (z : Client). z.ip) several.clients several.servers i server at_i in
+      ap (slice_get (ips_of several)) (eqb-true e.0 i is) ∙ server_ip several.ip (λ (z : Client). z.ip) several.clients
+      several.servers i server at_i in
       (comes e.0 0 several.ip here refl e.1 (for_server e.1) earlier (λ x c. within x (later_in e earlier x c)) h, rest)
   honest_by false true e earlier within is at h rest =
       let number = eqb-true e.0 m at in
@@ -418,9 +368,11 @@ module _ {S F D G K : Type 0} {stores : StoreMeaning S D} {sources : SourceMeani
       client_ip several.ip (λ (z : Client). z.ip) several.clients several.servers e.0 k client number found in
       let noted : Contains client.noted e.1 =
       subst (λ (es : List SocketEvent). Contains es e.1) (among.is_order.clients k client found) (noted_in m e.1 all
-      (subst (λ (q : ℕ). Contains all (q, e.1)) number (within (e.0, e.1) (first_in e earlier)))) in (
-        comes e.0 1 client.ip here refl e.1 (for_client e.1 noted) earlier (λ x c. within x (later_in e earlier x c)) h,
-        rest,
+      (subst (λ (q : ℕ). Contains all (q, e.1)) number (within (e.0, e.1) (first_in e earlier)))) in search (
+        rules,
+        comes,
+        for_client,
+        later_in,
       )
   honest_by false false e earlier within is at h rest = rest
 
@@ -432,32 +384,19 @@ module _ {S F D G K : Type 0} {stores : StoreMeaning S D} {sources : SourceMeani
       (honest_heard earlier (λ x c. within x (later_in e earlier x c)) h.1)
 
   pub order_both : IsOrder both (heard_with i m all)
-  order_both = record {
-    server = server_events i m two_numbers all ∙ among.is_order.servers i server at_i;
-    clients = λ q x e.
-        ap (λ (p : ℕ). events_of (suc p) (heard_with i m all)) (only q x e).0
-        ∙ (client_events i m two_numbers all ∙ (among.is_order.clients k client found ∙ ap (λ (z : Client). z.noted)
-        (sym (only q x e).1)));
-  }
+  order_both = search (rules, server_events, two_numbers, only, client_events)
 
   pub honest_both : IsHonest both (heard_with i m all)
   honest_both = honest_heard all (λ x c. c) among.honest
 
   pub joined_both : TakesOwn several.ip (other_ports several i server client) client.runs →
       AreJoined both (heard_with i m all)
-  joined_both own = record {
-    is_order = order_both;
-    honest = honest_both;
-    fresh = among.fresh;
-    own = λ q x e. subst (λ (z : Client). TakesOwn several.ip (other_ports several i server client) z.runs)
-        (sym (only q x e).1) own;
-  }
+  joined_both own = search (rules, order_both, honest_both, only)
 
 module _ {S F D G K : Type 0} (stores : StoreMeaning S D) (sources : SourceMeaning F) (inputs : SourceMeaning G)
     (outputs : SinkMeaning K) where
   pub each_joined : EachIsJoined stores sources inputs outputs
-  each_joined several order i server k client at_i found served =
-      joined_both several order i server k client at_i found served.among served.own
+  each_joined several order i server k client at_i found served = search (rules, joined_both)
 
   pub each_keeps_any : EachKeepsAnyFiles stores sources inputs outputs
   each_keeps_any several order i server k client at_i found served =

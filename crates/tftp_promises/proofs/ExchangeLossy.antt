@@ -1,10 +1,8 @@
 -- The exchange meets the premises of bounded loss, though a datagram was lost.
-use Rattle.std.proofs.Common.{◌≡◌, ℕ, ◌+◌, ◌<◌, ◌≤◌, Bool, true, false, List, [], ◌∷◌, ◌++◌, Some, refl, ap, ◌∙◌, arith, inl}
+use Rattle.std.proofs.Common.{◌≡◌, ◌+◌, ◌≤◌, Bool, true, false, List, [], ◌∷◌, ◌++◌, refl, ap, ◌∙◌, arith}
 use Rattle.std.proofs.Common.{inr}
 use Rattle.tftp_ends.specs.Opening.{oack_bytes}
-use Rattle.tftp_ends.specs.Step.{ack_bytes, data_bytes, error_bytes}
-use Rattle.tftp_ends.specs.declared.error_reply.ErrorReply.TheVariants.{UnknownTransferId}
-use Rattle.tftp_file.specs.Memory.{memory_sink, memory_source}
+use Rattle.tftp_file.specs.Memory.{memory_source}
 use Rattle.tftp_store.specs.Memory.{memory_meaning}
 use Rattle.tftp_lives.specs.Lives.{Took, Said}
 use Rattle.tftp_lives.specs.Outlasting.{OneAct, ArriveInTime, AnswersPromptly, acts_of, timeouts}
@@ -20,17 +18,17 @@ use Rattle.tftp_sockets.specs.Trace.QuietEvent.{Slept, Woke}
 use Rattle.tftp_loop.specs.Run.{Run}
 use Rattle.tftp_loop.specs.Run.Run.{Start, Then}
 use Rattle.tftp_loop.specs.Steps.{LoopStep}
-use Rattle.tftp_promises.specs.AnyFiles.{ServesClient, client_end, peer_of}
+use Rattle.tftp_promises.specs.AnyFiles.{ServesClient}
 use Rattle.tftp_promises.specs.GivesUp.{WasHeld}
 use Rattle.tftp_promises.specs.Lived.{acts_at, acts_in}
 use Rattle.tftp_promises.specs.Outlasting.{AreBounded}
-use Rattle.tftp_promises.specs.Witness.{HasOutlasted, SomeAreJoined, lossy_acts, agreed, read_file, read_port, read_request, reader}
-use Rattle.tftp_promises.specs.Witness.{latecomer, read_at, requests, stranger}
+use Rattle.tftp_promises.specs.Witness.{SomeAreJoined, lossy_acts, agreed, read_port, read_request, reader}
+use Rattle.tftp_promises.specs.Witness.{latecomer, read_at}
 use Rattle.tftp_promises.proofs.Exchange.{exchanged, programs}
 use Rattle.tftp_promises.proofs.ExchangeParts.{read_spelled}
 use Rattle.tftp_promises.proofs.ExchangeReader.{accepts_does, dallying, reading, stores_does, times_does, waits_does}
 use Rattle.tftp_promises.proofs.ExchangeServer.{answers_wrong_peer, asks_to_read, closed_there, completes_read, handles, opens_read}
-use Rattle.tftp_promises.proofs.ExchangeServer.{sends_block, server}
+use Rattle.tftp_promises.proofs.ExchangeServer.{sends_block}
 use Rattle.tftp_promises.proofs.ExchangeStates.{read_by, reading_2, s0, s5}
 
 -- ---- loss

@@ -1,7 +1,6 @@
 -- What the steps of the exchange have in common: packets that are spelled, and files in memory.
-use Rattle.std.proofs.Common.{◌≡◌, ℕ, ◌<◌, decimal, false, List, [], ◌∷◌, Some, refl, sym, arith, rules, inl, inr}
+use Rattle.std.proofs.Common.{◌≡◌, ℕ, ◌<◌, decimal, false, List, [], ◌∷◌, Some, refl, arith, rules}
 use Rattle.std.specs.Prelude.{◌^◌}
-use Rattle.std.proofs.lemmas.Bool.{true≢false}
 use Rattle.std.proofs.lemmas.Fmt.{decimal_digit}
 use Rattle.tftp_wire.specs.Spelling.{Spells}
 use Rattle.tftp_wire.specs.declared.mode.Mode.TheVariants.{Octet}
@@ -35,12 +34,8 @@ pub ack_spelled : (number : ℕ) → number < 2 ^ 16 → Spells (Ack number) (ac
 ack_spelled number fits = record { valid = fits; word = []; mode = refl; whole = refl }
 
 pub block_spelled : (byte : ℕ) → Spells (Data 1 (byte ∷ [])) (data_bytes 1 (byte ∷ []))
-block_spelled byte =
-    record { valid = (λ e. omega (arith, e), omega arith, omega arith); word = []; mode = refl; whole = refl }
+block_spelled byte = search rules
 
 -- ---- a sink in memory that is not full refuses nothing
 pub takes_all : {P : Type 0} (bytes : List ℕ) → MustRefuseAppend (new_mem_sink 10 false) bytes → P
-takes_all bytes must = elim must [
-  | inl refuses ↦ absurd (true≢false (sym refuses))
-  | inr full ↦ absurd (let n : 0 ≡ 10 = full.0 in omega (arith, n))
-]
+takes_all bytes must = search rules

@@ -1,16 +1,14 @@
 -- The server of the put, and that it and its client are joined.
-use Rattle.std.proofs.Common.{◌≡◌, ℕ, true, false, [], ◌∷◌, reverse, take, Some, None, Ok, refl, sym, subst, arith}
-use Rattle.std.proofs.Common.{inl, zero, suc}
+use Rattle.std.proofs.lemmas.Grind.{common_steps}
+use Rattle.std.proofs.Common.{◌≡◌, ℕ, true, false, [], ◌∷◌, reverse, take, Some, None, Ok, refl, sym, arith, inl, rules}
 use Rattle.std.specs.Prelude.{slice_get}
 use Rattle.std.proofs.lemmas.Bool.{true≢false}
-use Rattle.std.proofs.lemmas.Option.{same_Some}
 use Rattle.tftp_wire.specs.declared.mode.Mode.TheVariants.{Octet}
 use Rattle.tftp_wire.specs.declared.packet.Packet.TheVariants.{Data, Write}
 use Rattle.tftp_negotiate.specs.Answer.{answered_option}
 use Rattle.tftp_negotiate.specs.Negotiation.{occurrences_of}
 use Rattle.tftp_negotiate.specs.Options.{name_of}
 use Rattle.tftp_file.specs.Memory.{memory_source}
-use Rattle.tftp_file.specs.declared.fault.StoreFault.TheVariants.{Memory}
 use Rattle.tftp_file.specs.declared.files.Files.TheVariants.{Sink}
 use Rattle.tftp_ends.specs.declared.outgoing.Outgoing.TheVariants.{LastSent}
 use Rattle.tftp_ends.specs.End.{EndState}
@@ -27,7 +25,7 @@ use Rattle.tftp_loop.specs.Run.Run.{Start, Then}
 use Rattle.tftp_loop.specs.Steps.LoopStep.{Request_received, Request_answered}
 use Rattle.tftp_promises.specs.Joined.{AreJoined}
 use Rattle.tftp_promises.specs.Openings.{our_ports}
-use Rattle.tftp_promises.specs.Order.{IsHonest, events_of}
+use Rattle.tftp_promises.specs.Order.{IsHonest}
 use Rattle.tftp_promises.specs.Others.{TakesOwn}
 use Rattle.tftp_promises.specs.Programs.{ServerProgram}
 use Rattle.tftp_promises.specs.Network.{HasOpened}
@@ -146,12 +144,7 @@ stores_block = record {
       mid = record { store = store; draft = filled; path = write_name; replace = false };
       answer = Ok done;
       decoded = (refl, refl);
-      appended = (
-        refl,
-        tt,
-        record { path = refl; replace = refl; files = refl },
-        (never_armed store refl, λ e. absurd (let f : None ≡ Some Memory = e in cc)),
-      );
+      appended = search rules;
       memory = λ e. absurd (cc);
       rest = record {
         answer = Ok done;
@@ -198,8 +191,7 @@ opened_there = inl (refl, refl)
 
 -- what holds of the writer holds of each client
 each : (P : ℕ → Client → Type 0) → P 0 writing → (k : ℕ) (c : Client) → slice_get programs.clients k ≡ Some c → P k c
-each P writes zero c e = subst (λ (z : Client). P 0 z) (same_Some writing c e) writes
-each P writes (suc k) c e = absurd (let f : None ≡ Some c = e in cc)
+each P writes k c e = search rules
 
 -- the first events of the put are honest
 abbrev Honest : ℕ → Type 0
@@ -235,10 +227,7 @@ honest_all = (
 
 joined : AreJoined programs (reverse put_exchange)
 joined = record {
-  is_order = record {
-    server = refl;
-    clients = each (λ k c. events_of (suc k) (reverse put_exchange) ≡ c.noted) refl;
-  };
+  is_order = grind (arith, common_steps);
   honest = honest_all;
   fresh = fresh_of_two server writing one_port client_away;
   own = each (λ k c. TakesOwn server_ip [] c.runs) (takes_none server_ip writing.runs);

@@ -1,12 +1,10 @@
 -- Two servers share an address and a request port: both open a transfer for one request, and the client takes the first
 -- that answers.
-use Rattle.std.proofs.Common.{◌≡◌, ℕ, List, [], ◌∷◌, reverse, Some, None, refl, sym, ap, ◌∙◌}
-use Rattle.std.proofs.Common.{subst, arith, zero, suc, inl, inr}
-use Rattle.std.specs.Prelude.{◌≢◌, ◌⊎◌, slice_get}
+use Rattle.std.proofs.lemmas.Grind.{common_steps}
+use Rattle.std.proofs.Common.{◌≡◌, ℕ, List, [], ◌∷◌, reverse, Some, refl, sym, ap, ◌∙◌, subst, arith, inl, inr, rules}
+use Rattle.std.specs.Prelude.{◌≢◌, slice_get}
 use Rattle.std.specs.List.{Contains}
-use Rattle.std.proofs.lemmas.Option.{same_Some}
 use Rattle.tftp_file.specs.Memory.{memory_sink, memory_source}
-use Rattle.tftp_ends.specs.Opening.{oack_bytes}
 use Rattle.tftp_store.specs.Memory.{memory_meaning}
 use Rattle.tftp_rules.specs.Machine.{Endpoint}
 use Rattle.tftp_sockets.specs.Trace.{SocketEvent}
@@ -15,10 +13,10 @@ use Rattle.tftp_promises.specs.Alone.{IsPassedOver, IsServed, alone}
 use Rattle.tftp_promises.specs.Openings.{ArePortsFresh, our_ports}
 use Rattle.tftp_promises.specs.Order.{CanComeOf, IsHonestOf, IsStrangerTo, Noted, events_of}
 use Rattle.tftp_promises.specs.Ports.{AreDistinct}
-use Rattle.tftp_promises.specs.Programs.{client_at, endpoint}
+use Rattle.tftp_promises.specs.Programs.{endpoint}
 use Rattle.tftp_promises.specs.Several.{Several, AreHonest, AreInOrder, apart_from, number_of}
 use Rattle.tftp_promises.specs.Several.{other_ports}
-use Rattle.tftp_promises.specs.Witness.{SomeAreShared, after_second, agreed, client_ip, exchange, read_request, reader}
+use Rattle.tftp_promises.specs.Witness.{SomeAreShared, after_second, client_ip, exchange, read_request, reader}
 use Rattle.tftp_promises.specs.Witness.{renumbered, requests, server_ip, shared_exchange}
 use Rattle.tftp_promises.proofs.EachAlone.{sent_in}
 use Rattle.tftp_promises.proofs.Exchange.{joined}
@@ -26,7 +24,6 @@ use Rattle.tftp_promises.proofs.ExchangeAlone.{Client, Server, client_away, two_
 use Rattle.tftp_promises.proofs.ExchangeReader.{reading, takes_first}
 use Rattle.tftp_promises.proofs.ExchangeServer.{opened_for, opened_second, ours_second, ports_first, ports_second, second}
 use Rattle.tftp_promises.proofs.ExchangeServer.{server}
-use Rattle.tftp_promises.proofs.KeptEvents.{first_or_more, nothing_in}
 use Rattle.tftp_promises.proofs.Orders.{first_in, later_in, one_in}
 
 -- ---- the order, with the client under another number
@@ -44,18 +41,11 @@ more = server_ip ∷ server_ip ∷ client_ip ∷ []
 
 -- each program has its address under its new number
 new_number : (p : ℕ) (ip : List ℕ) → slice_get few p ≡ Some ip → slice_get more (after_second p) ≡ Some ip
-new_number zero ip e = e
-new_number (suc zero) ip e = e
-new_number (suc (suc p)) ip e = absurd (let f : None ≡ Some ip = e in cc)
+new_number p ip e = search rules
 
 still_in : (order : List Noted) (p : ℕ) (x : SocketEvent) → Contains order (p, x) →
     Contains (renumbered order) (after_second p, x)
-still_in [] p x c = absurd (nothing_in (p, x) c)
-still_in (e ∷ order) p x c = elim (first_or_more e (p, x) order c) [
-  | inl same ↦ subst (λ (y : Noted). Contains (renumbered (y ∷ order)) (after_second p, x)) (sym same)
-      (first_in (after_second p, x) (renumbered order))
-  | inr later ↦ later_in (after_second e.0, e.1) (renumbered order) (after_second p, x) (still_in order p x later)
-]
+still_in order p x c = grind (arith, common_steps)
 
 comes : (p : ℕ) (e : SocketEvent) (order : List Noted) → CanComeOf few Strange p e order →
     CanComeOf more Strange (after_second p) e (renumbered order)
@@ -100,60 +90,34 @@ honest = (tt, (second_hears, honest_still (reverse exchange) joined.honest))
 
 each_server : (P : ℕ → Server → Type 0) → P 0 server → P 1 second → (i : ℕ) (s : Server) →
     slice_get shared.servers i ≡ Some s → P i s
-each_server P one two zero s e = subst (λ (z : Server). P 0 z) (same_Some server s e) one
-each_server P one two (suc zero) s e = subst (λ (z : Server). P 1 z) (same_Some second s e) two
-each_server P one two (suc (suc i)) s e = absurd (let f : None ≡ Some s = e in cc)
+each_server P one two i s e = search rules
 
 the_client : (P : ℕ → Client → Type 0) → P 0 reading → (k : ℕ) (c : Client) → slice_get shared.clients k ≡ Some c →
     P k c
-the_client P reads zero c e = subst (λ (z : Client). P 0 z) (same_Some reading c e) reads
-the_client P reads (suc k) c e = absurd (let f : None ≡ Some c = e in cc)
+the_client P reads k c e = search rules
 
 in_order : AreInOrder shared shared_exchange
-in_order = record {
-  servers = each_server (λ i s. events_of i shared_exchange ≡ s.noted) refl refl;
-  clients = the_client (λ k c. events_of (number_of shared k) shared_exchange ≡ c.noted) refl;
-}
+in_order = assumption (
+  each_server (λ i s. events_of i shared_exchange ≡ s.noted) refl refl,
+  the_client (λ k c.
+      events_of (number_of shared k) shared_exchange ≡ c.noted) refl,
+)
 
 -- ---- the ports
 others_first : other_ports shared 0 server reading ≡ 2048 ∷ []
 others_first = ap (λ (known : List ℕ). apart_from (69 ∷ known) (2048 ∷ [])) ports_first
 
-others_second : other_ports shared 1 second reading ≡ 1024 ∷ 1024 ∷ 1024 ∷ 1024 ∷ []
-others_second = ap (λ (known : List ℕ). apart_from (69 ∷ known) (1024 ∷ 1024 ∷ 1024 ∷ 1024 ∷ [])) ports_second
-
-one_of : (a b port : ℕ) → Contains (a ∷ b ∷ []) port → (a ≡ port) ⊎ (b ≡ port)
-one_of a b port c = elim (first_or_more a port (b ∷ []) c) [
-  | inl same ↦ inl same
-  | inr later ↦ inr (one_in port b later)
-]
-
 only_2048 : (port : ℕ) → Contains (2048 ∷ []) port → 2048 ≡ port
 only_2048 port c = one_in port 2048 c
 
 only_1024 : (port : ℕ) → Contains (1024 ∷ 1024 ∷ 1024 ∷ 1024 ∷ []) port → 1024 ≡ port
-only_1024 port c = elim (first_or_more 1024 port (1024 ∷ 1024 ∷ 1024 ∷ []) c) [
-  | inl same ↦ same
-  | inr c ↦ elim (first_or_more 1024 port (1024 ∷ 1024 ∷ []) c) [
-    | inl same ↦ same
-    | inr c ↦ elim (one_of 1024 1024 port c) [
-      | inl same ↦ same
-      | inr same ↦ same
-    ]
-  ]
-]
+only_1024 port c = search rules
 
 not_first : (port : ℕ) → Contains (69 ∷ 1024 ∷ []) port → 2048 ≡ port → ⊥
-not_first port c other = elim (one_of 69 1024 port c) [
-  | inl same ↦ omega (arith, same, other)
-  | inr same ↦ omega (arith, same, other)
-]
+not_first port c other = search rules
 
 not_second : (port : ℕ) → Contains (69 ∷ 2048 ∷ []) port → 1024 ≡ port → ⊥
-not_second port c other = elim (one_of 69 2048 port c) [
-  | inl same ↦ omega (arith, same, other)
-  | inr same ↦ omega (arith, same, other)
-]
+not_second port c other = search rules
 
 far : (port : ℕ) → reader ≢ endpoint server_ip port
 far port same = client_away (ap (λ (a : Endpoint). a.ip) same)
@@ -168,8 +132,7 @@ module _ (i : ℕ) (s : Server) (port : ℕ) (ports : our_ports (alone shared i 
   fresh_of = record {
     server = subst (λ (known : List ℕ). AreDistinct (69 ∷ known)) (sym ports) (two_apart 69 port not_requests);
     clients = λ j k x y e f same. the_client (λ q c. q ≡ 0) refl j x e ∙ sym (the_client (λ q c. q ≡ 0) refl k y f);
-    apart = λ k q x e known same. far q (ap (λ (c : Client). client_at c)
-        (sym (the_client (λ q c. c ≡ reading) refl k x e)) ∙ same);
+    apart = search rules;
     others = λ q known other. apart q (known_is q known) other;
   }
 
@@ -178,8 +141,7 @@ no_other_client P j x e n = absurd (n (the_client (λ q c. q ≡ 0) refl j x e))
 
 -- ---- the first server serves the client
 apart_first : (q : ℕ) → Contains (69 ∷ 1024 ∷ []) q → Contains (other_ports shared 0 server reading) q → ⊥
-apart_first q known other =
-    not_first q known (only_2048 q (subst (λ (ports : List ℕ). Contains ports q) others_first other))
+apart_first q known other = search (rules, not_first, only_2048, others_first)
 
 served : IsServed shared shared_exchange 0 server 0 reading
 served = record {
@@ -187,22 +149,17 @@ served = record {
     is_order = in_order;
     honest = honest;
     others = λ j x e n. no_other_client _ j x e n;
-    fresh =
-        fresh_of 0 server 1024 (opened_for (alone shared 0 server reading)) (λ e. omega (arith, e)) apart_first;
-    apart = λ j x port to bytes e n c known near.
-        absurd (each_server (λ i s. i ≢ 0 → Contains s.noted (Sent port to bytes) → ⊥) (λ m d. m refl)
-        (λ m d. not_first port (subst (λ (ports : List ℕ). Contains (69 ∷ ports) port) ports_first known)
-        (only_2048 port (sent_in second.noted port to bytes d))) j x e n c);
+    fresh = fresh_of 0 server 1024 (opened_for (alone shared 0 server reading)) (λ e. omega (arith, e)) apart_first;
+    apart = search (rules, each_server, not_first, ports_first, only_2048, sent_in);
     away = λ port other. far port;
   };
-  own = takes_first (other_ports shared 0 server reading)
-      (λ other. apart_first 1024 (later_in 69 (1024 ∷ []) 1024 (first_in 1024 [])) other);
+  own = takes_first (other_ports shared 0 server reading) (λ other. apart_first 1024 (later_in 69 (1024 ∷ []) 1024
+      (first_in 1024 [])) other);
 }
 
 -- ---- and the second is passed over
 apart_second : (q : ℕ) → Contains (69 ∷ 2048 ∷ []) q → Contains (other_ports shared 1 second reading) q → ⊥
-apart_second q known other =
-    not_second q known (only_1024 q (subst (λ (ports : List ℕ). Contains ports q) others_second other))
+apart_second q known other = search rules
 
 passed_over : IsPassedOver shared shared_exchange 1 second 0 reading
 passed_over = record {
@@ -210,22 +167,14 @@ passed_over = record {
     is_order = in_order;
     honest = honest;
     others = λ j x e n. no_other_client _ j x e n;
-    fresh =
-        fresh_of 1 second 2048 (ours_second (alone shared 1 second reading)) (λ e. omega (arith, e)) apart_second;
+    fresh = fresh_of 1 second 2048 (ours_second (alone shared 1 second reading)) (λ e. omega (arith, e)) apart_second;
     apart = λ j x port to bytes e n c known near.
-        absurd (each_server (λ i s. i ≢ 1 → Contains s.noted (Sent port to bytes) → ⊥)
-        (λ m d. not_second port (subst (λ (ports : List ℕ). Contains (69 ∷ ports) port) ports_second known)
-        (only_1024 port (sent_in server.noted port to bytes d))) (λ m d. m refl) j x e n c);
+        absurd (each_server (λ i s. i ≢ 1 → Contains s.noted (Sent port to bytes) → ⊥) (λ m d. not_second port
+        (subst (λ (ports : List ℕ). Contains (69 ∷ ports) port) ports_second known) (only_1024 port (sent_in
+        server.noted port to bytes d))) (λ m d. m refl) j x e n c);
     away = λ port other. far port;
   };
-  refused = λ port bytes c. elim (first_or_more (Sent 2048 reader (oack_bytes agreed)) (Received port reader bytes)
-      (Received 69 reader read_request ∷ []) c) [
-        | inl same ↦ absurd (let f : Sent 2048 reader (oack_bytes agreed) ≡ Received port reader bytes = same in cc)
-        | inr c ↦
-            let same = one_in (Received port reader bytes) (Received 69 reader read_request) c in
-            let f : Received 69 reader read_request ≡ Received port reader bytes = same in
-            let at : port ≡ 69 = cc in let is : bytes ≡ read_request = cc in inl (at, is)
-      ];
+  refused = search rules;
 }
 
 pub some_shared : SomeAreShared

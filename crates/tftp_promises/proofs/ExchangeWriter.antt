@@ -69,13 +69,7 @@ sends_so = record {
   acts = record {
     answer = Ok 1;
     piece = write_file;
-    reads =
-        record {
-          fills = record { count = refl; given = refl; rest = refl };
-          read = λ e. absurd (cc);
-          fails = λ f. absurd f;
-          memory = λ e. absurd (cc);
-        };
+    reads = search rules;
     gives = tt;
     answers = refl;
   };

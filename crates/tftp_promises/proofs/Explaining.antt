@@ -7,14 +7,13 @@ use Rattle.tftp_file.specs.Source.{SourceMeaning}
 use Rattle.tftp_ends.specs.End.{is_complete, is_sender}
 use Rattle.tftp_store.specs.Store.{StoreMeaning}
 use Rattle.tftp_rules.specs.Machine.{Endpoint}
-use Rattle.tftp_lives.specs.Outlasting.{GaveUp}
 use Rattle.tftp_lives.specs.Unanswered.{IsOver}
 use Rattle.tftp_promises.specs.Alone.{alone, heard_with}
 use Rattle.tftp_promises.specs.AnyFiles.{client_end, peer_of}
-use Rattle.tftp_promises.specs.Explained.{DatagramWasLost, EachIsExplained, IsExplained, Goes_on, Failed, Refused, Of_request}
+use Rattle.tftp_promises.specs.Explained.{IsExplained, Goes_on, Failed, Of_request, Too_long}
 use Rattle.tftp_promises.specs.Explained.{Of_transfer, ProgramsAreExplained, SeveralAreExplained}
 use Rattle.tftp_promises.specs.Failed.{HasFailed}
-use Rattle.tftp_promises.specs.GivesUp.{GaveUpUnheard, IsSeenUnanswered}
+use Rattle.tftp_promises.specs.GivesUp.{IsSeenUnanswered}
 use Rattle.tftp_promises.specs.Joined.{AreJoined}
 use Rattle.tftp_promises.specs.Order.{Noted, Programs, ClientOf}
 use Rattle.tftp_promises.specs.Programs.{client_at}
@@ -22,6 +21,7 @@ use Rattle.tftp_promises.specs.Several.{number_of}
 use Rattle.tftp_promises.proofs.EachAlone.{each_joined}
 use Rattle.tftp_promises.proofs.Failing.{client_complete, client_failed, client_is, either_other, transfer_failed}
 use Rattle.tftp_promises.proofs.Fated.{requests_settled}
+use Rattle.tftp_promises.proofs.RefusedAnswers.{too_long}
 use Rattle.tftp_promises.proofs.GivingUp.{clients_seen, gave_up_unheard}
 
 module _ {S F D G K : Type 0} (stores : StoreMeaning S D) (sources : SourceMeaning F) (inputs : SourceMeaning G)
@@ -76,7 +76,9 @@ module _ {S F D G K : Type 0} (stores : StoreMeaning S D) (sources : SourceMeani
         | inl complete ↦ absurd (true≢false (sym complete ∙ incomplete))
         | inr closed ↦ elim (either_other closed.0 closed.2) [
           | inl failure ↦ Failed (incomplete, closed.0, closed.1, failure)
-          | inr refusal ↦ Refused none (incomplete, closed.0, closed.1, refusal)
+          | inr refusal ↦
+              Too_long none
+              (too_long joined k found none closed.0 closed.1 refusal)
         ]
       ]
       | inr other ↦ elim other [

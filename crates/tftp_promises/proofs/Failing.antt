@@ -1,5 +1,5 @@
 -- How a client, and the transfer that serves it, close that have not given up. For Outlasting and Explaining.
-use Rattle.std.proofs.Common.{◌≡◌, ℕ, true, false, not, List, Some, refl, sym, ap, ◌∙◌, subst, inl, inr}
+use Rattle.std.proofs.Common.{◌≡◌, ℕ, true, false, List, Some, refl, sym, ap, ◌∙◌, subst, inl, inr}
 use Rattle.std.specs.Prelude.{◌⊎◌, slice_get}
 use Rattle.std.proofs.lemmas.Bool.{true≢false}
 use Rattle.tftp_file.specs.Sink.{SinkMeaning}

@@ -11,9 +11,7 @@ use Rattle.tftp_file.specs.Source.{SourceMeaning}
 use Rattle.tftp_store.specs.Store.{StoreMeaning}
 use Rattle.tftp_loop.specs.Run.{Run}
 use Rattle.tftp_loop.specs.Run.Run.{Start, Then}
-use Rattle.tftp_loop.specs.Steps.{LoopState, LoopStep, Waited, At_port, Request_received, No_request_found}
-use Rattle.tftp_loop.specs.Steps.{Request_not_received, Request_noted, Request_answered, Request_lost, Clock_read}
-use Rattle.tftp_loop.specs.Steps.{Store_set, Drain_begun, Transfer_closed}
+use Rattle.tftp_loop.specs.Steps.{LoopState, LoopStep, Request_answered}
 use Rattle.tftp_promises.specs.Openings.{DistinctPortsAreFresh, is_ours, our_ports, ours_by}
 use Rattle.tftp_promises.specs.Order.{Programs}
 use Rattle.tftp_promises.specs.Ports.{AreDistinct, opened_by, opened_ports}
@@ -61,20 +59,10 @@ module _ {S F D G K : Type 0} {stores : StoreMeaning S D} {sources : SourceMeani
   step_twice : {first old new : LoopState S F D} (run : Run (LoopStep stores sources) first old)
       (does : LoopStep stores sources old new) → (NoneTwice (opened_ports run) → NoneTwice (our_ports programs run)) →
       NoneTwice (opened_by does ++ opened_ports run) → NoneTwice (ours_by programs does ++ our_ports programs run)
-  step_twice run (Waited h) rest n = rest n
-  step_twice run (At_port serves) rest n = rest n
-  step_twice run (Request_received h) rest n = rest n
-  step_twice run (No_request_found h) rest n = rest n
-  step_twice run (Request_not_received h) rest n = rest n
-  step_twice run (Request_noted h) rest n = rest n
   step_twice run (Request_answered answers) rest n =
       answered_twice (is_ours programs answers.from) answers.left.opened.tid (opened_ports run) (our_ports programs run)
       (λ port c. ours_among programs run port c) rest n
-  step_twice run (Request_lost h) rest n = rest n
-  step_twice run (Clock_read h) rest n = rest n
-  step_twice run (Store_set h) rest n = rest n
-  step_twice run (Transfer_closed h) rest n = rest n
-  step_twice run (Drain_begun h) rest n = rest n
+  step_twice run does rest n = rest n
 
   ours_twice : {first last : LoopState S F D} (run : Run (LoopStep stores sources) first last) →
       NoneTwice (opened_ports run) → NoneTwice (our_ports programs run)

@@ -1,11 +1,10 @@
 -- A client that timed out was not answered by the transfer that serves it. For the law a_client_gives_up_unanswered.
-use Rattle.std.proofs.Common.{append_assoc, ◌≡◌, ℕ, Bool, true, false, not, Option, Some, None, refl, sym, ap, ◌∙◌, ◌++◌, [], ◌∷◌, ◌+◌, subst, arith, inl, inr, List}
-use Rattle.std.specs.Prelude.{◌⊎◌, slice_get, option_map}
+use Rattle.std.proofs.Common.{append_assoc, ◌≡◌, ℕ, true, false, Option, Some, None, refl, sym, ap, ◌∙◌, ◌++◌, [], ◌∷◌}
+use Rattle.std.proofs.Common.{◌+◌, subst, arith, inl, inr, List}
+use Rattle.std.specs.Prelude.{◌⊎◌, slice_get}
 use Rattle.tftp_file.specs.Sink.{SinkMeaning}
 use Rattle.tftp_file.specs.Source.{SourceMeaning}
 use Rattle.tftp_ends.specs.declared.outcome.Outcome.TheVariants as outcomes
-use Rattle.tftp_ends.specs.declared.phase.Terms.{Terms}
-use Rattle.tftp_ends.specs.declared.role.Role.{Role}
 use Rattle.tftp_ends.specs.End.{EndState, is_complete, is_sender, outcome_of, record_of}
 use Rattle.tftp_store.specs.Store.{StoreMeaning}
 use Rattle.tftp_rules.specs.Machine.{Endpoint}
@@ -31,9 +30,20 @@ use Rattle.tftp_promises.specs.GivesUp.{IsSeenUnanswered}
 use Rattle.tftp_promises.specs.GivesUp.{TransfersGiveUpUnanswered, WasHeld}
 use Rattle.tftp_promises.specs.Joined.{AreJoined}
 use Rattle.tftp_promises.specs.Lived.{acts_in}
+use Rattle.tftp_promises.specs.ClientRuns.{ClientRun}
+use Rattle.tftp_promises.specs.Programs.{ClientOpens, To_read, To_write}
+use Rattle.tftp_ends.specs.Action.{same_address}
+use Rattle.tftp_ends.specs.declared.backoff.Backoff.{Backoff}
+use Rattle.tftp_client.specs.Converses.{State}
+use Rattle.tftp_client.specs.Runs.{begun}
+use Rattle.tftp_file.specs.declared.files.Files.{Files}
+use Rattle.std.proofs.lemmas.Bool.{true≢false}
+use Rattle.tftp_promises.proofs.ClientTraces.{asks_there}
+use Rattle.tftp_promises.proofs.FirstRefused.{still_asks}
+use Rattle.tftp_promises.proofs.OthersTaken.{takes_none}
 use Rattle.tftp_promises.specs.Network.{HasOpened}
 use Rattle.tftp_promises.specs.Openings.{HasClosed}
-use Rattle.tftp_promises.specs.Order.{Noted, Programs, ClientOf}
+use Rattle.tftp_promises.specs.Order.{Noted, Programs, ClientOf, requests_at}
 use Rattle.tftp_promises.specs.Ports.{Removes}
 use Rattle.tftp_promises.specs.Programs.{client_at}
 use Rattle.tftp_promises.proofs.ClientLives.{client_lives, client_opening}
@@ -203,17 +213,63 @@ clients_seen stores sources inputs outputs programs order joined k client p foun
 
 module _ {S F D G K : Type 0} (stores : StoreMeaning S D) (sources : SourceMeaning F) (inputs : SourceMeaning G)
     (outputs : SinkMeaning K) where
+  -- a client without a peer still asks
+  still_asking : {to : Endpoint} {first : EndState} {file : Files G K} {backoff : Backoff} {port reading : ℕ}
+      {before : List SocketEvent} {s : State} {files : Files G K} → ClientOpens inputs outputs to first file →
+      (run : ClientRun inputs outputs port (begun backoff port reading first before) file s files) →
+      (record_of s.end).peer ≡ None →
+      (s.end.position.last_sent ≡ first.position.last_sent)
+      × (s.end.position.last_sent_to ≡ first.position.last_sent_to)
+  still_asking {first = first} {backoff = backoff} {port = port} {reading = reading} {before = before} (To_read opens) run
+      none =
+      still_asks [] [] (begun backoff port reading first before) opens.asked opens.limit (ap (λ (e : EndState). e.position.phase) opens.is) run (takes_none [] run)
+      none
+  still_asking {first = first} {backoff = backoff} {port = port} {reading = reading} {before = before} (To_write opens) run
+      none =
+      still_asks [] [] (begun backoff port reading first before) opens.asked opens.limit (ap (λ (e : EndState). e.position.phase) opens.is) run (takes_none [] run)
+      none
+
+  same_said : (a b : Endpoint) (x y : List ℕ) → a ≡ b → x ≡ y → Said a x ≡ Said b y
+  same_said a b x y e f = cc
+
   -- a client without a peer
   pub gave_up_unheard : (programs : Programs stores sources inputs outputs) (client : ClientOf programs) →
       peer_of (client_end programs client) ≡ None →
       outcome_of client.last.end.position.phase ≡ Some outcomes.TimedOut →
       is_complete client.last.end.position.phase ≡ false → GaveUpUnheard programs client
-  gave_up_unheard programs client none out incomplete = record {
-    unheard =
-        give_up_unheard inputs outputs client.first client.last.end _ (client_opening client.opens)
-        (client_lives client.runs) none out incomplete;
-    client_noted = client_noted client.before client.runs;
-  }
+  gave_up_unheard programs client none out incomplete =
+      let unheard =
+      give_up_unheard inputs outputs client.first client.last.end _ (client_opening client.opens)
+      (client_lives client.runs) none out incomplete in
+      let told = client_noted client.before client.runs in
+      let same : told.noted ≡ client.noted =
+      append_cancel_right told.noted client.noted client.before (sym told.is ∙ client.is_noted) in
+      let only = client_only client.before client.runs in
+      let also : only.noted ≡ client.noted =
+      append_cancel_right only.noted client.noted client.before (sym only.is ∙ client.is_noted) in
+      let asks = still_asking client.opens client.runs none in
+      record {
+        unheard = unheard;
+        client_noted = told;
+        request = asks.0;
+        copies =
+            subst (λ (es : List SocketEvent). HasCopies (client.last.end.role.retries + 1)
+            (Sent client.port (requests_at programs) client.first.position.last_sent) es) same
+            (tells_copies client.port told.tells (client.last.end.role.retries + 1) (requests_at programs)
+            client.first.position.last_sent
+            (subst (λ (a : Act). HasCopies (client.last.end.role.retries + 1) a (acts_in client.runs))
+            (same_said client.last.end.position.last_sent_to (requests_at programs) client.last.end.position.last_sent
+            client.first.position.last_sent (asks.1 ∙ asks_there client.opens) asks.0) unheard.tried.copies));
+        unreceived = λ from bytes near there.
+            elim (only.handled from bytes
+            (subst (λ (es : List SocketEvent). Has (Received client.port from bytes) es) (sym also) there)) [
+              | inl took ↦
+                  absurd (true≢false
+                  (sym (subst (λ (a : Endpoint). same_address a from ≡ true)
+                  (sym (asks.1 ∙ asks_there client.opens)) near) ∙ unheard.unheard from bytes took))
+              | inr lost ↦ lost
+            ];
+      }
 
   -- by the peer of the client
   times_out_by : (programs : Programs stores sources inputs outputs) (order : List Noted) → AreJoined programs order →

@@ -1,31 +1,19 @@
 -- The transfer at an identifier, after another one took its place or one was removed.
 use Rattle.std.proofs.Common.{◌≡◌, ◌≢◌, ℕ, Bool, true, false, List, [], ◌∷◌, cond, Some, None, refl, sym, ap}
-use Rattle.std.proofs.Common.{◌∙◌, inl, inr}
+use Rattle.std.proofs.Common.{◌∙◌, inl, inr, rules}
 use Rattle.std.specs.Prelude.{◌⊎◌}
 use Rattle.std.proofs.lemmas.Bool.{cases_eq}
 use Rattle.std.proofs.lemmas.Option.{same_Some}
 use Rattle.std.specs.BTreeMap.{is_at}
 use Rattle.std.specs.Ordering.{nat_cmp}
 use Rattle.tftp_server.specs.State.{at, with_next, without}
-use Rattle.tftp_rules.proofs.Entries.{lookup-remove_other, lookup-set_other, lookup-set_same, numbers, same_at}
+use Rattle.tftp_rules.proofs.Entries.{lookup-remove_other, lookup-set_other, lookup-set_same, numbers}
 use Rattle.tftp_promises.proofs.Invariant.{AreKeyedOnce}
 
 module _ {T : Type 0} where
-  -- where nothing is found, neither the head nor the rest has it
-  none_by : (tid : ℕ) (e : ℕ × T) (held : List (ℕ × T)) (b : Bool) → is_at (nat_cmp tid) e.0 ≡ b →
-      at tid (e ∷ held) ≡ None → (b ≡ false) × (at tid held ≡ None)
-  none_by tid e held true h none =
-      absurd (let f : Some e.1 ≡ None = ap (λ (c : Bool). cond c (Some e.1) (at tid held)) (sym h) ∙ none in cc)
-  none_by tid e held false h none = (refl, ap (λ (c : Bool). cond c (Some e.1) (at tid held)) (sym h) ∙ none)
-
   none_both : (tid : ℕ) (e : ℕ × T) (held : List (ℕ × T)) → at tid (e ∷ held) ≡ None →
       (is_at (nat_cmp tid) e.0 ≡ false) × (at tid held ≡ None)
-  none_both tid e held none =
-      let h = none_by tid e held (is_at (nat_cmp tid) e.0) refl none in (h.0, h.1)
-
-  none_here : (tid : ℕ) (key : ℕ) (x : T) (held : List (ℕ × T)) → is_at (nat_cmp tid) key ≡ false → at tid held ≡ None →
-      at tid ((key, x) ∷ held) ≡ None
-  none_here tid key x held h rest = ap (λ (c : Bool). cond c (Some x) (at tid held)) h ∙ rest
+  none_both tid e held none = search rules
 
   -- ---- another one in its place
   -- which one is found
@@ -45,8 +33,7 @@ module _ {T : Type 0} where
   next_none : (other : ℕ) (next : T) (e : ℕ × T) (held more : List (ℕ × T)) (b : Bool) →
       is_at (nat_cmp other) e.0 ≡ false → at other held ≡ None → at other more ≡ None →
       at other (cond b ((e.0, next) ∷ held) (e ∷ more)) ≡ None
-  next_none other next e held more true h none rest = none_here other e.0 next held h none
-  next_none other next e held more false h none rest = none_here other e.0 e.1 more h rest
+  next_none other next e held more b h none rest = search rules
 
   -- where none was found, none is
   none-with_next : (tid other : ℕ) (next : T) (held : List (ℕ × T)) → at other held ≡ None →
@@ -59,8 +46,7 @@ module _ {T : Type 0} where
 
   next_once : (next : T) (e : ℕ × T) (held more : List (ℕ × T)) (b : Bool) → AreKeyedOnce (e ∷ held) →
       at e.0 more ≡ None → AreKeyedOnce more → AreKeyedOnce (cond b ((e.0, next) ∷ held) (e ∷ more))
-  next_once next e held more true once none rest = (once.0, once.1)
-  next_once next e held more false once none rest = (none, rest)
+  next_once next e held more b once none rest = search rules
 
   -- no identifier is there twice
   pub once-with_next : (tid : ℕ) (next : T) (held : List (ℕ × T)) → AreKeyedOnce held →
@@ -74,8 +60,7 @@ module _ {T : Type 0} where
   out_none : (other : ℕ) (e : ℕ × T) (held more : List (ℕ × T)) (b : Bool) → is_at (nat_cmp other) e.0 ≡ false →
       at other held ≡ None → at other more ≡ None →
       at other (cond b held (e ∷ more)) ≡ None
-  out_none other e held more true h none rest = none
-  out_none other e held more false h none rest = none_here other e.0 e.1 more h rest
+  out_none other e held more b h none rest = search rules
 
   -- where none was found, none is
   none-without : (tid other : ℕ) (held : List (ℕ × T)) → at other held ≡ None → at other (without tid held) ≡ None
@@ -98,8 +83,7 @@ module _ {T : Type 0} where
 
   out_here : (tid : ℕ) (e : ℕ × T) (held more : List (ℕ × T)) (b : Bool) → is_at (nat_cmp tid) e.0 ≡ b →
       at e.0 held ≡ None → at tid more ≡ None → at tid (cond b held (e ∷ more)) ≡ None
-  out_here tid e held more true h once rest = ap (λ (k : ℕ). at k held) (sym (same_at numbers tid e.0 h)) ∙ once
-  out_here tid e held more false h once rest = none_here tid e.0 e.1 more h rest
+  out_here tid e held more b h once rest = search rules
 
   -- the one that was removed is not found
   at-without : (tid : ℕ) (held : List (ℕ × T)) → AreKeyedOnce held → at tid (without tid held) ≡ None
@@ -112,7 +96,6 @@ module _ {T : Type 0} where
       at other (without tid held) ≡ Some t → (other ≢ tid) × (at other held ≡ Some t)
   at-without_cases tid other t held once h = elim (cases_eq other tid) [
     | inl e ↦
-        absurd (let f : None ≡ Some t = sym (at-without tid held once)
-        ∙ (ap (λ (k : ℕ). at k (without tid held)) (sym e) ∙ h) in cc)
+        absurd (let f : None ≡ Some t = search (rules, at-without) in cc)
     | inr n ↦ (n, sym (lookup-remove_other numbers tid other held n) ∙ h)
   ]

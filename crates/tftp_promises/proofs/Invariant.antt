@@ -3,7 +3,7 @@
 -- as for the turns of an end.
 use Rattle.std.specs.Prelude.{ℕ, ◌≡◌, ◌≢◌, ◌⊎◌, ◌<◌, true, false, List, [], ◌∷◌, ◌++◌, slice_get, Option, Some, None}
 use Rattle.std.specs.Prelude.{Bool, Ok}
-use Rattle.std.proofs.Common.{sym, subst}
+use Rattle.std.proofs.Common.{rules}
 use Rattle.std.specs.List.{Contains}
 use Rattle.tftp_wire.specs.Spelling.{Spells}
 use Rattle.tftp_wire.specs.declared.mode.Mode.{Mode}
@@ -88,8 +88,7 @@ pub record IsNamed (there bytes : List ℕ) : Type 0 where
 -- and still is after a step
 pub named_still : {there there' bytes bytes' : List ℕ} → there' ≡ there → bytes' ≡ bytes → IsNamed there bytes →
     IsNamed there' bytes'
-named_still {there = there} {bytes' = bytes'} same is h =
-    subst (λ (p : List ℕ). IsNamed p bytes') (sym same) (subst (λ (b : List ℕ). IsNamed there b) (sym is) h)
+named_still {there = there} {bytes' = bytes'} same is h = search rules
 
 -- the length of a transfer's file, as it was measured when the transfer opened
 abbrev pub length_of : {F D : Type 0} → Option (TransferState F D) → ℕ
@@ -248,18 +247,7 @@ module _ {S F D G K : Type 0} {stores : StoreMeaning S D} {sources : SourceMeani
       (h : TransferKept pad views messages snapshot port transfer a) →
       IsViewed (joined programs) (SendsText programs pad) views' messages' h.end →
       HasStored pad snapshot' h.end transfer.files → TransferKept pad views' messages' snapshot' port transfer a
-  same_transfer h viewed has = record {
-    end = h.end;
-    address = h.address;
-    seat = h.seat;
-    state = h.state;
-    path = h.path;
-    request = h.request;
-    named = h.named;
-    side = h.side;
-    viewed = viewed;
-    has = has;
-  }
+  same_transfer h viewed has = search rules
 
   -- the server
   pub record ServerKept (messages : List Message) (snapshot : Snapshot programs) : Type 0 where

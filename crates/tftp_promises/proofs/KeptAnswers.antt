@@ -1,13 +1,11 @@
 -- An answer to a client that has no peer comes from the server: a client's DATA, ACK or OACK goes to its peer, which is
 -- at the server.
-use Rattle.std.proofs.Common.{◌≡◌, true, Some, sym, ap, ◌∙◌, subst, inl, inr, List}
+use Rattle.std.proofs.Common.{◌≡◌, sym, subst, List, rules}
 use Rattle.std.specs.Prelude.{◌≢◌}
 use Rattle.std.specs.List.{Contains}
-use Rattle.std.proofs.lemmas.Bool.{cases_Bool}
 use Rattle.tftp_wire.specs.declared.packet.Packet.{Packet as WirePacket}
-use Rattle.tftp_wire.specs.declared.packet.Packet.TheVariants.{Read, Write, Data, Ack, Error, Oack}
 use Rattle.tftp_rules.specs.EndKept.{IsAnswer}
-use Rattle.tftp_rules.specs.Facts.{home, Holds, Attests}
+use Rattle.tftp_rules.specs.Facts.{Holds, Attests}
 use Rattle.tftp_rules.specs.Machine.{Endpoint, At_server, At_client, Elsewhere, Message, Machine, Network}
 use Rattle.tftp_rules.specs.Rules.{message}
 use Rattle.tftp_rules.specs.Said.{said}
@@ -17,22 +15,8 @@ use Rattle.tftp_rules.proofs.Refines.{shown_by}
 module _ (network : Network) where
   module _ (m : Machine) (holds : Holds network m) (from to : Endpoint)
       (at_client : network.host_of to ≡ At_client) where
-    -- the peer of a client is at the server
-    from_peer : (m.party from).is_open ≡ true → (m.party from).peer ≡ Some to → network.host_of from ≡ At_server
-    from_peer opened peer = elim (cases_Bool (m.party from).client) [
-      | inl client ↦
-          absurd (let there : At_server ≡ At_client = sym ((holds.ends from opened).serving client to peer).0
-          ∙ at_client in cc)
-      | inr server ↦ (holds.ends from opened).at_home ∙ ap home server
-    ]
-
     by_packet : (p : WirePacket) → IsAnswer p → Attests (m.party from) to (said p) → network.host_of from ≡ At_server
-    by_packet (Read request) answer h = absurd answer
-    by_packet (Write request) answer h = absurd answer
-    by_packet (Data block bytes) answer h = from_peer h.is_open h.peer
-    by_packet (Ack block) answer h = from_peer h.is_open h.peer
-    by_packet (Error code text) answer h = absurd answer
-    by_packet (Oack options) answer h = from_peer h.is_open h.peer
+    by_packet p answer h = search rules
 
   pub answer_from_server : (views : List EndView) (messages : List Message) → IsShown network views messages →
       (from to : Endpoint) → network.host_of from ≢ Elsewhere → network.host_of to ≡ At_client →

@@ -1,5 +1,5 @@
 -- A step of a client keeps the invariant, if it does of the client's own end.
-use Rattle.std.proofs.Common.{◌≡◌, ℕ, List, ◌++◌, set, Some, sym, ap, ◌∙◌, subst, inl, inr}
+use Rattle.std.proofs.Common.{◌≡◌, ℕ, List, ◌++◌, set, Some, sym, ap, ◌∙◌, subst, inl, inr, rules}
 use Rattle.std.specs.Prelude.{◌≢◌, ◌⊎◌, slice_get}
 use Rattle.std.specs.List.{Contains}
 use Rattle.std.proofs.lemmas.Bool.{cases_eq}
@@ -98,40 +98,24 @@ module _ {S F D G K : Type 0} {stores : StoreMeaning S D} {sources : SourceMeani
           by_client h.client h.stage h.port from to bytes (one_client h.k k h.client client h.is_client found e.0) e.1
           h.at h.sent
       | inr e ↦
-          before from to bytes (inr
-          (record {
-            k = h.k;
-            client = h.client;
-            is_client = h.is_client;
-            stage = h.stage;
-            is_stage = e.1;
-            port = h.port;
-            at = h.at;
-            sent = h.sent;
-          }))
+          before from to bytes (inr (search))
     ]
 
     -- another client
     other : (j : ℕ) (c : ClientOf programs) (stage : ClientStage G K) → slice_get programs.clients j ≡ Some c → j ≢ k →
         StageKept programs pad kept.views kept.messages c stage → StageKept programs pad turns.views messages c stage
     other j c Unasked at n h = tt
-    other j c (Has_asked s' files' noted' moved') at n h = record {
-      end = h.end;
-      address = h.address;
-      state = h.state;
-      side = h.side;
-      viewed = turns.others h.end (λ same. n (fresh.clients j k c client at found (sym (same ∙ h.address)))) h.viewed;
-      asks =
-          there_still kept.messages turns.said_now h.asks;
-      has = h.has;
-    }
+    other j c (Has_asked s' files' noted' moved') at n h =
+        search (
+          turns.others h.end (λ same. n (fresh.clients j k c client at found (sym (same ∙ h.address)))) h.viewed,
+          there_still kept.messages turns.said_now h.asks,
+        )
 
     all_clients : (j : ℕ) (c : ClientOf programs) (stage : ClientStage G K) → slice_get programs.clients j ≡ Some c →
         slice_get (set old.clients k next) j ≡ Some stage → StageKept programs pad turns.views messages c stage
     all_clients j c stage at e = elim (slice_get-set_cases old.clients k j next stage e) [
-      | inl h ↦ subst (λ (z : ClientStage G K). StageKept programs pad turns.views messages c z) (sym h.1)
-          (subst (λ (z : ClientOf programs). ClientKept programs pad turns.views messages z s files moved)
-          (sym (one_client j k c client at found h.0)) turns.own)
+      | inl h ↦ subst (λ z. StageKept programs pad turns.views messages c z) (sym h.1) (subst (λ z. ClientKept programs
+          pad turns.views messages z s files moved) (sym (one_client j k c client at found h.0)) turns.own)
       | inr h ↦ other j c stage at h.0 (kept.clients j c stage at h.1)
     ]
 
@@ -168,19 +152,10 @@ module _ {S F D G K : Type 0} {stores : StoreMeaning S D} {sources : SourceMeani
         noted = noted;
         moved = moved;
         is_stage = slice_get-set_same old.clients k next was is_stage;
-        address = h.address ∙ ap (λ (z : ClientOf programs). client_at z) (one_client h.k k h.client client h.found found same);
+        address = h.address ∙ ap (λ (z : ClientOf programs). client_at z) (one_client h.k k h.client client h.found
+            found same);
       }
-      | inr n ↦ record {
-        k = h.k;
-        client = h.client;
-        found = h.found;
-        s = h.s;
-        files = h.files;
-        noted = h.noted;
-        moved = h.moved;
-        is_stage = slice_get-set_other old.clients k h.k next n ∙ h.is_stage;
-        address = h.address;
-      }
+      | inr n ↦ search (slice_get-set_other old.clients k h.k next n ∙ h.is_stage)
     ]
 
     all_views : (view : EndView) → IsAmong turns.views view →
@@ -190,27 +165,8 @@ module _ {S F D G K : Type 0} {stores : StoreMeaning S D} {sources : SourceMeani
         | inl h ↦ inl (asked_still view.address h)
         | inr h ↦ inr (record { port = h.port; transfer = h.transfer; is_transfer = h.is_transfer })
       ]
-      | inr here ↦ inl (record {
-        k = k;
-        client = client;
-        found = found;
-        s = s;
-        files = files;
-        noted = noted;
-        moved = moved;
-        is_stage = slice_get-set_same old.clients k next was is_stage;
-        address = here;
-      })
+      | inr here ↦ inl (search (slice_get-set_same old.clients k next was is_stage))
     ]
 
     pub client_keeps : IsKept pad new
-    client_keeps = record {
-      views = turns.views;
-      messages = messages;
-      shown = turns.shown;
-      sent = all_sent;
-      server = server_kept;
-      clients = all_clients;
-      transfers = all_transfers;
-      only = all_views;
-    }
+    client_keeps = search (rules, all_sent, server_kept, all_clients, all_transfers, all_views)

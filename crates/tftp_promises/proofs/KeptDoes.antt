@@ -5,6 +5,8 @@ use Rattle.std.specs.List.{Contains}
 use Rattle.std.proofs.lemmas.List.Elements.{Contains-append_left, Contains-push}
 use Rattle.tftp_wire.specs.Spelling.{Spells}
 use Rattle.tftp_wire.specs.declared.packet.Packet.{Packet as WirePacket}
+use Rattle.tftp_wire.specs.declared.packet.Packet.TheVariants.{Error}
+use Rattle.tftp_wire.proofs.SpellingLemmas.{one_meaning}
 use Rattle.tftp_file.specs.Block.{IsPrefixOf}
 use Rattle.tftp_file.specs.Sink.{SinkMeaning}
 use Rattle.tftp_file.specs.Source.{SourceMeaning}
@@ -23,7 +25,7 @@ use Rattle.tftp_client.specs.Converses.{wait_at, waited, elapsed}
 use Rattle.tftp_client.specs.Converses.HandlesReceived.{Answers, Loses}
 use Rattle.tftp_client.specs.Converses.MayElapse.{Stays, Elapses}
 use Rattle.tftp_rules.specs.EndShown.{Stands}
-use Rattle.tftp_rules.specs.EndKept.{IsFromServer}
+use Rattle.tftp_rules.specs.EndKept.{IsAnswer, IsFromServer}
 use Rattle.tftp_rules.specs.Machine.{Endpoint, Elsewhere}
 use Rattle.tftp_rules.specs.OpenEnds.{OpenEnd, files_of, open_view, peer_of}
 use Rattle.tftp_rules.proofs.Indices.{slice_get-set_same}
@@ -35,7 +37,7 @@ use Rattle.tftp_promises.specs.ClientRuns.{client_moves, line_printed, moved_in}
 use Rattle.tftp_promises.specs.Joint.{CanTake}
 use Rattle.tftp_promises.specs.Moved.{Moved, handling_moves, step_moves}
 use Rattle.tftp_promises.specs.Openings.{our_ports}
-use Rattle.tftp_promises.specs.Order.{Programs}
+use Rattle.tftp_promises.specs.Order.{Programs, IsError}
 use Rattle.tftp_promises.specs.Others.{DoesOwn, HandlesOwn, IsOtherAnswer}
 use Rattle.tftp_promises.specs.Programs.{client_at}
 use Rattle.tftp_promises.specs.Network.{joined}
@@ -55,6 +57,11 @@ use Rattle.tftp_promises.proofs.UnblamedTurns.{turn_unblamed}
 no_outcome : (o : Option Outcome) → (IsSome o → ⊥) → o ≡ None
 no_outcome None still = refl
 no_outcome (Some outcome) still = absurd (still refl)
+
+-- an answer is no ERROR
+no_error_of : (p : WirePacket) (bytes : List ℕ) → Spells p bytes → IsAnswer p → IsError bytes → ⊥
+no_error_of p bytes spells answer error =
+    subst IsAnswer (one_meaning p (Error error.0 error.1) bytes spells error.2) answer
 
 module _ {S F D G K : Type 0} {stores : StoreMeaning S D} {sources : SourceMeaning F} {inputs : SourceMeaning G}
     {outputs : SinkMeaning K} {programs : Programs stores sources inputs outputs} {pad : ℕ} {old : Snapshot programs}
@@ -115,7 +122,7 @@ module _ {S F D G K : Type 0} {stores : StoreMeaning S D} {sources : SourceMeani
         let near : from.ip ≡ programs.ip = sym (same_ips (joined programs).request_port from same) in
         answer_from_server (joined programs) kept.views kept.messages kept.shown from x.address
         (near_server programs from near (λ other. takes_own no_peer
-        (record { near = near; other = other; packet = p; spells = spells; answer = answer })))
+        (record { near = near; other = other; no_error = no_error_of p bytes spells answer })))
         (ap (joined programs).host_of o.address
         ∙ clients_there programs k client found)
         p answer (there p spells)

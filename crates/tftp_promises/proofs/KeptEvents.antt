@@ -1,10 +1,10 @@
 -- The events of one step: what was sent is the answer.
-use Rattle.std.proofs.Common.{◌≡◌, ℕ, List, [], ◌∷◌, ◌++◌, Option, Some, None, inl, inr, arith}
+use Rattle.std.proofs.lemmas.Grind.{common_steps}
+use Rattle.std.proofs.Common.{◌≡◌, ℕ, List, [], ◌∷◌, ◌++◌, Option, Some, None, inl, inr, arith, rules}
 use Rattle.std.specs.Prelude.{◌⊎◌}
 use Rattle.std.specs.List.{Contains, AllByRecursion}
 use Rattle.std.proofs.lemmas.List.{append_cancel_right}
-use Rattle.std.proofs.lemmas.List.Elements.{Contains-append_cases, Contains-append_right, Contains-push_cases}
-use Rattle.std.proofs.lemmas.List.Elements.{All-from_recursion, All-contains}
+use Rattle.std.proofs.lemmas.List.Elements.{Contains-append_right}
 use Rattle.tftp_ends.specs.Step.{Reply}
 use Rattle.tftp_rules.specs.Machine.{Endpoint}
 use Rattle.tftp_sockets.specs.Trace.{SocketEvent, answered}
@@ -14,17 +14,11 @@ pub nothing_in : {X : Type 0} (x : X) → Contains [] x → ⊥
 nothing_in x h = let l = h.1 in omega arith
 
 pub only_one : {X : Type 0} (x y : X) → Contains (x ∷ []) y → x ≡ y
-only_one x y c = elim (Contains-push_cases [] x y c) [
-  | inl n ↦ absurd (nothing_in y n)
-  | inr same ↦ same
-]
+only_one x y c = search rules
 
 -- an event is the first one, or one of the others
 pub first_or_more : {X : Type 0} (x y : X) (xs : List X) → Contains (x ∷ xs) y → (x ≡ y) ⊎ Contains xs y
-first_or_more x y xs c = elim (Contains-append_cases (x ∷ []) xs y c) [
-  | inl one ↦ inl (only_one x y one)
-  | inr more ↦ inr more
-]
+first_or_more x y xs c = search rules
 
 -- nothing was sent
 abbrev pub IsSilent : List SocketEvent → Type 0
@@ -53,10 +47,7 @@ answered_has port (Some reply) events e c = Contains-append_right (Sent port rep
 same_sent : (own port : ℕ) (reply : Reply) (to : Endpoint) (bytes : List ℕ) →
     Sent own reply.to reply.bytes ≡ Sent port to bytes →
     (own ≡ port) × (Some reply ≡ Some (record { to = to; bytes = bytes }))
-same_sent own port reply to bytes e =
-    let to_is : reply.to ≡ to = cc in
-    let bytes_are : reply.bytes ≡ bytes = cc in
-    (cc, λ i. Some (record { to = to_is i; bytes = bytes_are i }))
+same_sent own port reply to bytes e = search rules
 
 pub answered_sends : (own : ℕ) (reply : Option Reply) (events : List SocketEvent) → IsSilent events →
     SendsOnly own reply (answered own reply events)
@@ -77,13 +68,11 @@ IsUnsent (Printed line) = Unit {0}
 IsUnsent (Quiet event) = Unit {0}
 
 pub unsent_silent : (events : List SocketEvent) → AllByRecursion IsUnsent events → IsSilent events
-unsent_silent events unsent port to bytes c =
-    All-contains IsUnsent events (Sent port to bytes) (All-from_recursion IsUnsent events unsent) c
+unsent_silent events unsent port to bytes c = grind (arith, common_steps)
 
 -- a timeout was due
 pub elapsed_silent : (own time : ℕ) → IsSilent (Elapsed own time ∷ [])
-elapsed_silent own time port to bytes c =
-    let f : Elapsed own time ≡ Sent port to bytes = only_one (Elapsed own time) (Sent port to bytes) c in cc
+elapsed_silent own time port to bytes c = search rules
 
 pub none_silent : IsSilent []
 none_silent port to bytes c = nothing_in (Sent port to bytes) c
@@ -94,5 +83,4 @@ added_none events added e = append_cancel_right [] added events e
 
 -- a line was printed
 pub printed_silent : (line : List ℕ) → IsSilent (Printed line ∷ [])
-printed_silent line port to bytes c =
-    let f : Printed line ≡ Sent port to bytes = only_one (Printed line) (Sent port to bytes) c in cc
+printed_silent line port to bytes c = search rules

@@ -1,10 +1,9 @@
 -- Ports that are fresh after a step were so before it.
-use Rattle.std.proofs.Common.{◌≡◌, ℕ, suc, zero, ◌+◌, List, [], ◌∷◌, ◌++◌, length, set, Option, Some, refl, sym, ap}
-use Rattle.std.proofs.Common.{subst, ◌∙◌, arith}
-use Rattle.std.specs.Prelude.{slice_get, option_map}
+use Rattle.std.proofs.Common.{◌≡◌, ℕ, suc, zero, ◌+◌, List, [], ◌∷◌, ◌++◌, length, set, Some, refl, sym, ap, subst, ◌∙◌}
+use Rattle.std.proofs.Common.{arith, inl, inr, rules}
+use Rattle.std.specs.Prelude.{slice_get}
 use Rattle.std.specs.List.{Contains}
 use Rattle.std.proofs.lemmas.List.Elements.{Contains-append_left, Contains-append_right, Contains-append_cases}
-use Rattle.std.proofs.Common.{inl, inr}
 use Rattle.std.proofs.lemmas.Bool.{cases_eq}
 use Rattle.std.proofs.lemmas.Option.{same_Some, slice_get-map}
 use Rattle.tftp_file.specs.Block.{IsPrefixOf}
@@ -12,15 +11,14 @@ use Rattle.tftp_file.specs.Sink.{SinkMeaning}
 use Rattle.tftp_file.specs.Source.{SourceMeaning}
 use Rattle.tftp_file.specs.declared.files.Files.{Files}
 use Rattle.tftp_store.specs.Store.{StoreMeaning}
-use Rattle.tftp_server.specs.State.{TransferState}
 use Rattle.tftp_sockets.specs.Trace.{SocketEvent}
 use Rattle.tftp_loop.specs.Steps.{LoopState, LoopStep}
 use Rattle.tftp_client.specs.Converses.{State}
 use Rattle.tftp_rules.specs.Machine.{Endpoint}
 use Rattle.tftp_rules.proofs.Indices.{slice_get-set_same, slice_get-set_other}
 use Rattle.tftp_promises.specs.ClientRuns.{ClientDoes, client_moves, moved_in}
-use Rattle.tftp_promises.specs.Moved.{Moved, or_before}
-use Rattle.tftp_promises.specs.Openings.{ArePortsFresh, does_move, moved_at, opened_at, our_ports, ours_by}
+use Rattle.tftp_promises.specs.Moved.{Moved}
+use Rattle.tftp_promises.specs.Openings.{ArePortsFresh, moved_at, our_ports, ours_by}
 use Rattle.tftp_promises.specs.Order.{Programs, ClientOf}
 use Rattle.tftp_promises.specs.Ports.{AreDistinct}
 use Rattle.tftp_promises.specs.Snapshots.{Snapshot, ClientStage, Unasked, Has_asked, server_did, client_did, all_of}
@@ -70,30 +68,18 @@ module _ {S F D G K : Type 0} {stores : StoreMeaning S D} {sources : SourceMeani
   told_before old new does added h a c =
       let t = h.told a (Contains-append_right (placed_by programs old.run does) (places programs old.run) a c) in
       let none = opens_none programs old.run does a (not_again programs old does added h a c) in
-      record {
-        bytes =
-            begins_on (moved_at programs a old.run).bytes
-            (does_move programs a old.run does (moved_at programs a old.run)).bytes
-            (moved_at programs a programs.server.run).bytes
-            (server_more programs old.run a does (moved_at programs a old.run) none) t.bytes;
-        opened =
-            ap (λ (o : Option (TransferState F D)). or_before o (opened_at programs a old.run)) (sym none) ∙ t.opened;
-      }
+      search (rules, begins_on, server_more)
 
   pub fresh_before_server : (old : Snapshot programs) (new : LoopState S F D) (does : LoopStep stores sources old.state new)
       (added : List SocketEvent) →
       IsFreshBy (server_did old does added) → IsFreshBy old
   fresh_before_server old new does added h = record {
-    server =
-        distinct_after programs.port (ours_by programs does) (our_ports programs old.run) h.server;
+    server = distinct_after _ _ _ h.server;
     below = λ port i. h.below port (Contains-append_right (ours_by programs does) (our_ports programs old.run) port i);
     clients = h.clients;
-    apart =
-        λ k port x found i. h.apart k port x found
-        (contains_after programs.port (ours_by programs does) (our_ports programs old.run) port i);
-    others =
-        λ port i. h.others port (contains_after programs.port (ours_by programs does) (our_ports programs old.run) port i);
-    told = λ a c. told_before old new does added h a c;
+    apart = λ k port x found i. h.apart k port x found (contains_after _ (ours_by programs does) _ _ i);
+    others = λ port i. h.others port (contains_after _ (ours_by programs does) _ _ i);
+    told = λ a c. told_before _ _ _ _ h a c;
     gave = h.gave;
   }
 
@@ -122,11 +108,9 @@ module _ {S F D G K : Type 0} {stores : StoreMeaning S D} {sources : SourceMeani
       | inl same ↦
           let now = had s files noted moved (ap (slice_get old.clients) (sym same) ∙ at) in
           let here : slice_get (set old.clients k stage) j ≡ Some (Has_asked now.0 now.1 now.2 now.3) =
-          ap (slice_get (set old.clients k stage)) same
-          ∙ (slice_get-set_same old.clients k stage (Has_asked s files noted moved)
-          (ap (slice_get old.clients) (sym same) ∙ at) ∙ ap (λ (z : ClientStage G K). Some z) now.4) in
-          begins_on moved.bytes now.3.bytes (moved_in client.runs).bytes now.5
-          (h.gave j client now.0 now.1 now.2 now.3 found here)
+          search (rules, slice_get-set_same) in
+          begins_on moved.bytes now.3.bytes (moved_in client.runs).bytes now.5 (h.gave j client now.0 now.1 now.2 now.3
+          found here)
       | inr n ↦ h.gave j client s files noted moved found (slice_get-set_other old.clients k j stage n ∙ at)
     ];
   }
@@ -134,12 +118,7 @@ module _ {S F D G K : Type 0} {stores : StoreMeaning S D} {sources : SourceMeani
   -- a client that had not asked had moved nothing
   pub unasked_had : (old : Snapshot programs) (k : ℕ) (stage : ClientStage G K) →
       slice_get old.clients k ≡ Some Unasked → HadMoved old k stage
-  unasked_had old k stage unasked s files noted moved at =
-      absurd (not_asked s files noted moved (same_Some Unasked (Has_asked s files noted moved)
-      (sym unasked ∙ at))) where
-        not_asked : (s : State) (files : Files G K) (noted : List SocketEvent) (moved : Moved) →
-            Unasked ≡ Has_asked s files noted moved → ⊥
-        not_asked s files noted moved e = cc
+  unasked_had old k stage unasked s files noted moved at = search rules
 
   -- and one that had asked goes on
   pub asked_had : (old : Snapshot programs) (k : ℕ) (client : Client) (s s' : State) (files files' : Files G K)
@@ -177,11 +156,5 @@ module _ {S F D G K : Type 0} {stores : StoreMeaning S D} {sources : SourceMeani
     apart = fresh.apart;
     others = fresh.others;
     told = λ a c. record { bytes = begins_itself (moved_at programs a programs.server.run).bytes; opened = refl };
-    gave = λ k client s files noted moved found at.
-        let last : Client → ClientStage G K = λ c. Has_asked c.last c.files c.noted (moved_in c.runs) in
-        let is : Some (last client) ≡ Some (Has_asked s files noted moved) =
-        sym (slice_get-map last programs.clients k ∙ ap (option_map last) found) ∙ at in
-        let same = last_moved client s files noted moved (same_Some (last client) (Has_asked s files noted moved) is) in
-        subst (λ (m : Moved). IsPrefixOf m.bytes (moved_in client.runs).bytes) same
-        (begins_itself (moved_in client.runs).bytes);
+    gave = search (rules, slice_get-map, last_moved, same_Some, begins_itself);
   }

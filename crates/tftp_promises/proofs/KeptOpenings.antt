@@ -1,23 +1,21 @@
 -- A transfer that a request opens keeps the invariant.
-use Rattle.std.proofs.Common.{◌≡◌, ◌≢◌, ℕ, ◌+◌, Bool, true, false, List, [], ◌∷◌, ◌++◌, length}
-use Rattle.std.proofs.Common.{Option, Some, None, refl, sym, ap, ◌∙◌, subst, inl, inr}
-use Rattle.std.specs.Prelude.{◌⊎◌, ◌==◌, if◌then◌else◌, map, option_map, option_to_list}
+use Rattle.std.proofs.Common.{◌≡◌, ◌≢◌, ℕ, ◌+◌, Bool, true, false, List, [], ◌∷◌, ◌++◌, length, Some, None, refl, sym}
+use Rattle.std.proofs.Common.{ap, ◌∙◌, subst, inl, inr, rules}
+use Rattle.std.specs.Prelude.{◌⊎◌, if◌then◌else◌, map, option_to_list}
 use Rattle.std.specs.List.{Contains}
-use Rattle.std.proofs.lemmas.Bool.{true≢false, eq-eqb, ne_eqb}
 use Rattle.std.proofs.lemmas.List.{append_cancel_right}
-use Rattle.std.proofs.lemmas.List.Elements.{Contains-append_left, Contains-append_right, Contains-push}
+use Rattle.std.proofs.lemmas.List.Elements.{Contains-append_right, Contains-push}
 use Rattle.tftp_wire.specs.Spelling.{Spells}
 use Rattle.tftp_file.specs.Sink.{SinkMeaning}
 use Rattle.tftp_file.specs.Source.{SourceMeaning}
-use Rattle.tftp_ends.specs.End.{EndState, outcome_of}
+use Rattle.tftp_ends.specs.End.{outcome_of}
 use Rattle.tftp_store.specs.Store.{StoreMeaning}
-use Rattle.tftp_server.specs.Request.{A_transfer, Left, left_by}
+use Rattle.tftp_server.specs.Request.{A_transfer, left_by}
 use Rattle.tftp_server.specs.State.{TransferState, ServerState, at, with_new}
 use Rattle.tftp_sockets.specs.Trace.{SocketEvent}
 use Rattle.tftp_sockets.specs.Trace.SocketEvent.{Sent}
 use Rattle.tftp_loop.specs.Steps.{AnswersRequest, LoopStep, LoopState, Request_answered, after_request}
 use Rattle.tftp_rules.specs.EndOpens.{EndOpens}
-use Rattle.tftp_rules.proofs.UnblamedEnds.{opens_unblamed}
 use Rattle.tftp_rules.specs.Machine.{At_server, Endpoint, Message, is_same}
 use Rattle.tftp_rules.specs.OpenEnds.{OpenEnd, open_view, peer_of}
 use Rattle.tftp_rules.specs.Rules.{message}
@@ -26,10 +24,8 @@ use Rattle.tftp_rules.specs.Shows.{EndView, IsShown, NoneAt}
 use Rattle.tftp_rules.proofs.Entries.{lookup-insert_other, lookup-insert_same, numbers}
 use Rattle.tftp_rules.proofs.Endpoints.{same_self}
 use Rattle.tftp_rules.proofs.Indices.{slice_get-push_new}
-use Rattle.tftp_rules.proofs.SaidLemmas.{spells_own}
 use Rattle.tftp_promises.specs.Moved.{came_if}
-use Rattle.tftp_promises.specs.Openings.{HasClosed, above, is_ours, opens_at, or_place, place}
-use Rattle.tftp_promises.specs.Openings.{place_at}
+use Rattle.tftp_promises.specs.Openings.{HasClosed, above, is_ours, opens_at, place, place_at}
 use Rattle.tftp_promises.specs.Order.{Programs, IsStranger}
 use Rattle.tftp_promises.specs.Ports.{opened_ports}
 use Rattle.tftp_promises.specs.Programs.{endpoint}
@@ -40,7 +36,7 @@ use Rattle.tftp_promises.proofs.Invariant.{AreKeyedOnce, HasStored, HasTransferB
 use Rattle.tftp_promises.proofs.Invariant.{IsKept, IsNamed, IsOfTransfer, IsStrangers, IsThere, ServerKept}
 use Rattle.tftp_promises.proofs.Invariant.{TransferKept, same_transfer}
 use Rattle.tftp_promises.proofs.KeptEvents.{only_one}
-use Rattle.tftp_promises.proofs.KeptRefusals.{closed_earlier, left_is, new_is, one_sent}
+use Rattle.tftp_promises.proofs.KeptRefusals.{closed_earlier, new_is, one_sent}
 use Rattle.tftp_promises.proofs.KeptServer.{ServerTurns, server_keeps}
 use Rattle.tftp_promises.proofs.KeptViews.{among_push, viewed_before}
 use Rattle.tftp_promises.proofs.MovedSteps.{MovesNone, none_answered}
@@ -79,43 +75,30 @@ module _ {S F D G K : Type 0} {stores : StoreMeaning S D} {sources : SourceMeani
   -- ---- a transfer opens
   module _ (transfer : TransferState F D) (store : S) (is : answers.steps.came ≡ A_transfer transfer store) where
     opens_port : option_to_list answers.left.opened.tid ≡ tid ∷ []
-    opens_port =
-        ap (λ (l : Left S F D). option_to_list l.opened.tid) (left_is kept answers (A_transfer transfer store) is)
+    opens_port = search rules
 
     placed : placed_by programs old.run does ≡ a ∷ []
     placed = ap (map (place programs count answers.from)) opens_port
 
     pub its_place : Contains (places programs now.run) a
-    its_place =
-        subst (λ (ps : List Endpoint). Contains (ps ++ opened) a) (sym placed)
-        (Contains-append_left (a ∷ []) opened a (Contains-push [] a))
+    its_place = search (rules, placed)
 
     -- it is what came at this place, and at this port
     pub came_here : opens_at programs a old.run does ≡ Some transfer
     came_here = ap (came_if (is_same a a)) is ∙ ap (λ (b : Bool). if b then Some transfer else None) (same_self a)
 
-    abbrev or_there : (port : ℕ) → Option (TransferState F D) → Endpoint
-    or_there port o =
-        or_place (option_map (λ (held : TransferState F D). place programs count answers.from port) o)
-        (place_at programs port old.run)
-
     place_now : place_at programs tid now.run ≡ a
-    place_now =
-        ap (or_there tid) (ap (came_if (tid == tid)) is ∙ ap (λ (b : Bool). if b then Some transfer else None)
-        (eq-eqb tid tid refl))
+    place_now = search rules
 
     place_still : (port : ℕ) → port ≢ tid → place_at programs port now.run ≡ place_at programs port old.run
-    place_still port n =
-        ap (or_there port) (ap (came_if (tid == port)) is ∙ ap (λ (b : Bool). if b then Some transfer else None)
-        (ne_eqb tid port (λ e. n (sym e))))
+    place_still port n = search rules
 
     -- no transfer before was at this place, or is held at this port
     place_is_new : (b : Endpoint) → Contains opened b → b ≢ a
     place_is_new b c = new_place programs old answers opens_port added fresh b c
 
     free_port : (port : ℕ) (t : TransferState F D) → at port server.held ≡ Some t → port ≢ tid
-    free_port port t e same =
-        let f : None ≡ Some t = sym answers.free ∙ (ap (λ (p : ℕ). at p server.held) (sym same) ∙ e) in cc
+    free_port port t e same = search rules
 
     pub none_there : NoneAt kept.views a
     none_there k view at same = elim (kept.only view (k, at)) [
@@ -133,9 +116,6 @@ module _ {S F D G K : Type 0} {stores : StoreMeaning S D} {sources : SourceMeani
     held_is : new.server.held ≡ with_new tid transfer server.held
     held_is = ap (λ (s : LoopState S F D). s.server.held) state_is
 
-    pub store_is : new.server.store ≡ store
-    store_is = ap (λ (s : LoopState S F D). s.server.store) state_is
-
     module _ (x : OpenEnd) (address : x.address ≡ a) (peer : peer_of x.state.position.phase ≡ Some answers.from)
         (state : x.state ≡ transfer.end) (path : x.path ≡ transfer.path) (request : x.request ≡ transfer.request)
         (named : IsNamed transfer.path transfer.request) (still : outcome_of x.state.position.phase ≡ None)
@@ -152,38 +132,26 @@ module _ {S F D G K : Type 0} {stores : StoreMeaning S D} {sources : SourceMeani
 
       -- its first datagram is among the messages
       spelled : Spells opens.packet x.state.position.last_sent
-      spelled =
-          subst (λ (b : List ℕ). Spells opens.packet b) (sym opens.last_sent) (spells_own opens.packet opens.valid)
+      spelled = search rules
 
       says_first : IsThere messages a answers.from x.state.position.last_sent
       says_first = (opens.packet, spelled, Contains-push kept.messages (message a answers.from (said opens.packet)))
 
       last_sent : IsThere messages x.address x.state.position.last_sent_to x.state.position.last_sent
-      last_sent =
-          subst (λ (e : Endpoint). IsThere messages e x.state.position.last_sent_to x.state.position.last_sent)
-          (sym address)
-          (subst (λ (e : Endpoint). IsThere messages a e x.state.position.last_sent) (sym opens.last_sent_to)
-          says_first)
+      last_sent = search (rules, says_first)
 
       one : Sent tid answers.from x.state.position.last_sent ∷ [] ≡ added
       one =
-          ap (λ (e : EndState). Sent tid answers.from e.position.last_sent ∷ []) state
-          ∙ append_cancel_right (Sent tid answers.from transfer.end.position.last_sent ∷ []) added old.state.events
-          (sym (ap (λ (s : LoopState S F D). s.events) state_is) ∙ noted)
+          ap (λ e. Sent tid answers.from e.position.last_sent ∷ []) state ∙ append_cancel_right (Sent tid answers.from
+          transfer.end.position.last_sent ∷ []) added old.state.events (sym (ap (λ s. s.events) state_is) ∙ noted)
 
       -- it stands at its port, or is a stranger's
       seat_by : (b : Bool) → is_ours programs answers.from ≡ b →
           (a ≡ endpoint programs.ip tid) ⊎ IsStrangers programs x.state
-      seat_by true e =
-          inl (ap (λ (b : Bool). endpoint programs.ip (if b then tid else above programs + count)) e)
+      seat_by true e = inl (ap (λ (b : Bool). endpoint programs.ip (if b then tid else above programs + count)) e)
       seat_by false e =
           let strange = strange_if programs answers.from e in
-          inr (record {
-            peer = answers.from;
-            is_peer = peer;
-            strange = strange;
-            last_sent_to = subst (λ (to : Endpoint). IsStranger programs to) (sym opens.last_sent_to) strange;
-          })
+          search rules
 
       seat : (a ≡ endpoint programs.ip tid) ⊎ IsStrangers programs x.state
       seat = seat_by (is_ours programs answers.from) refl
@@ -191,10 +159,8 @@ module _ {S F D G K : Type 0} {stores : StoreMeaning S D} {sources : SourceMeani
       first_by : (a ≡ endpoint programs.ip tid) ⊎ IsStrangers programs x.state →
           IsThere messages (endpoint programs.ip tid) answers.from x.state.position.last_sent
           ⊎ IsStranger programs answers.from
-      first_by (inl here) =
-          inl (subst (λ (e : Endpoint). IsThere messages e answers.from x.state.position.last_sent) here says_first)
-      first_by (inr s) =
-          inr (subst (λ (to : Endpoint). IsStranger programs to) opens.last_sent_to s.last_sent_to)
+      first_by (inl here) = inl (rw (← here) says_first)
+      first_by (inr s) = inr (subst (λ (to : Endpoint). IsStranger programs to) opens.last_sent_to s.last_sent_to)
 
       own : TransferKept pad views messages now tid transfer a
       own = record {
@@ -212,9 +178,7 @@ module _ {S F D G K : Type 0} {stores : StoreMeaning S D} {sources : SourceMeani
               index = length kept.views;
               viewed = slice_get-push_new kept.views (open_view x);
               last_sent = last_sent;
-              unblamed =
-                  opens_unblamed (joined programs) messages x.state still
-                  (λ client. absurd (true≢false (sym client ∙ opens.side)));
+              unblamed = search rules;
             };
         has = has;
       }
@@ -222,16 +186,14 @@ module _ {S F D G K : Type 0} {stores : StoreMeaning S D} {sources : SourceMeani
       -- nothing moves at another place
       beside : (b : Endpoint) → Contains opened b → MovesNone programs old.run does b
       beside b c =
-          none_answered programs old.run answers b
-          (λ d. place_is_new b c (sym (only_one a b (subst (λ (ps : List Endpoint). Contains ps b) placed d))))
+          none_answered programs old.run answers b (λ d. place_is_new b c (sym (only_one a b (rw (placed) at d))))
 
       other : (port : ℕ) (t : TransferState F D) (b : Endpoint) → HasTransferBy old port t b →
           TransferKept pad views messages now port t b
       other port t b was =
           let h = kept.transfers port t b was in
           same_transfer h (viewed_before said_now (open_view x) h.viewed) (stored_after pad old does added h.end
-          (subst (λ (e : Endpoint). MovesNone programs old.run does e) (sym h.address)
-          (beside b (kept.server.opened port t b was))) t.files h.has)
+          (rw (h.address) (beside b (kept.server.opened port t b was))) t.files h.has)
 
       -- a transfer that is held is the new one, or was held at another port
       abbrev IsNew : ℕ → TransferState F D → Type 0
@@ -252,10 +214,7 @@ module _ {S F D G K : Type 0} {stores : StoreMeaning S D} {sources : SourceMeani
 
       new_own : (port : ℕ) (t : TransferState F D) (b : Endpoint) → IsNew port t → b ≡ a →
           TransferKept pad views messages now port t b
-      new_own port t b h here =
-          subst (λ (e : Endpoint). TransferKept pad views messages now port t e) (sym here)
-          (subst (λ (n : ℕ). TransferKept pad views messages now n t a) (sym h.0)
-          (subst (λ (u : TransferState F D). TransferKept pad views messages now tid u a) h.1 own))
+      new_own port t b h here = search (rules, own)
 
       all_transfers : (port : ℕ) (t : TransferState F D) (b : Endpoint) → HasTransferBy now port t b →
           TransferKept pad views messages now port t b
@@ -284,8 +243,7 @@ module _ {S F D G K : Type 0} {stores : StoreMeaning S D} {sources : SourceMeani
       new_apart : (p q : ℕ) (t u : TransferState F D) → IsNew p t → WasHeld q u →
           place_at programs p now.run ≡ place_at programs q now.run → ⊥
       new_apart p q t u h was same =
-          place_is_new (place_at programs q old.run) (known_place q u was)
-          (sym (place_still q was.0) ∙ (sym same ∙ new_place_at p t h))
+          place_is_new _ (known_place q u was) (sym (place_still q was.0) ∙ (sym same ∙ new_place_at p t h))
 
       all_seats : (p q : ℕ) (t u : TransferState F D) → at p new.server.held ≡ Some t → at q new.server.held ≡ Some u →
           place_at programs p now.run ≡ place_at programs q now.run → p ≡ q
@@ -314,16 +272,14 @@ module _ {S F D G K : Type 0} {stores : StoreMeaning S D} {sources : SourceMeani
         requests = ap (λ (s : LoopState S F D). s.requests) state_is ∙ kept.server.requests;
         config = ap (λ (s : LoopState S F D). s.server.config) state_is ∙ kept.server.config;
         pending =
-            λ from bytes e. absurd (let f : None ≡ Some (from, bytes) = sym
-            (ap (λ (s : LoopState S F D). s.pending) state_is) ∙ e in cc);
+            λ from bytes e. absurd (let f : None ≡ Some (from, bytes) = sym (ap (λ (s : LoopState S F D). s.pending)
+            state_is) ∙ e in cc);
         once =
-            subst (λ (held : List (ℕ × TransferState F D)). AreKeyedOnce held) (sym held_is)
-            (once-with_new tid transfer server.held answers.free kept.server.once);
+            subst (λ (held : List (ℕ × TransferState F D)). AreKeyedOnce held) (sym held_is) (once-with_new tid transfer
+            server.held answers.free kept.server.once);
         seats = all_seats;
         gone = still_gone;
-        gone_once =
-            λ p q t u b c d. kept.server.gone_once p q t u b (closed_earlier kept answers added p t b c)
-            (closed_earlier kept answers added q u b d);
+        gone_once = search rules;
         opened = all_opened;
       }
 
@@ -346,29 +302,21 @@ module _ {S F D G K : Type 0} {stores : StoreMeaning S D} {sources : SourceMeani
         views = views;
         said_now = said_now;
         shown =
-            subst (λ (e : Endpoint). IsShown (joined programs) views
-            (kept.messages ++ message e answers.from (said opens.packet) ∷ [])) address
-            (kept.shown.0 ++ opens.shown.0, opens.shown.2);
+            subst (λ (e : Endpoint). IsShown (joined programs) views (kept.messages ++ message e answers.from (said
+            opens.packet) ∷ [])) address (kept.shown.0 ++ opens.shown.0, opens.shown.2);
         sends =
-            one_sent kept answers messages tid
-            (record { to = answers.from; bytes = x.state.position.last_sent }) added one (first_by seat);
+            one_sent kept answers messages tid (record { to = answers.from; bytes = x.state.position.last_sent }) added
+            one (first_by seat);
         server = server_kept;
-        clients =
-            λ k client found z here v. viewed_before said_now (open_view x) v;
+        clients = λ k client found z here v. viewed_before said_now (open_view x) v;
         transfers = all_transfers;
         only = λ view among. elim (among_push kept.views (open_view x) view among) [
           | inl was ↦ inl was
           | inr this ↦
-              inr (subst (λ (e : Endpoint). IsOfTransfer now e)
-              (sym (ap (λ (v : EndView). v.address) this ∙ address))
+              inr (subst (λ (e : Endpoint). IsOfTransfer now e) (sym (ap (λ (v : EndView). v.address) this ∙ address))
               (record { port = tid; transfer = transfer; is_transfer = there_now }))
         ];
-        were =
-            λ e h. record {
-              port = h.port;
-              transfer = h.transfer;
-              is_transfer = still_there h.port h.transfer e h.is_transfer;
-            };
+        were = λ e h. search (still_there h.port h.transfer e h.is_transfer);
       }
 
       pub opening_keeps : IsKept pad now

@@ -1,5 +1,5 @@
 -- A step of the server at the port of a transfer keeps the invariant, if it does of the transfer's own end.
-use Rattle.std.proofs.Common.{◌≡◌, ◌≢◌, ℕ, false, List, ◌++◌, set, Some, refl, sym, ap, ◌∙◌, subst, inl, inr}
+use Rattle.std.proofs.Common.{◌≡◌, ◌≢◌, ℕ, false, List, ◌++◌, set, Some, refl, sym, ap, ◌∙◌, subst, inl, inr, rules}
 use Rattle.std.specs.Prelude.{◌⊎◌, slice_get}
 use Rattle.std.specs.List.{Contains}
 use Rattle.std.proofs.lemmas.Bool.{cases_eq}
@@ -111,31 +111,17 @@ module _ {S F D G K : Type 0} {stores : StoreMeaning S D} {sources : SourceMeani
         IsViewed (joined programs) (SendsText programs pad) kept.views kept.messages z →
         IsViewed (joined programs) (SendsText programs pad) views messages z
     beside z apart h =
-        viewed_beside turns.said_now index (open_view was)
-        (open_view turns.end) z viewed (λ same. apart (sym was_there ∙ same)) h
+        viewed_beside turns.said_now _ _ (open_view turns.end) z viewed (λ same. apart (sym was_there ∙ same)) h
 
     own : TransferKept pad views messages now port turns.next place
-    own = record {
-      end = turns.end;
-      address = turns.address;
-      seat = turns.seat;
-      state = turns.state;
-      path = turns.path;
-      request = turns.request;
-      named =
-          named_still turns.path_stays turns.request_stays
-          (kept.transfers port transfer place (inl (found, refl))).named;
-      side = turns.side;
-      viewed =
-          record {
-            kept = turns.is_kept;
-            index = index;
-            viewed = slice_get-set_same kept.views index (open_view turns.end) (open_view was) viewed;
-            last_sent = turns.last_sent;
-            unblamed = turns.unblamed;
-          };
-      has = turns.has;
-    }
+    own =
+        search (
+          named_still turns.path_stays turns.request_stays (kept.transfers port transfer place (inl (
+            found,
+            refl,
+          ))).named,
+          slice_get-set_same kept.views index (open_view turns.end) (open_view was) viewed,
+        )
 
     other : (q : ℕ) (t : TransferState F D) (a : Endpoint) → place ≢ a → HasTransferBy old q t a →
         TransferKept pad views messages now q t a
@@ -161,10 +147,7 @@ module _ {S F D G K : Type 0} {stores : StoreMeaning S D} {sources : SourceMeani
         let c = closed_before kept does stays added q t a closed in inr (gone_place q t a c, inr c)
 
     is_own : (q : ℕ) (t : TransferState F D) (a : Endpoint) → IsThis q t a → TransferKept pad views messages now q t a
-    is_own q t a h =
-        subst (λ (b : Endpoint). TransferKept pad views messages now q t b) (sym h.2)
-        (subst (λ (p : ℕ). TransferKept pad views messages now p t place) (sym h.0)
-        (subst (λ (u : TransferState F D). TransferKept pad views messages now port u place) (sym h.1) own))
+    is_own q t a h = search (rules, own)
 
     all_transfers : (q : ℕ) (t : TransferState F D) (a : Endpoint) → HasTransferBy now q t a →
         TransferKept pad views messages now q t a
@@ -177,8 +160,7 @@ module _ {S F D G K : Type 0} {stores : StoreMeaning S D} {sources : SourceMeani
         Contains (places programs old.run) a
     all_opened q t a is = elim (found_cases q t a is) [
       | inl h ↦
-          subst (λ (b : Endpoint). Contains (places programs old.run) b) (sym h.2)
-          (kept.server.opened port transfer place (inl (found, refl)))
+          rw (h.2) (kept.server.opened port transfer place (inl (found, refl)))
       | inr h ↦ kept.server.opened q t a h.1
     ]
 
@@ -196,11 +178,10 @@ module _ {S F D G K : Type 0} {stores : StoreMeaning S D} {sources : SourceMeani
     server_kept = record {
       requests = stays.requests ∙ kept.server.requests;
       config = stays.config ∙ kept.server.config;
-      pending =
-          λ from bytes e. arrived_still kept.messages turns.said_now (stays.pending from bytes e);
+      pending = λ from bytes e. arrived_still kept.messages turns.said_now (stays.pending from bytes e);
       once =
-          subst (λ (held : List (ℕ × TransferState F D)). AreKeyedOnce held) (sym turns.held)
-          (once-with_next port turns.next old.state.server.held kept.server.once);
+          subst (λ (held : List (ℕ × TransferState F D)). AreKeyedOnce held) (sym turns.held) (once-with_next port
+          turns.next old.state.server.held kept.server.once);
       seats = λ p q t u e f same.
           let h = held_before p t e in
           let k = held_before q u f in
@@ -208,9 +189,7 @@ module _ {S F D G K : Type 0} {stores : StoreMeaning S D} {sources : SourceMeani
       gone = λ p q t u a closed e same.
           let h = held_before q u e in
           kept.server.gone p q t h.0 a (closed_before kept does stays added p t a closed) h.1 (same ∙ stays.seats q);
-      gone_once =
-          λ p q t u a c d. kept.server.gone_once p q t u a (closed_before kept does stays added p t a c)
-          (closed_before kept does stays added q u a d);
+      gone_once = search rules;
       opened = λ q t a is. opened_still kept does stays added a (all_opened q t a is);
     }
 

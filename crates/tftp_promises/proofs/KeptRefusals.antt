@@ -1,6 +1,6 @@
 -- A datagram that the request port ignores, or answers by an ERROR, keeps the invariant.
-use Rattle.std.proofs.Common.{◌≡◌, ℕ, List, [], ◌∷◌, ◌++◌, Some, None, sym, ap, ◌∙◌, subst, inl, inr}
-use Rattle.std.specs.Prelude.{◌⊎◌, length, map, option_to_list}
+use Rattle.std.proofs.Common.{◌≡◌, ℕ, List, [], ◌∷◌, ◌++◌, Some, None, sym, ap, ◌∙◌, subst, inl, rules}
+use Rattle.std.specs.Prelude.{◌⊎◌, option_to_list}
 use Rattle.std.specs.List.{Contains}
 use Rattle.std.proofs.lemmas.List.{append_cancel_right}
 use Rattle.std.proofs.lemmas.List.Elements.{Contains-push}
@@ -10,7 +10,7 @@ use Rattle.tftp_file.specs.Source.{SourceMeaning}
 use Rattle.tftp_ends.specs.ErrorReply.{error_packet}
 use Rattle.tftp_ends.specs.Step.{Reply, error_bytes}
 use Rattle.tftp_store.specs.Store.{StoreMeaning}
-use Rattle.tftp_server.specs.Request.{Came, Nothing, Error_reply, Left, left_by}
+use Rattle.tftp_server.specs.Request.{Came, Nothing, Left, left_by}
 use Rattle.tftp_server.specs.State.{TransferState, ServerState}
 use Rattle.tftp_sockets.specs.Trace.{SocketEvent}
 use Rattle.tftp_sockets.specs.Trace.SocketEvent.{Sent}
@@ -20,18 +20,17 @@ use Rattle.tftp_rules.specs.Rules.{message}
 use Rattle.tftp_rules.proofs.Actions.{says_error}
 use Rattle.tftp_rules.proofs.EndMoves.{valid_error}
 use Rattle.tftp_rules.proofs.SaidLemmas.{spells_own}
-use Rattle.tftp_promises.specs.Openings.{HasClosed, place}
+use Rattle.tftp_promises.specs.Openings.{HasClosed}
 use Rattle.tftp_promises.specs.Order.{Programs, IsStranger, requests_at}
-use Rattle.tftp_promises.specs.Ports.{opened_ports}
 use Rattle.tftp_promises.specs.Programs.{endpoint}
 use Rattle.tftp_promises.specs.Network.{joined}
 use Rattle.tftp_promises.specs.Snapshots.{Snapshot, server_did}
 use Rattle.tftp_promises.proofs.RunPlaces.{placed_by}
 use Rattle.tftp_promises.proofs.Invariant.{IsKept, IsThere}
-use Rattle.tftp_promises.proofs.KeptEvents.{IsSilent, added_none, answered_sends, none_silent, nothing_in}
+use Rattle.tftp_promises.proofs.KeptEvents.{IsSilent, added_none, answered_sends, none_silent}
 use Rattle.tftp_promises.proofs.KeptStill.{says_keeps, still_keeps}
 use Rattle.tftp_promises.proofs.PortAnswers.{IsRefused}
-use Rattle.tftp_promises.proofs.MovedSteps.{MovesNone, answer_places_none, none_answered}
+use Rattle.tftp_promises.proofs.MovedSteps.{MovesNone}
 use Rattle.tftp_promises.proofs.ServerStays.{ServerStays}
 
 module _ {S F D G K : Type 0} {stores : StoreMeaning S D} {sources : SourceMeaning F} {inputs : SourceMeaning G}
@@ -56,8 +55,7 @@ module _ {S F D G K : Type 0} {stores : StoreMeaning S D} {sources : SourceMeani
   -- a request removes no transfer
   pub closed_earlier : (added : List SocketEvent) (port : ℕ) (transfer : TransferState F D) (a : Endpoint) →
       HasClosed programs (server_did old does added).run port transfer a → HasClosed programs old.run port transfer a
-  closed_earlier added port transfer a (inl removes) = absurd removes.0
-  closed_earlier added port transfer a (inr closed) = closed
+  closed_earlier added port transfer a h4 = search rules
 
   -- one datagram was sent
   abbrev pub SentOf : List Message → Endpoint → Endpoint → List ℕ → Type 0
@@ -69,70 +67,56 @@ module _ {S F D G K : Type 0} {stores : StoreMeaning S D} {sources : SourceMeani
       (port : ℕ) (to : Endpoint) (bytes : List ℕ) → Contains added (Sent port to bytes) →
       SentOf messages (endpoint programs.ip port) to bytes
   one_sent messages own reply added is there port to bytes c =
-      let s =
-      answered_sends own (Some reply) [] none_silent port to bytes
-      (subst (λ (es : List SocketEvent). Contains es (Sent port to bytes)) (sym is) c) in
-      subst (λ (r : Reply). SentOf messages (endpoint programs.ip port) r.to r.bytes)
-      (same_Some reply (record { to = to; bytes = bytes }) s.1)
-      (subst (λ (n : ℕ). SentOf messages (endpoint programs.ip n) reply.to reply.bytes) s.0 there)
+      let s = answered_sends own (Some reply) [] none_silent port to bytes (rw (sym is) at c) in
+      rw (same_Some reply (record { to = to; bytes = bytes }) s.1) at (subst (λ (n : ℕ). SentOf messages (endpoint
+      programs.ip n) reply.to reply.bytes) s.0 there)
 
   -- if no transfer opens, all else is as it was
   stays_so : option_to_list answers.left.opened.tid ≡ [] → new.requests ≡ old.state.requests →
       new.server.config ≡ server.config → new.pending ≡ None → ServerStays kept does
-  stays_so opens requests config pending = record {
-    opens = ap (map (place programs (length (opened_ports old.run)) answers.from)) opens;
-    seats = λ port. answer_places_none programs old.run answers port opens;
-    removes = λ port transfer removes. removes;
-    requests = requests;
-    config = config;
-    pending = λ from bytes e. absurd (let f : None ≡ Some (from, bytes) = sym pending ∙ e in cc);
-  }
+  stays_so opens requests config pending = search rules
 
   -- nothing moves then
   moves_none : placed_by programs old.run does ≡ [] → (a : Endpoint) → MovesNone programs old.run does a
-  moves_none opens a =
-      none_answered programs old.run answers a
-      (λ c. nothing_in a (subst (λ (ps : List Endpoint). Contains ps a) opens c))
+  moves_none opens a = search rules
 
   -- a datagram that is ignored
   pub silent_keeps : (added : List SocketEvent) → new.events ≡ added ++ old.state.events → answers.steps.came ≡ Nothing →
       IsKept pad (server_did old does added)
   silent_keeps added noted is =
       let e = new_is Nothing is in
-      let none : [] ≡ added =
-      added_none old.state.events added (sym (ap (λ (s : LoopState S F D). s.events) e) ∙ noted) in
+      let none : [] ≡ added = added_none old.state.events added (sym (ap (λ s. s.events) e) ∙ noted) in
       let stays =
-      stays_so (ap (λ (l : Left S F D). option_to_list l.opened.tid) (left_is Nothing is))
-      (ap (λ (s : LoopState S F D). s.requests) e) (ap (λ (s : LoopState S F D). s.server.config) e)
-      (ap (λ (s : LoopState S F D). s.pending) e) in
-      still_keeps kept does stays (moves_none stays.opens) (ap (λ (s : LoopState S F D). s.server.held) e)
-      added (subst IsSilent none none_silent)
+      stays_so (ap (λ l. option_to_list l.opened.tid) (left_is Nothing is)) (ap (λ s. s.requests) e) (ap (λ s.
+      s.server.config) e) (ap (λ s. s.pending) e) in
+      still_keeps kept does stays (moves_none stays.opens) (ap (λ s. s.server.held) e) added (subst IsSilent none
+      none_silent)
 
   -- one that is answered by an ERROR
   pub refusal_keeps : (added : List SocketEvent) → new.events ≡ added ++ old.state.events →
       IsRefused stores sources server answers.from answers.bytes answers.steps.came →
       IsKept pad (server_did old does added)
   refusal_keeps added noted r =
-      let e = new_is (Error_reply r.reply r.store) r.is in
+      let e = new_is _ r.is in
       let own = old.state.requests in
       let from = answers.from in
       let bytes = error_bytes r.reply in
       let a = requests_at programs in
       let m : Message = message a from Error in
       let one : Sent own from bytes ∷ [] ≡ added =
-      append_cancel_right (Sent own from bytes ∷ []) added old.state.events
-      (sym (ap (λ (s : LoopState S F D). s.events) e) ∙ noted) in
-      let said : IsThere (kept.messages ++ m ∷ []) (endpoint programs.ip programs.port) from
-      bytes =
+      append_cancel_right (Sent own from bytes ∷ []) added old.state.events (sym (ap (λ (s : LoopState S F D). s.events)
+      e) ∙ noted) in
+      let said : IsThere (kept.messages ++ m ∷ []) (endpoint programs.ip programs.port) from bytes =
       (error_packet r.reply, spells_own (error_packet r.reply) (valid_error r.reply), Contains-push kept.messages m) in
       let there : IsThere (kept.messages ++ m ∷ []) (endpoint programs.ip own) from bytes =
-      subst (λ (n : ℕ). IsThere (kept.messages ++ m ∷ []) (endpoint programs.ip n) from bytes)
-      (sym kept.server.requests) said in
+      subst (λ (n : ℕ). IsThere (kept.messages ++ m ∷ []) (endpoint programs.ip n) from bytes) (sym
+      kept.server.requests) said in
       let stays =
-      stays_so (ap (λ (l : Left S F D). option_to_list l.opened.tid) (left_is (Error_reply r.reply r.store) r.is))
-      (ap (λ (s : LoopState S F D). s.requests) e) (ap (λ (s : LoopState S F D). s.server.config) e)
-      (ap (λ (s : LoopState S F D). s.pending) e) in
+      stays_so (ap (λ (l : Left S F D). option_to_list l.opened.tid) (left_is _ r.is)) (ap (λ (s : LoopState S F D).
+      s.requests) e) (ap (λ (s : LoopState S F D). s.server.config) e) (ap (λ (s : LoopState S F D). s.pending) e) in
       let shown = says_error (joined programs) kept.shown.0 kept.views kept.messages kept.shown.1 a from in
-      says_keeps kept does stays (moves_none stays.opens) (ap (λ (s : LoopState S F D). s.server.held) e)
-      added (m ∷ []) (kept.shown.0 ++ shown.0, shown.2)
-      (one_sent (kept.messages ++ m ∷ []) own (record { to = from; bytes = bytes }) added one (inl there))
+      says_keeps _ _ stays (moves_none stays.opens) (ap (λ (s : LoopState S F D). s.server.held) e) _ _ (
+        kept.shown.0 ++
+            shown.0,
+        shown.2,
+      ) (one_sent _ _ _ _ one (inl there))

@@ -1,6 +1,6 @@
 -- A request that the request port answers keeps the invariant.
 use Rattle.std.proofs.Common.{◌≡◌, ℕ, ◌*◌, ◌<◌, ◌≤◌, Bool, true, false, List, [], ◌++◌, length}
-use Rattle.std.proofs.Common.{Option, Some, refl, sym, ap, ◌∙◌, subst, inl}
+use Rattle.std.proofs.Common.{Option, Some, refl, sym, ap, ◌∙◌, subst, inl, rules}
 use Rattle.std.specs.List.{Contains}
 use Rattle.std.proofs.lemmas.Bool.{true≢false}
 use Rattle.tftp_wire.specs.Spelling.{Spells}
@@ -76,34 +76,24 @@ module _ {S F D G K : Type 0} {stores : StoreMeaning S D} {sources : SourceMeani
       let spells : Spells packet answers.bytes =
       subst (λ (d : Option WirePacket). Decodes answers.bytes d) asked.packet answers.steps.says in
       let come = kept.server.pending answers.from answers.bytes answers.pending in
-      record {
-        sent =
-            subst (λ (p : Packet). Contains kept.messages (message answers.from (joined programs).request_port p))
-            (says_request write asked.request)
-            (come packet spells);
-        spells = spells;
-        unanswered =
-            none_answers kept answers.from packet answers.steps.repeated answers.steps.decoded
-            answers.steps.repeats asked.packet asked.new;
-      }
+      search (
+        subst (λ (p : Packet). Contains kept.messages (message answers.from (joined programs).request_port p))
+            (says_request write asked.request) (come packet spells),
+        none_answers kept answers.from packet
+            answers.steps.repeated answers.steps.decoded answers.steps.repeats asked.packet asked.new,
+      )
 
   -- and it is for this path
   named : (write : Bool) (path : List ℕ) (mode : Mode) (options : List RawOption)
       (asked : IsAsked answers.steps.decoded answers.steps.repeated write path mode options) →
       IsNamed path answers.bytes
-  named write path mode options asked =
-      record {
-        write = write;
-        request = asked.request;
-        spells = (newly write path mode options asked).spells;
-        path = asked.same_path;
-      }
+  named write path mode options asked = search rules
 
   -- a read
   module _ (path : List ℕ) (mode : Mode) (options : List RawOption)
       (asked : IsAsked answers.steps.decoded answers.steps.repeated false path mode options)
       (o : OpensToSend stores sources server answers.from answers.bytes path asked.request.mode
-      answers.steps.came) where
+      options answers.steps.came) where
     abbrev r : WireRequest
     r = asked.request
 
@@ -148,37 +138,33 @@ module _ {S F D G K : Type 0} {stores : StoreMeaning S D} {sources : SourceMeani
     sending_keeps =
         let text = place_text programs pad a in
         let told = fresh.told a (its_place kept answers added noted fresh sent server.store o.is) in
-        let long : length_of (opened_at programs a programs.server.run) ≡ o.measured =
+        let long =
         ap length_of (sym told.opened) ∙ (ap length_of its_opening ∙ read_length o.agreed answers.from r.mode o.measured
         server.config.retries o.piece) in
-        let measured : length text ≡ o.measured =
-        pad_length pad (length_of (opened_at programs a programs.server.run))
-        (moved_at programs a programs.server.run).bytes ∙ long in
+        let measured =
+        pad_length pad (length_of (opened_at programs a programs.server.run)) (moved_at programs a
+        programs.server.run).bytes ∙ long in
         let all : List ℕ = (moved_at programs a programs.server.run).bytes in
-        let begins : IsPrefixOf (first_moved sent.end).bytes all =
-        subst (λ (m : Moved). IsPrefixOf m.bytes all) its_moved told.bytes in
+        let begins = subst (λ (m : Moved). IsPrefixOf m.bytes all) its_moved told.bytes in
         let f =
         first_of_text o.agreed answers.from r.mode o.measured server.config.retries o.piece text o.first measured
         (λ short. begins_padded pad (length_of (opened_at programs a programs.server.run)) (first_moved sent.end).bytes
         all begins (subst (λ (n : ℕ). length (first_moved sent.end).bytes ≤ n) (sym long) short)) in
         let x = new_sender a answers.bytes o.agreed answers.from r.mode path [] text server.config.retries in
-        let gave : GaveSo x (moved_at programs a now.run) =
-        subst (λ (m : Moved). GaveSo x m) (sym its_moved) (record { prefix = f.1; left = λ _. f.2 }) in
-        let opened = subst (λ (m : Mode). IsOpenedBy stores sources server answers.from answers.bytes
-        path m answers.steps.came o.opening)
-        (sym (read_mode o.agreed answers.from r.mode text server.config.retries)) o.opened in
+        let gave = subst (λ (m : Moved). GaveSo x m) (sym its_moved) (record { prefix = f.1; left = λ _. f.2 }) in
+        let opened = subst (λ (m : Mode). IsOpenedBy stores sources server answers.from answers.bytes path m
+        answers.steps.came o.opening) (sym (read_mode o.agreed answers.from r.mode text server.config.retries)) o.opened
+        in
         let given : IsGiven programs now.run x o.rest = record {
           opening = o.opening;
           first = inl (refl, opened.0, opened.1, opened.2);
           long =
-              ap (λ (e : EndState). e.role.length) (sym f.0)
-              ∙ (read_length o.agreed answers.from r.mode o.measured server.config.retries o.piece ∙ o.long);
-          since =
-              subst (λ (m : Moved). GaveSince sources o.opening.source x.state m.bytes o.rest) (sym its_moved)
+              ap (λ (e : EndState). e.role.length) (sym f.0) ∙ (read_length o.agreed answers.from r.mode o.measured
+              server.config.retries o.piece ∙ o.long);
+          since = subst (λ (m : Moved). GaveSince sources o.opening.source x.state m.bytes o.rest) (sym its_moved)
               (gave_first o.gave);
         } in
-        send_text [] text measured f.0
-        (record {
+        send_text [] text measured f.0 (record {
           sender = read_sends o.agreed answers.from r.mode text server.config.retries;
           opened =
               record { opening = sent; opened = its_opening; path = refl; role = ap (λ (e : EndState). e.role) f.0 };
@@ -191,7 +177,7 @@ module _ {S F D G K : Type 0} {stores : StoreMeaning S D} {sources : SourceMeani
   module _ (path : List ℕ) (mode : Mode) (options : List RawOption)
       (asked : IsAsked answers.steps.decoded answers.steps.repeated true path mode options)
       (o : OpensToStore stores sources server answers.from answers.bytes path asked.request.mode
-      answers.steps.came) where
+      options answers.steps.came) where
     -- its transfer, and its end
     abbrev stored_by : TransferState F D
     stored_by =
@@ -220,39 +206,34 @@ module _ {S F D G K : Type 0} {stores : StoreMeaning S D} {sources : SourceMeani
     storing_keeps : IsKept pad now
     storing_keeps =
         let moved : moved_at programs a now.run ≡ first_moved stored_by.end =
-        ap (λ (z : Option (TransferState F D)). opening_moves z (moved_at programs a old.run))
-        (came_here kept answers added noted fresh stored_by o.store o.is) in
+        ap (λ (z : Option (TransferState F D)). opening_moves z (moved_at programs a old.run)) (came_here kept answers
+        added noted fresh stored_by o.store o.is) in
         let none : (first_moved stored_by.end).bytes ≡ [] =
         write_moves_none o.agreed answers.from asked.request.mode server.config.retries in
-        let begun = subst (λ (m : Mode). IsBegunBy stores sources server answers.from answers.bytes
-        path m answers.steps.came o.draft)
-        (sym (write_mode o.agreed answers.from asked.request.mode server.config.retries)) o.begun in
+        let begun = subst (λ (m : Mode). IsBegunBy stores sources server answers.from answers.bytes path m
+        answers.steps.came o.draft) (sym (write_mode o.agreed answers.from asked.request.mode server.config.retries))
+        o.begun in
         let taken : IsTaken programs now.run receiver o.draft = record {
           first = o.draft;
-          began =
-              inl (refl, ap (λ (c : Config). c.overwrite) kept.server.config, begun.0, begun.1, begun.2);
+          began = inl (refl, ap (λ (c : Config). c.overwrite) kept.server.config, begun.0, begun.1, begun.2);
           since = record {
             going =
-                λ _ _. subst (λ (bs : List ℕ). TakesInTurn stores o.draft bs o.draft)
-                (sym (ap (λ (m : Moved). m.bytes) moved ∙ none)) Took_nothing;
+                λ _ _. subst (λ (bs : List ℕ). TakesInTurn stores o.draft bs o.draft) (sym (ap (λ (m : Moved). m.bytes)
+                moved ∙ none)) Took_nothing;
             done = λ c. absurd (true≢false (sym c));
           };
         } in
-        store_has (record {
-          receiver = write_stores o.agreed answers.from asked.request.mode server.config.retries;
-          opened = record {
-            opening = stored_by;
-            opened =
-                ap (λ (z : Option (TransferState F D)). or_before z (opened_at programs a old.run))
-                (came_here kept answers added noted fresh stored_by o.store o.is);
-            path = refl;
-            role = refl;
-          };
-          took =
-              subst (λ (m : Moved). TookSo receiver m) (sym moved)
-              (record { stored = sym none; committed = λ c. absurd (true≢false (sym c)); refuses = refl });
-          taken = taken;
-        })
+        store_has (search (
+          write_stores o.agreed answers.from asked.request.mode server.config.retries,
+          ap (λ (z :
+              Option (TransferState F D)). or_before z (opened_at programs a old.run)) (came_here kept answers added
+              noted fresh stored_by o.store o.is),
+          subst (λ (m : Moved). TookSo receiver m) (sym moved) (record {
+            stored = sym none;
+            committed = λ c. absurd (true≢false (sym c));
+            refuses = refl;
+          }),
+        ))
 
   -- ---- the answer
   kept_by : PortAnswers stores sources server answers.from answers.bytes answers.steps.decoded answers.steps.repeated answers.steps.came → IsKept pad now
@@ -261,17 +242,15 @@ module _ {S F D G K : Type 0} {stores : StoreMeaning S D} {sources : SourceMeani
   kept_by (Begins_to_send path mode options asked opens) =
       sending_keeps path mode options asked
       (subst (λ (m : Mode). OpensToSend stores sources server answers.from answers.bytes path m
-      answers.steps.came) (sym asked.same_mode) opens)
+      options answers.steps.came) (sym asked.same_mode) opens)
   kept_by (Begins_to_store path mode options asked opens) =
       storing_keeps path mode options asked
       (subst (λ (m : Mode). OpensToStore stores sources server answers.from answers.bytes path m
-      answers.steps.came) (sym asked.same_mode) opens)
+      options answers.steps.came) (sym asked.same_mode) opens)
 
   max_block : IsBlockSize server.config.limits.max_block
   max_block = subst (λ (c : Config). IsBlockSize c.limits.max_block) (sym kept.server.config) programs.server.max_block
 
   -- each answer to a request keeps the invariant
   pub request_keeps : IsKept pad now
-  request_keeps =
-      kept_by (port_answers stores sources server answers.from answers.bytes max_block answers.tid answers.left
-      answers.steps)
+  request_keeps = search (rules, kept_by, port_answers, max_block)

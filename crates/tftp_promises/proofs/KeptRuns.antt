@@ -1,5 +1,5 @@
 -- The invariant holds of every joint run, if the steps of the server keep it.
-use Rattle.std.proofs.Common.{ℕ, ◌≡◌, List, ◌++◌, refl}
+use Rattle.std.proofs.Common.{ℕ, ◌≡◌, List, ◌++◌, rules}
 use Rattle.tftp_file.specs.Sink.{SinkMeaning}
 use Rattle.tftp_file.specs.Source.{SourceMeaning}
 use Rattle.tftp_store.specs.Store.{StoreMeaning}
@@ -37,27 +37,16 @@ module _ {S F D G K : Type 0} {stores : StoreMeaning S D} {sources : SourceMeani
         fresh events take
     joint_kept snapshot (Client_asks {old} joint k client found unasked) fresh =
         let before =
-        fresh_before_client programs old k (just_asked client)
-        (unasked_had programs old k (just_asked client) unasked) fresh in
+        fresh_before_client programs old k (just_asked client) (unasked_had programs old k (just_asked client) unasked)
+        fresh in
         asks_keeps (joint_kept old joint before) before k client found unasked
     joint_kept snapshot (Client_does {old} {s} {s'} {files} {files'} {noted} {moved} joint k client found is_stage does
         own added events take) fresh =
         let had = asked_had programs old k client s s' files files' noted moved is_stage does added in
         let before =
-        fresh_before_client programs old k (Has_asked s' files' (added ++ noted) (client_moves does moved)) had
-        fresh in
-        does_keeps (joint_kept old joint before) before {a = client_at client} (record {
-          k = k;
-          client = client;
-          found = found;
-          s = s;
-          files = files;
-          noted = noted;
-          moved = moved;
-          is_stage = is_stage;
-          address = refl;
-        }) s'
-        files' added does own fresh events take
+        fresh_before_client programs old k (Has_asked s' files' (added ++ noted) (client_moves does moved)) had fresh in
+        does_keeps (joint_kept old joint before) before {a = client_at client} (search) s' files' added does own fresh
+        events take
 
 -- the invariant holds where the traces arrive
 pub kept_at_last : {S F D G K : Type 0} (stores : StoreMeaning S D) (sources : SourceMeaning F)
@@ -66,5 +55,4 @@ pub kept_at_last : {S F D G K : Type 0} (stores : StoreMeaning S D) (sources : S
     (programs : Programs stores sources inputs outputs) (order : List Noted) → AreJoined programs order → (pad : ℕ) →
     IsKept pad (all_of programs)
 kept_at_last stores sources inputs outputs joint keeps programs order joins pad =
-    joint_kept programs pad (keeps programs pad) (all_of programs) (joint programs order joins)
-    (fresh_at_last programs joins.fresh)
+    search (rules, joint_kept, fresh_at_last)

@@ -1,5 +1,5 @@
 -- A step of the server keeps the invariant, if it does of the transfers and of what was said.
-use Rattle.std.proofs.Common.{◌≡◌, ℕ, List, ◌++◌, Some, sym, subst, inl, inr}
+use Rattle.std.proofs.Common.{◌≡◌, ℕ, List, ◌++◌, Some, sym, subst, inl, inr, rules}
 use Rattle.std.specs.Prelude.{◌⊎◌, slice_get}
 use Rattle.std.specs.List.{Contains}
 use Rattle.std.proofs.lemmas.List.Elements.{Contains-append_cases}
@@ -69,26 +69,11 @@ module _ {S F D G K : Type 0} {stores : StoreMeaning S D} {sources : SourceMeani
         slice_get programs.clients k ≡ Some client → StageKept programs pad kept.views kept.messages client stage →
         StageKept programs pad turns.views messages client stage
     all_clients k client Unasked found h = tt
-    all_clients k client (Has_asked s files noted moved) found h = record {
-      end = h.end;
-      address = h.address;
-      state = h.state;
-      side = h.side;
-      viewed = turns.clients k client found h.end h.address h.viewed;
-      asks =
-          there_still kept.messages turns.said_now h.asks;
-      has = h.has;
-    }
+    all_clients k client (Has_asked s files noted moved) found h = search (rules, there_still)
 
     all_views : (view : EndView) → IsAmong turns.views view →
         IsOfClient programs now.clients view.address ⊎ IsOfTransfer now view.address
-    all_views view among = elim (turns.only view among) [
-      | inl o ↦ elim (kept.only view o) [
-        | inl h ↦ inl h
-        | inr h ↦ inr (turns.were view.address h)
-      ]
-      | inr h ↦ inr h
-    ]
+    all_views view among = search rules
 
     pub server_keeps : IsKept pad now
     server_keeps = record {

@@ -1,10 +1,9 @@
 -- Each step of the server keeps the invariant, if an answered request does.
-use Rattle.std.proofs.Common.{◌≡◌, ℕ, true, List, [], ◌∷◌, ◌++◌, Some, None, refl, sym, ap, ◌∙◌, subst, inl, inr}
+use Rattle.std.proofs.Common.{◌≡◌, ℕ, true, List, [], ◌∷◌, ◌++◌, Some, None, refl, sym, ap, ◌∙◌, subst, inl, inr, rules}
 use Rattle.std.specs.Prelude.{◌⊎◌}
 use Rattle.std.specs.List.{Contains, AllByRecursion}
 use Rattle.std.proofs.lemmas.Bool.{cases_Bool}
 use Rattle.std.proofs.lemmas.List.Elements.{Contains-push}
-use Rattle.std.proofs.lemmas.Option.{same_Some}
 use Rattle.tftp_file.specs.Sink.{SinkMeaning}
 use Rattle.tftp_file.specs.Source.{SourceMeaning}
 use Rattle.tftp_ends.specs.declared.error_reply.ErrorReply.TheVariants.{UnknownTransferId}
@@ -40,7 +39,7 @@ use Rattle.tftp_promises.proofs.KeptEvents.{IsSilent, IsUnsent, printed_silent, 
 use Rattle.tftp_promises.proofs.KeptFresh.{fresh_before_server}
 use Rattle.tftp_promises.proofs.KeptRuns.{ServerStepsKeep}
 use Rattle.tftp_promises.proofs.KeptStill.{still_keeps}
-use Rattle.tftp_promises.proofs.MovedSteps.{MovesNone, none_at_port}
+use Rattle.tftp_promises.proofs.MovedSteps.{MovesNone}
 use Rattle.tftp_promises.proofs.NewPlaces.{at_server}
 use Rattle.tftp_promises.proofs.Orders.{first_in}
 use Rattle.tftp_promises.proofs.Places.{at_port, strange_if, stranger_no_port}
@@ -74,22 +73,18 @@ module _ {S F D G K : Type 0} {stores : StoreMeaning S D} {sources : SourceMeani
     request_came : (h : ReceivesRequest stores sources old.state new) →
         WasSentBefore old h.from (requests_at programs) h.bytes ⊎ MayCome programs h.from h.bytes
     request_came h =
-        subst (λ (port : ℕ). WasSentBefore old h.from (endpoint programs.ip port) h.bytes
-        ⊎ MayCome programs h.from h.bytes) kept.server.requests
-        (take old.state.requests h.from h.bytes
-        (subst (λ (es : List SocketEvent). Contains es (Received old.state.requests h.from h.bytes))
-        (added_is (Received old.state.requests h.from h.bytes ∷ []) (ap (λ (s : LoopState S F D). s.events) h.is))
-        (Contains-push [] (Received old.state.requests h.from h.bytes))))
+        subst (λ port. WasSentBefore old h.from (endpoint programs.ip port) h.bytes ⊎ MayCome programs h.from h.bytes)
+        kept.server.requests (take old.state.requests h.from h.bytes (subst (λ es. Contains es (Received
+        old.state.requests h.from h.bytes)) (added_is (Received old.state.requests h.from h.bytes ∷ []) (ap (λ s.
+        s.events) h.is)) (Contains-push [] (Received old.state.requests h.from h.bytes))))
 
     module _ (h : ReceivesRequest stores sources old.state new)
         (come : HasArrived kept.messages h.from (requests_at programs) h.bytes) where
       pending_sent : (from : Endpoint) (bytes : List ℕ) → new.pending ≡ Some (from, bytes) →
           HasArrived kept.messages from (requests_at programs) bytes
       pending_sent from bytes e =
-          let same : (h.from, h.bytes) ≡ (from, bytes) =
-          same_Some (h.from, h.bytes) (from, bytes) (sym (ap (λ (s : LoopState S F D). s.pending) h.is) ∙ e) in
-          subst (λ (p : Endpoint × List ℕ). HasArrived kept.messages p.0 (requests_at programs)
-          p.1) same come
+          let same : (h.from, h.bytes) ≡ (from, bytes) = search rules in
+          subst (λ (p : Endpoint × List ℕ). HasArrived kept.messages p.0 (requests_at programs) p.1) same come
 
       server_same : new.server ≡ old.state.server
       server_same = ap (λ (s : LoopState S F D). s.server) h.is
@@ -119,18 +114,17 @@ module _ {S F D G K : Type 0} {stores : StoreMeaning S D} {sources : SourceMeani
         (noted : List SocketEvent) → left.events ≡ noted ++ old.state.events → AllByRecursion IsUnsent noted →
         IsKept pad (server_did old does added)
     same_keeps does opens seats removes none is requests server pending noted e unsent =
-        let server_same : new.server ≡ old.state.server = ap (λ (s : LoopState S F D). s.server) is ∙ server in
+        let server_same : new.server ≡ old.state.server = ap (λ s. s.server) is ∙ server in
         still_keeps kept does (record {
           opens = opens;
           seats = seats;
           removes = removes;
-          requests = ap (λ (s : LoopState S F D). s.requests) is ∙ requests;
-          config = ap (λ (s : ServerState S F D). s.config) server_same;
+          requests = ap (λ s. s.requests) is ∙ requests;
+          config = ap (λ s. s.config) server_same;
           pending =
-              λ from bytes e. kept.server.pending from bytes
-              (pending from bytes (ap (λ (s : LoopState S F D). s.pending) (sym is) ∙ e));
-        }) none (ap (λ (s : ServerState S F D). s.held) server_same) added
-        (silent_by noted (ap (λ (s : LoopState S F D). s.events) is ∙ e) (unsent_silent noted unsent))
+              λ from bytes e. kept.server.pending from bytes (pending from bytes (ap (λ s. s.pending) (sym is) ∙ e));
+        }) none (ap (λ s. s.held) server_same) added (silent_by noted (ap (λ s. s.events) is ∙ e) (unsent_silent noted
+        unsent))
 
     -- ---- a wait
     waiting_keeps : (h : Waits stores sources old.state new) → IsKept pad (server_did old (Waited h) added)
@@ -164,9 +158,11 @@ module _ {S F D G K : Type 0} {stores : StoreMeaning S D} {sources : SourceMeani
     -- ---- a request is lost
     losing_keeps : (h : LosesRequest stores sources old.state new) → IsKept pad (server_did old (Request_lost h) added)
     losing_keeps h =
-        same_keeps (Request_lost h) refl (λ port. refl) (λ port transfer r. r)
-        (λ a. record { opens = refl; moves = λ moved. refl }) h.is refl refl
-        (λ from bytes e. absurd (let f : None ≡ Some (from, bytes) = e in cc)) [] refl tt
+        same_keeps (Request_lost h) refl (λ port. refl) (λ port transfer r. r) (λ a. record {
+          opens = refl;
+          moves
+              = λ moved. refl;
+        }) h.is refl refl (λ from bytes e. absurd (cc)) [] refl tt
 
     -- ---- the clock is read
     clock_keeps : (h : ReadsClock stores sources old.state new) → IsKept pad (server_did old (Clock_read h) added)
@@ -185,18 +181,16 @@ module _ {S F D G K : Type 0} {stores : StoreMeaning S D} {sources : SourceMeani
     -- ---- the store is set
     store_keeps : (h : SetsStore stores sources old.state new) → IsKept pad (server_did old (Store_set h) added)
     store_keeps h =
-        let server_now : new.server ≡ record old.state.server { store = h.store } =
-        ap (λ (s : LoopState S F D). s.server) h.is in
+        let server_now : new.server ≡ record old.state.server { store = h.store } = ap (λ s. s.server) h.is in
         still_keeps kept (Store_set h) (record {
           opens = refl;
           seats = λ port. refl;
           removes = λ port transfer r. r;
-          requests = ap (λ (s : LoopState S F D). s.requests) h.is;
-          config = ap (λ (s : ServerState S F D). s.config) server_now;
-          pending =
-              λ from bytes e. kept.server.pending from bytes (sym (ap (λ (s : LoopState S F D). s.pending) h.is) ∙ e);
-        }) (λ a. record { opens = refl; moves = λ moved. refl }) (ap (λ (s : ServerState S F D). s.held) server_now)
-        added (silent_by [] (ap (λ (s : LoopState S F D). s.events) h.is) none_silent)
+          requests = ap (λ s. s.requests) h.is;
+          config = ap (λ s. s.config) server_now;
+          pending = λ from bytes e. kept.server.pending from bytes (sym (ap (λ s. s.pending) h.is) ∙ e);
+        }) (λ a. record { opens = refl; moves = λ moved. refl }) (ap (λ s. s.held) server_now) added (silent_by []
+        (ap (λ s. s.events) h.is) none_silent)
 
     -- ---- at the port of a transfer
     module _ (serves : ServesPort stores sources old.state new)
@@ -208,10 +202,7 @@ module _ {S F D G K : Type 0} {stores : StoreMeaning S D} {sources : SourceMeani
       quiet : (does : PortStep stores sources old.state.now (port_state old.state serves.timer) serves.next) →
           serves.does ≡ does → ((moved : Moved) → port_moves does moved ≡ moved) → (a : Endpoint) →
           MovesNone programs old.run (At_port serves) a
-      quiet does is still =
-          none_at_port programs old.run serves
-          (λ moved. ap (λ (d : PortStep stores sources old.state.now (port_state old.state serves.timer) serves.next).
-          port_moves d moved) is ∙ still moved)
+      quiet does is still = search rules
 
       -- its place
       abbrev port : ℕ

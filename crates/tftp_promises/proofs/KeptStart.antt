@@ -1,20 +1,17 @@
 -- The invariant holds before any program has done anything.
-use Rattle.std.proofs.Common.{◌≡◌, ℕ, suc, zero, List, [], ◌∷◌, map, Some, None, refl, sym, ap, ◌∙◌, subst, inl, inr}
+use Rattle.std.proofs.Common.{◌≡◌, ℕ, suc, zero, List, [], ◌∷◌, map, Some, None, sym, ap, ◌∙◌, subst, inl, inr, rules}
 use Rattle.std.specs.Prelude.{◌⊎◌, slice_get}
-use Rattle.std.specs.List.{Contains}
 use Rattle.tftp_file.specs.Sink.{SinkMeaning}
 use Rattle.tftp_file.specs.Source.{SourceMeaning}
 use Rattle.tftp_store.specs.Store.{StoreMeaning}
 use Rattle.tftp_server.specs.State.{TransferState, at}
-use Rattle.tftp_sockets.specs.Trace.SocketEvent.{Sent}
 use Rattle.tftp_rules.specs.Machine.{Endpoint}
 use Rattle.tftp_rules.proofs.Refines.{shown_start}
 use Rattle.tftp_promises.specs.Joint.{WasSentBefore}
 use Rattle.tftp_promises.specs.Order.{Programs, IsStranger}
 use Rattle.tftp_promises.specs.Network.{joined}
-use Rattle.tftp_promises.specs.Snapshots.{ClientStage, Unasked, noted_by, nothing_done}
-use Rattle.tftp_promises.proofs.Invariant.{IsThere, AreKeyedOnce, HasTransferBy, StageKept}
-use Rattle.tftp_promises.proofs.Invariant.{IsKept}
+use Rattle.tftp_promises.specs.Snapshots.{ClientStage, Unasked, nothing_done}
+use Rattle.tftp_promises.proofs.Invariant.{IsThere, HasTransferBy, StageKept, IsKept}
 use Rattle.tftp_promises.proofs.KeptEvents.{nothing_in}
 
 -- no client has asked
@@ -30,11 +27,7 @@ module _ {S F D G K : Type 0} {stores : StoreMeaning S D} {sources : SourceMeani
   -- nothing was sent
   nothing_sent : (from to : Endpoint) (bytes : List ℕ) → WasSentBefore (nothing_done programs) from to bytes →
       IsThere [] from to bytes ⊎ IsStranger programs to
-  nothing_sent from to bytes (inl h) = absurd (nothing_in (Sent h.port to bytes) h.sent)
-  nothing_sent from to bytes (inr h) =
-      absurd (nothing_in (Sent h.port to bytes)
-      (subst (λ (s : ClientStage G K). Contains (noted_by s) (Sent h.port to bytes))
-      (sym (unasked_at programs.clients h.k h.stage h.is_stage)) h.sent))
+  nothing_sent from to bytes h3 = search (rules, nothing_in, unasked_at)
 
   -- no transfer is held, and none was removed
   nothing_held : (port : ℕ) (transfer : TransferState F D) → at port programs.server.start.server.held ≡ Some transfer →
@@ -52,19 +45,10 @@ module _ {S F D G K : Type 0} {stores : StoreMeaning S D} {sources : SourceMeani
     messages = [];
     shown = shown_start (joined programs);
     sent = nothing_sent;
-    server = record {
-      requests = programs.server.requests;
-      config = refl;
-      pending = λ from bytes e. absurd (let f : None ≡ Some (from, bytes) = sym programs.server.idle ∙ e in cc);
-      once = subst (λ (held : List (ℕ × TransferState F D)). AreKeyedOnce held) (sym programs.server.empty) tt;
-      seats = λ p q t u e. absurd (nothing_held p t e);
-      gone = λ p q t u a h. absurd h;
-      gone_once = λ p q t u a h. absurd h;
-      opened = λ port transfer a h. absurd (no_transfer port transfer a h);
-    };
+    server = search rules;
     clients =
-        λ k client stage found e. subst (λ (s : ClientStage G K). StageKept programs pad [] [] client s)
-        (unasked_at programs.clients k stage e) tt;
+        λ k client stage found e. subst (λ (s : ClientStage G K). StageKept programs pad [] [] client s) (unasked_at
+        programs.clients k stage e) tt;
     transfers = λ port transfer a h. absurd (no_transfer port transfer a h);
     only = λ view among. absurd (let f : None ≡ Some view = among.1 in cc);
   }

@@ -1,5 +1,5 @@
 -- A step of the server that changes no transfer keeps the invariant, if what it sends is shown.
-use Rattle.std.proofs.Common.{◌≡◌, ℕ, List, [], ◌++◌, sym, ap, ◌∙◌, subst, inl, inr}
+use Rattle.std.proofs.Common.{◌≡◌, ℕ, List, [], ◌++◌, sym, ap, ◌∙◌, subst, inl, rules}
 use Rattle.std.specs.Prelude.{◌⊎◌}
 use Rattle.std.specs.List.{Contains}
 use Rattle.std.proofs.lemmas.List.{append-nil}
@@ -34,14 +34,11 @@ module _ {S F D G K : Type 0} {stores : StoreMeaning S D} {sources : SourceMeani
 
   held_before : (port : ℕ) (transfer : TransferState F D) (a : Endpoint) → HasTransferBy now port transfer a →
       HasTransferBy old port transfer a
-  held_before port transfer a (inl e) = inl (ap (at port) (sym held) ∙ e.0, e.1 ∙ stays.seats port)
-  held_before port transfer a (inr closed) =
-      inr (closed_before kept does stays added port transfer a closed)
+  held_before port transfer a h3 = search rules
 
   held_after : (port : ℕ) (transfer : TransferState F D) (a : Endpoint) → HasTransferBy old port transfer a →
       HasTransferBy now port transfer a
-  held_after port transfer a (inl e) = inl (ap (at port) held ∙ e.0, e.1 ∙ sym (stays.seats port))
-  held_after port transfer a (inr closed) = inr (inr closed)
+  held_after port transfer a h3 = search rules
 
   -- what it sends is shown
   module _ (said_now : List Message) (shown : IsShown (joined programs) kept.views (kept.messages ++ said_now))
@@ -54,28 +51,23 @@ module _ {S F D G K : Type 0} {stores : StoreMeaning S D} {sources : SourceMeani
         HasTransferBy now port transfer a → TransferKept pad kept.views messages now port transfer a
     all_transfers port transfer a is =
         let h = kept.transfers port transfer a (held_before port transfer a is) in
-        same_transfer h (viewed_still said_now h.viewed)
-        (stored_after pad old does added h.end (none h.end.address) transfer.files h.has)
+        search (rules, same_transfer, viewed_still, stored_after)
 
     server_kept : ServerKept messages now
     server_kept = record {
       requests = stays.requests ∙ kept.server.requests;
       config = stays.config ∙ kept.server.config;
-      pending =
-          λ from bytes e. arrived_still kept.messages said_now (stays.pending from bytes e);
+      pending = λ from bytes e. arrived_still kept.messages said_now (stays.pending from bytes e);
       once = subst (λ (hs : List (ℕ × TransferState F D)). AreKeyedOnce hs) (sym held) kept.server.once;
-      seats =
-          λ p q t u e f same. kept.server.seats p q t u (ap (at p) (sym held) ∙ e) (ap (at q) (sym held) ∙ f)
-          (sym (stays.seats p) ∙ (same ∙ stays.seats q));
-      gone =
-          λ p q t u a closed e same. kept.server.gone p q t u a
-          (closed_before kept does stays added p t a closed) (ap (at q) (sym held) ∙ e) (same ∙ stays.seats q);
+      seats = search rules;
+      gone = λ p q t u a closed e same. kept.server.gone p q t u a (closed_before kept does stays added p t a closed)
+          (ap (at q) (sym held) ∙ e) (same ∙ stays.seats q);
       gone_once =
-          λ p q t u a c d. kept.server.gone_once p q t u a (closed_before kept does stays added p t a c)
-          (closed_before kept does stays added q u a d);
+          λ p q t u a c d. kept.server.gone_once p q t u a (closed_before kept does stays added p t a c) (closed_before
+          kept does stays added q u a d);
       opened =
-          λ port transfer a is. opened_still kept does stays added a
-          (kept.server.opened port transfer a (held_before port transfer a is));
+          λ port transfer a is. opened_still kept does stays added a (kept.server.opened port transfer a (held_before
+          port transfer a is));
     }
 
     turns : ServerTurns kept now added
@@ -88,12 +80,7 @@ module _ {S F D G K : Type 0} {stores : StoreMeaning S D} {sources : SourceMeani
       clients = λ k client found z at_client h. viewed_still said_now h;
       transfers = all_transfers;
       only = λ view among. inl among;
-      were =
-          λ a h. record {
-            port = h.port;
-            transfer = h.transfer;
-            is_transfer = held_after h.port h.transfer a h.is_transfer;
-          };
+      were = λ a h. search (held_after h.port h.transfer a h.is_transfer);
     }
 
     pub says_keeps : IsKept pad now
@@ -102,5 +89,4 @@ module _ {S F D G K : Type 0} {stores : StoreMeaning S D} {sources : SourceMeani
   -- it sends nothing
   pub still_keeps : IsSilent added → IsKept pad now
   still_keeps silent =
-      says_keeps [] (subst (λ (ms : List Message). IsShown (joined programs) kept.views ms)
-      (sym (append-nil kept.messages)) kept.shown) (λ port to bytes c. absurd (silent port to bytes c))
+      says_keeps [] (rw ((append-nil kept.messages)) kept.shown) (λ port to bytes c. absurd (silent port to bytes c))

@@ -1,6 +1,7 @@
 -- What a step receives is among the messages: it was sent before, or it is a stranger's or an ERROR, whose message may
 -- be added at any time.
-use Rattle.std.proofs.Common.{ℕ, List, [], ◌∷◌, ◌++◌, sym, ◌∙◌, subst, inl, inr}
+use Rattle.std.proofs.lemmas.Grind.{common_steps}
+use Rattle.std.proofs.Common.{ℕ, List, [], ◌∷◌, ◌++◌, subst, inl, inr, arith, rules}
 use Rattle.std.specs.Prelude.{◌≢◌, ◌⊎◌}
 use Rattle.std.specs.List.{Contains}
 use Rattle.std.proofs.lemmas.List.Elements.{Contains-push}
@@ -26,7 +27,7 @@ use Rattle.tftp_rules.proofs.SaidLemmas.{spells_own}
 use Rattle.tftp_promises.specs.Joint.{WasSentBefore}
 use Rattle.tftp_promises.specs.Order.{Programs, IsError, IsStranger, MayCome, ClientOf}
 use Rattle.tftp_promises.specs.Network.{joined}
-use Rattle.tftp_promises.specs.Snapshots.{Snapshot, ClientStage, Unasked, Has_asked}
+use Rattle.tftp_promises.specs.Snapshots.{Snapshot, ClientStage}
 use Rattle.tftp_promises.proofs.Invariant.{HasArrived, IsThere, IsKept, StageKept, TransferKept}
 use Rattle.tftp_promises.proofs.Invariant.{same_transfer}
 use Rattle.tftp_promises.proofs.KeptViews.{arrived_still, sent_still, there_says, there_still, viewed_still}
@@ -43,17 +44,7 @@ module _ {S F D G K : Type 0} {stores : StoreMeaning S D} {sources : SourceMeani
     stage_still : (client : Client) (stage : ClientStage G K) →
         StageKept programs pad kept.views kept.messages client stage →
         StageKept programs pad kept.views (kept.messages ++ more) client stage
-    stage_still client Unasked h = tt
-    stage_still client (Has_asked s files noted moved) h = record {
-      end = h.end;
-      address = h.address;
-      state = h.state;
-      side = h.side;
-      viewed = viewed_still more h.viewed;
-      asks =
-          there_still kept.messages more h.asks;
-      has = h.has;
-    }
+    stage_still client stage h = search (rules, viewed_still, there_still)
 
     transfer_still : (port : ℕ) (transfer : TransferState F D) (a : Endpoint) →
         TransferKept pad kept.views kept.messages snapshot port transfer a →
@@ -120,11 +111,7 @@ module _ {S F D G K : Type 0} {stores : StoreMeaning S D} {sources : SourceMeani
   -- an ERROR may be said from any endpoint
   error_arrived : (from to : Endpoint) (bytes : List ℕ) → IsError bytes →
       HasArrived (kept.messages ++ message from to Says_an_error ∷ []) from to bytes
-  error_arrived from to bytes error p spells =
-      subst (λ (q : WirePacket). Contains (kept.messages ++ message from to Says_an_error ∷ [])
-      (message from to (said q)))
-      (sym (spelled_is_found (Error error.0 error.1) bytes error.2) ∙ spelled_is_found p bytes spells)
-      (Contains-push kept.messages (message from to Says_an_error))
+  error_arrived from to bytes error p spells = grind (arith, common_steps)
 
   error_kept : (from to : Endpoint) → IsKept pad snapshot
   error_kept from to =

@@ -1,5 +1,5 @@
 -- A turn of a client's end keeps the invariant, and so does a step that leaves the end as it was.
-use Rattle.std.proofs.Common.{◌≡◌, ℕ, List, [], ◌++◌, set, Option, Some, refl, sym, ap, ◌∙◌, subst, inl, inr}
+use Rattle.std.proofs.Common.{◌≡◌, ℕ, List, [], ◌++◌, set, Option, Some, refl, sym, ap, ◌∙◌, subst, inl, inr, rules}
 use Rattle.std.specs.Prelude.{◌⊎◌}
 use Rattle.std.specs.List.{Contains}
 use Rattle.std.proofs.lemmas.List.{append-nil}
@@ -7,7 +7,7 @@ use Rattle.std.proofs.lemmas.List.Elements.{Contains-append_cases, Contains-push
 use Rattle.tftp_file.specs.Sink.{Holding, SinkMeaning}
 use Rattle.tftp_file.specs.Source.{SourceMeaning}
 use Rattle.tftp_file.specs.declared.files.Files.{Files}
-use Rattle.tftp_ends.specs.End.{EndState, is_client}
+use Rattle.tftp_ends.specs.End.{is_client}
 use Rattle.tftp_ends.specs.Step.{Turn, Reply, after_turn}
 use Rattle.tftp_store.specs.Store.{StoreMeaning}
 use Rattle.tftp_sockets.specs.Trace.{SocketEvent}
@@ -114,16 +114,7 @@ module _ {S F D G K : Type 0} {stores : StoreMeaning S D} {sources : SourceMeani
     }
 
     its_end : ClientKept programs pad (set kept.views own.viewed.index (open_view y)) messages client s' files' moved'
-    its_end = record {
-      end = y;
-      address = address;
-      state = ap (λ (e : EndState). after_turn e turn) own.state ∙ sym state;
-      side = ap is_client goes.side ∙ own.side;
-      viewed = its_view;
-      asks =
-          there_still kept.messages goes.said_now own.asks;
-      has = has;
-    }
+    its_end = search (rules, address, its_view, there_still)
 
     its_notes : (port : ℕ) (to : Endpoint) (bytes : List ℕ) → Contains (added ++ noted) (Sent port to bytes) →
         WasSentBefore old (endpoint client.ip port) to bytes ⊎ IsThere messages (endpoint client.ip port) to bytes
@@ -153,9 +144,7 @@ module _ {S F D G K : Type 0} {stores : StoreMeaning S D} {sources : SourceMeani
     }
 
     pub turn_keeps : IsKept pad (client_did old k (Has_asked s' files' (added ++ noted) moved'))
-    turn_keeps =
-        client_keeps kept fresh k client found (Has_asked s files noted moved) is_stage s' files'
-        (added ++ noted) moved' turned
+    turn_keeps = search (rules, client_keeps, turned)
 
   -- the end as it was
   module _ (s' : State) (state : s'.end ≡ s.end) (files' : Files G K) (moved' : Moved)
@@ -186,6 +175,4 @@ module _ {S F D G K : Type 0} {stores : StoreMeaning S D} {sources : SourceMeani
     }
 
     pub stays_keeps : IsKept pad (client_did old k (Has_asked s' files' (added ++ noted) moved'))
-    stays_keeps =
-        client_keeps kept fresh k client found (Has_asked s files noted moved) is_stage s' files'
-        (added ++ noted) moved' stays
+    stays_keeps = search (rules, client_keeps, stays)

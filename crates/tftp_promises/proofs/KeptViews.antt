@@ -1,5 +1,6 @@
 -- An end stays viewed when another end turns, or when one more opens.
-use Rattle.std.proofs.Common.{◌≡◌, ℕ, List, [], ◌∷◌, ◌++◌, set, Some, sym, ap, ◌∙◌, subst, inl, inr}
+use Rattle.std.proofs.lemmas.Grind.{common_steps}
+use Rattle.std.proofs.Common.{◌≡◌, ℕ, List, [], ◌∷◌, ◌++◌, set, Some, sym, ap, ◌∙◌, subst, inl, inr, arith, rules}
 use Rattle.std.specs.Prelude.{◌≢◌, ◌⊎◌, slice_get}
 use Rattle.std.specs.List.{Contains}
 use Rattle.std.proofs.lemmas.List.Elements.{Contains-append_left}
@@ -15,7 +16,7 @@ use Rattle.tftp_rules.specs.Machine.{Endpoint, Message, Network}
 use Rattle.tftp_rules.specs.OpenEnds.{OpenEnd, open_view}
 use Rattle.tftp_rules.specs.Rules.{message}
 use Rattle.tftp_rules.specs.Said.{said}
-use Rattle.tftp_rules.specs.Shows.{EndView, AreApart, IsShown}
+use Rattle.tftp_rules.specs.Shows.{EndView, IsShown}
 use Rattle.tftp_rules.specs.ViewSafety.{IsAmong}
 use Rattle.tftp_rules.proofs.Indices.{slice_get-set_cases, slice_get-set_other, slice_get-push_cases}
 use Rattle.tftp_rules.proofs.Indices.{slice_get-push_old}
@@ -26,8 +27,7 @@ use Rattle.tftp_promises.proofs.Invariant.{IsThere, HasArrived, IsViewed}
 -- what was said is there still
 pub there_still : (messages more : List Message) {from to : Endpoint} {bytes : List ℕ} →
     IsThere messages from to bytes → IsThere (messages ++ more) from to bytes
-there_still messages more {from} {to} h =
-    (h.0, h.1, Contains-append_left messages more (message from to (said h.0)) h.2)
+there_still messages more {from} {to} h = grind (arith, common_steps)
 
 pub arrived_still : (messages more : List Message) {from to : Endpoint} {bytes : List ℕ} →
     HasArrived messages from to bytes → HasArrived (messages ++ more) from to bytes
@@ -50,18 +50,11 @@ pub there_says : (messages : List Message) (from to : Endpoint) (bytes : List �
 there_says messages from to bytes h p s =
     subst (λ (q : WirePacket). Contains messages (message from to (said q))) (one_meaning h.0 p bytes h.1 s) h.2
 
-module _ (network : Network) where
-  -- no two ends are at one endpoint
-  pub views_apart : (views : List EndView) (messages : List Message) → IsShown network views messages → AreApart views
-  views_apart views messages s = s.1.1.apart
-
 module _ {network : Network} {IsText : Endpoint → Mode → Type 0} {views : List EndView} {messages : List Message} where
   -- the view at the endpoint of an end is its own
   pub view_there : {x : OpenEnd} {view : EndView} → IsShown network views messages →
       IsViewed network IsText views messages x → IsAmong views view → view.address ≡ x.address → view ≡ open_view x
-  view_there {x} {view} shown h among same =
-      let k = views_apart network views messages shown among.0 h.index view (open_view x) among.1 h.viewed same in
-      same_Some view (open_view x) (sym among.1 ∙ (ap (slice_get views) k ∙ h.viewed))
+  view_there {x} {view} shown h among same = search rules
 
   module _ (said_now : List Message) where
     -- another end has turned
@@ -93,26 +86,14 @@ module _ {network : Network} {IsText : Endpoint → Mode → Type 0} {views : Li
     -- more was said
     pub viewed_still : {z : OpenEnd} → IsViewed network IsText views messages z →
         IsViewed network IsText views (messages ++ said_now) z
-    viewed_still {z} h = record {
-      kept = h.kept;
-      index = h.index;
-      viewed = h.viewed;
-      last_sent = there_still messages said_now h.last_sent;
-      unblamed = unblamed_still network messages said_now z.state h.unblamed;
-    }
+    viewed_still {z} h = search (rules, there_still, unblamed_still)
 
 -- a view after one end has turned is that of the end, or as before
 pub among_set : (views : List EndView) (k : ℕ) (f view : EndView) → IsAmong (set views k f) view →
     IsAmong views view ⊎ (view ≡ f)
-among_set views k f view among = elim (slice_get-set_cases views k among.0 f view among.1) [
-  | inl h ↦ inr h.1
-  | inr h ↦ inl (among.0, h.1)
-]
+among_set views k f view among = search (rules, slice_get-set_cases)
 
 -- after one more has opened it is that of the end, or as before
 pub among_push : (views : List EndView) (f view : EndView) → IsAmong (views ++ f ∷ []) view →
     IsAmong views view ⊎ (view ≡ f)
-among_push views f view among = elim (slice_get-push_cases views among.0 f view among.1) [
-  | inl h ↦ inl (among.0, h)
-  | inr h ↦ inr h.1
-]
+among_push views f view among = search (rules, slice_get-push_cases)

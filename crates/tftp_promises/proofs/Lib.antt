@@ -84,5 +84,12 @@ pub mod GivingUp
 pub mod Outlasting
 pub mod Fated
 pub mod Failing
+pub mod OacksSent
+pub mod HonestOrders
+pub mod FirstRefused
+pub mod Refusing
+pub mod AnswersTaken
+pub mod FirstAnswers
+pub mod RefusedAnswers
 pub mod Explaining
 pub mod ExchangeLossy

@@ -1,17 +1,15 @@
 -- A step of a sender over any source is one over the text that the finished run tells.
-use Rattle.std.proofs.Common.{◌≡◌, ℕ, ◌+◌, ◌-◌, ◌*◌, ◌/◌, ◌≤◌, Bool, true, false, List, [], ◌++◌, append_assoc}
-use Rattle.std.proofs.Common.{append-nil, length, take, drop, Option, Some, None, Result, Ok, Err, refl, sym, ap, ◌∙◌}
-use Rattle.std.proofs.Common.{subst, arith}
-use Rattle.std.specs.Prelude.{◌≢◌, ◌&&◌, ◌==◌, if◌then◌else◌, is_none, nat_lt}
-use Rattle.std.proofs.lemmas.Bool.{true≢false, eqb-true}
-use Rattle.std.proofs.lemmas.List.{length-append, length-drop, length-take}
+use Rattle.std.proofs.Common.{◌≡◌, ℕ, ◌+◌, ◌-◌, ◌*◌, ◌≤◌, Bool, true, false, List, [], ◌++◌, append_assoc, append-nil}
+use Rattle.std.proofs.Common.{length, take, drop, Option, Some, None, Result, Ok, Err, refl, sym, ap, ◌∙◌, subst, arith}
+use Rattle.std.proofs.Common.{rules}
+use Rattle.std.specs.Prelude.{◌≢◌, ◌&&◌, if◌then◌else◌, is_none}
+use Rattle.std.proofs.lemmas.Bool.{true≢false}
+use Rattle.std.proofs.lemmas.List.{length-append, length-drop}
 use Rattle.tftp_wire.specs.declared.packet.Packet.{Packet as WirePacket}
-use Rattle.tftp_wire.specs.declared.packet.Packet.TheVariants.{Read, Write, Data, Ack, Error, Oack}
+use Rattle.tftp_wire.specs.declared.packet.Packet.TheVariants.{Read, Ack}
 use Rattle.tftp_wire.specs.Reading.{has_error_opcode}
-use Rattle.tftp_negotiate.specs.Agreement.{agreement}
 use Rattle.tftp_negotiate.specs.declared.asked.Asked.{Asked}
 use Rattle.tftp_negotiate.specs.declared.known.Kind.TheVariants as kinds
-use Rattle.tftp_negotiate.specs.declared.known.Known.{Known}
 use Rattle.tftp_negotiate.specs.declared.refusal.Refusal.{Refusal}
 use Rattle.tftp_negotiate.specs.declared.refusal.Refusal.TheVariants as refusals
 use Rattle.tftp_file.specs.Block.{IsPrefixOf}
@@ -22,20 +20,19 @@ use Rattle.tftp_file.specs.declared.fault.FileFault.TheVariants as file_faults
 use Rattle.tftp_file.specs.declared.files.Files.TheVariants.{Source}
 use Rattle.tftp_ends.specs.declared.action.Action.{Action}
 use Rattle.tftp_ends.specs.declared.action.Action.TheVariants.{Respond, Send, Store}
-use Rattle.tftp_ends.specs.declared.action.Response.TheVariants.{Ignore, WrongPeer, Refuse, Complete}
+use Rattle.tftp_ends.specs.declared.action.Response.TheVariants.{Ignore, WrongPeer}
 use Rattle.tftp_ends.specs.declared.endpoint.Endpoint.{Endpoint}
-use Rattle.tftp_ends.specs.declared.error_reply.ErrorReply.TheVariants.{FileTooLarge, FileChanged}
+use Rattle.tftp_ends.specs.declared.error_reply.ErrorReply.TheVariants.{FileChanged}
 use Rattle.tftp_ends.specs.declared.outcome.Outcome.TheVariants as outcomes
 use Rattle.tftp_ends.specs.declared.phase.Phase.{Phase}
-use Rattle.tftp_ends.specs.declared.phase.Phase.TheVariants.{Waiting, Sending, Receiving, Dallying, Closed}
+use Rattle.tftp_ends.specs.declared.phase.Phase.TheVariants.{Sending}
 use Rattle.tftp_ends.specs.declared.phase.Terms.{Terms}
 use Rattle.tftp_ends.specs.Action.{datagram_action, packet_action, garbled_response, is_wrong_peer}
 use Rattle.tftp_ends.specs.End.{is_sender, is_client, outcome_of, terms_of}
-use Rattle.tftp_ends.specs.Sender.{sender_action, illegal_action}
+use Rattle.tftp_ends.specs.Sender.{sender_action}
 use Rattle.tftp_ends.specs.Step.{Turn, Sends, Acts, DatagramStep, block_length, data_bytes, filled_turn, refused_turn}
 use Rattle.tftp_ends.specs.Step.{result_count_is, sent_turn}
-use Rattle.tftp_ends.specs.Waiting.{agreed_terms, begin_action, begin_with_action, default_terms, no_answer}
-use Rattle.tftp_ends.specs.Waiting.{reader_action, writer_action}
+use Rattle.tftp_ends.specs.Waiting.{begin_action, writer_action}
 use Rattle.tftp_rules.specs.EndKept.{EndKept, PhaseKept, IsUnderWay}
 use Rattle.tftp_rules.specs.KnownFiles.{known_source, known_sink}
 use Rattle.tftp_rules.specs.Machine.{Network}
@@ -52,14 +49,8 @@ ReadsWithin measured left (Respond response) = Unit {0}
 ReadsWithin measured left (Send terms number) = block_length measured terms.size number ≤ length left
 ReadsWithin measured left (Store terms number) = Unit {0}
 
-first_within : (measured size n : ℕ) → measured ≡ n → block_length measured size 1 ≤ n
-first_within measured size n e = let z : (1 - 1) * size ≡ 0 = omega arith in omega (arith, e, z)
-
 next_within : (measured size number n : ℕ) → measured ≡ n → block_length measured size (number + 1) ≤ n - number * size
-next_within measured size number n e =
-    let back : (number + 1) - 1 ≡ number = omega arith in
-    let same : ((number + 1) - 1) * size ≡ number * size = ap (λ (m : ℕ). m * size) back in
-    omega (arith, e, same)
+next_within measured size number n e = search rules
 
 module _ (x : OpenEnd) (sender : is_sender x.state.role.side ≡ true) (from : Endpoint) where
   abbrev Within : Action → Type 0
@@ -68,70 +59,28 @@ module _ (x : OpenEnd) (sender : is_sender x.state.role.side ≡ true) (from : E
   -- a client that waits
   module _ (left : x.left ≡ x.text) (measured : x.state.role.length ≡ length x.text) where
     begins : (terms : Terms) → Within (begin_action x.state.role.length terms)
-    begins terms =
-        if_acts Within (nat_lt x.state.role.length (65535 * terms.size)) (Send terms 1)
-        (Respond (Refuse None FileTooLarge outcomes.TooLarge))
-        (λ b. first_within x.state.role.length terms.size (length x.left) (measured ∙ ap length (sym left))) (λ b. tt)
-
-    agreed : (a : Result (List Known) Refusal) → Within (begin_with_action from x.state.role.length a)
-    agreed (Ok options) = begins (agreed_terms from options)
-    agreed (Err refusals.Repeated) = tt
-    agreed (Err refusals.TooLarge) = tt
-    agreed (Err refusals.NotAsked) = tt
-    agreed (Err refusals.BadValue) = tt
+    begins terms = search rules
 
     writes : (asked : Asked) (limit : ℕ) (decoded : Option WirePacket) →
         Within (writer_action x.state.role.mode asked limit x.state.role.length from decoded)
-    writes asked limit None = tt
-    writes asked limit (Some (Read r)) = tt
-    writes asked limit (Some (Write r)) = tt
-    writes asked limit (Some (Data number bytes)) = tt
-    writes asked limit (Some (Ack number)) =
-        if_acts Within (number == 0) (begin_action x.state.role.length (default_terms from)) no_answer
-        (λ b. begins (default_terms from)) (λ b. tt)
-    writes asked limit (Some (Error code text)) = tt
-    writes asked limit (Some (Oack options)) = agreed (agreement asked kinds.Write x.state.role.mode options limit)
+    writes asked limit decoded = search rules
 
   -- a sender
   module _ (terms : Terms) (n : ℕ) (u : IsUnderWay x terms n) where
     more : block_length x.state.role.length terms.size (n + 1) ≤ length x.left
-    more =
-        let within = next_within x.state.role.length terms.size n (length x.text) u.measured in
-        let l = length-drop (n * terms.size) x.text in
-        let e = ap (λ (t : List ℕ). length t) u.left in
-        omega (arith, within, l, e)
+    more = search (rules, next_within, length-drop)
 
     acks : (acked : ℕ) → Within (sender_action (is_client x.state.role.side) x.state.role.length terms n
         (Some (Ack acked)))
-    acks acked =
-        if_acts Within (acked == n) (if nat_lt n (x.state.role.length / terms.size + 1) then Send terms (n + 1) else
-        Respond Complete) (if nat_lt acked n then Respond Ignore else illegal_action terms)
-        (λ b. if_acts Within (nat_lt n (x.state.role.length / terms.size + 1)) (Send terms (n + 1)) (Respond Complete)
-        (λ c. more) (λ c. tt))
-        (λ b. if_acts Within (nat_lt acked n) (Respond Ignore) (illegal_action terms) (λ c. tt) (λ c. tt))
+    acks acked = search (rules, if_acts, more)
 
     sends : (decoded : Option WirePacket) →
         Within (sender_action (is_client x.state.role.side) x.state.role.length terms n decoded)
-    sends None = tt
-    sends (Some (Read r)) = tt
-    sends (Some (Write r)) = tt
-    sends (Some (Data number bytes)) = tt
-    sends (Some (Ack acked)) = acks acked
-    sends (Some (Error code text)) = tt
-    sends (Some (Oack options)) =
-        if_acts Within (is_client x.state.role.side && terms.by_oack) (Respond Ignore) (illegal_action terms) (λ b. tt)
-        (λ b. tt)
+    sends decoded = search (rules, acks, if_acts)
 
   module _ (network : Network) (decoded : Option WirePacket) where
     by_phase : (phase : Phase) → PhaseKept network x phase → Within (packet_action x.state from decoded phase)
-    by_phase (Waiting asked limit) h =
-        if_acts Within (is_sender x.state.role.side) (writer_action x.state.role.mode asked limit x.state.role.length
-        from decoded) (reader_action x.state.role.mode asked limit from decoded)
-        (λ s. writes h.3 (h.5 s) asked limit decoded) (λ r. absurd (true≢false (sym sender ∙ r)))
-    by_phase (Sending terms n) u = sends terms n u decoded
-    by_phase (Receiving terms n) h = absurd (true≢false (sym sender ∙ h.0))
-    by_phase (Dallying terms n dally) h = tt
-    by_phase (Closed terms n complete outcome) h = tt
+    by_phase phase h1 = search (rules, if_acts, writes, true≢false, sends)
 
     pub reads_within : (bytes : List ℕ) → EndKept network x → Within (datagram_action x.state from bytes decoded)
     reads_within bytes kept =
@@ -147,20 +96,11 @@ module _ (x : OpenEnd) (sender : is_sender x.state.role.side ≡ true) (from : E
 
 -- ---- what was read
 whole_answer : (want : ℕ) (answer : Result ℕ FileFault) → result_count_is want answer ≡ true → answer ≡ Ok want
-whole_answer want (Ok count) e = ap (λ (n : ℕ). Ok n) (eqb-true count want e)
-whole_answer want (Err fault) e = absurd (true≢false (sym e))
+whole_answer want answer e = search rules
 
 pub piece_length : (before after : Option (List ℕ)) (want : ℕ) (piece : List ℕ) →
     Fills before after want [] piece (Ok want) → length piece ≡ want
-piece_length (Some left) after want piece f =
-    let a = ap (λ (t : List ℕ). length t) f.given in
-    let b = length-take want left in
-    let c = f.count in
-    omega (arith, a, b, c)
-piece_length None after want piece f =
-    let a = ap (λ (t : List ℕ). length t) f.given in
-    let b = f.count in
-    omega (arith, a, b)
+piece_length before after want piece f = search rules
 
 no_memory : (n : ℕ) → ◌≢◌ {A = Result ℕ FileFault} (Ok n) (Err file_faults.Memory)
 no_memory n e = cc
@@ -262,8 +202,7 @@ module _ {S K : Type 0} (sources : SourceMeaning S) (sinks : SinkMeaning K) (x :
       IsPrefixOf (moved.bytes ++ (if b then h.piece else [])) all →
       SourceMoves x turn (with_more (if b then h.piece else []) moved.committed moved)
       (Sends known_source terms number from x.state x.left turn)
-  either terms number h within true count told = whole terms number h within count told
-  either terms number h within false count told = failed terms number h count
+  either terms number h within b count told = search (rules, whole, failed)
 
   source_acts : (action : Action) → ReadsWithin x.state.role.length x.left action →
       (bytes : List ℕ) (acts : Acts sources sinks action from bytes x.state (Source s) turn (Source s')) →

@@ -1,11 +1,10 @@
 -- A step of a receiver over any sink is one over what the sink was handed.
 use Rattle.std.proofs.Common.{◌≡◌, ℕ, Bool, true, false, List, [], ◌∷◌, ◌++◌, append-nil, Some, Result, Ok, Err, refl}
-use Rattle.std.proofs.Common.{None, sym, ap, ◌∙◌, subst, inl, inr}
+use Rattle.std.proofs.Common.{None, sym, ap, ◌∙◌, subst, inl, inr, rules}
 use Rattle.std.specs.Prelude.{◌≢◌, ◌⊎◌, ◌||◌, is_ok, nat_lt, length, IfErr}
 use Rattle.std.specs.Result.{result_err}
 use Rattle.std.proofs.lemmas.Bool.{true≢false}
-use Rattle.tftp_file.specs.Sink.{Holding, SinkMeaning, AppendsFreely, CommitsFreely, KeptPrefix, UnlessArmed}
-use Rattle.tftp_file.specs.Sink.{as_committed, with_piece}
+use Rattle.tftp_file.specs.Sink.{Holding, SinkMeaning, CommitsFreely, UnlessArmed, as_committed, with_piece}
 use Rattle.tftp_file.specs.Source.{SourceMeaning}
 use Rattle.tftp_file.specs.declared.fault.StoreFault.{StoreFault}
 use Rattle.tftp_file.specs.declared.fault.StoreFault.TheVariants as faults
@@ -20,8 +19,8 @@ use Rattle.tftp_ends.specs.declared.outcome.Outcome.TheVariants as outcomes
 use Rattle.tftp_ends.specs.declared.phase.Terms.{Terms}
 use Rattle.tftp_ends.specs.Action.{datagram_action}
 use Rattle.tftp_ends.specs.End.{EndState, outcome_of}
-use Rattle.tftp_ends.specs.Step.{Done, Turn, Appended, Stores, GoesOn, Acts, DatagramStep, commit_reply, committed_turn}
-use Rattle.tftp_ends.specs.Step.{holding, refused_turn}
+use Rattle.tftp_ends.specs.Step.{Done, Turn, Appended, Stores, GoesOn, Acts, DatagramStep, committed_turn, holding}
+use Rattle.tftp_ends.specs.Step.{refused_turn}
 use Rattle.tftp_rules.specs.KnownFiles.{known_source, known_sink}
 use Rattle.tftp_rules.specs.OpenEnds.{OpenEnd, holding_of, end_after}
 use Rattle.tftp_promises.specs.Moved.{Moved, acts_move, commits_after, step_moves, with_more}
@@ -49,27 +48,6 @@ handed_committed : (bytes : List ℕ) (before : Holding) → (handed bytes befor
     before.committed ≡ true
 handed_committed [] before e = e
 handed_committed (b ∷ bytes) before e = absurd (true≢false (sym e))
-
--- an append that all bytes reached, whatever it answered
-whole : (before : Holding) (piece : List ℕ) → KeptPrefix before (Some (with_piece before piece)) piece
-whole before piece = record {
-  holding = with_piece before piece;
-  leaves = refl;
-  kept = piece;
-  prefix = ([], append-nil piece);
-  bytes = refl;
-  uncommitted = λ e. absurd (true≢false (sym e));
-  refuses = refl;
-}
-
-freely : (before : Holding) (piece : List ℕ) (answer : Result Done StoreFault) → answer ≢ Err faults.Memory →
-    AppendsFreely before (Some (with_piece before piece)) piece answer
-freely before piece (Ok done) m = refl
-freely before piece (Err faults.Memory) m = absurd (m refl)
-freely before piece (Err faults.Missing) m = whole before piece
-freely before piece (Err faults.Exists) m = whole before piece
-freely before piece (Err faults.Full) m = whole before piece
-freely before piece (Err faults.Io) m = whole before piece
 
 unless_armed : {A : Type 0} (armed : Bool) (before : Holding) (after : Holding) (answer : Result A StoreFault)
     (P : Type 0) → armed ≡ false → P → UnlessArmed armed before (Some after) answer P
@@ -144,30 +122,18 @@ module _ {S K : Type 0} (sources : SourceMeaning S) (sinks : SinkMeaning K) (fro
   stays_so : {e : EndState} {k k' : K} {answer : Result Done StoreFault} {before mid : Holding} {committed : Bool}
       {P : Holding → Type 0} → (outcome_of turn.position.phase ≡ None → (answer ≡ Ok tt) × (k' ≡ k)) → P mid →
       GoesSo e k k' answer before mid committed P
-  stays_so {before = before} {mid = mid} {committed = committed} going steps =
-      record {
-        after = mid;
-        steps = steps;
-        bytes = refl;
-        refuses = refl;
-        commits = λ c was. or_left before.committed committed (was c);
-        going = λ o n. going o;
-        done = λ c. inl c;
-      }
+  stays_so {before = before} {mid = mid} {committed = committed} going steps = search rules
 
   -- an end that was refused has closed
   closes : {A : Type 0} (terms : Terms) (reply : ErrorReply) (e : EndState) →
       turn ≡ refused_turn terms reply outcomes.StoreFault from e → outcome_of turn.position.phase ≡ None → A
-  closes terms reply e answers o =
-      absurd (let f : Some outcomes.StoreFault ≡ None =
-      ap (λ (t : Turn). outcome_of t.position.phase) (sym answers) ∙ o in cc)
+  closes terms reply e answers o = search rules
 
   -- a commit that succeeded, or that closed the end
   module _ (terms : Terms) (number : ℕ) (e : EndState) (k k' : K) (mid : Holding) where
     commit_going : (answer : Result Done StoreFault) → turn ≡ committed_turn terms number from e answer →
         outcome_of turn.position.phase ≡ None → (commit_leaves answer mid).committed ≡ false → k' ≡ k
-    commit_going (Ok done) answers o c = absurd (true≢false c)
-    commit_going (Err fault) answers o c = closes terms (commit_reply fault) e answers o
+    commit_going answer answers o c = search rules
 
     commit_done : (answer : Result Done StoreFault) → sinks.after_commit k k' (result_err answer) →
         (commit_leaves answer mid).committed ≡ true → (mid.committed ≡ true) ⊎ sinks.after_commit k k' None
@@ -213,15 +179,7 @@ module _ {S K : Type 0} (sources : SourceMeaning S) (sinks : SinkMeaning K) (fro
   appends_so : (bytes : List ℕ) (k mid : K) (before : Holding) (answer : Result Done StoreFault) →
       before.refuses ≡ false → answer ≢ Err faults.Memory →
       Appended sinks bytes k mid answer → Appended known_sink bytes before (handed bytes before) answer
-  appends_so [] k mid before answer free memory h = (h.0, refl)
-  appends_so (b ∷ bytes) k mid before answer free memory h = (
-    unless_armed before.refuses before (with_piece before (b ∷ bytes)) answer
-        (AppendsFreely before (Some (with_piece before (b ∷ bytes))) (b ∷ bytes) answer) free
-        (freely before (b ∷ bytes) answer memory),
-    any_fault answer _ (λ fault. tt),
-    tt,
-    tt,
-  )
+  appends_so bytes k mid before answer free memory h = search rules
 
   -- the sink is as it was
   same_sink : (a b : K) → ◌≡◌ {A = Files S K} (Sink a) (Sink b) → a ≡ b
@@ -232,8 +190,7 @@ module _ {S K : Type 0} (sources : SourceMeaning S) (sinks : SinkMeaning K) (fro
     appended : (terms : Terms) (number : ℕ) (piece : List ℕ)
         (h : Stores sinks terms number from piece x.state k turn k') → h.answer ≡ Ok tt →
         Appended sinks h.bytes k h.mid (Ok tt)
-    appended terms number piece h is =
-        subst (λ (a : Result Done StoreFault). Appended sinks h.bytes k h.mid a) is h.appended
+    appended terms number piece h is = search rules
 
     stores_so : (terms : Terms) (number : ℕ) (piece : List ℕ)
         (h : Stores sinks terms number from piece x.state k turn k') →

@@ -1,16 +1,16 @@
 -- No two transfers of a run are at one place, and none is at a client's endpoint.
 use Rattle.std.proofs.Common.{◌≡◌, ◌≢◌, ℕ, suc, zero, ◌+◌, ◌<◌, ◌≤◌, Bool, true, false, List, [], ◌∷◌, ◌++◌, length}
-use Rattle.std.proofs.Common.{map, Option, Some, None, refl, sym, ap, ◌∙◌, subst, inl, inr, arith}
+use Rattle.std.proofs.Common.{map, Option, Some, None, refl, sym, ap, ◌∙◌, subst, inl, inr, arith, rules}
 use Rattle.std.specs.Prelude.{◌⊎◌, if◌then◌else◌, option_to_list, slice_get}
 use Rattle.std.specs.List.{Contains}
 use Rattle.std.proofs.lemmas.List.{length-append}
 use Rattle.std.proofs.lemmas.List.Elements.{Contains-append_cases, Contains-append_left, Contains-append_right}
 use Rattle.std.proofs.lemmas.List.Elements.{Contains-push}
-use Rattle.std.proofs.lemmas.Option.{same_Some, slice_get_read}
+use Rattle.std.proofs.lemmas.Option.{slice_get_read}
 use Rattle.tftp_file.specs.Sink.{SinkMeaning}
 use Rattle.tftp_file.specs.Source.{SourceMeaning}
 use Rattle.tftp_store.specs.Store.{StoreMeaning}
-use Rattle.tftp_server.specs.Request.{Came, Nothing, Error_reply, A_transfer, Left, left_by}
+use Rattle.tftp_server.specs.Request.{Came, Left, left_by}
 use Rattle.tftp_sockets.specs.Trace.{SocketEvent}
 use Rattle.tftp_loop.specs.Run.{Run}
 use Rattle.tftp_loop.specs.Run.Run.{Start, Then}
@@ -64,9 +64,7 @@ module _ {S F D : Type 0} {stores : StoreMeaning S D} {sources : SourceMeaning F
     (answers : AnswersRequest stores sources old new) where
   tid_by : (came : Came S F D) (tid : ℕ) → (left_by came old.server answers.from answers.tid).opened.tid ≡ Some tid →
       tid ≡ answers.tid
-  tid_by Nothing tid e = absurd (let f : None ≡ Some tid = e in cc)
-  tid_by (Error_reply reply store) tid e = absurd (let f : None ≡ Some tid = e in cc)
-  tid_by (A_transfer held store) tid e = sym (same_Some answers.tid tid e)
+  tid_by came tid e = search rules
 
   pub own_tid : (tid : ℕ) → answers.left.opened.tid ≡ Some tid → tid ≡ answers.tid
   own_tid tid is = tid_by answers.steps.came tid (ap (λ (l : Left S F D). l.opened.tid) (sym answers.steps.left) ∙ is)
@@ -90,18 +88,10 @@ module _ {S F D G K : Type 0} {stores : StoreMeaning S D} {sources : SourceMeani
   OpensOne count ports opened a =
       OursAt ports a ⊎ ((a ≡ endpoint programs.ip (above programs + count)) × (1 ≤ length opened))
 
-  by_ours : (b : Bool) (count tid : ℕ) (a : Endpoint) →
-      endpoint programs.ip (if b then tid else above programs + count) ≡ a →
-      OpensOne count (if b then tid ∷ [] else []) (tid ∷ []) a
-  by_ours true count tid a e = inl (record { port = tid; known = Contains-push [] tid; is = sym e })
-  by_ours false count tid a e = inr (sym e, omega arith)
-
   answer_place : (from : Endpoint) (count : ℕ) (o : Option ℕ) (a : Endpoint) →
       Contains (map (place programs count from) (option_to_list o)) a →
       OpensOne count (if is_ours programs from then option_to_list o else []) (option_to_list o) a
-  answer_place from count None a c = absurd (nothing_in a c)
-  answer_place from count (Some tid) a c =
-      by_ours (is_ours programs from) count tid a (only_one (place programs count from tid) a c)
+  answer_place from count o a c = search rules
 
   placed_cases : {first old new : LoopState S F D} (run : Run (LoopStep stores sources) first old)
       (does : LoopStep stores sources old new) (a : Endpoint) → Contains (placed_by programs run does) a →
@@ -207,9 +197,7 @@ module _ {S F D G K : Type 0} {stores : StoreMeaning S D} {sources : SourceMeani
 
     -- one of a client
     ports_are : is_ours programs answers.from ≡ true → our_ports programs now.run ≡ tid ∷ our_ports programs old.run
-    ports_are ours =
-        ap (λ (b : Bool). (if b then option_to_list answers.left.opened.tid else []) ++ our_ports programs old.run) ours
-        ∙ ap (λ (ports : List ℕ). ports ++ our_ports programs old.run) opens
+    ports_are ours = search rules
 
     place_before : (a : Endpoint) → Contains (places programs old.run) a → (b : Bool) →
         is_ours programs answers.from ≡ b → a ≢ endpoint programs.ip (if b then tid else above programs + count)

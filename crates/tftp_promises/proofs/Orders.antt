@@ -1,11 +1,11 @@
 -- What one program noted of an order of events, and lists with one element per client.
 use Rattle.std.proofs.Common.{◌≡◌, ℕ, List, [], ◌∷◌, length, map, set, Bool, true, false, Option, Some, None, refl, sym}
-use Rattle.std.proofs.Common.{ap, ◌∙◌, subst, zero, suc, arith, inl, inr}
+use Rattle.std.proofs.Common.{ap, ◌∙◌, subst, zero, suc, arith, inl, inr, rules}
 use Rattle.std.specs.Prelude.{◌≢◌, ◌==◌, if◌then◌else◌, slice_get, option_map}
 use Rattle.std.specs.List.{Contains}
-use Rattle.std.proofs.lemmas.Bool.{cond-true, cond-false, eq-eqb, ne_eqb}
+use Rattle.std.proofs.lemmas.Bool.{cond-true, eq-eqb}
 use Rattle.std.proofs.lemmas.List.Elements.{Contains-append_cases, Contains-append_left, Contains-append_right}
-use Rattle.std.proofs.lemmas.List.Elements.{Contains-push, Contains-push_cases}
+use Rattle.std.proofs.lemmas.List.Elements.{Contains-push}
 use Rattle.std.proofs.lemmas.Option.{same_Some}
 use Rattle.tftp_sockets.specs.Trace.{SocketEvent}
 use Rattle.tftp_promises.specs.Order.{Noted, events_of}
@@ -16,10 +16,7 @@ nothing_in : {X : Type 0} (x : X) → Contains [] x → ⊥
 nothing_in x i = let l = i.1 in omega arith
 
 pub one_in : {X : Type 0} (x y : X) → Contains (y ∷ []) x → y ≡ x
-one_in x y i = elim (Contains-push_cases [] y x i) [
-  | inl n ↦ absurd (nothing_in x n)
-  | inr e ↦ e
-]
+one_in x y i = search rules
 
 pub first_in : {X : Type 0} (x : X) (xs : List X) → Contains (x ∷ xs) x
 first_in x xs = Contains-append_left (x ∷ []) xs x (Contains-push [] x)
@@ -33,8 +30,7 @@ pub events_own : (p : ℕ) (e : SocketEvent) (order : List Noted) → events_of 
 events_own p e order = cond-true (p == p) (e ∷ events_of p order) (events_of p order) (eq-eqb p p refl)
 
 pub events_other : (p q : ℕ) (e : SocketEvent) (order : List Noted) → p ≢ q → events_of p ((q, e) ∷ order) ≡ events_of p order
-events_other p q e order n =
-    cond-false (q == p) (e ∷ events_of p order) (events_of p order) (ne_eqb q p (λ same. n (sym same)))
+events_other p q e order n = search rules
 
 either_in : (b : Bool) (x e : SocketEvent) (events : List SocketEvent) → Contains events e →
     Contains (if b then x ∷ events else events) e

@@ -1,5 +1,5 @@
 -- A client takes no answer of other servers where there are none.
-use Rattle.std.proofs.Common.{ℕ, List, [], sym, subst}
+use Rattle.std.proofs.Common.{ℕ, List, [], rules}
 use Rattle.tftp_file.specs.Sink.{SinkMeaning}
 use Rattle.tftp_file.specs.Source.{SourceMeaning}
 use Rattle.tftp_file.specs.declared.files.Files.{Files}
@@ -35,10 +35,5 @@ module _ {G K : Type 0} {inputs : SourceMeaning G} {outputs : SinkMeaning K} (ip
 
 pub alone_joined : {S F D G K : Type 0} (stores : StoreMeaning S D) (sources : SourceMeaning F)
     (inputs : SourceMeaning G) (outputs : SinkMeaning K) → ServersAloneAreJoined stores sources inputs outputs
-alone_joined stores sources inputs outputs programs order alone is_order honest fresh = record {
-  is_order = is_order;
-  honest = honest;
-  fresh = fresh;
-  own = λ k client found. subst (λ (others : List ℕ). TakesOwn programs.ip others client.runs) (sym alone)
-      (takes_none programs.ip client.runs);
-}
+alone_joined stores sources inputs outputs programs order alone is_order honest fresh =
+    search (rules, takes_none)

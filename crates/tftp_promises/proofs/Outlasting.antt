@@ -2,14 +2,12 @@
 use Rattle.std.proofs.Common.{◌≡◌, ℕ, suc, Bool, true, false, not, List, [], ◌∷◌, ◌++◌, Some, refl, sym, ap, ◌∙◌}
 use Rattle.std.proofs.Common.{append_assoc, subst, inl, inr}
 use Rattle.std.specs.Prelude.{◌⊎◌, ◌==◌, if◌then◌else◌, slice_get}
-use Rattle.std.proofs.lemmas.Bool.{eqb-true, true≢false}
+use Rattle.std.proofs.lemmas.Bool.{eqb-true}
 use Rattle.std.proofs.lemmas.List.{append_cancel_right}
 use Rattle.tftp_file.specs.Sink.{SinkMeaning}
 use Rattle.tftp_file.specs.Source.{SourceMeaning}
-use Rattle.tftp_file.specs.declared.files.Files.{Files}
 use Rattle.tftp_ends.specs.declared.endpoint.Endpoint.{Endpoint}
-use Rattle.tftp_ends.specs.declared.role.Role.{Role}
-use Rattle.tftp_ends.specs.End.{EndState, is_client, is_complete, is_sender, outcome_of}
+use Rattle.tftp_ends.specs.End.{is_complete, is_sender}
 use Rattle.tftp_ends.specs.Run.{IsOpen}
 use Rattle.tftp_store.specs.Store.{StoreMeaning}
 use Rattle.tftp_server.specs.Draft.{drafting_sink}
@@ -20,7 +18,7 @@ use Rattle.tftp_lives.proofs.LivesStand.{life_stands}
 use Rattle.tftp_lives.proofs.OpenEnds.{how_it_is}
 use Rattle.tftp_lives.proofs.Outlasts.{ends_outlast_loss}
 use Rattle.tftp_sockets.specs.Trace.{SocketEvent}
-use Rattle.tftp_promises.specs.AnyFiles.{IsEnd, IsOurs, KeepAnyFiles, ProgramEnd, ServesClient, client_end, peer_of, transfer_end}
+use Rattle.tftp_promises.specs.AnyFiles.{ServesClient, client_end, peer_of}
 use Rattle.tftp_promises.specs.GivesUp.{WasHeld}
 use Rattle.tftp_promises.specs.Joined.{AreJoined}
 use Rattle.tftp_promises.specs.Lived.{IsLiving, Tells, Begins_so, Passes, Receives, Misses, Sends}
@@ -30,12 +28,10 @@ use Rattle.tftp_promises.specs.Order.{Noted, Programs, ClientOf, events_of}
 use Rattle.tftp_promises.specs.Failed.{HasFailed}
 use Rattle.tftp_promises.specs.Outlasting.{AreBounded, AreShown, IsEventOf, OutlastLoss, ProgramsOutlastLoss, Shows, Ends_so}
 use Rattle.tftp_promises.specs.Outlasting.{Another, Of_client, Of_server}
-use Rattle.tftp_promises.specs.Programs.{ClientOpens, To_read, To_write, client_at}
+use Rattle.tftp_promises.specs.Programs.{client_at}
 use Rattle.tftp_promises.proofs.ClientLives.{client_lives, client_opening}
-use Rattle.tftp_promises.proofs.ClientRoles.{run_role}
 use Rattle.tftp_promises.proofs.Failing.{client_complete, client_failed, client_is, transfer_complete, transfer_failed}
 use Rattle.tftp_promises.proofs.GivingUp.{was_held}
-use Rattle.tftp_promises.proofs.ProgramsShown.{programs_keep_any}
 use Rattle.tftp_promises.proofs.TraceLives.{client_noted, transfers_noted}
 use Rattle.tftp_promises.proofs.TransferLives.{transfers_live}
 

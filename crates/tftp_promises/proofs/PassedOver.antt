@@ -1,33 +1,31 @@
 -- A server that a client passes over: for these two the client has sent its request, and no more.
+use Rattle.std.proofs.lemmas.Grind.{common_steps}
 use Rattle.std.proofs.Common.{◌≡◌, ℕ, List, [], ◌∷◌, ◌++◌, Bool, true, false, Some, None, refl, sym, ap, ◌∙◌}
-use Rattle.std.proofs.Common.{subst, zero, suc, arith, inl, inr}
+use Rattle.std.proofs.Common.{subst, zero, suc, arith, inl, inr, rules}
 use Rattle.std.specs.Prelude.{◌≢◌, ◌⊎◌, ◌==◌, if◌then◌else◌, slice_get}
 use Rattle.std.specs.List.{Contains}
-use Rattle.std.proofs.lemmas.Bool.{cases_Bool, eq-eqb, eqb-true, ne_eqb, true≢false}
+use Rattle.std.proofs.lemmas.Bool.{cases_Bool, eq-eqb, eqb-true, true≢false}
 use Rattle.std.proofs.lemmas.Option.{same_Some}
 use Rattle.tftp_file.specs.Block.{IsPrefixOf}
 use Rattle.tftp_file.specs.Sink.{SinkMeaning}
 use Rattle.tftp_file.specs.Source.{SourceMeaning}
-use Rattle.tftp_ends.specs.End.{EndState, is_complete, is_sender, record_of}
+use Rattle.tftp_ends.specs.End.{is_complete, is_sender}
 use Rattle.tftp_store.specs.Store.{StoreMeaning}
 use Rattle.tftp_rules.specs.Machine.{Endpoint}
 use Rattle.tftp_rules.proofs.ViewSafe.{first_of_empty}
 use Rattle.tftp_sockets.specs.Trace.{SocketEvent}
 use Rattle.tftp_sockets.specs.Trace.SocketEvent.{Received, Sent, Watched, Elapsed, Printed, Quiet}
 use Rattle.tftp_loop.specs.Run.{Run}
-use Rattle.tftp_loop.specs.Run.Run.{Start, Then}
-use Rattle.tftp_loop.specs.Steps.{LoopState, LoopStep, Waited, At_port, Request_received, No_request_found}
-use Rattle.tftp_loop.specs.Steps.{Request_not_received, Request_noted, Request_answered, Request_lost, Clock_read}
-use Rattle.tftp_loop.specs.Steps.{Store_set, Drain_begun, Transfer_closed}
+use Rattle.tftp_loop.specs.Steps.{LoopState, LoopStep}
 use Rattle.tftp_promises.specs.Alone.{HasNothing, IsPassedOver, OthersHaveNothing, alone, heard_with, just_asking}
 use Rattle.tftp_promises.specs.AnyFiles.{IsEnd, IsOurs, KeepAnyFiles, ProgramEnd, client_end, has_of, peer_of}
 use Rattle.tftp_promises.specs.Joined.{AreJoined}
-use Rattle.tftp_promises.specs.Openings.{ArePortsFresh, our_ports, ours_by}
+use Rattle.tftp_promises.specs.Openings.{ArePortsFresh, our_ports}
 use Rattle.tftp_promises.specs.Order.{CanCome, IsHonest, IsOrder, IsStranger, MayCome, Noted, Programs, events_of}
 use Rattle.tftp_promises.specs.Order.{IsAtOf, WasSent, ips}
 use Rattle.tftp_promises.specs.Others.{TakesOwn}
 use Rattle.tftp_promises.specs.Ports.{AreDistinct}
-use Rattle.tftp_promises.specs.Programs.{To_read, To_write, client_at, endpoint}
+use Rattle.tftp_promises.specs.Programs.{client_at, endpoint}
 use Rattle.tftp_promises.specs.Several.{OneClient, OneServer, Several, number_of}
 use Rattle.tftp_promises.proofs.ClientTraces.{asks_first, asks_there}
 use Rattle.tftp_promises.proofs.EachAlone.{honest_both, order_both, sent_own}
@@ -60,10 +58,7 @@ begins_after x y events (inr (z ∷ more, is)) =
     let f : y ∷ events ≡ z ∷ (more ++ x ∷ []) = is in let g : events ≡ more ++ x ∷ [] = cc in inr (more, g)
 
 begins_here : (x y : SocketEvent) → Begins x (y ∷ []) → y ≡ x
-begins_here x y (inl none) = absurd (let f : y ∷ [] ≡ [] = none in cc)
-begins_here x y (inr ([], is)) = let f : y ∷ [] ≡ x ∷ [] = is in cc
-begins_here x y (inr (z ∷ [], is)) = absurd (let f : y ∷ [] ≡ z ∷ x ∷ [] = is in cc)
-begins_here x y (inr (z ∷ w ∷ more, is)) = absurd (let f : y ∷ [] ≡ z ∷ (w ∷ (more ++ x ∷ [])) = is in cc)
+begins_here x y h2 = grind (arith, common_steps)
 
 module _ (x : SocketEvent) where
   -- before an event the client's trace begins so, too
@@ -78,13 +73,7 @@ module _ (x : SocketEvent) where
   server_first : (member : Bool) (events : List SocketEvent) (e : Noted) (order rest : List Noted) → (e.0 == 1) ≡ member →
       events_of 0 rest ≡ events_of 0 order →
       events_of 0 (by_member member events e rest) ≡ events_of 0 (e ∷ order)
-  server_first true [] e order rest is same =
-      ap (λ (es : List SocketEvent). if e.0 == 0 then e.1 ∷ es else es) same
-  server_first true (y ∷ events) e order rest is same =
-      let one = eqb-true e.0 1 is in
-      same ∙ sym (ap (λ (b : Bool). if b then e.1 ∷ events_of 0 order else events_of 0 order)
-      (ne_eqb e.0 0 (λ zero_is. omega (arith, one, zero_is))))
-  server_first false events e order rest is same = ap (λ (es : List SocketEvent). if e.0 == 0 then e.1 ∷ es else es) same
+  server_first member events e order rest is same = search rules
 
   pub server_all : (order : List Noted) → events_of 0 (first_only order) ≡ events_of 0 order
   server_all [] = refl
@@ -98,19 +87,7 @@ module _ (x : SocketEvent) where
   client_by : (member : Bool) (events : List SocketEvent) (e : Noted) (rest : List Noted) → (e.0 == 1) ≡ member →
       Begins x (if member then e.1 ∷ events else events) → First events (events_of 1 rest) →
       First (if member then e.1 ∷ events else events) (events_of 1 (by_member member events e rest))
-  client_by true [] e rest is begins h = (
-    λ none. absurd (let f : e.1 ∷ [] ≡ [] = none in cc),
-    λ some. ap (λ (b : Bool). if b then e.1 ∷ events_of 1 rest else events_of 1 rest) is
-        ∙ (ap (λ (es : List SocketEvent). e.1 ∷ es) (h.0 refl) ∙ ap (λ (y : SocketEvent). y ∷ []) (begins_here x e.1 begins)),
-  )
-  client_by true (y ∷ events) e rest is begins h = (
-    λ none. absurd (let f : e.1 ∷ (y ∷ events) ≡ [] = none in cc),
-    λ some. h.1 (λ none. let f : y ∷ events ≡ [] = none in cc),
-  )
-  client_by false events e rest is begins h =
-      let same : events_of 1 (e ∷ rest) ≡ events_of 1 rest =
-      ap (λ (b : Bool). if b then e.1 ∷ events_of 1 rest else events_of 1 rest) is in
-      (λ none. same ∙ h.0 none, λ some. same ∙ h.1 some)
+  client_by member events e rest is begins h = grind (arith, common_steps)
 
   client_all : (order : List Noted) → Begins x (events_of 1 order) →
       First (events_of 1 order) (events_of 1 (first_only order))
@@ -159,33 +136,13 @@ module _ {S F D G K : Type 0} {stores : StoreMeaning S D} {sources : SourceMeani
   order_is : IsOrder both heard
   order_is = order_both several all i server k client at_i found over.among
 
-  -- ---- the ports
-  ours_by_same : {old new : LoopState S F D} (does : LoopStep stores sources old new) →
-      ours_by both does ≡ ours_by less does
-  ours_by_same (Waited h) = refl
-  ours_by_same (At_port serves) = refl
-  ours_by_same (Request_received h) = refl
-  ours_by_same (No_request_found h) = refl
-  ours_by_same (Request_not_received h) = refl
-  ours_by_same (Request_noted h) = refl
-  ours_by_same (Request_answered answers) = refl
-  ours_by_same (Request_lost h) = refl
-  ours_by_same (Clock_read h) = refl
-  ours_by_same (Store_set h) = refl
-  ours_by_same (Transfer_closed h) = refl
-  ours_by_same (Drain_begun h) = refl
-
   ours_same : {first last : LoopState S F D} (run : Run (LoopStep stores sources) first last) →
       our_ports both run ≡ our_ports less run
-  ours_same Start = refl
-  ours_same (Then run does) =
-      ap (λ (ports : List ℕ). ports ++ our_ports both run) (ours_by_same does)
-      ∙ ap (λ (ports : List ℕ). ours_by less does ++ ports) (ours_same run)
+  ours_same run = search rules
 
   only : (q : ℕ) (x : OneClient several) → slice_get less.clients q ≡ Some x →
       (q ≡ 0) × (x ≡ just_asking several client)
-  only zero x e = (refl, sym (same_Some (just_asking several client) x e))
-  only (suc q) x e = absurd (let f : None ≡ Some x = e in cc)
+  only q x e = search rules
 
   abbrev at_of : OneClient several → Endpoint
   at_of x = client_at x
@@ -242,8 +199,7 @@ module _ {S F D G K : Type 0} {stores : StoreMeaning S D} {sources : SourceMeani
   }
 
   nevertheless : (from : Endpoint) (bytes : List ℕ) → MayCome both from bytes → MayCome less from bytes
-  nevertheless from bytes (inl strange) = inl (strange_less from strange)
-  nevertheless from bytes (inr error) = inr error
+  nevertheless from bytes h2 = search (rules, strange_less)
 
   abbrev Comes : List Noted → Endpoint → Endpoint → List ℕ → Type 0
   Comes order from to bytes =
@@ -342,19 +298,8 @@ module _ {S F D G K : Type 0} {stores : StoreMeaning S D} {sources : SourceMeani
       events_of 1 order ≡ events → ((x : Noted) → Contains (e ∷ order) x → Contains heard x) →
       Begins request (events_of 1 (e ∷ order)) → CanCome both e.0 e.1 order →
       Honest (first_only order) → Honest (by_member member events e (first_only order))
-  honest_by true [] e order is none within begins h rest =
-      let own : e.1 ∷ events_of 1 order ≡ events_of 1 (e ∷ order) =
-      ap (λ (b : Bool). if b then e.1 ∷ events_of 1 order else events_of 1 order) (sym is) in
-      let same : e.1 ≡ request =
-      begins_here request e.1 (subst (λ (es : List SocketEvent). Begins request es)
-      (sym own ∙ ap (λ (es : List SocketEvent). e.1 ∷ es) none) begins) in
-      (subst (λ (x : SocketEvent). CanCome less e.0 x (first_only order)) (sym same) tt, rest)
-  honest_by true (y ∷ events) e order is some within begins h rest = rest
-  honest_by false events e order is some within begins h rest = (
-    comes e.0 (λ one. true≢false (sym (eq-eqb e.0 1 one) ∙ is)) e.1 order within
-        (begins_by request (e.0 == 1) e order refl begins) h,
-    rest,
-  )
+  honest_by member events e order is h5 within begins h rest =
+      grind (arith, common_steps, begins_here, comes, true≢false, eq-eqb, begins_by)
 
   honest_first : (order : List Noted) → ((x : Noted) → Contains order x → Contains heard x) →
       Begins request (events_of 1 order) → IsHonest both order → Honest (first_only order)
@@ -387,10 +332,7 @@ module _ {S F D G K : Type 0} {stores : StoreMeaning S D} {sources : SourceMeani
   ours h = h.clients 0 (just_asking several client) refl refl
 
   no_peer : peer_of its_end ≡ None
-  no_peer = elim client.opens [
-    | To_read opens ↦ ap (λ (e : EndState). (record_of e).peer) opens.is
-    | To_write opens ↦ ap (λ (e : EndState). (record_of e).peer) opens.is
-  ]
+  no_peer = search rules
 
   its : (y : ProgramEnd) → IsEnd less y → y.address ≡ there → y ≡ its_end
   its y is_end at = kept_less.unique y its_end is_end its_own at
@@ -429,7 +371,5 @@ module _ {S F D G K : Type 0} {stores : StoreMeaning S D} {sources : SourceMeani
 
 pub others_nothing : {S F D G K : Type 0} (stores : StoreMeaning S D) (sources : SourceMeaning F)
     (inputs : SourceMeaning G) (outputs : SinkMeaning K) → OthersHaveNothing stores sources inputs outputs
-others_nothing stores sources inputs outputs several order i server k client at_i found over = (
-  kept_less several order i server k client at_i found over,
-  has_nothing several order i server k client at_i found over,
-)
+others_nothing stores sources inputs outputs several order i server k client at_i found over =
+    search (rules, kept_less, has_nothing)

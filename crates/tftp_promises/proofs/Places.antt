@@ -1,9 +1,8 @@
 -- Where the programs are in their network.
 use Rattle.std.proofs.Common.{◌≡◌, ℕ, Bool, true, false, List, [], ◌∷◌, None, Some, refl, sym, ap, ◌∙◌, subst, zero}
-use Rattle.std.proofs.Common.{suc, arith, inl, inr}
+use Rattle.std.proofs.Common.{suc, arith, inl, inr, rules}
 use Rattle.std.specs.Prelude.{◌≢◌, ◌==◌, ◌&&◌, not, if◌then◌else◌, slice_get}
 use Rattle.std.specs.List.{Contains}
-use Rattle.std.specs.Cmp.Lexicographic.{same_text}
 use Rattle.std.proofs.lemmas.Bool.{cases_Bool, cases_eq, cond-true, cond-false, eq-eqb, false_from_ne_true, ne_eqb}
 use Rattle.std.proofs.lemmas.Bool.{true≢false}
 use Rattle.std.proofs.lemmas.List.Elements.{Contains-append_cases, Contains-append_left, Contains-append_right}
@@ -11,7 +10,7 @@ use Rattle.std.proofs.lemmas.List.Elements.{Contains-push}
 use Rattle.tftp_file.specs.Sink.{SinkMeaning}
 use Rattle.tftp_file.specs.Source.{SourceMeaning}
 use Rattle.tftp_store.specs.Store.{StoreMeaning}
-use Rattle.tftp_rules.specs.Machine.{Endpoint, Host, At_server, At_client, Elsewhere, is_same, is_same_ip}
+use Rattle.tftp_rules.specs.Machine.{Endpoint, Host, At_server, At_client, Elsewhere, is_same}
 use Rattle.tftp_rules.proofs.Endpoints.{same_ip, same_self, same_other}
 use Rattle.tftp_promises.specs.Hosts.{ClientsAreThere, ServerIsThere, StrangersAreElsewhere}
 use Rattle.tftp_promises.specs.Openings.{is_ours}
@@ -31,14 +30,10 @@ at_address false e = cc
 
 -- who is neither a client nor at the server's address is elsewhere
 elsewhere_by : (client server : Bool) → (if client then true else server) ≡ false → at_of client server ≡ Elsewhere
-elsewhere_by true server e = absurd (let f : true ≡ false = e in cc)
-elsewhere_by false true e = absurd (let f : true ≡ false = e in cc)
-elsewhere_by false false e = refl
+elsewhere_by client server e = search rules
 
 neither_by : (client server : Bool) → at_of client server ≡ Elsewhere → (if client then true else server) ≡ false
-neither_by true server e = absurd (let f : At_client ≡ Elsewhere = e in cc)
-neither_by false true e = absurd (let f : At_server ≡ Elsewhere = e in cc)
-neither_by false false e = refl
+neither_by client server e = search rules
 
 either_way : (b r : Bool) → r ≡ true → (if b then true else r) ≡ true
 either_way true r e = refl
@@ -108,16 +103,10 @@ module _ {S F D G K : Type 0} {stores : StoreMeaning S D} {sources : SourceMeani
   near a = is_at_server programs.ip programs.others a
 
   near_by : (a : Endpoint) → a.ip ≡ programs.ip → (Contains programs.others a.port → ⊥) → near a ≡ true
-  near_by a same own =
-      ap (λ (b : Bool). b && not (has_port programs.others a.port))
-      (ap (λ (ip : List ℕ). is_same_ip ip programs.ip) same ∙ same_ip programs.ip)
-      ∙ ap (λ (b : Bool). true && not b)
-      (false_from_ne_true (has_port programs.others a.port) (λ other. own (port_in programs.others a.port other)))
+  near_by a same own = search (rules, same_ip, false_from_ne_true, port_in)
 
   pub clients_there : ClientsAreThere programs
-  clients_there k client i =
-      let a = client_at client in
-      ap (λ (b : Bool). at_of b (near a)) (has_own programs.clients k client i)
+  clients_there k client i = search (rules, has_own)
 
   -- a port of the server's address that no client and no other server has is at the server
   pub at_port : (port : ℕ) →
@@ -125,10 +114,7 @@ module _ {S F D G K : Type 0} {stores : StoreMeaning S D} {sources : SourceMeani
       slice_get programs.clients k ≡ Some client →
       client_at client ≢ endpoint programs.ip port) →
       (Contains programs.others port → ⊥) → (joined programs).host_of (endpoint programs.ip port) ≡ At_server
-  at_port port none own =
-      ap (λ (b : Bool). at_of b (near (endpoint programs.ip port)))
-      (has_none programs.clients (endpoint programs.ip port) none)
-      ∙ ap (at_of false) (near_by (endpoint programs.ip port) refl own)
+  at_port port none own = search (rules, has_none, near_by)
 
   pub server_there : ServerIsThere programs
   server_there fresh port i =
@@ -140,31 +126,15 @@ module _ {S F D G K : Type 0} {stores : StoreMeaning S D} {sources : SourceMeani
   near_server a same own e = at_address (has a) (ap (at_of (has a)) (sym (near_by a same own)) ∙ e)
 
   elsewhere_strange : (a : Endpoint) → (joined programs).host_of a ≡ Elsewhere → IsStranger programs a
-  elsewhere_strange a e = record {
-    server = λ same. elim (cases_Bool (has_port programs.others a.port)) [
-      | inl other ↦ port_in programs.others a.port other
-      | inr own ↦
-          absurd (near_server a same (λ other. true≢false (sym (port_has programs.others a.port other) ∙ own)) e)
-    ];
-    clients =
-        λ k client found same. client_elsewhere (ap (joined programs).host_of same ∙ e) (clients_there k client found);
-  } where
-    client_elsewhere : {h : Host} → h ≡ Elsewhere → h ≡ At_client → ⊥
-    client_elsewhere e f = cc
+  elsewhere_strange a e =
+      search (rules, cases_Bool, port_in, near_server, true≢false, port_has, clients_there)
 
   -- a stranger is not at the server
   far_by : (a : Endpoint) → (a.ip ≡ programs.ip → Contains programs.others a.port) → near a ≡ false
-  far_by a h = false_from_ne_true (near a) (λ e.
-      let same : a.ip ≡ programs.ip =
-      same_text a.ip programs.ip (sym (&&-left (is_same_ip a.ip programs.ip) (not (has_port programs.others a.port)) e)) in
-      true≢false (sym (port_has programs.others a.port (h same))
-      ∙ from_not (has_port programs.others a.port)
-      (&&-right (is_same_ip a.ip programs.ip) (not (has_port programs.others a.port)) e)))
+  far_by a h = search (rules, false_from_ne_true, &&-left, true≢false, port_has, from_not, &&-right)
 
   strange_elsewhere : (a : Endpoint) → IsStranger programs a → (joined programs).host_of a ≡ Elsewhere
-  strange_elsewhere a h =
-      ap (λ (b : Bool). at_of b (near a)) (has_none programs.clients a (λ k client found. h.clients k client found))
-      ∙ ap (at_of false) (far_by a h.server)
+  strange_elsewhere a h = search (rules, has_none, far_by)
 
   pub strangers_elsewhere : StrangersAreElsewhere programs
   strangers_elsewhere a = (elsewhere_strange a, strange_elsewhere a)
@@ -182,6 +152,4 @@ module _ {S F D G K : Type 0} {stores : StoreMeaning S D} {sources : SourceMeani
   stranger_no_client a k client found same h = h.clients k client found (sym same)
 
   pub stranger_no_port : (a : Endpoint) → (joined programs).host_of a ≡ At_server → IsStranger programs a → ⊥
-  stranger_no_port a there h = elsewhere_no_server (strange_elsewhere a h) there where
-    elsewhere_no_server : {h : Host} → h ≡ Elsewhere → h ≡ At_server → ⊥
-    elsewhere_no_server e f = cc
+  stranger_no_port a there h = search (rules, strange_elsewhere)

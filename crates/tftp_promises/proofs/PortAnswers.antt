@@ -57,10 +57,12 @@ module _ {S F D : Type 0} (meaning : StoreMeaning S D) (sources : SourceMeaning 
       × (asks.file ≡ Ok opening)
 
   -- a transfer sends what the store opened under this path
-  pub record OpensToSend (path : List ℕ) (mode : Mode) (came : Came S F D) : Type 0 where
+  pub record OpensToSend (path : List ℕ) (mode : Mode) (options : List RawOption) (came : Came S F D) : Type 0 where
     pub agreed : List Known
     pub granted : AreGranted agreed
     pub measured : ℕ
+    -- these options are answered so
+    pub answers : answer options kinds.Read mode measured old.config.limits ≡ Ok agreed
     pub fits : measured < 65535 * size agreed
     pub piece : List ℕ
     pub first : IsFirst agreed measured piece
@@ -85,9 +87,10 @@ module _ {S F D : Type 0} (meaning : StoreMeaning S D) (sources : SourceMeaning 
       × (asks.draft ≡ Ok draft)
 
   -- a transfer receives a file for this path
-  pub record OpensToStore (path : List ℕ) (mode : Mode) (came : Came S F D) : Type 0 where
+  pub record OpensToStore (path : List ℕ) (mode : Mode) (options : List RawOption) (came : Came S F D) : Type 0 where
     pub agreed : List Known
     pub granted : AreGranted agreed
+    pub answers : answer options kinds.Write mode 0 old.config.limits ≡ Ok agreed
     pub store : S
     pub draft : D
     pub begun : IsBegunBy path mode came draft
@@ -103,17 +106,19 @@ module _ {S F D : Type 0} (meaning : StoreMeaning S D) (sources : SourceMeaning 
     Silent : came ≡ Nothing → (has_error_opcode bytes ≡ true) ⊎ (repeated ≡ true) → PortAnswers decoded repeated came
     Says_error : IsRefused came → PortAnswers decoded repeated came
     Begins_to_send : (path : List ℕ) (mode : Mode) (options : List RawOption) →
-        IsAsked decoded repeated false path mode options → OpensToSend path mode came → PortAnswers decoded repeated came
+        IsAsked decoded repeated false path mode options → OpensToSend path mode options came →
+        PortAnswers decoded repeated came
     Begins_to_store : (path : List ℕ) (mode : Mode) (options : List RawOption) →
-        IsAsked decoded repeated true path mode options → OpensToStore path mode came → PortAnswers decoded repeated came
+        IsAsked decoded repeated true path mode options → OpensToStore path mode options came →
+        PortAnswers decoded repeated came
 
   refuses : (came : Came S F D) (reply : ErrorReply) → came ≡ Error_reply reply old.store → IsRefused came
   refuses came reply is = record { reply = reply; store = old.store; is = is }
 
   module _ (max : IsBlockSize old.config.limits.max_block) (came : Came S F D) where
     -- ---- a read
-    abbrev Read_answers : List ℕ → Mode → Type 0
-    Read_answers path mode = IsRefused came ⊎ OpensToSend path mode came
+    abbrev Read_answers : List ℕ → Mode → List RawOption → Type 0
+    Read_answers path mode options = IsRefused came ⊎ OpensToSend path mode options came
 
     abbrev Has_sent : Service → Opening F → Type 0
     Has_sent service opening = Sent meaning sources old from bytes service (Ok opening) came
@@ -147,15 +152,17 @@ module _ {S F D : Type 0} (meaning : StoreMeaning S D) (sources : SourceMeaning 
       )
 
       -- the first datagram is sent, or the file has changed
-      starts_so : (agreed : List Known) → AreGranted agreed → opening.length < 65535 * size agreed →
+      starts_so : (agreed : List Known) → answer options kinds.Read mode opening.length old.config.limits ≡ Ok agreed →
+          AreGranted agreed → opening.length < 65535 * size agreed →
           Starts meaning sources old from bytes path mode opening.length agreed opening.source came →
-          Read_answers path mode
-      starts_so agreed granted few (inl serves) =
+          Read_answers path mode options
+      starts_so agreed e granted few (inl serves) =
           let p = the_piece agreed serves.rest serves.end serves.serves in
           inr (record {
             agreed = agreed;
             granted = granted;
             measured = opening.length;
+            answers = e;
             fits = few;
             piece = p.0;
             first = p.1;
@@ -165,25 +172,25 @@ module _ {S F D : Type 0} (meaning : StoreMeaning S D) (sources : SourceMeaning 
             long = refl;
             gave = p.3;
             is =
-                serves.opens ∙ ap (λ (e : EndState). A_transfer
-                (record { end = e; files = Source serves.rest; path = path; request = bytes }) old.store) p.2;
+                serves.opens ∙ ap (λ (end : EndState). A_transfer
+                (record { end = end; files = Source serves.rest; path = path; request = bytes }) old.store) p.2;
           })
-      starts_so agreed granted few (inr changed) = inl (refuses came FileChanged changed.2)
+      starts_so agreed e granted few (inr changed) = inl (refuses came FileChanged changed.2)
 
       numbered : (agreed : List Known) → answer options kinds.Read mode opening.length old.config.limits ≡ Ok agreed →
           (b : Bool) → nat_lt opening.length (65535 * size agreed) ≡ b →
           Has_sent (if b then Sends path mode opening.length agreed else Refused FileTooLarge) opening →
-          Read_answers path mode
+          Read_answers path mode options
       numbered agreed e true l h =
           let few = ltb-true opening.length (65535 * size agreed) l in
           let small = answer_small options kinds.Read mode opening.length old.config.limits agreed max e in
-          starts_so agreed (answer_granted options kinds.Read mode opening.length old.config.limits agreed
+          starts_so agreed e (answer_granted options kinds.Read mode opening.length old.config.limits agreed
           (word agreed small few) max e) few h
       numbered agreed e false l h = inl (refuses came FileTooLarge h)
 
       answered : (a : Result (List Known) Refusal) →
           answer options kinds.Read mode opening.length old.config.limits ≡ a →
-          Has_sent (by_length path mode opening.length a) opening → Read_answers path mode
+          Has_sent (by_length path mode opening.length a) opening → Read_answers path mode options
       answered (Err refusal) e h = inl (refuses came (accept_reply refusal) h)
       answered (Ok agreed) e h = numbered agreed e (nat_lt opening.length (65535 * size agreed)) refl h
 
@@ -191,7 +198,7 @@ module _ {S F D : Type 0} (meaning : StoreMeaning S D) (sources : SourceMeaning 
         ((opening : Opening F) → file ≡ Ok opening →
         IsOpenedBy path mode came opening) →
         Sent meaning sources old from bytes (by_file old.config.limits path mode options (opened_length file)) file
-        came → Read_answers path mode
+        came → Read_answers path mode options
     read_by path mode options (Err fault) opened h = inl (refuses came (open_reply fault) h)
     read_by path mode options (Ok opening) opened h =
         answered path mode options opening (opened opening refl)
@@ -199,25 +206,27 @@ module _ {S F D : Type 0} (meaning : StoreMeaning S D) (sources : SourceMeaning 
 
     -- a read is refused, or a transfer opens
     pub read_answered : (path : List ℕ) (mode : Mode) (options : List RawOption) →
-        AsksToRead meaning sources old from bytes path mode options came → Read_answers path mode
+        AsksToRead meaning sources old from bytes path mode options came → Read_answers path mode options
     read_answered path mode options h =
         read_by path mode options h.file (λ opening is. (options, h, is)) h.goes_on
 
     -- ---- a write
-    abbrev Write_answers : List ℕ → Mode → Type 0
-    Write_answers path mode = IsRefused came ⊎ OpensToStore path mode came
+    abbrev Write_answers : List ℕ → Mode → List RawOption → Type 0
+    Write_answers path mode options = IsRefused came ⊎ OpensToStore path mode options came
 
     module _ (path : List ℕ) (store : S) where
-      write_by : (mode : Mode) (agreed : List Known) (draft : Result D StoreFault) → AreGranted agreed →
+      write_by : (mode : Mode) (options : List RawOption) (agreed : List Known) (draft : Result D StoreFault) →
+          answer options kinds.Write mode 0 old.config.limits ≡ Ok agreed → AreGranted agreed →
           ((begun : D) → draft ≡ Ok begun → IsBegunBy path mode came begun) →
           Taken meaning sources old from bytes (by_draft path mode agreed draft) draft store came →
-          Write_answers path mode
-      write_by mode agreed (Err fault) granted begun h =
+          Write_answers path mode options
+      write_by mode options agreed (Err fault) answers granted begun h =
           inl (record { reply = begin_reply fault; store = store; is = h })
-      write_by mode agreed (Ok draft) granted begun h =
+      write_by mode options agreed (Ok draft) answers granted begun h =
           inr (record {
             agreed = agreed;
             granted = granted;
+            answers = answers;
             store = store;
             draft = draft;
             begun = begun draft refl;
@@ -225,10 +234,11 @@ module _ {S F D : Type 0} (meaning : StoreMeaning S D) (sources : SourceMeaning 
           })
 
     -- a write is refused, or a transfer opens
-    pub write_answered : (path : List ℕ) (mode : Mode) (agreed : List Known) → AreGranted agreed →
-        AsksToWrite meaning sources old from bytes path mode agreed came → Write_answers path mode
-    write_answered path mode agreed granted h =
-        write_by path h.store mode agreed h.draft granted (λ draft is. (agreed, h, is)) h.goes_on
+    pub write_answered : (path : List ℕ) (mode : Mode) (options : List RawOption) (agreed : List Known) →
+        answer options kinds.Write mode 0 old.config.limits ≡ Ok agreed → AreGranted agreed →
+        AsksToWrite meaning sources old from bytes path mode agreed came → Write_answers path mode options
+    write_answered path mode options agreed answers granted h =
+        write_by path h.store mode options agreed h.draft answers granted (λ draft is. (agreed, h, is)) h.goes_on
 
     -- ---- what the port decided
     decided : (decoded : Option WirePacket) (repeated : Bool) (ask : Ask) →
@@ -241,7 +251,7 @@ module _ {S F D : Type 0} (meaning : StoreMeaning S D) (sources : SourceMeaning 
       | inr opens ↦ Begins_to_send path mode options implied opens
     ]
     decided decoded repeated (Writes path mode agreed) implied h =
-        elim (write_answered path mode agreed (answer_granted implied.0 kinds.Write mode 0 old.config.limits agreed
+        elim (write_answered path mode implied.0 agreed implied.2 (answer_granted implied.0 kinds.Write mode 0 old.config.limits agreed
         (omega arith) max implied.2) h) [
           | inl refused ↦ Says_error refused
           | inr opens ↦ Begins_to_store path mode implied.0 implied.1 opens

@@ -1,6 +1,6 @@
 -- How many elements of a list, and how many entries of a table, have a port.
 use Rattle.std.proofs.Common.{arith, ◌≡◌, ◌+◌, ◌<◌, ◌≤◌, ℕ, zero, suc, Bool, true, false, List, [], ◌∷◌, ◌++◌, map}
-use Rattle.std.proofs.Common.{length, Option, Some, None, cond, eqb, refl, sym, ap, ◌∙◌, inl, inr}
+use Rattle.std.proofs.Common.{length, Option, Some, None, cond, eqb, refl, sym, ap, ◌∙◌, inl, inr, rules}
 use Rattle.std.specs.Prelude.{slice_set, slice_index_or, slice_get, IsSome}
 use Rattle.std.specs.List.{Contains, swap_remove, sum_by}
 use Rattle.std.specs.Map.{lookup, remove_entry, set_value}
@@ -47,10 +47,7 @@ module _ {X : Type 0} (port_of : X → ℕ) where
 
   pub hits_swap_removed : (port : ℕ) (xs : List X) (i : ℕ) (x : X) → i < length xs → x ≡ slice_index_or xs i x →
       hits port (swap_remove xs i x) + hit port (port_of x) ≡ hits port xs
-  hits_swap_removed port xs i x within is =
-      ap (λ (n : ℕ). n + hit port (port_of x)) (hits_sum port (swap_remove xs i x))
-      ∙ (ap (λ (y : X). sum_by (λ z. hit port (port_of z)) (swap_remove xs i x) + hit port (port_of y)) is
-      ∙ (sum_by-swap_remove (λ z. hit port (port_of z)) xs i x within ∙ sym (hits_sum port xs)))
+  hits_swap_removed port xs i x within is = search (rules, hits_sum, sum_by-swap_remove)
 
   pub hits_set : (port : ℕ) (xs : List X) (i : ℕ) (x y : X) → x ≡ slice_index_or xs i x → port_of y ≡ port_of x →
       hits port (slice_set xs i y) ≡ hits port xs
@@ -119,11 +116,7 @@ module _ {T : Type 0} where
 
   keyed_absent_at : (b : Bool) (port : ℕ) (e : ℕ × T) (n : ℕ) (m : Option T) → (b ≡ false → port ≡ e.0 → ⊥) →
       (m ≡ None → n ≡ 0) → cond b (Some e.1) m ≡ None → hit port e.0 + n ≡ 0
-  keyed_absent_at true port e n m apart more h = absurd (let f : Some e.1 ≡ None = h in cc)
-  keyed_absent_at false port e n m apart more h =
-      let none = hit_other port e.0 (apart refl) in
-      let rest = more h in
-      omega (arith, none, rest)
+  keyed_absent_at b port e n m apart more h = search rules
 
   -- no entry has a key at which nothing is
   pub keyed_absent : (port : ℕ) (held : List (ℕ × T)) → lookup (is_at (nat_cmp port)) held ≡ None → keyed port held ≡ 0
@@ -134,10 +127,7 @@ module _ {T : Type 0} where
 
   keyed_present_at : (b : Bool) (port : ℕ) (e : ℕ × T) (n : ℕ) (m : Option T) → (b ≡ true → port ≡ e.0) →
       (IsSome m → 0 < n) → IsSome (cond b (Some e.1) m) → 0 < hit port e.0 + n
-  keyed_present_at true port e n m same more h =
-      let one : hit port e.0 ≡ 1 = ap (hit port) (sym (same refl)) ∙ hit_same port in
-      omega (arith, one)
-  keyed_present_at false port e n m same more h = let rest = more h in omega (arith, rest)
+  keyed_present_at b port e n m same more h = search rules
 
   pub keyed_present : (port : ℕ) (held : List (ℕ × T)) → IsSome (lookup (is_at (nat_cmp port)) held) →
       0 < keyed port held
@@ -148,8 +138,7 @@ module _ {T : Type 0} where
 
   found : (port : ℕ) (held : List (ℕ × T)) (o : Option T) → lookup (is_at (nat_cmp port)) held ≡ o →
       0 < keyed port held → IsSome o
-  found port held None e h = absurd (let none = keyed_absent port held e in omega (arith, none, h))
-  found port held (Some x) e h = refl
+  found port held o e h = search (rules, keyed_absent)
 
   pub keyed_found : (port : ℕ) (held : List (ℕ × T)) → 0 < keyed port held → IsSome (lookup (is_at (nat_cmp port)) held)
   keyed_found port held h = found port held (lookup (is_at (nat_cmp port)) held) refl h
@@ -176,8 +165,7 @@ module _ {T : Type 0} where
 
   keyed_set_at : (b : Bool) (port : ℕ) (v : T) (e : ℕ × T) (held more : List (ℕ × T)) →
       keyed port more ≡ keyed port held → keyed port (cond b ((e.0, v) ∷ held) (e ∷ more)) ≡ keyed port (e ∷ held)
-  keyed_set_at true port v e held more same = refl
-  keyed_set_at false port v e held more same = ap (λ (n : ℕ). hit port e.0 + n) same
+  keyed_set_at b port v e held more same = search rules
 
   pub keyed_set : (test : ℕ → Bool) (port : ℕ) (v : T) (held : List (ℕ × T)) →
       keyed port (set_value test held v) ≡ keyed port held
@@ -188,8 +176,7 @@ module _ {T : Type 0} where
   keyed_removed_at : (b : Bool) (port tid : ℕ) (e : ℕ × T) (held more : List (ℕ × T)) (m : Option T) →
       (b ≡ true → tid ≡ e.0) → (IsSome m → hit port tid + keyed port more ≡ keyed port held)
       → IsSome (cond b (Some e.1) m) → hit port tid + keyed port (cond b held (e ∷ more)) ≡ keyed port (e ∷ held)
-  keyed_removed_at true port tid e held more m same rest h = ap (λ (k : ℕ). hit port k + keyed port held) (same refl)
-  keyed_removed_at false port tid e held more m same rest h = let one = rest h in omega (arith, one)
+  keyed_removed_at b port tid e held more m same rest h = search rules
 
   pub keyed_removed : (port tid : ℕ) (held : List (ℕ × T)) → IsSome (lookup (is_at (nat_cmp tid)) held) →
       hit port tid + keyed port (remove_entry (is_at (nat_cmp tid)) held) ≡ keyed port held

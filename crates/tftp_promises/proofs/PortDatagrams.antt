@@ -1,6 +1,6 @@
 -- A datagram that the server handles at the port of a transfer keeps the invariant.
 use Rattle.std.proofs.Common.{◌≡◌, ℕ, Bool, true, false, List, [], ◌∷◌, ◌++◌, None, refl, sym, ap, ◌∙◌, subst}
-use Rattle.std.proofs.Common.{inl, inr}
+use Rattle.std.proofs.Common.{inl, inr, rules}
 use Rattle.std.specs.Prelude.{◌≢◌, ◌⊎◌, Option, is_some, ⊤}
 use Rattle.std.proofs.lemmas.Bool.{true≢false, cases_Bool}
 use Rattle.tftp_wire.specs.Reading.{has_error_opcode}
@@ -38,7 +38,7 @@ use Rattle.tftp_rules.proofs.EndTurns.{datagram_goes}
 use Rattle.tftp_rules.proofs.UnblamedEnds.{IsUnblamed}
 use Rattle.tftp_promises.specs.Drafts.{HadStore, StoreBegan}
 use Rattle.tftp_promises.specs.Given.{GaveSince, StoreOpened}
-use Rattle.tftp_promises.specs.Moved.{Moved, acts_move, port_moves, step_moves}
+use Rattle.tftp_promises.specs.Moved.{Moved, port_moves, step_moves}
 use Rattle.tftp_promises.specs.Openings.{is_ours, moved_at, opened_at, place_at}
 use Rattle.tftp_promises.specs.Order.{Programs, IsStranger}
 use Rattle.tftp_promises.specs.Programs.{endpoint}
@@ -151,11 +151,7 @@ module _ {S F D G K : Type 0} {stores : StoreMeaning S D} {sources : SourceMeani
   acts_quiet : (e : EndState) (step : step_x e) (response : Response) →
       datagram_action e from bytes step.decoded ≡ Respond response → (moved : Moved) →
       step_moves sources (drafting_sink stores) from bytes e files_before turn files_after step moved ≡ moved
-  acts_quiet e step response says moved =
-      let Quiet : Action → Type 0 = λ (action : Action).
-      (acts : Acts sources (drafting_sink stores) action from bytes e files_before turn files_after) →
-      acts_move sources (drafting_sink stores) action from bytes e files_before turn files_after acts moved ≡ moved in
-      subst Quiet (sym says) (λ acts. refl) step.acts
+  acts_quiet e step response says moved = search rules
 
   -- how it answers
   abbrev Answered : Type 0
@@ -380,8 +376,7 @@ module _ {S F D G K : Type 0} {stores : StoreMeaning S D} {sources : SourceMeani
 
     text_is : (files : Files F D) → HasStored pad old x files →
         is_sender x.state.role.side ≡ true → x.text ≡ place_text programs pad place
-    text_is (Source source) has sender = has.text ∙ ap (place_text programs pad) x_place
-    text_is (Sink draft) has sender = absurd (true≢false (sym sender ∙ has.receiver))
+    text_is files has sender = search rules
 
     told : IsToldAt now place
     told = fresh_now.told place (kept.server.opened port taken.transfer place (inl (taken.found, refl)))
@@ -401,9 +396,7 @@ module _ {S F D G K : Type 0} {stores : StoreMeaning S D} {sources : SourceMeani
 
     moved_after : (So : OpenEnd → Moved → Type 0) (content : Files (List ℕ) Holding) →
         So (end_after x turn content) moved_then → So (end_after x turn content) (moved_at programs x.address now.run)
-    moved_after So content so =
-        subst (λ (a : Endpoint). So (end_after x turn content) (moved_at programs a now.run)) (sym x_place)
-        (subst (So (end_after x turn content)) (sym moved_now) so)
+    moved_after So content so = search (rules, x_place, moved_now)
 
     -- what its source gave then
     given_then : (source : F) (content : Files (List ℕ) Holding) →

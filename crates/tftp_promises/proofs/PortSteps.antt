@@ -1,5 +1,5 @@
 -- What a step of the server at the port of a transfer leaves as it was, and what it noted.
-use Rattle.std.proofs.Common.{◌≡◌, ℕ, false, List, [], ◌∷◌, ◌++◌, Option, Some, None, refl, sym, ap, ◌∙◌, subst}
+use Rattle.std.proofs.Common.{◌≡◌, ℕ, false, List, [], ◌∷◌, ◌++◌, Option, Some, None, refl, sym, ap, ◌∙◌, subst, rules}
 use Rattle.std.specs.Prelude.{◌⊎◌, is_some}
 use Rattle.std.specs.List.{Contains}
 use Rattle.std.proofs.lemmas.Bool.{true≢false}
@@ -10,7 +10,7 @@ use Rattle.tftp_ends.specs.declared.outcome.Outcome.{Outcome}
 use Rattle.tftp_store.specs.Store.{StoreMeaning}
 use Rattle.tftp_server.specs.State.{ServerState}
 use Rattle.tftp_sockets.specs.Trace.{SocketEvent, answered}
-use Rattle.tftp_sockets.specs.Trace.SocketEvent.{Received, Sent}
+use Rattle.tftp_sockets.specs.Trace.SocketEvent.{Received}
 use Rattle.tftp_loop.specs.Steps.{LoopState, ServesPort, At_port}
 use Rattle.tftp_rules.specs.Machine.{Endpoint}
 use Rattle.tftp_promises.specs.Joint.{CanTake, WasSentBefore}
@@ -18,7 +18,7 @@ use Rattle.tftp_promises.specs.Order.{Programs, MayCome}
 use Rattle.tftp_promises.specs.Programs.{endpoint}
 use Rattle.tftp_promises.specs.Snapshots.{Snapshot}
 use Rattle.tftp_promises.proofs.Invariant.{IsKept}
-use Rattle.tftp_promises.proofs.KeptEvents.{IsSilent, SendsOnly, only_one, added_by, answered_has, answered_sends}
+use Rattle.tftp_promises.proofs.KeptEvents.{IsSilent, SendsOnly, added_by, answered_has, answered_sends}
 use Rattle.tftp_promises.proofs.ServerStays.{ServerStays}
 
 -- an open end has no outcome
@@ -28,8 +28,7 @@ no_outcome (Some outcome) e = absurd (true≢false e)
 
 -- a datagram was received
 pub datagram_silent : (own : ℕ) (from : Endpoint) (bytes : List ℕ) → IsSilent (Received own from bytes ∷ [])
-datagram_silent own from bytes port to b c =
-    let f : Received own from bytes ≡ Sent port to b = only_one (Received own from bytes) (Sent port to b) c in cc
+datagram_silent own from bytes port to b c = search rules
 
 module _ {S F D G K : Type 0} {stores : StoreMeaning S D} {sources : SourceMeaning F} {inputs : SourceMeaning G}
     {outputs : SinkMeaning K} {programs : Programs stores sources inputs outputs} {pad : ℕ} {old : Snapshot programs}

@@ -1,20 +1,15 @@
 -- A timeout that the server delivers to a transfer keeps the invariant.
-use Rattle.std.proofs.Common.{◌≡◌, ℕ, true, List, [], ◌∷◌, ◌++◌, None, refl, sym, ap, ◌∙◌, subst, inl, inr}
-use Rattle.std.specs.Prelude.{◌⊎◌, ◌==◌, is_some}
-use Rattle.std.proofs.lemmas.Bool.{true≢false, cases_Bool}
+use Rattle.std.proofs.Common.{◌≡◌, ℕ, List, [], ◌∷◌, ◌++◌, None, refl, sym, ap, ◌∙◌, subst, inl, inr, rules}
+use Rattle.std.specs.Prelude.{◌⊎◌, is_some}
+use Rattle.std.proofs.lemmas.Bool.{cases_Bool}
 use Rattle.tftp_file.specs.Sink.{Holding, SinkMeaning}
 use Rattle.tftp_file.specs.Source.{SourceMeaning}
 use Rattle.tftp_file.specs.declared.files.Files.{Files}
 use Rattle.tftp_file.specs.declared.files.Files.TheVariants.{Source, Sink}
-use Rattle.tftp_ends.specs.declared.phase.Phase.{Phase}
-use Rattle.tftp_ends.specs.declared.phase.Phase.TheVariants.{Waiting, Sending, Receiving, Dallying, Closed}
 use Rattle.tftp_ends.specs.declared.record.Step.{Step}
-use Rattle.tftp_ends.specs.declared.action.Response.{Response}
-use Rattle.tftp_ends.specs.declared.action.Response.TheVariants.{Retransmit, Close}
 use Rattle.tftp_ends.specs.declared.outcome.Outcome.TheVariants as outcomes
-use Rattle.tftp_ends.specs.Action.{timeout_response}
 use Rattle.tftp_ends.specs.End.{EndState, outcome_of}
-use Rattle.tftp_ends.specs.Step.{Turn, after, after_turn, timeout_turn}
+use Rattle.tftp_ends.specs.Step.{Turn, after_turn, timeout_turn}
 use Rattle.tftp_store.specs.Store.{StoreMeaning}
 use Rattle.tftp_server.specs.State.{TransferState, ServerState, with_next}
 use Rattle.tftp_server.specs.Steps.{TimesOutLent, with_end}
@@ -25,10 +20,9 @@ use Rattle.tftp_rules.specs.EndShown.{Stands, Goes}
 use Rattle.tftp_rules.specs.Machine.{Endpoint}
 use Rattle.tftp_rules.specs.OpenEnds.{OpenEnd, files_of, end_after, open_view}
 use Rattle.tftp_rules.proofs.EndTurns.{timeout_goes}
-use Rattle.tftp_rules.proofs.PhaseMoves.{if_acts}
 use Rattle.tftp_rules.proofs.UnblamedEnds.{timeout_unblamed}
 use Rattle.tftp_promises.specs.Openings.{moved_at, place_at}
-use Rattle.tftp_promises.specs.Order.{Programs, IsStranger}
+use Rattle.tftp_promises.specs.Order.{Programs}
 use Rattle.tftp_promises.specs.Programs.{endpoint}
 use Rattle.tftp_promises.specs.Network.{joined}
 use Rattle.tftp_promises.specs.Snapshots.{Snapshot, server_did}
@@ -40,31 +34,13 @@ use Rattle.tftp_promises.proofs.Invariant.{IsStrangers}
 use Rattle.tftp_promises.proofs.KeptEvents.{SendsOnly, elapsed_silent}
 use Rattle.tftp_promises.proofs.KeptFiles.{gave_same, held_same, took_same}
 use Rattle.tftp_promises.proofs.MovedSteps.{MovesNone}
-use Rattle.tftp_promises.proofs.PortSteps.{no_outcome, server_is, stays_by, sends_only}
+use Rattle.tftp_promises.proofs.PortSteps.{server_is, stays_by, sends_only}
 use Rattle.tftp_promises.proofs.ServerStays.{stored_after}
 use Rattle.tftp_promises.proofs.WrongPeers.{stays_strangers, timeout_stays}
 use Rattle.tftp_promises.proofs.TurnsAtPort.{Becomes, IsSeated, turn_keeps}
 
--- an end that is open after a timeout was open before
-abbrev phase_then : Response → EndState → Phase
-phase_then response e = (after response e.position.last_sent_to e).phase
-
-closed_still : (e : EndState) (phase : Phase) → e.position.phase ≡ phase → is_some (outcome_of phase) ≡ true →
-    is_some (outcome_of (phase_then (timeout_response e.position.retries_left phase) e)) ≡ true
-closed_still e (Closed terms n complete outcome) is c =
-    if_acts (λ (r : Response). is_some (outcome_of (phase_then r e)) ≡ true) (e.position.retries_left == 0)
-    (Close outcomes.TimedOut) Retransmit
-    (λ b. refl) (λ b. ap (λ (p : Phase). is_some (outcome_of p)) is)
-closed_still e (Waiting asked limit) is c = absurd (true≢false (sym c))
-closed_still e (Sending terms n) is c = absurd (true≢false (sym c))
-closed_still e (Receiving terms n) is c = absurd (true≢false (sym c))
-closed_still e (Dallying terms n dally) is c = absurd (true≢false (sym c))
-
 open_before : (e : EndState) → outcome_of (timeout_turn e).position.phase ≡ None → outcome_of e.position.phase ≡ None
-open_before e o = elim (cases_Bool (is_some (outcome_of e.position.phase))) [
-  | inl c ↦ absurd (true≢false (sym (closed_still e e.position.phase refl c) ∙ ap is_some o))
-  | inr n ↦ no_outcome (outcome_of e.position.phase) n
-]
+open_before e o = search rules
 
 module _ {S F D G K : Type 0} {stores : StoreMeaning S D} {sources : SourceMeaning F} {inputs : SourceMeaning G}
     {outputs : SinkMeaning K} {programs : Programs stores sources inputs outputs} {pad : ℕ} {old : Snapshot programs}
@@ -181,15 +157,7 @@ module _ {S F D G K : Type 0} {stores : StoreMeaning S D} {sources : SourceMeani
     -- where it stands then
     seated : (place ≡ endpoint programs.ip port) ⊎ IsStrangers programs x.state →
         IsSeated kept (At_port serves) added port timed.transfer timed.found turn y
-    seated (inl here) = inl here
-    seated (inr s) =
-        let stays = timeout_stays x.state in
-        inr (record {
-          strangers = stays_strangers programs x.state.position.last_sent_to x.state turn s.last_sent_to s stays;
-          replies =
-              λ reply says. inl (subst (λ (a : Endpoint). IsStranger programs a)
-              (sym (stays.replies reply says)) s.last_sent_to);
-        })
+    seated h0 = search (rules, timeout_stays, stays_strangers)
 
     pub timeout_keeps : IsKept pad now
     unfolding becomes

@@ -1,7 +1,7 @@
 -- A step at the port of a transfer that leaves its end as it was keeps the invariant: a datagram is lost, a receive
 -- finds none, a timeout finds no open transfer, or the file does its work.
-use Rattle.std.proofs.Common.{◌≡◌, ℕ, Bool, List, [], ◌∷◌, ◌++◌, set, Option, Some, None, refl, sym, ap, ◌∙◌, subst}
-use Rattle.std.proofs.Common.{inl, inr}
+use Rattle.std.proofs.Common.{◌≡◌, ℕ, Bool, List, [], ◌∷◌, ◌++◌, set, Option, Some, None, refl, sym, ap, ◌∙◌, inl}
+use Rattle.std.proofs.Common.{rules}
 use Rattle.std.specs.Prelude.{◌⊎◌}
 use Rattle.std.proofs.lemmas.List.{append-nil}
 use Rattle.tftp_file.specs.Sink.{SinkMeaning}
@@ -17,9 +17,9 @@ use Rattle.tftp_server.specs.Work.{FilesWork, WorksAt}
 use Rattle.tftp_sockets.specs.Trace.{SocketEvent}
 use Rattle.tftp_sockets.specs.Trace.SocketEvent.{Received}
 use Rattle.tftp_loop.specs.Steps.{LoopState, LoopStep, ServesPort, At_port, LosesDatagram, WorksAtPort}
-use Rattle.tftp_rules.specs.Machine.{Endpoint, Message}
+use Rattle.tftp_rules.specs.Machine.{Endpoint}
 use Rattle.tftp_rules.specs.OpenEnds.{OpenEnd, open_view}
-use Rattle.tftp_rules.specs.Shows.{EndView, IsShown}
+use Rattle.tftp_rules.specs.Shows.{IsShown}
 use Rattle.tftp_rules.proofs.UnblamedEnds.{unblamed_still}
 use Rattle.tftp_promises.specs.Openings.{place_at}
 use Rattle.tftp_promises.specs.Order.{Programs}
@@ -57,11 +57,7 @@ module _ {S F D G K : Type 0} {stores : StoreMeaning S D} {sources : SourceMeani
     was = its_end port transfer found
 
     shown : IsShown (joined programs) (set kept.views was.viewed.index (open_view was.end)) (kept.messages ++ [])
-    shown =
-        subst (λ (ms : List Message). IsShown (joined programs) (set kept.views was.viewed.index (open_view was.end))
-        ms) (sym (append-nil kept.messages))
-        (subst (λ (vs : List EndView). IsShown (joined programs) vs kept.messages)
-        (sym (set_same kept.views was.viewed.index (open_view was.end) was.viewed.viewed)) kept.shown)
+    shown = search (rules, append-nil, set_same)
 
     turns : PortTurns kept does added port transfer found
     turns = record {
@@ -154,26 +150,15 @@ module _ {S F D G K : Type 0} {stores : StoreMeaning S D} {sources : SourceMeani
         same_kind h.end transfer.files next.files kind
         (stored_after pad old (At_port serves) added h.end (none h.end.address) transfer.files h.has)
 
-    -- the files of a transfer that was not handled, or that worked, are of one kind, and no bytes moved
-    same_draft : (a b : D) → ◌≡◌ {A = Files F D} (Sink a) (Sink b) → a ≡ b
-    same_draft a b e = cc
-
     kept_kind : (store store' : S) (path path' : List ℕ) (replace : Bool) (files files' : Files F D) →
         KeepsDraft files files' store store' →
         KeepsFiles sources (drafting_sink stores) (files_in store path replace files)
         (files_in store' path' replace files') → MovedNone files files'
-    kept_kind store store' path path' replace (Source source) (Source source') stays keeps = keeps.gave
-    kept_kind store store' path path' replace (Sink draft) (Sink draft') stays keeps =
-        inl (same_draft draft' draft stays.1)
-    kept_kind store store' path path' replace (Source source) (Sink draft') stays keeps = absurd keeps
-    kept_kind store store' path path' replace (Sink draft) (Source source') stays keeps = absurd keeps
+    kept_kind store store' path path' replace files files' stays keeps = search rules
 
     work_kind : (store store' : S) (files files' : Files F D) → FilesWork stores sources store store' files files' →
         MovedNone files files'
-    work_kind store store' (Source source) (Source source') works = works.1.gave
-    work_kind store store' (Sink draft) (Sink draft') works = inr works.drafts_behind
-    work_kind store store' (Source source) (Sink draft') works = absurd works
-    work_kind store store' (Sink draft) (Source source') works = absurd works
+    work_kind store store' files files' works = search rules
 
     -- a datagram is lost
     pub lost_keeps : (from : Endpoint) (bytes : List ℕ) →

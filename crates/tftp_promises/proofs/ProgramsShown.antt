@@ -1,5 +1,6 @@
 -- Rules of the guarded machine lead to the ends of programs in an honest network, which so keep the promises of a
 -- transfer.
+use Rattle.std.proofs.Common.{rules}
 use Rattle.tftp_file.specs.Sink.{SinkMeaning}
 use Rattle.tftp_file.specs.Source.{SourceMeaning}
 use Rattle.tftp_store.specs.Store.{StoreMeaning}
@@ -13,6 +14,4 @@ module _ {S F D G K : Type 0} (stores : StoreMeaning S D) (sources : SourceMeani
     (outputs : SinkMeaning K) where
   pub programs_keep_any : ProgramsKeepAnyFiles stores sources inputs outputs
   programs_keep_any programs order joined =
-      any_kept programs joined.fresh
-      (λ pad. kept_at_last stores sources inputs outputs (traces_joint stores sources inputs outputs)
-      (λ p pad. server_steps_keep p pad) programs order joined pad)
+      search (rules, any_kept, kept_at_last, traces_joint, server_steps_keep)

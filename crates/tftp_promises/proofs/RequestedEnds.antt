@@ -1,6 +1,6 @@
 -- The end of the server that a request opens: its side, its peer, and the text that it sends first.
 use Rattle.std.proofs.Common.{◌≡◌, ℕ, ◌≤◌, true, false, List, [], ◌∷◌, ◌++◌, length, take}
-use Rattle.std.proofs.Common.{drop, min, Some, None, refl, sym, ap, ◌∙◌, arith}
+use Rattle.std.proofs.Common.{drop, min, Some, None, refl, sym, ap, ◌∙◌, arith, rules}
 use Rattle.std.proofs.lemmas.List.{take_min, drop_min}
 use Rattle.tftp_wire.specs.declared.mode.Mode.{Mode}
 use Rattle.tftp_negotiate.specs.declared.known.Known.{Known}
@@ -40,8 +40,7 @@ write_mode (known ∷ agreed) peer mode retries = refl
 
 pub read_length : (agreed : List Known) (peer : Endpoint) (mode : Mode) (measured retries : ℕ) (piece : List ℕ) →
     (serving_read agreed peer mode measured retries piece).role.length ≡ measured
-read_length [] peer mode measured retries piece = refl
-read_length (known ∷ agreed) peer mode measured retries piece = refl
+read_length agreed peer mode measured retries piece = search rules
 
 -- the peer of both is the client
 pub read_peer : (agreed : List Known) (peer : Endpoint) (mode : Mode) (text : List ℕ) (retries : ℕ) →

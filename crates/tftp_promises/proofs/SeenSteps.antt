@@ -1,4 +1,5 @@
 -- Traces of which only the older events are seen, so that the last step is seen in part.
+use Rattle.std.proofs.lemmas.Grind.{common_steps}
 use Rattle.std.proofs.Common.{◌≡◌, ℕ, List, [], ◌∷◌, ◌++◌, append_assoc, length, sym, ap, ◌∙◌, subst, suc, arith, inl}
 use Rattle.std.proofs.Common.{inr}
 use Rattle.std.specs.List.{Contains, AllByRecursion}
@@ -8,7 +9,6 @@ use Rattle.std.proofs.lemmas.List.Elements.{All-contains}
 use Rattle.tftp_rules.specs.Machine.{Endpoint}
 use Rattle.tftp_sockets.specs.Trace.{SocketEvent}
 use Rattle.tftp_sockets.specs.Trace.SocketEvent.{Received}
-use Rattle.tftp_promises.proofs.Orders.{one_in}
 use Rattle.tftp_promises.proofs.StepEvents.{IsOther, IsQuiet, OldestOnly}
 
 -- the last step added `ahead ++ x ∷ rest`, of which what is seen of the trace has `x ∷ rest`
@@ -51,11 +51,7 @@ split_in {old_noted = old_noted} e (split ahead x rest others own is noted_is se
 -- a datagram received in these events is the oldest of them
 pub oldest_in : (ahead : List SocketEvent) (x : SocketEvent) (port : ℕ) (from : Endpoint) (bytes : List ℕ) →
     AllByRecursion IsOther ahead → Contains (ahead ++ x ∷ []) (Received port from bytes) → x ≡ Received port from bytes
-oldest_in ahead x port from bytes others i = elim (Contains-append_cases ahead (x ∷ []) (Received port from bytes) i) [
-  | inl early ↦
-      absurd (All-contains IsOther ahead (Received port from bytes) (All-from_recursion IsOther ahead others) early)
-  | inr late ↦ one_in (Received port from bytes) x late
-]
+oldest_in ahead x port from bytes others i = grind (arith, common_steps)
 
 -- what is no wait is among the other events
 pub past_waits : (waits events : List SocketEvent) (e : SocketEvent) → AllByRecursion IsQuiet waits → (IsQuiet e → ⊥) →
@@ -67,17 +63,13 @@ past_waits waits events e quiet other i = elim (Contains-append_cases waits even
 
 pub before_waits : (events waits : List SocketEvent) (e : SocketEvent) → AllByRecursion IsQuiet waits → (IsQuiet e → ⊥) →
     Contains (events ++ waits) e → Contains events e
-before_waits events waits e quiet other i = elim (Contains-append_cases events waits e i) [
-  | inl early ↦ early
-  | inr late ↦ absurd (other (All-contains IsQuiet waits e (All-from_recursion IsQuiet waits quiet) late))
-]
+before_waits events waits e quiet other i = grind (arith, common_steps)
 
 -- what a trace has after a step, past where it began
 pub past : (added old_noted before old_events events noted : List SocketEvent) → events ≡ added ++ old_events →
     old_events ≡ old_noted ++ before → events ≡ noted ++ before → noted ≡ added ++ old_noted
 past added old_noted before old_events events noted is old_is noted_is =
-    append_cancel_right noted (added ++ old_noted) before
-    (sym noted_is ∙ (is ∙ (ap (λ (es : List SocketEvent). added ++ es) old_is ∙ sym (append_assoc added old_noted before))))
+    grind (arith, common_steps, append_cancel_right)
 
 -- nothing is noted by a trace that is where it began
 pub at_first : (before events noted : List SocketEvent) → events ≡ before → events ≡ noted ++ before → noted ≡ []

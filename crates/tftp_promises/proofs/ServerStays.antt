@@ -1,5 +1,5 @@
 -- What a step of the server leaves as it was, if it opens and removes no transfer.
-use Rattle.std.proofs.Common.{◌≡◌, ℕ, List, [], ◌++◌, Option, Some, sym, ap, ◌∙◌, subst, inl, inr}
+use Rattle.std.proofs.Common.{◌≡◌, ℕ, List, [], ◌++◌, Option, Some, sym, ap, ◌∙◌, subst, inr, rules}
 use Rattle.std.specs.List.{Contains}
 use Rattle.tftp_file.specs.Sink.{SinkMeaning}
 use Rattle.tftp_file.specs.Source.{SourceMeaning}
@@ -11,17 +11,14 @@ use Rattle.tftp_sockets.specs.Trace.{SocketEvent}
 use Rattle.tftp_loop.specs.Steps.{LoopState, LoopStep}
 use Rattle.tftp_rules.specs.Machine.{Endpoint}
 use Rattle.tftp_rules.specs.OpenEnds.{OpenEnd}
-use Rattle.tftp_promises.specs.Drafts.{HadStore}
 use Rattle.tftp_promises.specs.Given.{GaveSince}
 use Rattle.tftp_promises.specs.Moved.{Moved, or_before}
 use Rattle.tftp_promises.specs.Openings.{HasClosed, moved_at, opened_at, place_at}
 use Rattle.tftp_promises.specs.Order.{Programs, requests_at}
 use Rattle.tftp_promises.specs.Ports.{Removes}
 use Rattle.tftp_promises.specs.Snapshots.{Snapshot, server_did}
-use Rattle.tftp_promises.proofs.DraftsTake.{took_longer}
 use Rattle.tftp_promises.proofs.RunPlaces.{placed_by, places}
-use Rattle.tftp_promises.proofs.Invariant.{HasArrived, IsGiven, IsOpened, GaveSo, TookSo, HasStored}
-use Rattle.tftp_promises.proofs.Invariant.{IsKept, IsTaken, TookBy}
+use Rattle.tftp_promises.proofs.Invariant.{HasArrived, IsGiven, IsOpened, GaveSo, TookSo, HasStored, IsKept, IsTaken}
 use Rattle.tftp_promises.proofs.MovedSteps.{MovesNone}
 
 module _ {S F D G K : Type 0} {stores : StoreMeaning S D} {sources : SourceMeaning F} {inputs : SourceMeaning G}
@@ -75,14 +72,7 @@ module _ {S F D G K : Type 0} {stores : StoreMeaning S D} {sources : SourceMeani
   taken_after : (old : Snapshot programs) {new : LoopState S F D} (does : LoopStep stores sources old.state new)
       (added : List SocketEvent) (x : OpenEnd) → MovesNone programs old.run does x.address → (draft : D) →
       IsTaken programs old.run x draft → IsTaken programs (server_did old does added).run x draft
-  taken_after old does added x none draft h = record {
-    first = h.first;
-    began = inr h.began;
-    since =
-        subst (λ (m : Moved). TookBy stores (HadStore (server_did old does added).run) x.path
-        programs.server.start.server.config.overwrite h.first x m.bytes draft) (moved_after old does added x none)
-        (took_longer (λ store been. inr been) h.since);
-  }
+  taken_after old does added x none draft h = search rules
 
   -- what is known of a transfer's file stays known
   pub stored_after : (pad : ℕ) (old : Snapshot programs) {new : LoopState S F D}
@@ -111,8 +101,7 @@ module _ {S F D G K : Type 0} {stores : StoreMeaning S D} {sources : SourceMeani
     -- no transfer more was removed
     pub closed_before : (port : ℕ) (transfer : TransferState F D) (a : Endpoint) →
         HasClosed programs (server_did old does added).run port transfer a → HasClosed programs old.run port transfer a
-    closed_before port transfer a (inl removes) = absurd (stays.removes port transfer removes.0)
-    closed_before port transfer a (inr closed) = closed
+    closed_before port transfer a h3 = search rules
 
     -- each place is one still
     pub opened_still : (a : Endpoint) → Contains (places programs old.run) a →

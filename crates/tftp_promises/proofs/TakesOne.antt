@@ -1,17 +1,15 @@
--- A client takes the answers of one port only: at the first DATA, ACK or OACK of the server's address that it handles it
--- has a peer, or closes.
+-- A client takes the answers of one port only: at the first datagram of the server's address that it handles and that is
+-- no ERROR it has a peer, or closes.
 use Rattle.std.proofs.Common.{◌≡◌, ℕ, Bool, true, false, List, [], Option, Some, None, refl, sym, ap, ◌∙◌, subst, inl, inr}
-use Rattle.std.specs.Prelude.{◌≢◌, ◌⊎◌, ◌&&◌, ◌==◌, ◌*◌, ◌≤◌, if◌then◌else◌, not, is_none, length, nat_le, nat_lt, IsSome}
+use Rattle.std.specs.Prelude.{◌≢◌, ◌⊎◌, ◌&&◌, ◌==◌, ◌*◌, if◌then◌else◌, not, is_none, length, nat_le, nat_lt, IsSome}
 use Rattle.std.specs.Prelude.{Result, Ok, Err}
 use Rattle.std.specs.Cmp.Lexicographic.{same_text}
 use Rattle.std.specs.List.{Contains}
 use Rattle.std.proofs.lemmas.Bool.{cases_Bool, eqb-true, true≢false}
-use Rattle.tftp_wire.specs.Reading.{first_fault, has_error_opcode}
-use Rattle.tftp_wire.specs.Spelling.{Spells}
+use Rattle.tftp_wire.specs.Reading.{has_error_opcode}
 use Rattle.tftp_wire.specs.declared.mode.Mode.{Mode}
 use Rattle.tftp_wire.specs.declared.packet.Packet.{Packet as WirePacket}
 use Rattle.tftp_wire.specs.declared.packet.Packet.TheVariants.{Read, Write, Data, Ack, Error, Oack}
-use Rattle.tftp_wire.proofs.SpellingLemmas.{spelled_has_no_fault, spelled_is_found}
 use Rattle.tftp_negotiate.specs.declared.asked.Asked.{Asked}
 use Rattle.tftp_negotiate.specs.declared.known.Kind.TheVariants as kinds
 use Rattle.tftp_negotiate.specs.declared.known.Known.{Known}
@@ -47,7 +45,6 @@ use Rattle.tftp_client.specs.Converses.{HandlesReceived, IsOpen, IsReadBy, MayEl
 use Rattle.tftp_sockets.specs.declared.watch.Watch.{Watch}
 use Rattle.tftp_client.specs.Converses.HandlesReceived.{Answers, Loses}
 use Rattle.tftp_client.specs.Converses.MayElapse.{Stays, Elapses}
-use Rattle.tftp_rules.specs.EndKept.{IsAnswer}
 use Rattle.tftp_rules.specs.Machine.{Endpoint, is_same_ip}
 use Rattle.tftp_rules.specs.OpenEnds.{peer_of}
 use Rattle.tftp_rules.proofs.Endpoints.{same_ip}
@@ -55,6 +52,7 @@ use Rattle.tftp_rules.proofs.PhaseMoves.{both_true, if_acts}
 use Rattle.tftp_promises.specs.ClientRuns.{ClientDoes, ClientRun, Starts, Goes_on, Receives_one, Reads_clock, Waits_until}
 use Rattle.tftp_promises.specs.ClientRuns.{Times_out, File_works, Prints_line}
 use Rattle.tftp_promises.specs.Others.{ClientsTakeOne, DoesOwn, IsOtherAnswer, TakesOwn}
+use Rattle.tftp_promises.specs.Order.{IsError}
 use Rattle.tftp_promises.specs.Programs.{ClientProgram}
 use Rattle.tftp_promises.proofs.ClientTraces.{asks_there}
 use Rattle.tftp_promises.proofs.WrongPeers.{datagram_stays, timeout_stays}
@@ -110,40 +108,52 @@ next_settles mode held terms number bytes =
     (λ g. if_acts Settles (is_readable mode held bytes (nat_lt (length bytes) terms.size)) (Store terms number)
     (Respond (Refuse (Some terms) replies.NotNetascii outcomes.NotNetascii)) (λ b. tt) (λ b. tt)))
 
-reader_settles : (mode : Mode) (asked : Asked) (limit : ℕ) (from : Endpoint) (p : WirePacket) → IsAnswer p →
-    Settles (reader_action mode asked limit from (Some p))
-reader_settles mode asked limit from (Read request) answer = absurd answer
-reader_settles mode asked limit from (Write request) answer = absurd answer
-reader_settles mode asked limit from (Data number bytes) answer =
+-- no ERROR
+abbrev IsNoError : Option WirePacket → Type 0
+IsNoError None = Unit {0}
+IsNoError (Some (Read request)) = Unit {0}
+IsNoError (Some (Write request)) = Unit {0}
+IsNoError (Some (Data number bytes)) = Unit {0}
+IsNoError (Some (Ack number)) = Unit {0}
+IsNoError (Some (Error code text)) = ⊥
+IsNoError (Some (Oack options)) = Unit {0}
+
+reader_settles : (mode : Mode) (asked : Asked) (limit : ℕ) (from : Endpoint) (decoded : Option WirePacket) →
+    IsNoError decoded → Settles (reader_action mode asked limit from decoded)
+reader_settles mode asked limit from None answer = tt
+reader_settles mode asked limit from (Some (Read request)) answer = tt
+reader_settles mode asked limit from (Some (Write request)) answer = tt
+reader_settles mode asked limit from (Some (Data number bytes)) answer =
     if_acts Settles (number == 1 && nat_le (length bytes) 512)
     (data_action mode [] (default_terms from) 0 number bytes) no_answer
     (λ b. subst (λ (n : ℕ). Settles (data_action mode [] (default_terms from) 0 n bytes))
     (sym (eqb-true number 1 (both_true (number == 1) (nat_le (length bytes) 512) b).0))
     (next_settles mode [] (default_terms from) 1 bytes)) (λ b. tt)
-reader_settles mode asked limit from (Ack number) answer = tt
-reader_settles mode asked limit from (Error code text) answer = absurd answer
-reader_settles mode asked limit from (Oack options) answer =
+reader_settles mode asked limit from (Some (Ack number)) answer = tt
+reader_settles mode asked limit from (Some (Error code text)) answer = absurd answer
+reader_settles mode asked limit from (Some (Oack options)) answer =
     accept_settles from (agreement asked kinds.Read mode options limit)
 
-writer_settles : (mode : Mode) (asked : Asked) (limit long : ℕ) (from : Endpoint) (p : WirePacket) → IsAnswer p →
-    Settles (writer_action mode asked limit long from (Some p))
-writer_settles mode asked limit long from (Read request) answer = absurd answer
-writer_settles mode asked limit long from (Write request) answer = absurd answer
-writer_settles mode asked limit long from (Data number bytes) answer = tt
-writer_settles mode asked limit long from (Ack number) answer =
+writer_settles : (mode : Mode) (asked : Asked) (limit long : ℕ) (from : Endpoint) (decoded : Option WirePacket) →
+    IsNoError decoded → Settles (writer_action mode asked limit long from decoded)
+writer_settles mode asked limit long from None answer = tt
+writer_settles mode asked limit long from (Some (Read request)) answer = tt
+writer_settles mode asked limit long from (Some (Write request)) answer = tt
+writer_settles mode asked limit long from (Some (Data number bytes)) answer = tt
+writer_settles mode asked limit long from (Some (Ack number)) answer =
     if_acts Settles (number == 0) (begin_action long (default_terms from)) no_answer
     (λ b. begin_settles long (default_terms from)) (λ b. tt)
-writer_settles mode asked limit long from (Error code text) answer = absurd answer
-writer_settles mode asked limit long from (Oack options) answer =
+writer_settles mode asked limit long from (Some (Error code text)) answer = absurd answer
+writer_settles mode asked limit long from (Some (Oack options)) answer =
     begin_with_settles from long (agreement asked kinds.Write mode options limit)
 
-waiting_settles : (e : EndState) (from : Endpoint) (asked : Asked) (limit : ℕ) (p : WirePacket) → IsAnswer p →
-    Settles (waiting_action e from (Some p) (Waiting asked limit))
-waiting_settles e from asked limit p answer =
-    if_acts Settles (is_sender e.role.side) (writer_action e.role.mode asked limit e.role.length from (Some p))
-    (reader_action e.role.mode asked limit from (Some p))
-    (λ b. writer_settles e.role.mode asked limit e.role.length from p answer)
-    (λ b. reader_settles e.role.mode asked limit from p answer)
+waiting_settles : (e : EndState) (from : Endpoint) (asked : Asked) (limit : ℕ) (decoded : Option WirePacket) →
+    IsNoError decoded → Settles (waiting_action e from decoded (Waiting asked limit))
+waiting_settles e from asked limit decoded answer =
+    if_acts Settles (is_sender e.role.side) (writer_action e.role.mode asked limit e.role.length from decoded)
+    (reader_action e.role.mode asked limit from decoded)
+    (λ b. writer_settles e.role.mode asked limit e.role.length from decoded answer)
+    (λ b. reader_settles e.role.mode asked limit from decoded answer)
 
 -- the action for a datagram of the server's address, if the end has no peer and is open
 abbrev action_in : EndState → Endpoint → List ℕ → Option WirePacket → Phase → Action
@@ -153,26 +163,28 @@ action_in e from bytes decoded phase =
     else if has_error_opcode bytes && is_none decoded then Respond (garbled_response phase)
     else packet_action e from decoded phase
 
-action_settles : (e : EndState) (from : Endpoint) (bytes : List ℕ) (p : WirePacket) → IsAnswer p →
+action_settles : (e : EndState) (from : Endpoint) (bytes : List ℕ) (decoded : Option WirePacket) → IsNoError decoded →
     from.ip ≡ e.position.last_sent_to.ip → (phase : Phase) → (IsSome (outcome_of phase) → ⊥) → peer_of phase ≡ None →
-    Settles (action_in e from bytes (Some p) phase)
-action_settles e from bytes p answer near (Waiting asked limit) still none =
+    Settles (action_in e from bytes decoded phase)
+action_settles e from bytes decoded answer near (Waiting asked limit) still none =
     let here : same_address e.position.last_sent_to from ≡ true =
     ap (λ (ip : List ℕ). is_same_ip e.position.last_sent_to.ip ip) near ∙ same_ip e.position.last_sent_to.ip in
     if_acts Settles (not (same_address e.position.last_sent_to from))
     (if has_error_opcode bytes then Respond Ignore else Respond WrongPeer)
-    (if has_error_opcode bytes && false then Respond (garbled_response (Waiting asked limit)) else
-    waiting_action e from (Some p) (Waiting asked limit))
+    (if has_error_opcode bytes && is_none decoded then Respond (garbled_response (Waiting asked limit)) else
+    waiting_action e from decoded (Waiting asked limit))
     (λ b. absurd (true≢false (sym b ∙ ap not here)))
-    (λ b. if_acts Settles (has_error_opcode bytes && false) (Respond (garbled_response (Waiting asked limit)))
-    (waiting_action e from (Some p) (Waiting asked limit)) (λ c. tt) (λ c. waiting_settles e from asked limit p answer))
-action_settles e from bytes p answer near (Sending terms number) still none =
+    (λ b. if_acts Settles (has_error_opcode bytes && is_none decoded)
+    (Respond (garbled_response (Waiting asked limit)))
+    (waiting_action e from decoded (Waiting asked limit)) (λ c. tt)
+    (λ c. waiting_settles e from asked limit decoded answer))
+action_settles e from bytes decoded answer near (Sending terms number) still none =
     absurd (let f : Some terms.peer ≡ None = none in cc)
-action_settles e from bytes p answer near (Receiving terms number) still none =
+action_settles e from bytes decoded answer near (Receiving terms number) still none =
     absurd (let f : Some terms.peer ≡ None = none in cc)
-action_settles e from bytes p answer near (Dallying terms number dally) still none =
+action_settles e from bytes decoded answer near (Dallying terms number dally) still none =
     absurd (let f : Some terms.peer ≡ None = none in cc)
-action_settles e from bytes p answer near (Closed terms number complete outcome) still none = absurd (still refl)
+action_settles e from bytes decoded answer near (Closed terms number complete outcome) still none = absurd (still refl)
 
 -- ---- the turns
 some_peer : (peer : Endpoint) → Some peer ≢ None
@@ -252,13 +264,16 @@ module _ {S K : Type 0} (sources : SourceMeaning S) (sinks : SinkMeaning K) (fro
 abbrev Asks : Endpoint → EndState → Type 0
 Asks to e = IsOpen e → peer_of e.position.phase ≡ None → e.position.last_sent_to ≡ to
 
-answers_or_not : (p : WirePacket) → IsAnswer p ⊎ (IsAnswer p → ⊥)
-answers_or_not (Read request) = inr (λ a. a)
-answers_or_not (Write request) = inr (λ a. a)
-answers_or_not (Data number bytes) = inl tt
-answers_or_not (Ack number) = inl tt
-answers_or_not (Error code text) = inr (λ a. a)
-answers_or_not (Oack options) = inl tt
+-- an ERROR, or none
+error_or_not : (bytes : List ℕ) (decoded : Option WirePacket) → Decodes bytes decoded →
+    IsNoError decoded ⊎ IsError bytes
+error_or_not bytes None says = inl tt
+error_or_not bytes (Some (Read request)) says = inl tt
+error_or_not bytes (Some (Write request)) says = inl tt
+error_or_not bytes (Some (Data number piece)) says = inl tt
+error_or_not bytes (Some (Ack number)) says = inl tt
+error_or_not bytes (Some (Error code text)) says = inr (code, text, says)
+error_or_not bytes (Some (Oack options)) says = inl tt
 
 module _ {G K : Type 0} {inputs : SourceMeaning G} {outputs : SinkMeaning K} (to : Endpoint) where
   module _ (from : Endpoint) (bytes : List ℕ) (e : EndState) (files : Files G K) (turn : Turn) (files' : Files G K)
@@ -294,21 +309,15 @@ module _ {G K : Type 0} {inputs : SourceMeaning G} {outputs : SinkMeaning K} (to
     by_packet : (none : peer_of e.position.phase ≡ None) (near : from.ip ≡ to.ip) → Asks to e →
         (decoded : Option WirePacket) → Decodes bytes decoded →
         Acts inputs outputs (datagram_action e from bytes decoded) from bytes e files turn files' → Decided
-    by_packet none near asks None says acts =
-        inl (λ others no_peer h. no_fault h.packet h.spells (spelled_has_no_fault h.packet bytes h.spells)) where
-          no_fault : (p : WirePacket) → Spells p bytes → first_fault bytes ≡ None → ⊥
-          no_fault p spells is = let f : None ≡ Some says.0 = sym is ∙ says.1 in cc
-    by_packet none near asks (Some p) says acts = elim (answers_or_not p) [
-      | inr not_one ↦
-          inl (λ others no_peer h. not_one (subst IsAnswer
-          (sym (spelled_is_found h.packet bytes h.spells) ∙ spelled_is_found p bytes says) h.answer))
+    by_packet none near asks decoded says acts = elim (error_or_not bytes decoded says) [
+      | inr error ↦ inl (λ others no_peer h. h.no_error error)
       | inl answer ↦
           let same : from.ip ≡ e.position.last_sent_to.ip =
           near ∙ ap (λ (a : Endpoint). a.ip) (sym (asks still none)) in
           inr (
             λ others own no_peer h. own h.other,
-            acts_settle inputs outputs from e (datagram_action e from bytes (Some p)) bytes files turn files' acts
-                (action_settles e from bytes p answer same e.position.phase still none),
+            acts_settle inputs outputs from e (datagram_action e from bytes decoded) bytes files turn files' acts
+                (action_settles e from bytes decoded answer same e.position.phase still none),
           )
     ]
 

@@ -1,6 +1,6 @@
 -- Prefixes of texts, and a text that is padded to a length.
 use Rattle.std.proofs.Common.{◌≡◌, ℕ, zero, suc, ◌≤◌, List, [], ◌∷◌, ◌++◌, append_assoc, append-nil, length, take, drop}
-use Rattle.std.proofs.Common.{replicate, refl, sym, ap, ◌∙◌, arith}
+use Rattle.std.proofs.Common.{replicate, refl, sym, ap, ◌∙◌, arith, rules}
 use Rattle.std.proofs.lemmas.List.{append_cancel_left, length-append, length-replicate, length-take}
 use Rattle.tftp_file.specs.Block.{IsPrefixOf}
 
@@ -9,11 +9,7 @@ abbrev pub pad_to : ℕ → ℕ → List ℕ → List ℕ
 pad_to pad n xs = take n (xs ++ replicate n pad)
 
 pub pad_length : (pad n : ℕ) (xs : List ℕ) → length (pad_to pad n xs) ≡ n
-pad_length pad n xs =
-    let a = length-take n (xs ++ replicate n pad) in
-    let b = length-append xs (replicate n pad) in
-    let c = length-replicate n pad in
-    omega (arith, a, b, c)
+pad_length pad n xs = search (rules, length-take, length-append, length-replicate)
 
 begins_take : (xs rest : List ℕ) (n : ℕ) → length xs ≤ n → IsPrefixOf xs (take n (xs ++ rest))
 begins_take [] rest n l = (take n rest, refl)

@@ -12,7 +12,7 @@ use Rattle.tftp_ends.specs.Step.{Reply, timeout_turn}
 use Rattle.tftp_store.specs.Store.{StoreMeaning}
 use Rattle.tftp_server.specs.Port.{Ask}
 use Rattle.tftp_server.specs.Request.{Came, Nothing, Error_reply, A_transfer, Left, left_by}
-use Rattle.tftp_server.specs.State.{TransferState, ServerState, at, is_closed, is_open}
+use Rattle.tftp_server.specs.State.{TransferState, ServerState, at, is_open}
 use Rattle.tftp_lives.specs.Lives.{Act, Took, Lost, Said, Timed, newest, with_reply}
 use Rattle.tftp_sockets.specs.Trace.{SocketEvent, answered}
 use Rattle.tftp_sockets.specs.Trace.SocketEvent.{Received, Sent, Watched, Elapsed, Printed, Quiet}

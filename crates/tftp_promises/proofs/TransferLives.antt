@@ -2,28 +2,15 @@
 -- that of the run, and is a life of its end.
 use Rattle.std.proofs.Common.{◌≡◌, ℕ, ◌*◌, ◌<◌, Bool, true, false, not, List, [], ◌∷◌, Option, Some, None, refl, sym, ap}
 use Rattle.std.proofs.Common.{◌∙◌, subst, inl, inr, arith}
-use Rattle.std.specs.Prelude.{◌⊎◌, ◌==◌, ◌&&◌, if◌then◌else◌, is_none, is_some}
+use Rattle.std.specs.Prelude.{◌==◌, if◌then◌else◌}
 use Rattle.std.proofs.lemmas.Bool.{true≢false, cases_eq, eq-eqb, ne_eqb}
-use Rattle.tftp_wire.specs.Reading.{has_error_opcode}
 use Rattle.tftp_wire.specs.declared.packet.Packet.{Packet}
-use Rattle.tftp_file.specs.Sink.{SinkMeaning}
 use Rattle.tftp_file.specs.Source.{SourceMeaning}
 use Rattle.tftp_file.specs.declared.files.Files.{Files}
-use Rattle.tftp_ends.specs.declared.action.Action.{Action}
-use Rattle.tftp_ends.specs.declared.action.Action.TheVariants.{Respond}
-use Rattle.tftp_ends.specs.declared.action.Response.{Response}
-use Rattle.tftp_ends.specs.declared.action.Response.TheVariants.{Ignore, WrongPeer, Retransmit, Close}
 use Rattle.tftp_ends.specs.declared.endpoint.Endpoint.{Endpoint}
-use Rattle.tftp_ends.specs.declared.outcome.Outcome.{Outcome}
-use Rattle.tftp_ends.specs.declared.outcome.Outcome.TheVariants as outcomes
-use Rattle.tftp_ends.specs.declared.phase.Phase.{Phase}
-use Rattle.tftp_ends.specs.declared.phase.Phase.TheVariants.{Waiting, Sending, Receiving, Dallying, Closed}
-use Rattle.tftp_ends.specs.declared.phase.Terms.{Terms}
-use Rattle.tftp_ends.specs.Action.{datagram_action, is_wrong_peer, timeout_response}
-use Rattle.tftp_ends.specs.End.{EndState, Position, outcome_of}
+use Rattle.tftp_ends.specs.End.{EndState}
 use Rattle.tftp_ends.specs.Opening.{serving_read}
-use Rattle.tftp_ends.specs.Step.{Turn, Acts, DatagramStep, after, after_turn, response_turn, timeout_turn, with_position}
-use Rattle.tftp_ends.proofs.RunMoves.{if_either}
+use Rattle.tftp_ends.specs.Step.{Turn, DatagramStep, after_turn, timeout_turn}
 use Rattle.tftp_negotiate.specs.Agreed.{size}
 use Rattle.tftp_negotiate.specs.Ranges.{IsBlockSize}
 use Rattle.tftp_negotiate.specs.declared.known.Known.{Known}

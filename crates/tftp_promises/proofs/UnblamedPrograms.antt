@@ -1,7 +1,7 @@
 -- No end of the programs has blamed a peer that is no stranger where the traces arrive.
 -- For the law no_program_is_blamed.
 use Rattle.std.proofs.Common.{◌≡◌, ℕ, suc, zero, ◌≤◌, List, [], ◌∷◌, ◌++◌, length, take, replicate}
-use Rattle.std.proofs.Common.{Some, refl, sym, ap, ◌∙◌, subst, arith, inl, inr}
+use Rattle.std.proofs.Common.{Some, refl, sym, ap, ◌∙◌, subst, arith, inl, inr, rules}
 use Rattle.std.specs.Prelude.{option_map, slice_get}
 use Rattle.std.proofs.lemmas.Bool.{cases_Bool}
 use Rattle.std.proofs.lemmas.List.{length-append}
@@ -15,7 +15,7 @@ use Rattle.tftp_file.specs.declared.files.Files.TheVariants.{Source, Sink}
 use Rattle.tftp_ends.specs.declared.outcome.Outcome.{Outcome}
 use Rattle.tftp_ends.specs.declared.outcome.Outcome.TheVariants as outcomes
 use Rattle.tftp_ends.specs.declared.role.Role.{Role}
-use Rattle.tftp_ends.specs.End.{EndState, is_sender}
+use Rattle.tftp_ends.specs.End.{EndState}
 use Rattle.tftp_store.specs.Store.{StoreMeaning}
 use Rattle.tftp_server.specs.State.{TransferState}
 use Rattle.tftp_rules.specs.Machine.{Endpoint}
@@ -156,20 +156,7 @@ module _ {S F D G K : Type 0} {stores : StoreMeaning S D} {sources : SourceMeani
   -- so each end closes as it may
   closes_as : (x : ProgramEnd) (p : Endpoint) (outcome : Outcome) →
       (BlamesBy (SendsText programs 0) x.state.role p outcome → ⊥) → MayCloseAs programs x p outcome
-  closes_as x p outcomes.Complete h = tt
-  closes_as x p outcomes.TimedOut h = tt
-  closes_as x p (outcomes.PeerError code) h = tt
-  closes_as x p outcomes.StoreFault h = tt
-  closes_as x p outcomes.SourceFault h = elim (cases_Bool (is_sender x.state.role.side)) [
-    | inl sends ↦ sends
-    | inr receives ↦ absurd (h receives)
-  ]
-  closes_as x p outcomes.NotNetascii h = λ y is_end at begins.
-      h (subst (λ (a : Endpoint). SendsText programs 0 a x.state.role.mode) at
-      (sends_text x.state.role.mode y is_end begins))
-  closes_as x p outcomes.Illegal h = h tt
-  closes_as x p outcomes.TooLarge h = h tt
-  closes_as x p (outcomes.Refused refusal) h = h tt
+  closes_as x p outcome h = search (rules, cases_Bool, sends_text)
 
   pub none_blamed : NoneIsBlamed programs
   none_blamed x p outcome is_end peer ours is =
@@ -180,9 +167,7 @@ module _ {S F D G K : Type 0} (stores : StoreMeaning S D) (sources : SourceMeani
     (outputs : SinkMeaning K) where
   pub programs_unblamed : ProgramsAreUnblamed stores sources inputs outputs
   programs_unblamed programs order joined =
-      none_blamed programs joined.fresh
-      (kept_at_last stores sources inputs outputs (traces_joint stores sources inputs outputs)
-      (λ p pad. server_steps_keep p pad) programs order joined 0)
+      search (rules, none_blamed, kept_at_last, traces_joint, server_steps_keep)
 
   pub each_unblamed : EachIsUnblamed stores sources inputs outputs
   each_unblamed several order i server k client at_i found served =

@@ -1,7 +1,7 @@
 -- What an end of the programs receives makes it blame no peer that is no stranger.
 -- For the law no_program_is_blamed.
 use Rattle.std.proofs.Common.{◌≡◌, ◌≢◌, ℕ, suc, zero, ◌+◌, true, List, ◌∷◌, length, None, Some, refl, sym, ap, ◌∙◌}
-use Rattle.std.proofs.Common.{arith, inl, inr}
+use Rattle.std.proofs.Common.{arith, inl, inr, rules}
 use Rattle.std.specs.Prelude.{slice_get}
 use Rattle.std.specs.List.{Contains}
 use Rattle.std.proofs.lemmas.Bool.{true≢false}
@@ -20,11 +20,10 @@ use Rattle.tftp_store.specs.Store.{StoreMeaning}
 use Rattle.tftp_rules.specs.EndKept.{IsFromServer}
 use Rattle.tftp_rules.specs.KnownFiles.{known_source, known_sink}
 use Rattle.tftp_rules.specs.Machine.{Endpoint, Elsewhere, Machine, Party, start}
-use Rattle.tftp_rules.specs.OpenEnds.{OpenEnd, files_of, open_view, received_text}
+use Rattle.tftp_rules.specs.OpenEnds.{OpenEnd, files_of}
 use Rattle.tftp_rules.specs.Rules.{run}
-use Rattle.tftp_rules.specs.Shows.{EndView, Matches}
+use Rattle.tftp_rules.specs.Shows.{EndView}
 use Rattle.tftp_rules.specs.ViewSafety.{IsAmong}
-use Rattle.tftp_rules.proofs.SourceMoves.{text_if}
 use Rattle.tftp_rules.proofs.UnblamedEnds.{IsUnblamed, datagram_unblamed}
 use Rattle.tftp_promises.specs.Moved.{Moved}
 use Rattle.tftp_promises.specs.Network.{joined}
@@ -35,7 +34,6 @@ use Rattle.tftp_promises.specs.Programs.{client_at}
 use Rattle.tftp_promises.specs.Snapshots.{Snapshot, Has_asked}
 use Rattle.tftp_promises.proofs.Invariant.{ClientKept, HasArrived, HasFile, HasStored, IsFreshBy, IsKept, IsOfClient}
 use Rattle.tftp_promises.proofs.Invariant.{IsOfTransfer, IsOpened, IsViewed, SendsText, TransferKept, client_text, place_text}
-use Rattle.tftp_promises.proofs.KeptViews.{view_there}
 use Rattle.tftp_promises.proofs.NewPlaces.{client_apart, place_cases}
 use Rattle.tftp_promises.proofs.RunPlaces.{places}
 
@@ -71,8 +69,7 @@ module _ {S F D G K : Type 0} {stores : StoreMeaning S D} {sources : SourceMeani
   client_sends : (client : Client) (files : Files G K) (x : OpenEnd) (moved : Moved) →
       HasFile programs pad client x files moved → is_sender x.state.role.side ≡ true →
       x.text ≡ client_text programs pad client
-  client_sends client (Source source) x moved has sends = has.text
-  client_sends client (Sink sink) x moved has sends = absurd (true≢false (sym sends ∙ has.receiver))
+  client_sends client files x moved has sends = search rules
 
   transfer_sends : (x : OpenEnd) (files : Files F D) → HasStored pad snapshot x files →
       is_sender x.state.role.side ≡ true → (x.text ≡ place_text programs pad x.address) × IsOpened programs snapshot.run x
@@ -82,25 +79,12 @@ module _ {S F D G K : Type 0} {stores : StoreMeaning S D} {sources : SourceMeani
   -- the text of a view is that of its end
   module _ (from : Endpoint) (mode : Mode) (view : EndView) (among : IsAmong kept.views view)
       (here : view.address ≡ from) (sends : (ends from).sender ≡ true) (text : SendsText programs pad from mode) where
-    at_view : Matches view (ends view.address)
-    at_view = kept.shown.1.1.ends among.0 view among.1
-
-    view_sends : view.sender ≡ true
-    view_sends = sym at_view.sender ∙ (ap (λ (a : Endpoint). (ends a).sender) here ∙ sends)
-
     -- so it is if it is that of an end that sends this
     same_text : (x : OpenEnd) → IsViewed (joined programs) (SendsText programs pad) kept.views kept.messages x →
         from ≡ x.address →
         (is_sender x.state.role.side ≡ true → wire_text mode text.file ≡ x.text) →
         wire_text mode text.file ≡ (ends from).text
-    same_text x viewed at has =
-        let is : view ≡ open_view x =
-        view_there kept.shown viewed among (here ∙ at) in
-        let x_sends : is_sender x.state.role.side ≡ true = ap (λ (v : EndView). v.sender) (sym is) ∙ view_sends in
-        has x_sends
-        ∙ (sym (text_if (is_sender x.state.role.side) x.text (received_text x.state x.stored) x_sends)
-        ∙ (ap (λ (v : EndView). v.text) (sym is)
-        ∙ (sym (at_view.sent view_sends) ∙ ap (λ (a : Endpoint). (ends a).text) here)))
+    same_text x viewed at has = search rules
 
     of_client : IsOfClient programs snapshot.clients view.address → wire_text mode text.file ≡ (ends from).text
     of_client h =

@@ -1,5 +1,5 @@
--- Why a client is not complete: its file or its store failed, an ERROR came, or all copies of one
--- datagram, or all answers to them, were lost (RFC 1350, sections 2 and 7).
+-- Why a client is not complete: its file or its store failed or is too long, an ERROR came, or all
+-- copies of one datagram, or all answers to them, were lost (RFC 1350, sections 2 and 7).
 use Rattle.std.specs.Prelude.{ℕ, ◌≡◌, ◌⊎◌, true, false, List, slice_get, Some, None}
 use Rattle.tftp_file.specs.Sink.{SinkMeaning}
 use Rattle.tftp_file.specs.Source.{SourceMeaning}
@@ -10,13 +10,14 @@ use Rattle.tftp_rules.specs.Machine.{Endpoint}
 use Rattle.tftp_lives.specs.Unanswered.{IsOver}
 use Rattle.tftp_promises.specs.Alone.{IsServed, alone}
 use Rattle.tftp_promises.specs.AnyFiles.{client_end, peer_of}
-use Rattle.tftp_promises.specs.Failed.{HasFailed, HasRefused}
+use Rattle.tftp_promises.specs.Failed.{HasFailed}
 use Rattle.tftp_promises.specs.Fates.{WasReceived, WasSettled}
 use Rattle.tftp_promises.specs.GivesUp.{GaveUpUnheard, IsSeenUnanswered}
 use Rattle.tftp_promises.specs.Joined.{AreJoined}
 use Rattle.tftp_promises.specs.Order.{Noted, Programs, ClientOf}
 use Rattle.tftp_promises.specs.Programs.{client_at}
 use Rattle.tftp_promises.specs.Several.{OneClient, OneServer, Several}
+use Rattle.tftp_promises.specs.TooLong.{IsTooLong}
 
 module _ {S F D G K : Type 0} {stores : StoreMeaning S D} {sources : SourceMeaning F}
     {inputs : SourceMeaning G} {outputs : SinkMeaning K}
@@ -47,8 +48,8 @@ module _ {S F D G K : Type 0} {stores : StoreMeaning S D} {sources : SourceMeani
     Goes_on : IsOpen client.last.end → IsExplained client
     -- its file or its store failed, an ERROR came, or the file of its peer is no netascii
     Failed : HasFailed client.last.end → IsExplained client
-    -- it has no peer, and refused the first answer
-    Refused : peer_of (client_end programs client) ≡ None → HasRefused client.last.end
+    -- it has no peer, since its file is too long for what its server answered
+    Too_long : peer_of (client_end programs client) ≡ None → IsTooLong programs client
         → IsExplained client
     -- or a datagram was lost
     Of_request : peer_of (client_end programs client) ≡ None → RequestWasLost client

@@ -34,9 +34,6 @@ ClosedWith Is e =
     (is_complete e.position.phase ≡ false)
     × (outcome : Outcome) × (outcome_of e.position.phase ≡ Some outcome) × Is outcome
 
--- an end has failed, or refused what came
+-- an end has failed
 abbrev pub HasFailed : EndState → Type 0
 HasFailed e = ClosedWith IsFailure e
-
-abbrev pub HasRefused : EndState → Type 0
-HasRefused e = ClosedWith IsRefusal e

@@ -1,12 +1,14 @@
 -- When a client times out: all copies of one datagram were lost between it and the transfer that
 -- serves it.
-use Rattle.std.specs.Prelude.{ℕ, ◌≡◌, ◌⊎◌, ◌==◌, ◌+◌, ◌≤◌, if◌then◌else◌, false, List, [], ◌∷◌}
+use Rattle.std.specs.Prelude.{ℕ, ◌≡◌, ◌⊎◌, ◌==◌, ◌+◌, ◌≤◌, if◌then◌else◌, true, false, List, []}
+use Rattle.std.specs.Prelude.{◌∷◌}
 use Rattle.std.specs.Prelude.{◌++◌, slice_get, Some}
 use Rattle.tftp_wire.specs.Spelling.{Spells, canonical}
 use Rattle.tftp_wire.specs.declared.packet.Packet.{Packet}
 use Rattle.tftp_file.specs.Sink.{SinkMeaning}
 use Rattle.tftp_file.specs.Source.{SourceMeaning}
 use Rattle.tftp_ends.specs.declared.outcome.Outcome.TheVariants as outcomes
+use Rattle.tftp_ends.specs.Action.{same_address}
 use Rattle.tftp_ends.specs.End.{is_complete, outcome_of}
 use Rattle.tftp_store.specs.Store.{StoreMeaning}
 use Rattle.tftp_rules.specs.Machine.{Endpoint}
@@ -20,7 +22,7 @@ use Rattle.tftp_loop.specs.Steps.{LoopState, LoopStep}
 use Rattle.tftp_promises.specs.AnyFiles.{ServesClient, client_end, peer_of}
 use Rattle.tftp_promises.specs.Joined.{AreJoined}
 use Rattle.tftp_promises.specs.Lived.{AreNoted, IsLiving, acts_at, acts_in}
-use Rattle.tftp_promises.specs.Order.{Noted, Programs, ClientOf}
+use Rattle.tftp_promises.specs.Order.{Noted, Programs, ClientOf, requests_at}
 use Rattle.tftp_promises.specs.Programs.{client_at}
 
 -- how many timeouts of this port the events have
@@ -87,6 +89,16 @@ module _ {S F D G K : Type 0} {stores : StoreMeaning S D} {sources : SourceMeani
   pub record GaveUpUnheard (client : ClientOf programs) : Type 0 where
     pub unheard : IsUnheard client.last.end (acts_in client.runs)
     pub client_noted : AreNoted client.port client.before client.last.events (acts_in client.runs)
+    -- what it sent last is its request, once and for each retry
+    pub request : client.last.end.position.last_sent ≡ client.first.position.last_sent
+    pub copies : HasCopies (client.last.end.role.retries + 1)
+        (Sent client.port (requests_at programs) client.first.position.last_sent) client.noted
+    -- it received nothing from that address, but what it lost, since there was no memory to handle
+    -- it
+    pub unreceived : (from : Endpoint) (bytes : List ℕ)
+        → same_address (requests_at programs) from ≡ true
+        → Has (Received client.port from bytes) client.noted
+        → Has (Lost from bytes) (acts_in client.runs)
 
 module _ {S F D G K : Type 0} (stores : StoreMeaning S D) (sources : SourceMeaning F)
     (inputs : SourceMeaning G) (outputs : SinkMeaning K) where

@@ -1,9 +1,9 @@
 pub mod Moved
 pub mod ClientRuns
 pub mod Programs
-pub mod Others
 pub mod ClientPrograms
 pub mod Order
+pub mod Others
 pub mod Ports
 pub mod Openings
 pub mod Given
@@ -26,5 +26,6 @@ pub mod Lived
 pub mod GivesUp
 pub mod Failed
 pub mod Fates
+pub mod TooLong
 pub mod Explained
 pub mod Outlasting

@@ -2,26 +2,22 @@
 -- of them, and the client takes the first that answers (RFC 1350, section 4).
 use Rattle.std.specs.Prelude.{ℕ, ◌≡◌, List, None}
 use Rattle.std.specs.List.{Contains}
-use Rattle.tftp_wire.specs.Spelling.{Spells}
-use Rattle.tftp_wire.specs.declared.packet.Packet.{Packet}
 use Rattle.tftp_file.specs.Sink.{SinkMeaning}
 use Rattle.tftp_file.specs.Source.{SourceMeaning}
 use Rattle.tftp_file.specs.declared.files.Files.{Files}
 use Rattle.tftp_client.specs.Converses.{State, HandlesReceived}
 use Rattle.tftp_client.specs.Converses.HandlesReceived.{Answers, Loses}
-use Rattle.tftp_rules.specs.EndKept.{IsAnswer}
 use Rattle.tftp_rules.specs.Machine.{Endpoint}
 use Rattle.tftp_rules.specs.OpenEnds.{peer_of}
 use Rattle.tftp_promises.specs.ClientRuns.{ClientDoes, Receives_one, ClientRun, Starts, Goes_on}
+use Rattle.tftp_promises.specs.Order.{IsError}
 use Rattle.tftp_promises.specs.Programs.{ClientProgram}
 
--- a DATA, an ACK or an OACK of another server, at one of these ports of the address
+-- a datagram of another server, at one of these ports of the address, that is no ERROR
 pub record IsOtherAnswer (ip others : List ℕ) (from : Endpoint) (bytes : List ℕ) : Type 0 where
   pub near : from.ip ≡ ip
   pub other : Contains others from.port
-  pub packet : Packet
-  pub spells : Spells packet bytes
-  pub answer : IsAnswer packet
+  pub no_error : IsError bytes → ⊥
 
 module _ {G K : Type 0} {inputs : SourceMeaning G} {outputs : SinkMeaning K}
     (ip others : List ℕ) where

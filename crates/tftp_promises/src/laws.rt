@@ -109,7 +109,7 @@ pub fn a_client_asks_first<G: Source, K: Sink>()
 {}
 
 /// A client takes the answers of one port only (RFC 1350, section 4): of other servers at the
-/// address, whatever other ports they have, it handles no DATA, ACK or OACK before it has a peer.
+/// address, whatever other ports they have, it handles nothing but ERRORs before it has a peer.
 pub fn a_client_takes_one_answer<G: Source, K: Sink>()
     ensures { ClientsTakeOne G.meaning K.meaning }
 {}
@@ -165,10 +165,13 @@ pub fn each_request_is_settled<T: Store>()
 {}
 
 /// A client that is not complete is so for a stated reason: it goes on; its file or its store failed,
-/// an ERROR came, or its peer's file is no netascii; without a peer it refused its first answer; or of
-/// one datagram, its request or a later one, all copies were lost, or all answers. It sent that once
-/// and for each retry, and handled no answer; and the server, if it handled a copy, answered, or its
-/// transfer failed (RFC 1350, sections 2 and 7).
+/// an ERROR came, or its peer's file is no netascii; its file is too long, since it has more blocks
+/// than can be numbered at the block size that the server agreed to, or since the file that the store
+/// opened for it is longer than it accepts; or of one datagram, its request or a later one, all copies
+/// were lost, or all answers. It sent that once and for each retry, and handled no answer; and the
+/// server, if it handled a copy, answered, or its transfer failed. So it refuses an answer of its
+/// server for no other reason than a file that is too long (RFC 1350, sections 2 and 7; RFC 2347,
+/// "Negotiation Protocol").
 pub fn a_client_ends_for_a_reason<T: Store, G: Source, K: Sink>()
     ensures one { ProgramsAreExplained T.meaning T.Source.meaning G.meaning K.meaning }
     // of each of several servers and a client that takes its answer

@@ -1,7 +1,7 @@
 -- The actions that a datagram may lead to, each with what is known where it does.
 -- For TermsTaken, and for the laws of worlds (tftp_player).
 use Rattle.std.proofs.Common.{◌≡◌, ℕ, ◌+◌, Bool, true, false, List, [], length, Option, Some, None, Result, Ok, Err, refl, sym}
-use Rattle.std.proofs.Common.{subst, arith}
+use Rattle.std.proofs.Common.{subst, arith, rules}
 use Rattle.std.specs.Prelude.{◌≢◌, ◌==◌, ◌/◌, ◌*◌, nat_lt, nat_le, is_none, ◌&&◌, if◌then◌else◌, ⊤}
 use Rattle.std.proofs.lemmas.Bool.{eqb-true}
 use Rattle.tftp_wire.specs.Reading.{has_error_opcode}
@@ -26,7 +26,7 @@ use Rattle.tftp_ends.specs.declared.outcome.Outcome.TheVariants as outcomes
 use Rattle.tftp_ends.specs.declared.phase.Phase.{Phase}
 use Rattle.tftp_ends.specs.declared.phase.Phase.TheVariants.{Waiting, Sending, Receiving, Dallying, Closed}
 use Rattle.tftp_ends.specs.declared.phase.Terms.{Terms}
-use Rattle.tftp_ends.specs.End.{EndState, is_sender, is_client, terms_of}
+use Rattle.tftp_ends.specs.End.{EndState, is_client, terms_of}
 use Rattle.tftp_ends.specs.Action.{is_wrong_peer, garbled_response, packet_action, datagram_action}
 use Rattle.tftp_ends.specs.Sender.{sender_action}
 use Rattle.tftp_ends.specs.Receiver.{receiver_action, next_action, dally_response}
@@ -143,13 +143,8 @@ module _ (known : Option Terms) (from : Endpoint) (decoded : Option Packet) (wro
         either (client && terms.by_oack) _ _ (either (n == 0) _ _ Resends Ignores) (illegal terms _ h)
 
     dally_takes : (n : ℕ) (d : Option Packet) → May (Respond (dally_response n d))
-    dally_takes n None = Ignores
-    dally_takes n (Some (Read request)) = Ignores
-    dally_takes n (Some (Write request)) = Ignores
     dally_takes n (Some (Data number piece)) = says_either (number == n) _ _ Resends Ignores
-    dally_takes n (Some (Ack acked)) = Ignores
-    dally_takes n (Some (Error code text)) = Ignores
-    dally_takes n (Some (Oack options)) = Ignores
+    dally_takes n d = Ignores
 
     begin_takes : (count : ℕ) (terms : Terms) → known ≡ None → Has terms → May (begin_action count terms)
     begin_takes count terms none h =
@@ -207,9 +202,7 @@ module _ (known : Option Terms) (from : Endpoint) (decoded : Option Packet) (wro
           begin_with_takes count (agreement asked kinds.Write mode options limit)
 
     packet_takes : (e : EndState) (phase : Phase) → known ≡ terms_of phase → May (packet_action e from decoded phase)
-    packet_takes e (Waiting asked limit) none =
-        either (is_sender e.role.side) _ _ (writer_takes none e.role.mode asked limit e.role.length decoded refl)
-        (reader_takes none e.role.mode asked limit decoded refl)
+    packet_takes e (Waiting asked limit) none = search (rules, either, writer_takes, reader_takes)
     packet_takes e (Sending terms n) has =
         sender_takes (is_client e.role.side) e.role.length terms n decoded refl (Agreed terms has)
     packet_takes e (Receiving terms n) has =
@@ -236,8 +229,6 @@ pub datagram_takes : (e : EndState) (from : Endpoint) (bytes : List ℕ) (decode
 datagram_takes e from bytes decoded =
     let known = terms_of e.position.phase in
     let wrong = is_wrong_peer known e.position.last_sent_to from in
-    cases_wrong known from decoded wrong wrong _ _ refl
-    (λ yes. either known from decoded wrong (has_error_opcode bytes) _ _ Ignores (Stranger yes))
-    (λ no. either known from decoded wrong (has_error_opcode bytes && is_none decoded) _ _
-    (garbled_takes known from decoded wrong e.position.phase)
-    (packet_takes known from decoded wrong no e e.position.phase refl))
+    cases_wrong known from decoded _ _ _ _ refl (λ yes. either known from decoded wrong (has_error_opcode bytes) _ _
+    Ignores (Stranger yes)) (λ no. either known from decoded wrong (has_error_opcode bytes && is_none decoded) _ _
+    (garbled_takes known from decoded wrong e.position.phase) (packet_takes _ from decoded _ no e _ refl))

@@ -1,10 +1,9 @@
 -- Each act of an end, each opening and each datagram is shown. For six other files and the crates tftp_player and
 -- tftp_promises.
 use Rattle.std.proofs.Common.{◌≡◌, ℕ, ◌+◌, ◌<◌, ◌≤◌, Bool, true, false, List, [], ◌∷◌, ◌++◌, length, set, Some, None}
-use Rattle.std.proofs.Common.{sym, refl, ◌∙◌, subst, arith}
+use Rattle.std.proofs.Common.{sym, refl, ◌∙◌, arith, rules}
 use Rattle.std.specs.Prelude.{nat_lt, if◌then◌else◌}
 use Rattle.std.specs.List.{Contains}
-use Rattle.std.proofs.lemmas.List.{append-nil}
 use Rattle.std.proofs.lemmas.Bool.{true≢false}
 use Rattle.tftp_negotiate.specs.declared.limits.TheConstants.{DEFAULT_BLOCK}
 use Rattle.tftp_wire.specs.declared.packet.Request.{Request as WireRequest}
@@ -33,41 +32,13 @@ writer_begins sender e = rw e refl
 
 -- an open end shows itself
 pub match_self : (a : Endpoint) (asks : List ℕ) (x : Party) → x.is_open ≡ true → Matches (view_of a asks x) x
-match_self a asks x o = record {
-  is_open = o;
-  client = refl;
-  sender = refl;
-  mode = refl;
-  peer = refl;
-  size = refl;
-  number = refl;
-  complete = refl;
-  failed = refl;
-  prefix = ([], append-nil x.text);
-  whole = λ _. refl;
-  live = λ _ _. refl;
-  sent = λ _. refl;
-}
+match_self a asks x o = search rules
 
 -- only a prefix of the text of a receiver that failed is shown
 pub match_cut : (a : Endpoint) (asks : List ℕ) (x : Party) (t : List ℕ) → x.is_open ≡ true → x.failed ≡ true →
     x.complete ≡ false → IsPrefixOf t x.text → (x.sender ≡ true → x.text ≡ t) →
     Matches (record (view_of a asks x) { text = t }) x
-match_cut a asks x t o f d b s = record {
-  is_open = o;
-  client = refl;
-  sender = refl;
-  mode = refl;
-  peer = refl;
-  size = refl;
-  number = refl;
-  complete = refl;
-  failed = refl;
-  prefix = b;
-  whole = λ e. absurd (true≢false (sym e ∙ d));
-  live = λ _ e. absurd (true≢false (sym f ∙ e));
-  sent = s;
-}
+match_cut a asks x t o f d b s = search rules
 
 -- neither complete nor failed
 abbrev pub IsGoing : EndView → Type 0
@@ -92,20 +63,14 @@ module _ (network : Network) where
     acted : (rs : List Rule) → length rs ≤ 3 → (f : EndView) →
         IsShownWithin network (length rs) first (set views k f) (messages ++ sent_by network rs (party_of e)) →
         IsShownWithin network 3 first (set views k f) (messages ++ sent_by network rs (party_of e))
-    acted rs few f h =
-        shown_within network (length rs) 3 first (set views k f) (messages ++ sent_by network rs (party_of e)) few h
+    acted rs few f h = search rules
 
     -- the rules of the end act in turn
     pub goes : (rs : List Rule) → length rs ≤ 3 → e.failed ≡ false →
         ActInTurn network rs e.address messages (party_of e) →
         IsShownWithin network 3 first (set views k (view_of e.address e.request (party_then rs (party_of e))))
         (messages ++ sent_by network rs (party_of e))
-    goes rs few f t =
-        acted rs few (view_of e.address e.request (party_then rs (party_of e)))
-        (shown_acts network first views messages k e (view_of e.address e.request (party_then rs (party_of e))) rs
-        s.shown s.viewed f t refl refl
-        (match_self e.address e.request (party_then rs (party_of e))
-        (stays_open network rs e.address messages (party_of e) refl t)))
+    goes rs few f t = search (rules, acted, shown_acts, match_self, stays_open)
 
     -- they act in turn and it fails, so that only a prefix of its text is shown
     pub goes_cut : (rs : List Rule) → length rs ≤ 3 → (t : List ℕ) → e.failed ≡ false →
@@ -117,12 +82,7 @@ module _ (network : Network) where
         (set views k (record (view_of e.address e.request (party_then rs (party_of e))) { text = t }))
         (messages ++ sent_by network rs (party_of e))
     goes_cut rs few t f turns failed done b same =
-        acted rs few (record (view_of e.address e.request (party_then rs (party_of e))) { text = t })
-        (shown_acts network first views messages k e
-        (record (view_of e.address e.request (party_then rs (party_of e))) { text = t }) rs s.shown s.viewed f turns
-        refl refl
-        (match_cut e.address e.request (party_then rs (party_of e)) t
-        (stays_open network rs e.address messages (party_of e) refl turns) failed done b same))
+        search (rules, acted, shown_acts, match_cut, stays_open)
 
     -- a waiting reader stores DATA 1
     pub stores_first : (from : Endpoint) (bytes : List ℕ) → IsWaiting e from → e.sender ≡ false →
@@ -252,16 +212,14 @@ module _ (network : Network) where
         IsShownWithin network 3 first (set views k (record e { complete = true })) messages
     completes from g r p c l =
         let a = goes (Completes e.address from ∷ []) (omega arith) g.1 ((refl, (((refl, g.0, g.1), r, p, c), l), tt)) in
-        subst (λ (ds : List Message). IsShownWithin network 3 first (set views k (record e { complete = true })) ds)
-        (append-nil messages) a
+        search rules
 
     -- an end closes without a reply; of a receiver's text a prefix is shown from then on
     pub closes : (t : List ℕ) → IsGoing e → IsPrefixOf t e.text → (e.sender ≡ true → e.text ≡ t) →
         IsShownWithin network 3 first (set views k (record e { failed = true; text = t })) messages
     closes t g b same =
         let a = goes_cut (Fails e.address ∷ []) (omega arith) t g.1 ((refl, (refl, g.0, g.1), tt)) refl g.0 b same in
-        subst (λ (ds : List Message). IsShownWithin network 3 first (set views k (record e { failed = true; text = t }))
-        ds) (append-nil messages) a
+        search rules
 
     -- an end gives up and sends an ERROR
     pub refuses : (to : Endpoint) (t : List ℕ) → IsGoing e → IsPrefixOf t e.text → (e.sender ≡ true → e.text ≡ t) →
@@ -279,8 +237,7 @@ module _ (network : Network) where
   pub repeats : (first : List Rule) (views : List EndView) (messages : List Message) →
       IsShownAt network first views messages → (old : Message) → Contains messages old →
       IsShownWithin network 3 first views (messages ++ old ∷ [])
-  repeats first views messages h old c =
-      one_more first _ _ (shown_speaks network first views messages (Repeats old) h tt c)
+  repeats first views messages h old c = one_more _ _ _ (shown_speaks network first views messages (Repeats old) h tt c)
 
   -- an ERROR is sent, to a wrong peer or from the request port
   pub says_error : (first : List Rule) (views : List EndView) (messages : List Message) →

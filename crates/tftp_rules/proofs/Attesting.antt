@@ -1,12 +1,12 @@
 -- The datagram of a rule is true of its sender. For Keeps, Moving and Opening.
-use Rattle.std.proofs.Common.{[], ◌∷◌, sym, subst}
+use Rattle.std.proofs.Common.{[], ◌∷◌, sym, subst, rules}
 use Rattle.std.specs.Prelude.{◌≢◌}
 use Rattle.std.specs.List.{Contains}
 use Rattle.tftp_rules.specs.Machine.{Endpoint, Elsewhere, Packet, Message, Party, with_end, Network}
 use Rattle.tftp_rules.specs.Rules.{message}
 use Rattle.tftp_rules.specs.Facts.{Attests}
 use Rattle.tftp_rules.proofs.Grows.{with_at}
-use Rattle.tftp_rules.proofs.Steps.{none_sent, one_sent}
+use Rattle.tftp_rules.proofs.Steps.{none_sent}
 
 -- what is true of an end's datagram stays true where that end is put into the machine
 pub attested_at : (ends : Endpoint → Party) (a : Endpoint) (x : Party) (to : Endpoint) (k : Packet) → Attests x to k →
@@ -18,9 +18,7 @@ module _ (network : Network) where
   pub attested_one : (ends : Endpoint → Party) (a : Endpoint) (x : Party) (to : Endpoint) (k : Packet) →
       Attests x to k → (d : Message) → Contains (message a to k ∷ []) d → network.host_of d.from ≢ Elsewhere →
       Attests (with_end ends a x d.from) d.to d.packet
-  attested_one ends a x to k t =
-      one_sent (λ d. network.host_of d.from ≢ Elsewhere → Attests (with_end ends a x d.from) d.to d.packet)
-      (message a to k) (λ _. attested_at ends a x to k t)
+  attested_one ends a x to k t = search rules
 
   -- a rule that sends nothing sends nothing untrue
   pub attested_none : (ends : Endpoint → Party) (d : Message) → Contains [] d → network.host_of d.from ≢ Elsewhere →

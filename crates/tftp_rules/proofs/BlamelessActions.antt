@@ -1,18 +1,16 @@
 -- No action on a datagram blames a peer that is no stranger, which sent what is true.
 -- For the laws on blame of worlds (tftp_player) and of programs (tftp_promises).
-use Rattle.std.proofs.Common.{◌≡◌, ℕ, ◌+◌, ◌*◌, ◌<◌, ◌≤◌, Bool, true, false, not, List, [], ◌++◌, length, take, drop}
-use Rattle.std.proofs.Common.{Option, Some, None, Result, Ok, Err, refl, sym, ap, ◌∙◌, subst, arith, inr}
-use Rattle.std.specs.Prelude.{◌≢◌, ◌==◌, ◌/◌, nat_lt, nat_le, is_none, ◌&&◌, if◌then◌else◌, option_map, slice_get}
+use Rattle.std.proofs.Common.{◌≡◌, ℕ, ◌+◌, ◌*◌, ◌<◌, ◌≤◌, true, false, not, List, [], ◌++◌, length, take, Option, Some}
+use Rattle.std.proofs.Common.{None, Result, Ok, Err, refl, sym, ap, ◌∙◌, subst, arith, inr, rules as std_rules}
+use Rattle.std.specs.Prelude.{◌≢◌, ◌==◌, ◌/◌, nat_lt, is_none, ◌&&◌, if◌then◌else◌, option_map, slice_get}
 use Rattle.std.specs.List.{Contains}
 use Rattle.std.proofs.lemmas.Bool.{true≢false, eqb-true, ltb-false, le-ltb}
-use Rattle.std.proofs.lemmas.Option.{same_Some}
 use Rattle.tftp_wire.specs.Reading.{has_error_opcode}
 use Rattle.tftp_wire.specs.Spelling.{Spells}
 use Rattle.tftp_wire.specs.declared.mode.Mode.{Mode}
 use Rattle.tftp_wire.specs.declared.packet.Packet.{Packet}
 use Rattle.tftp_wire.specs.declared.packet.Packet.TheVariants.{Read, Write, Data, Ack, Error, Oack}
 use Rattle.tftp_wire.proofs.SpellingLemmas.{one_meaning, spelled_has_no_fault}
-use Rattle.tftp_negotiate.specs.Agreement.{agreement}
 use Rattle.tftp_negotiate.specs.declared.asked.Asked.{Asked}
 use Rattle.tftp_negotiate.specs.declared.known.Kind.TheVariants as kinds
 use Rattle.tftp_negotiate.specs.declared.known.Known.{Known}
@@ -31,28 +29,25 @@ use Rattle.tftp_ends.specs.Action.{Decodes, is_wrong_peer, same_address, garbled
 use Rattle.tftp_ends.specs.Sender.{sender_action}
 use Rattle.tftp_ends.specs.Receiver.{receiver_action, next_action, dally_response}
 use Rattle.tftp_ends.specs.Text.{is_readable}
-use Rattle.tftp_ends.specs.Waiting.{reader_action, writer_action, accept_action, begin_action, begin_with_action}
-use Rattle.tftp_ends.specs.Waiting.{refusal_action, default_terms, agreed_terms}
+use Rattle.tftp_ends.specs.Waiting.{reader_action, writer_action, accept_action, refusal_action, default_terms}
 use Rattle.tftp_rules.specs.EndKept.{EndKept, PhaseKept, IsFromServer}
 use Rattle.tftp_rules.specs.EndShown.{IsThere}
 use Rattle.tftp_rules.specs.Facts.{Attests, Holds}
 use Rattle.tftp_rules.specs.Machine.{Endpoint, Elsewhere, Machine, Message, Network, Party, start}
-use Rattle.tftp_rules.specs.OpenEnds.{OpenEnd, goes_on, has_failed, open_view, received_text}
+use Rattle.tftp_rules.specs.OpenEnds.{OpenEnd, has_failed, open_view}
 use Rattle.tftp_rules.specs.Rules.{Rule, message, run}
 use Rattle.tftp_rules.specs.Said.{said}
 use Rattle.tftp_rules.specs.Shows.{EndView, IsShownAt, Matches, Shows}
-use Rattle.tftp_rules.proofs.BlamelessTurns.{Allowed, CanSend, Fine, FineResponse, either, either_if, no_terms}
-use Rattle.tftp_rules.proofs.BlamelessTurns.{IsCalm, says_either}
+use Rattle.tftp_rules.proofs.BlamelessTurns.{Allowed, CanSend, Fine, FineResponse, either, either_if, no_terms, IsCalm}
 use Rattle.tftp_rules.proofs.Grows.{HasPeer, peer_of as peer_is}
 use Rattle.tftp_rules.proofs.NumbersNear.{AreNear, near_run, near_start}
 use Rattle.tftp_rules.proofs.PlainPeers.{HasPlainPeer, plain_answer}
 use Rattle.tftp_rules.proofs.RulesGrow.{run_fit, start_fit, GoToPort, run_goes, start_goes}
 use Rattle.tftp_rules.proofs.Runs.{Holds-start, Holds-run}
 use Rattle.tftp_rules.proofs.SaidLemmas.{says_spelled}
-use Rattle.tftp_rules.proofs.SinkMoves.{text_else}
 use Rattle.tftp_rules.proofs.Steps.{own_of, same_size, server_end}
-use Rattle.tftp_rules.proofs.StorableBlocks.{IsStorable, and_false, and_true, by_one, differs, from_not, not_false, storable}
-use Rattle.tftp_rules.proofs.StorableBlocks.{the_peer}
+use Rattle.tftp_rules.proofs.StorableBlocks.{IsStorable, and_false, and_true, by_one, differs, from_not, not_false}
+use Rattle.tftp_rules.proofs.StorableBlocks.{storable}
 
 -- bytes that spell a packet are decoded as that one
 pub decoded_is : (bytes : List ℕ) (packet : Packet) (decoded : Option Packet) → Spells packet bytes →
@@ -119,18 +114,13 @@ module _ (network : Network) (Blames : Endpoint → Outcome → Type 0) (calm : 
   told : Ours → (p : Packet) → decoded ≡ Some p → Contains messages (message from x.address (said p))
   told own p is =
       let t = arrives own in
-      subst (λ (q : Packet). Contains messages (message from x.address (said q)))
-      (one_meaning t.0 p bytes t.1 (says_spelled bytes decoded says p is)) t.2
+      rw (← one_meaning t.0 p bytes t.1 (says_spelled bytes decoded says p is)) t.2
 
   truth : Ours → (p : Packet) → decoded ≡ Some p → Attests (ends from) x.address (said p)
-  truth own p is =
-      holds.attested (message from x.address (said p))
-      (subst (λ (ms : List Message). Contains ms (message from x.address (said p))) (sym shows.sent) (told own p is)) own
+  truth own p is = holds.attested (message from x.address (said p)) (rw (shows.sent) (told own p is)) own
 
   port_only : GoToPort network messages
-  port_only =
-      subst (λ (ms : List Message). GoToPort network ms) shows.sent
-      (run_goes network rules start (start_goes network) shown.0)
+  port_only = search (std_rules, run_goes, start_goes)
 
   no_read : Ours → (r : _) → decoded ≡ Some (Read r) → ⊥
   no_read own r is = not_port (port_only (message from x.address (said (Read r))) (told own (Read r) is) own tt)
@@ -150,10 +140,7 @@ module _ (network : Network) (Blames : Endpoint → Outcome → Type 0) (calm : 
   -- ---- from the peer of an end that has one
   module _ (terms : Terms) (known : terms_of now ≡ Some terms) (same : terms.peer ≡ from) where
     blamed : (o : Outcome) → (Ours → Blames from o → ⊥) → Allowed network Blames (Some terms) o
-    blamed o h p e own b =
-        let is : p ≡ from = sym (same_Some terms.peer p e) ∙ same in
-        h (subst (λ (q : Endpoint). network.host_of q ≢ Elsewhere) is own)
-        (subst (λ (q : Endpoint). Blames q o) is b)
+    blamed o h p e own b = search std_rules
 
     peer_x : (ends x.address).peer ≡ Some from
     peer_x = at_x.peer ∙ (ap (option_map (λ (t : Terms). t.peer)) known ∙ ap Some same)
@@ -169,8 +156,7 @@ module _ (network : Network) (Blames : Endpoint → Outcome → Type 0) (calm : 
         (is_client x.state.role.side && terms.by_oack) ≡ false → ⊥
     no_oack own options is f =
         let t = truth own (Oack options) is in
-        let client : is_client x.state.role.side ≡ true =
-        sym at_x.client ∙ from_not (ends x.address).client (sym t.client ∙ (pair own).client) in
+        let client = sym at_x.client ∙ from_not (ends x.address).client (sym t.client ∙ (pair own).client) in
         let took = and_false (is_client x.state.role.side) terms.by_oack f client in
         let p = plain client terms known took in
         true≢false (sym p.1 ∙ (ap (λ (a : Endpoint). (ends a).plain) same ∙ t.plain))
@@ -213,14 +199,12 @@ module _ (network : Network) (Blames : Endpoint → Outcome → Type 0) (calm : 
         (Ours → IsStorable IsText mode held terms.size number piece) →
         Fine network Blames x (Some terms) (next_action mode held terms number piece)
     next_fine mode held number piece h =
-        either_if network Blames x (Some terms) (nat_lt terms.size (length piece)) _ _
-        (λ long. blamed outcomes.Illegal (λ own b.
-        true≢false (sym long ∙ le-ltb terms.size (length piece) (h own).within)))
-        (λ _. either_if network Blames x (Some terms) (number == 65535 && (length piece == terms.size)) _ _
-        (λ full. blamed outcomes.TooLarge (λ own b.
+        either_if network Blames x (Some terms) (nat_lt terms.size (length piece)) _ _ (λ long. blamed _ (λ own b.
+        true≢false (sym long ∙ le-ltb terms.size (length piece) (h own).within))) (λ _. either_if network Blames x (Some
+        terms) (number == 65535 && (length piece == terms.size)) _ _ (λ full. blamed outcomes.TooLarge (λ own b.
         let both = and_true (number == 65535) (length piece == terms.size) full in
-        (h own).short (eqb-true number 65535 both.0) (eqb-true (length piece) terms.size both.1)))
-        (λ _. either_if network Blames x (Some terms) (is_readable mode held piece (nat_lt (length piece) terms.size)) _ _ (λ _. tt)
+        (h own).short (eqb-true number 65535 both.0) (eqb-true (length piece) terms.size both.1))) (λ _. either_if
+        network Blames x (Some terms) (is_readable mode held piece (nat_lt (length piece) terms.size)) _ _ (λ _. tt)
         (λ bad. blamed outcomes.NotNetascii (λ own b. true≢false (sym ((h own).readable b) ∙ bad)))))
 
     module _ (n : ℕ) (phase : now ≡ Receiving terms n) where
@@ -238,8 +222,7 @@ module _ (network : Network) (Blames : Endpoint → Outcome → Type 0) (calm : 
           let q = pair own in
           let mode_is : (ends from).mode ≡ x.state.role.mode = q.mode ∙ at_x.mode in
           let sizes : (ends from).size ≡ terms.size =
-          sym (same_size network m holds x.address from (at_x.is_open, t.is_open, peer_x, t.peer))
-          ∙ size_x in
+          sym (same_size network m holds x.address from (at_x.is_open, t.is_open, peer_x, t.peer)) ∙ size_x in
           let positive : 0 < terms.size =
           subst (λ (j : ℕ). 0 < j) size_x (holds.ends x.address at_x.is_open).positive in
           let fits : Fits (ends from).text terms.size =
@@ -247,21 +230,16 @@ module _ (network : Network) (Blames : Endpoint → Outcome → Type 0) (calm : 
           let has = (holds.ends x.address at_x.is_open).received (at_x.sender ∙ receives) from peer_x own in
           let not_done : (ends x.address).complete ≡ false = at_x.complete ∙ ap is_complete phase in
           let stored = wire_text x.state.role.mode x.stored in
-          let mine : (ends x.address).text ≡ stored ++ x.state.position.held_back =
-          at_x.live (ap is_complete phase) (ap has_failed phase)
-          ∙ (text_else (is_sender x.state.role.side) x.text (received_text x.state x.stored) receives
-          ∙ ap (λ (b : Bool). if b then stored ++ x.state.position.held_back else stored) (ap goes_on phase)) in
+          let mine : (ends x.address).text ≡ stored ++ x.state.position.held_back = search std_rules in
           let received : stored ++ x.state.position.held_back ≡ take (n * terms.size) (ends from).text =
-          sym mine
-          ∙ (has.so_far not_done (at_x.failed ∙ ap has_failed phase)
-          ∙ (ap (λ (j : ℕ). take (j * (ends x.address).size) (ends from).text) number_x
-          ∙ ap (λ (j : ℕ). take (n * j) (ends from).text) size_x)) in
+          sym mine ∙ (has.so_far not_done (at_x.failed ∙ ap has_failed phase) ∙ (ap (λ (j : ℕ). take (j * (ends
+          x.address).size) (ends from).text) number_x ∙ ap (λ (j : ℕ). take (n * j) (ends from).text) size_x)) in
           let room : n * terms.size ≤ length (ends from).text =
-          subst (λ (j : ℕ). n * j ≤ length (ends from).text) size_x
-          (subst (λ (j : ℕ). j * (ends x.address).size ≤ length (ends from).text) number_x (has.room not_done)) in
+          subst (λ (j : ℕ). n * j ≤ length (ends from).text) size_x (subst (λ (j : ℕ). j * (ends x.address).size ≤
+          length (ends from).text) number_x (has.room not_done)) in
           storable IsText x.state.role.mode x.stored x.state.position.held_back (ends from).text terms.size n piece
-          positive fits (λ b. readable own b t.is_open t.sender mode_is) received room
-          (t.bytes ∙ ap (λ (j : ℕ). block (ends from).text j (n + 1)) sizes)
+          positive fits (λ b. readable own b t.is_open t.sender mode_is) received room (t.bytes ∙ ap (λ (j : ℕ). block
+          (ends from).text j (n + 1)) sizes)
 
       receiver_fine : (d : Option Packet) → decoded ≡ d →
           Fine network Blames x (Some terms)
@@ -295,49 +273,20 @@ module _ (network : Network) (Blames : Endpoint → Outcome → Type 0) (calm : 
           (λ _. either network Blames x (Some terms) (n == 0) _ _ tt tt)
           (λ f. blamed outcomes.Illegal (λ own b. no_oack own options is f))
 
-  -- ---- a client that waits
-  begin_fine : (count : ℕ) (terms : Terms) → CanSend x terms 1 → Fine network Blames x None (begin_action count terms)
-  begin_fine count terms can = either network Blames x None (nat_lt count (65535 * terms.size)) _ _ can (no_terms network Blames outcomes.TooLarge)
-
   refusal_fine : (refusal : Refusal) → Fine network Blames x None (refusal_action refusal)
-  refusal_fine refusals.Repeated = no_terms network Blames (outcomes.Refused refusals.Repeated)
-  refusal_fine refusals.TooLarge = no_terms network Blames outcomes.TooLarge
-  refusal_fine refusals.NotAsked = no_terms network Blames (outcomes.Refused refusals.NotAsked)
-  refusal_fine refusals.BadValue = no_terms network Blames (outcomes.Refused refusals.BadValue)
+  refusal_fine refusal = search std_rules
 
   accept_fine : (r : Result (List Known) Refusal) → Fine network Blames x None (accept_action from r)
   accept_fine (Ok ks) = tt
   accept_fine (Err refusal) = refusal_fine refusal
 
-  begin_with_fine : (count : ℕ) (r : Result (List Known) Refusal) → ((terms : Terms) → CanSend x terms 1) →
-      Fine network Blames x None (begin_with_action from count r)
-  begin_with_fine count (Ok ks) can = begin_fine count (agreed_terms from ks) (can (agreed_terms from ks))
-  begin_with_fine count (Err refusal) can = refusal_fine refusal
-
   can_begin : (asked : Asked) (limit : ℕ) → now ≡ Waiting asked limit → is_sender x.state.role.side ≡ true →
       (terms : Terms) → CanSend x terms 1
-  can_begin asked limit phase sends terms =
-      let kept_now =
-      subst (λ (p : Phase). PhaseKept network x p) phase kept.phase in
-      record {
-        before = 0;
-        next = refl;
-        sender = sends;
-        measured = kept_now.5 sends;
-        left = kept_now.3 ∙ ap (λ (j : ℕ). drop j x.text) (let z : 0 ≡ 0 * terms.size = omega arith in z);
-      }
+  can_begin asked limit phase sends terms = search std_rules
 
   writer_fine : (mode : Mode) (asked : Asked) (limit count : ℕ) (d : Option Packet) →
       ((terms : Terms) → CanSend x terms 1) → Fine network Blames x None (writer_action mode asked limit count from d)
-  writer_fine mode asked limit count None can = no_terms network Blames outcomes.Illegal
-  writer_fine mode asked limit count (Some (Read r)) can = no_terms network Blames outcomes.Illegal
-  writer_fine mode asked limit count (Some (Write r)) can = no_terms network Blames outcomes.Illegal
-  writer_fine mode asked limit count (Some (Data j piece)) can = no_terms network Blames outcomes.Illegal
-  writer_fine mode asked limit count (Some (Ack j)) can =
-      either network Blames x None (j == 0) _ _ (begin_fine count (default_terms from) (can (default_terms from))) (no_terms network Blames outcomes.Illegal)
-  writer_fine mode asked limit count (Some (Error code text)) can = λ p e own b. calm.heard p code b
-  writer_fine mode asked limit count (Some (Oack options)) can =
-      begin_with_fine count (agreement asked kinds.Write mode options limit) can
+  writer_fine mode asked limit count d can = search std_rules
 
   module _ (asked : Asked) (limit : ℕ) (phase : now ≡ Waiting asked limit)
       (right : is_wrong_peer (terms_of now) x.state.position.last_sent_to from ≡ false)
@@ -346,10 +295,7 @@ module _ (network : Network) (Blames : Endpoint → Outcome → Type 0) (calm : 
     none_yet = ap terms_of phase
 
     blamed_first : (o : Outcome) → (Ours → Blames from o → ⊥) → Allowed network Blames (Some (default_terms from)) o
-    blamed_first o h p e own b =
-        let is : p ≡ from = sym (same_Some from p e) in
-        h (subst (λ (q : Endpoint). network.host_of q ≢ Elsewhere) is own)
-        (subst (λ (q : Endpoint). Blames q o) is b)
+    blamed_first o h p e own b = search std_rules
 
     can_store_first : (piece : List ℕ) → decoded ≡ Some (Data 1 piece) → Ours →
         IsStorable IsText x.state.role.mode [] DEFAULT_BLOCK (0 + 1) piece
@@ -357,33 +303,29 @@ module _ (network : Network) (Blames : Endpoint → Outcome → Type 0) (calm : 
         let t = truth own (Data 1 piece) is in
         let kept_now = subst (λ (p : Phase). PhaseKept network x p) phase kept.phase in
         let near_port : same_address network.request_port from ≡ true =
-        subst (λ (p : Endpoint). same_address p from ≡ true) kept_now.2
-        (not_false (same_address x.state.position.last_sent_to from)
-        (sym (ap (λ (o : Option Terms). is_wrong_peer o x.state.position.last_sent_to from) none_yet) ∙ right)) in
+        subst (λ (p : Endpoint). same_address p from ≡ true) kept_now.2 (not_false (same_address
+        x.state.position.last_sent_to from) (sym (ap (λ (o : Option Terms). is_wrong_peer o
+        x.state.position.last_sent_to from) none_yet) ∙ right)) in
         let here =
-        serves (ap (option_map (λ (t : Terms). t.peer)) none_yet) near_port (Data 1 piece)
-        (says_spelled bytes decoded says (Data 1 piece) is) tt in
+        serves (ap (option_map (λ (t : Terms). t.peer)) none_yet) near_port (Data 1 piece) (says_spelled bytes decoded
+        says (Data 1 piece) is) tt in
         let server = server_end network m holds from t.is_open here in
         let q = peer_is network ends from (ends from) (holds.ends from t.is_open) x.address t.peer own_x in
         let mode_is : (ends from).mode ≡ x.state.role.mode = sym q.mode ∙ at_x.mode in
-        let nobody : (ends x.address).peer ≡ None =
-        at_x.peer ∙ ap (option_map (λ (t : Terms). t.peer)) none_yet in
+        let nobody : (ends x.address).peer ≡ None = at_x.peer ∙ ap (option_map (λ (t : Terms). t.peer)) none_yet in
         let is_plain = plain_answer network m holds x.address from own_x nobody here (Data 1 piece) t tt in
         let small : (ends from).size ≡ DEFAULT_BLOCK = (holds.ends from t.is_open).plain server is_plain.1 in
         let fits : Fits (ends from).text DEFAULT_BLOCK =
         subst (λ (j : ℕ). Fits (ends from).text j) small (fit_peer own 1 piece is) in
         let empty = (holds.ends x.address at_x.is_open).no_peer nobody in
         let stored = wire_text x.state.role.mode x.stored in
-        let mine : (ends x.address).text ≡ stored ++ x.state.position.held_back =
-        at_x.live (ap is_complete phase) (ap has_failed phase)
-        ∙ (text_else (is_sender x.state.role.side) x.text (received_text x.state x.stored) receives
-        ∙ ap (λ (b : Bool). if b then stored ++ x.state.position.held_back else stored) (ap goes_on phase)) in
+        let mine : (ends x.address).text ≡ stored ++ x.state.position.held_back = search std_rules in
         let held : x.state.position.held_back ≡ [] = kept_now.4 receives in
         let received : stored ++ [] ≡ take (0 * DEFAULT_BLOCK) (ends from).text =
-        sym (ap (λ (h : List ℕ). stored ++ h) held)
-        ∙ (sym mine ∙ empty.2 (at_x.sender ∙ receives)) in
-        storable IsText x.state.role.mode x.stored [] (ends from).text DEFAULT_BLOCK 0 piece (omega arith) fits
-        (λ b. readable own b t.is_open t.sender mode_is) received (omega arith) (t.bytes ∙ ap (λ (j : ℕ). block (ends from).text j 1) small)
+        sym (ap (λ (h : List ℕ). stored ++ h) held) ∙ (sym mine ∙ empty.2 (at_x.sender ∙ receives)) in
+        storable IsText x.state.role.mode x.stored [] (ends from).text DEFAULT_BLOCK 0 piece (omega arith) fits (λ b.
+        readable own b t.is_open t.sender mode_is) received (omega arith) (t.bytes ∙ ap (λ (j : ℕ). block (ends
+        from).text j 1) small)
 
     next_first : (number : ℕ) (piece : List ℕ) → (Ours → IsStorable IsText x.state.role.mode [] DEFAULT_BLOCK number piece) →
         Fine network Blames x None (next_action x.state.role.mode [] (default_terms from) number piece)
@@ -412,41 +354,22 @@ module _ (network : Network) (Blames : Endpoint → Outcome → Type 0) (calm : 
 
     reader_fine : (d : Option Packet) → decoded ≡ d →
         Fine network Blames x None (reader_action x.state.role.mode asked limit from d)
-    reader_fine None is = no_terms network Blames outcomes.Illegal
-    reader_fine (Some (Read r)) is = no_terms network Blames outcomes.Illegal
-    reader_fine (Some (Write r)) is = no_terms network Blames outcomes.Illegal
-    reader_fine (Some (Data j piece)) is =
-        either_if network Blames x None (j == 1 && nat_le (length piece) DEFAULT_BLOCK) _ _
-        (λ yes. first_fine j piece is
-        (eqb-true j 1 (and_true (j == 1) (nat_le (length piece) DEFAULT_BLOCK) yes).0))
-        (λ _. no_terms network Blames outcomes.Illegal)
-    reader_fine (Some (Ack j)) is = no_terms network Blames outcomes.Illegal
-    reader_fine (Some (Error code text)) is = λ p e own b. calm.heard p code b
-    reader_fine (Some (Oack options)) is = accept_fine (agreement asked kinds.Read x.state.role.mode options limit)
+    reader_fine d is =
+        search (std_rules, no_terms, either_if, first_fine, eqb-true, and_true, accept_fine)
 
   -- ---- in every phase
   abbrev IsRight : Type 0
   IsRight = is_wrong_peer (terms_of now) x.state.position.last_sent_to from ≡ false
 
   peer_of_now : (terms : Terms) → terms_of now ≡ Some terms → IsRight → terms.peer ≡ from
-  peer_of_now terms known right =
-      the_peer terms x.state.position.last_sent_to from
-      (sym (ap (λ (o : Option Terms). is_wrong_peer o x.state.position.last_sent_to from) known) ∙ right)
+  peer_of_now terms known right = search std_rules
 
   dally_fine : (known : Option Terms) (n : ℕ) (d : Option Packet) → FineResponse network Blames known (dally_response n d)
-  dally_fine known n None = tt
-  dally_fine known n (Some (Read r)) = tt
-  dally_fine known n (Some (Write r)) = tt
-  dally_fine known n (Some (Data j piece)) = says_either network Blames known (j == n) _ _ tt tt
-  dally_fine known n (Some (Ack j)) = tt
-  dally_fine known n (Some (Error code text)) = tt
-  dally_fine known n (Some (Oack options)) = tt
+  dally_fine known n d = search std_rules
 
   packet_fine : (p : Phase) → now ≡ p → IsRight → Fine network Blames x (terms_of p) (packet_action x.state from decoded p)
   packet_fine (Waiting asked limit) e right =
-      either_if network Blames x None (is_sender x.state.role.side) _ _
-      (λ s. writer_fine x.state.role.mode asked limit x.state.role.length decoded (can_begin asked limit e s))
-      (λ r. reader_fine asked limit e right r decoded refl)
+      search (std_rules, either_if, writer_fine, can_begin, reader_fine)
   packet_fine (Sending terms n) e right =
       let known = ap terms_of e in sender_fine terms known (peer_of_now terms known right) n e decoded refl
   packet_fine (Receiving terms n) e right =
@@ -460,15 +383,7 @@ module _ (network : Network) (Blames : Endpoint → Outcome → Type 0) (calm : 
 
   garbled_fine : (p : Phase) → now ≡ p → IsRight → is_none decoded ≡ true →
       FineResponse network Blames (terms_of p) (garbled_response p)
-  garbled_fine (Waiting asked limit) e right none = no_terms network Blames outcomes.Illegal
-  garbled_fine (Sending terms n) e right none =
-      let known = ap terms_of e in
-      blamed terms known (peer_of_now terms known right) outcomes.Illegal (λ own b. none_garbled own (none_of decoded none))
-  garbled_fine (Receiving terms n) e right none =
-      let known = ap terms_of e in
-      blamed terms known (peer_of_now terms known right) outcomes.Illegal (λ own b. none_garbled own (none_of decoded none))
-  garbled_fine (Dallying terms n dally) e right none = tt
-  garbled_fine (Closed terms n complete outcome) e right none = tt
+  garbled_fine p e right none = search (std_rules, no_terms, blamed, peer_of_now, none_garbled, none_of)
 
   -- the action on a datagram blames no peer that is no stranger
   pub datagram_fine : Fine network Blames x (terms_of now) (datagram_action x.state from bytes decoded)

@@ -1,5 +1,5 @@
 -- The blocks of a text, in sequence. For `texts_go_on`, four other files and the crate tftp_player.
-use Rattle.std.proofs.Common.{◌≡◌, ℕ, ◌+◌, ◌*◌, ◌-◌, ◌<◌, ◌≤◌, List, ◌++◌, length, take, drop, ap, ◌∙◌, arith}
+use Rattle.std.proofs.Common.{◌≡◌, ℕ, ◌+◌, ◌*◌, ◌-◌, ◌<◌, ◌≤◌, List, ◌++◌, length, take, drop, arith, rules}
 use Rattle.std.proofs.Math.Seq.{take-add}
 use Rattle.std.proofs.lemmas.List.{take-append-drop, length-take, length-drop, take_all}
 use Rattle.tftp_file.specs.Block.{block, block_count, IsPrefixOf}
@@ -11,29 +11,21 @@ prefix_by_take n xs = (drop n xs, take-append-drop n xs)
 
 -- the next block follows the blocks before it
 pub take-block : BlocksGoOn
-take-block text n size =
-    let e : (n + 1) * size ≡ n * size + size = omega arith in
-    let f : (n + 1 - 1) * size ≡ n * size = ap (λ k. k * size) (let g : n + 1 - 1 ≡ n = omega arith in g) in
-    rw (e, take-add (n * size) size text, f)
+take-block text n size = search (rules, take-add)
 
 -- each block has the length that its number and the text give it
 pub length-block : BlocksHaveLengths
-length-block text n size =
-    let f : (n + 1 - 1) * size ≡ n * size = ap (λ k. k * size) (let g : n + 1 - 1 ≡ n = omega arith in g) in
-    rw (f, length-take, length-drop)
+length-block text n size = search (rules, length-take, length-drop)
 
 -- a block that is shorter is the last one
 pub last_block : (text : List ℕ) (n size : ℕ) → length (block text size (n + 1)) < size →
     take (n * size) text ++ block text size (n + 1) ≡ text
-last_block text n size h =
-    let l = length-block text n size in
-    take-block text n size ∙ take_all ((n + 1) * size) text (omega arith)
+last_block text n size h = search (rules, length-block, take-block, take_all)
 
 -- if the next block is full, the text is as long as all blocks up to it
 pub full_block : (text : List ℕ) (n size : ℕ) → 0 < size → n * size ≤ length text →
     size ≤ length (block text size (n + 1)) → (n + 1) * size ≤ length text
-full_block text n size p r h =
-    let l = length-block text n size in omega arith
+full_block text n size p r h = search (rules, length-block)
 
 -- after all blocks no text is left for another
 pub count_is_past : (text : List ℕ) (n size : ℕ) → 0 < size → block_count text size ≤ n → length text < n * size

@@ -1,7 +1,6 @@
 -- A request opens an end of the server in any network, with its first datagram. For `a_request_opens_an_end` and the
 -- crates tftp_player and tftp_promises.
-use Rattle.std.proofs.Common.{◌≡◌, ℕ, ◌*◌, ◌≤◌, true, false, [], ◌∷◌, ◌++◌, drop, refl, sym, ap, subst, arith}
-use Rattle.std.proofs.lemmas.Bool.{true≢false}
+use Rattle.std.proofs.Common.{◌≡◌, ◌*◌, ◌≤◌, true, false, [], ◌∷◌, ◌++◌, refl, arith, rules}
 use Rattle.tftp_wire.specs.declared.mode.Mode.{Mode}
 use Rattle.tftp_wire.specs.declared.mode.Mode.TheVariants.{Octet, Netascii}
 use Rattle.tftp_negotiate.specs.declared.limits.TheConstants.{DEFAULT_BLOCK}
@@ -10,10 +9,7 @@ use Rattle.tftp_file.specs.Block.{block_count}
 use Rattle.tftp_file.specs.Netascii.{wire_text}
 use Rattle.tftp_rules.specs.EndKept.{HeldBackFits}
 use Rattle.tftp_rules.specs.EndOpens.{ReadsOpen, WritesOpen, new_receiver, new_sender}
-use Rattle.tftp_rules.specs.Machine.{Network, Oack}
-use Rattle.tftp_rules.specs.OpenEnds.{open_view}
-use Rattle.tftp_rules.specs.Rules.{message}
-use Rattle.tftp_rules.specs.Shows.{IsShownWithin}
+use Rattle.tftp_rules.specs.Machine.{Network}
 use Rattle.tftp_rules.proofs.Actions.{serves_plainly, serves_with}
 use Rattle.tftp_rules.proofs.SaidLemmas.{own_oack}
 use Rattle.tftp_rules.proofs.FirstSent.{first_of_read, first_of_write, read_first_is, read_first_valid}
@@ -36,27 +32,12 @@ module _ (network : Network) where
       let one : 1 ≤ block_count text DEFAULT_BLOCK = omega arith in
       record {
         packet = first_of_read [] text;
-        valid = read_first_valid [] text granted;
+        valid = read_first_valid _ text granted;
         last_sent = read_first_is [] from request.mode text retries;
         last_sent_to = refl;
-        kept = record {
-          phase = record {
-            sender = refl;
-            positive = omega arith;
-            size = omega arith;
-            fits = fits;
-            so_far = one;
-            left = refl;
-            last_sent_to = refl;
-            measured = refl;
-          };
-          held_back = nothing_held request.mode;
-          committed = λ e. absurd (true≢false e);
-        };
+        kept = search rules;
         side = refl;
-        shown =
-            serves_plainly network first views messages shown a from bytes false request text place new come.sent fits
-            come.spells come.unanswered;
+        shown = serves_plainly _ _ _ _ shown a _ bytes _ _ text place new come.sent fits come.spells come.unanswered;
       }
   opens_to_send first views messages a from bytes request path file text (k ∷ others) retries shown place new come
       granted fits =
@@ -71,26 +52,9 @@ module _ (network : Network) where
         valid = read_first_valid agreed text granted;
         last_sent = read_first_is agreed from request.mode text retries;
         last_sent_to = refl;
-        kept = record {
-          phase = record {
-            sender = refl;
-            positive = granted.positive;
-            size = granted.small;
-            fits = fits;
-            so_far = omega arith;
-            left = ap (λ (n : ℕ). drop n text) (sym none);
-            last_sent_to = refl;
-            measured = refl;
-          };
-          held_back = nothing_held request.mode;
-          committed = λ e. absurd (true≢false e);
-        };
+        kept = search rules;
         side = refl;
-        shown =
-            subst
-            (λ (n : ℕ).
-            IsShownWithin network 3 first (views ++ open_view x ∷ []) (messages ++ message a from (Oack n) ∷ []))
-            (sym (own_oack agreed granted.values)) now;
+        shown = search (rules, own_oack);
       }
 
   -- a write request opens an end that receives
@@ -98,21 +62,20 @@ module _ (network : Network) where
   opens_to_store first views messages a from bytes request path [] retries shown place new come granted =
       record {
         packet = first_of_write [];
-        valid = write_first_valid [] granted;
+        valid = write_first_valid _ granted;
         last_sent = write_first_is [] from request.mode retries;
         last_sent_to = refl;
         kept = record { phase = (refl, refl); held_back = nothing_held request.mode; committed = λ _. refl };
         side = refl;
-        shown =
-            serves_plainly network first views messages shown a from bytes true request
-            (wire_text request.mode [] ++ []) place new come.sent (no_text request.mode) come.spells come.unanswered;
+        shown = serves_plainly _ _ _ _ shown a _ _ _ _ _ place new come.sent (no_text request.mode) come.spells
+            come.unanswered;
       }
   opens_to_store first views messages a from bytes request path (k ∷ others) retries shown place new come granted =
       let agreed = k ∷ others in
       let x = new_receiver a bytes agreed from request.mode path retries in
       let now =
-      serves_with network first views messages shown a from bytes true request (wire_text request.mode [] ++ [])
-      (size agreed) place new come.sent (no_text request.mode) granted.positive come.spells come.unanswered in
+      serves_with network first views messages shown a from bytes true request (wire_text request.mode [] ++ []) (size
+      agreed) place new come.sent (no_text request.mode) granted.positive come.spells come.unanswered in
       record {
         packet = first_of_write agreed;
         valid = write_first_valid agreed granted;
@@ -120,9 +83,5 @@ module _ (network : Network) where
         last_sent_to = refl;
         kept = record { phase = (refl, refl); held_back = nothing_held request.mode; committed = λ _. refl };
         side = refl;
-        shown =
-            subst
-            (λ (n : ℕ).
-            IsShownWithin network 3 first (views ++ open_view x ∷ []) (messages ++ message a from (Oack n) ∷ []))
-            (sym (own_oack agreed granted.values)) now;
+        shown = search (rules, own_oack);
       }

@@ -1,6 +1,6 @@
 -- An open end with any datagram, and at a timeout. For `an_open_end_takes_its_turn` and the crates tftp_player and
 -- tftp_promises.
-use Rattle.std.proofs.Common.{◌≡◌, ℕ, Bool, true, false, List, [], Option, Some, refl, subst, inl, arith}
+use Rattle.std.proofs.Common.{◌≡◌, ℕ, Bool, true, false, List, [], Option, Some, refl, inl, arith, rules}
 use Rattle.std.specs.Prelude.{◌==◌, ◌&&◌, if◌then◌else◌, is_none, is_some}
 use Rattle.std.proofs.lemmas.Bool.{true≢false}
 use Rattle.tftp_wire.specs.declared.packet.Packet.{Packet as WirePacket}
@@ -19,12 +19,12 @@ use Rattle.tftp_ends.specs.End.{is_sender, is_client, terms_of, outcome_of}
 use Rattle.tftp_ends.specs.Action.{same_address, same_endpoint, is_wrong_peer, garbled_response, packet_action}
 use Rattle.tftp_ends.specs.Action.{datagram_action, timeout_response}
 use Rattle.tftp_wire.specs.Reading.{has_error_opcode}
-use Rattle.tftp_ends.specs.Step.{timeout_turn, response_turn, after, with_position}
+use Rattle.tftp_ends.specs.Step.{response_turn, after, with_position}
 use Rattle.tftp_ends.specs.Waiting.{reader_action, writer_action}
 use Rattle.tftp_rules.specs.Machine.{Endpoint, Message, Network}
 use Rattle.tftp_rules.specs.Rules.{Rule}
 use Rattle.tftp_rules.specs.Shows.{EndView}
-use Rattle.tftp_rules.specs.OpenEnds.{OpenEnd, files_of, in_state, with_phase, goes_on, open_view}
+use Rattle.tftp_rules.specs.OpenEnds.{OpenEnd, in_state, with_phase, goes_on, open_view}
 use Rattle.tftp_rules.specs.EndKept.{EndKept, IsFromServer}
 use Rattle.tftp_rules.specs.EndShown.{Stands, Goes, IsThere, DatagramTurnsAreShown, TimeoutTurnsAreShown}
 use Rattle.tftp_rules.proofs.Actions.{goes}
@@ -51,26 +51,21 @@ module _ (network : Network) where
         is_wrong_peer (terms_of phase) x0.state.position.last_sent_to from ≡ false →
         Goes_on phase (packet_action (with_phase phase x0).state from decoded phase)
     by_packet (Waiting asked limit) s kept serves o near =
-        let here : same_address network.request_port from ≡ true =
-        subst (λ (p : Endpoint). same_address p from ≡ true) kept.phase.2
-        (not_false (same_address x0.state.position.last_sent_to from) near) in
+        let here : same_address network.request_port from ≡ true = search rules in
         let answers : OfServer network from decoded = λ p e a. serves refl here p (spelled p e) a in
-        if_acts (Goes_on (Waiting asked limit)) (is_sender x0.state.role.side)
-        (writer_action x0.state.role.mode asked limit x0.state.role.length from decoded)
-        (reader_action x0.state.role.mode asked limit from decoded)
-        (λ w. writer_acts network first views messages k x0 asked limit s kept from bytes w decoded answers come)
-        (λ r. reader_acts network first views messages k x0 asked limit s kept from bytes r decoded answers spelled
-        come)
+        if_acts (Goes_on (Waiting asked limit)) (is_sender x0.state.role.side) (writer_action x0.state.role.mode asked
+        limit x0.state.role.length from decoded) (reader_action x0.state.role.mode asked limit from decoded) (λ w.
+        writer_acts network first views messages k x0 asked limit s kept from bytes w decoded answers come) (λ r.
+        reader_acts network first views messages k x0 asked limit s kept from bytes r decoded answers spelled come)
     by_packet (Sending terms n) s kept serves o near =
         sender_acts network first views messages k x0 terms n s kept from bytes (is_client x0.state.role.side) decoded
         (same_endpoints terms.peer from (not_false (same_endpoint terms.peer from) near)) come
     by_packet (Receiving terms n) s kept serves o near =
-        receiver_acts network first views messages k x0 terms n s kept from bytes
-        (same_endpoints terms.peer from (not_false (same_endpoint terms.peer from) near)) old
-        (is_client x0.state.role.side) decoded spelled come
+        receiver_acts network first views messages k x0 terms n s kept from bytes (same_endpoints terms.peer from
+        (not_false (same_endpoint terms.peer from) near)) old (is_client x0.state.role.side) decoded spelled come
     by_packet (Dallying terms n dally) s kept serves o near =
-        dally_acts network first views messages k x0 terms n dally s kept from bytes
-        (same_endpoints terms.peer from (not_false (same_endpoint terms.peer from) near)) old decoded
+        dally_acts network first views messages k x0 terms n dally s kept from bytes (same_endpoints terms.peer from
+        (not_false (same_endpoint terms.peer from) near)) old decoded
     by_packet (Closed terms n complete outcome) s kept serves o near = absurd (true≢false o)
 
     -- a malformed ERROR
@@ -105,14 +100,10 @@ module _ (network : Network) where
         let near_action =
         if has_error_opcode bytes && is_none decoded then Respond (garbled_response phase) else packet_action e from
         decoded phase in
-        if_acts P far (if has_error_opcode bytes then Respond Ignore else Respond WrongPeer) near_action
-        (λ f. if_acts P (has_error_opcode bytes) (Respond Ignore) (Respond WrongPeer)
-        (λ b. ignore_acts network first views messages k (with_phase phase x0) s kept from bytes o)
-        (λ b. wrong_peer_acts network first views messages k (with_phase phase x0) s kept from bytes o))
-        (λ f. if_acts P (has_error_opcode bytes && is_none decoded) (Respond (garbled_response phase))
-        (packet_action e from decoded phase)
-        (λ b. by_garbled phase s kept o)
-        (λ b. by_packet phase s kept serves o f))
+        if_acts P _ _ _ (λ f. if_acts P (has_error_opcode bytes) (Respond Ignore) (Respond WrongPeer) (λ b. ignore_acts
+        _ _ _ _ k _ s kept from bytes o) (λ b. wrong_peer_acts _ _ _ _ k _ s kept from bytes o)) (λ f. if_acts P
+        (has_error_opcode bytes && is_none decoded) (Respond (garbled_response phase)) (packet_action e from decoded
+        phase) (λ b. by_garbled _ s kept o) (λ b. by_packet _ s kept serves o f))
 
   -- an open end at a timeout
   module _ (first : List Rule) (views : List EndView) (messages : List Message) (k : ℕ) (x0 : OpenEnd)
@@ -130,11 +121,7 @@ module _ (network : Network) where
         EndKept network (with_phase phase x0) → is_some (outcome_of phase) ≡ false → goes_on phase ≡ true →
         Turns_at (with_phase phase x0) (if x0.state.position.retries_left == 0 then Close outcomes.TimedOut else
         Retransmit)
-    waits_or_gives_up phase s kept o going =
-        let x = with_phase phase x0 in
-        if_turns x (x0.state.position.retries_left == 0) (Close outcomes.TimedOut) Retransmit
-        (gives_up network first views messages k x s kept outcomes.TimedOut x0.state.position.last_sent_to going)
-        (retries network first views messages k x s kept x0.state.position.last_sent_to o old)
+    waits_or_gives_up phase s kept o going = search (rules, if_turns, gives_up, retries)
 
     -- a dally continues, or ends
     dally_turns : (terms : Terms) (n : ℕ) (dally : Dally) →
@@ -168,11 +155,7 @@ module _ (network : Network) where
     pub by_timeout : (phase : Phase) → Stands network first views messages k (open_view (with_phase phase x0)) →
         EndKept network (with_phase phase x0) → is_some (outcome_of phase) ≡ false →
         Turns_at (with_phase phase x0) (timeout_response x0.state.position.retries_left phase)
-    by_timeout (Waiting asked limit) s kept o = waits_or_gives_up (Waiting asked limit) s kept o refl
-    by_timeout (Sending terms n) s kept o = waits_or_gives_up (Sending terms n) s kept o refl
-    by_timeout (Receiving terms n) s kept o = waits_or_gives_up (Receiving terms n) s kept o refl
-    by_timeout (Dallying terms n dally) s kept o = dally_turns terms n dally s kept
-    by_timeout (Closed terms n complete outcome) s kept o = absurd (true≢false o)
+    by_timeout phase s kept o = search (rules, waits_or_gives_up, dally_turns, true≢false)
 
   -- the step of an open end for a datagram is shown
   pub datagram_goes : DatagramTurnsAreShown network
@@ -183,9 +166,4 @@ module _ (network : Network) where
 
   -- and for a timeout
   pub timeout_goes : TimeoutTurnsAreShown network
-  timeout_goes first views messages k x open_now =
-      from_response network first views messages k x
-      (timeout_response x.state.position.retries_left x.state.position.phase) x.state.position.last_sent_to
-      (timeout_turn x.state) (files_of x)
-      (by_timeout first views messages k x open_now.last_sent x.state.position.phase open_now.stands open_now.kept
-      open_now.still) (refl, refl)
+  timeout_goes first views messages k x open_now = search (rules, from_response, by_timeout)

@@ -1,25 +1,19 @@
 -- Whether two endpoints are the same. For `texts_go_on`, eight other files and the crates tftp_player and
 -- tftp_promises.
-use Rattle.std.proofs.Common.{◌≡◌, ℕ, true, false, List, sym, refl, ap, ◌∙◌, inl, inr}
+use Rattle.std.proofs.Common.{◌≡◌, ℕ, true, false, List, sym, refl, ap, ◌∙◌, inl, inr, rules}
 use Rattle.std.specs.Prelude.{◌≢◌, ◌⊎◌, ◌==◌}
 use Rattle.std.specs.Cmp.Lexicographic.{same_text, other_text}
-use Rattle.std.proofs.lemmas.Bool.{cases_Bool, cond-true, cond-false, eq-eqb, ne_eqb, cases_eq}
+use Rattle.std.proofs.lemmas.Bool.{cases_Bool, cond-true, eq-eqb, cases_eq}
 use Rattle.tftp_rules.specs.Machine.{Endpoint, is_same_ip, is_same}
 use Rattle.tftp_rules.specs.Texts.{EndpointsAreTheirParts}
 
 -- an address is the same as itself
 pub same_ip : (a : List ℕ) → is_same_ip a a ≡ true
-same_ip a = elim (cases_Bool (is_same_ip a a)) [
-  | inl t ↦ t
-  | inr f ↦ absurd (other_text a a (sym f) refl)
-]
+same_ip a = search rules
 
 -- endpoints of the same address and port are one
 pub endpoint_from : EndpointsAreTheirParts
-endpoint_from a b e f =
-    let at_port : ℕ → Endpoint = λ p. record { ip = a.ip; port = p } in
-    let at_ip : List ℕ → Endpoint = λ i. record { ip = i; port = b.port } in
-    ap at_port f ∙ ap at_ip e
+endpoint_from a b e f = search rules
 
 -- two endpoints are the same or not
 pub cases_same : (a b : Endpoint) → (a ≡ b) ⊎ (a ≢ b)
@@ -37,8 +31,4 @@ same_self a = cond-true (is_same_ip a.ip a.ip) (a.port == a.port) false (same_ip
 
 -- other endpoints are found not the same
 pub same_other : (a b : Endpoint) → a ≢ b → is_same a b ≡ false
-same_other a b n = elim (cases_Bool (is_same_ip a.ip b.ip)) [
-  | inl t ↦ cond-true (is_same_ip a.ip b.ip) (a.port == b.port) false t
-      ∙ ne_eqb a.port b.port (λ e. n (endpoint_from a b (same_text a.ip b.ip (sym t)) e))
-  | inr f ↦ cond-false (is_same_ip a.ip b.ip) (a.port == b.port) false f
-]
+same_other a b n = search rules

@@ -1,14 +1,13 @@
 -- What a look-up finds among the entries of a map after one was added, replaced or removed. For the crates
 -- tftp_player and tftp_promises.
-use Rattle.std.proofs.Common.{◌≡◌, ◌≢◌, Bool, true, false, List, [], ◌∷◌, cond, Some, refl, sym, ap, ◌∙◌}
+use Rattle.std.proofs.Common.{◌≡◌, ◌≢◌, Bool, true, false, List, [], ◌∷◌, cond, Some, refl, sym, ap, ◌∙◌, rules}
 use Rattle.std.specs.Prelude.{is_some}
 use Rattle.std.specs.BTreeMap.{insert_entry, is_at}
 use Rattle.std.specs.Cmp.{IsTotalOrder, eq_by_cmp_equiv, nat_cmp_total}
 use Rattle.std.specs.Map.{lookup, remove_entry, set_value}
-use Rattle.std.specs.Ordering.{eq_by_cmp, is_eq, match_ordering, nat_cmp}
+use Rattle.std.specs.Ordering.{eq_by_cmp, match_ordering, nat_cmp}
 use Rattle.std.specs.Cmp.Lexicographic.{slice_cmp}
 use Rattle.std.specs.declared.cmp.Ordering.{Ordering}
-use Rattle.std.specs.declared.cmp.Ordering.TheVariants.{Less, Equal, Greater}
 use Rattle.std.proofs.lemmas.Cmp.{nat_list_cmp_total}
 use Rattle.std.proofs.lemmas.Map.{lookup-set_value}
 use Rattle.std.proofs.lemmas.Map.Entries.{lookup_head, lookup_tail}
@@ -39,19 +38,14 @@ module _ {K : Type 0} {R : K → K → Ordering} (keys : AreKeys R) where
 
   -- the order finds no other key at a key
   pub at_other : (k q : K) → q ≢ k → is_at (R k) q ≡ false
-  at_other k q n = by (is_at (R k) q) refl where
-    by : (b : Bool) → is_at (R k) q ≡ b → is_at (R k) q ≡ false
-    by true h = absurd (n (same_at k q h))
-    by false h = h
+  at_other k q n = search rules
 
   module _ {X : Type 0} where
     -- an entry that was added is found
     added_by : (k : K) (v : X) (e : K × X) (es more : List (K × X)) (o : Ordering) → R k e.0 ≡ o →
         lookup (is_at (R k)) more ≡ Some v →
         lookup (is_at (R k)) (match_ordering o ((k, v) ∷ e ∷ es) ((e.0, v) ∷ es) (e ∷ more)) ≡ Some v
-    added_by k v e es more Less h rest = lookup_head (is_at (R k)) (k, v) (e ∷ es) (at_same k k refl)
-    added_by k v e es more Equal h rest = lookup_head (is_at (R k)) (e.0, v) es (ap is_eq h)
-    added_by k v e es more Greater h rest = lookup_tail (is_at (R k)) e more (ap is_eq h) ∙ rest
+    added_by k v e es more o h rest = search rules
 
     pub lookup-insert_same : (k : K) (v : X) (es : List (K × X)) →
         lookup (is_at (R k)) (insert_entry R es k v) ≡ Some v
@@ -64,18 +58,12 @@ module _ {K : Type 0} {R : K → K → Ordering} (keys : AreKeys R) where
         lookup (is_at (R q)) more ≡ lookup (is_at (R q)) es →
         lookup (is_at (R q)) (match_ordering o ((k, v) ∷ e ∷ es) ((e.0, v) ∷ es) (e ∷ more))
         ≡ lookup (is_at (R q)) (e ∷ es)
-    beside_by k q v e es more n Less h rest =
-        lookup_tail (is_at (R q)) (k, v) (e ∷ es) (at_other q k (λ same. n (sym same)))
-    beside_by k q v e es more n Equal h rest =
-        let away : is_at (R q) e.0 ≡ false = at_other q e.0 (λ same. n (sym same ∙ sym (keys.exact k e.0 h))) in
-        lookup_tail (is_at (R q)) (e.0, v) es away ∙ sym (lookup_tail (is_at (R q)) e es away)
-    beside_by k q v e es more n Greater h rest = ap (cond (is_at (R q) e.0) (Some e.1)) rest
+    beside_by k q v e es more n o h rest = search rules
 
     pub lookup-insert_other : (k q : K) (v : X) (es : List (K × X)) → q ≢ k →
         lookup (is_at (R q)) (insert_entry R es k v) ≡ lookup (is_at (R q)) es
     lookup-insert_other k q v [] n = lookup_tail (is_at (R q)) (k, v) [] (at_other q k (λ same. n (sym same)))
-    lookup-insert_other k q v (e ∷ es) n =
-        beside_by k q v e es (insert_entry R es k v) n (R k e.0) refl (lookup-insert_other k q v es n)
+    lookup-insert_other k q v (e ∷ es) n = beside_by k q v e _ _ n _ refl (lookup-insert_other k q v es n)
 
     -- the one that replaced another is found, and every other one as before
     replaced : (k q : K) (was w : X) (es : List (K × X)) → lookup (is_at (R k)) es ≡ Some was →
@@ -87,22 +75,17 @@ module _ {K : Type 0} {R : K → K → Ordering} (keys : AreKeys R) where
 
     pub lookup-set_same : (k : K) (was w : X) (es : List (K × X)) → lookup (is_at (R k)) es ≡ Some was →
         lookup (is_at (R k)) (set_value (is_at (R k)) es w) ≡ Some w
-    lookup-set_same k was w es found =
-        replaced k k was w es found
-        ∙ ap (λ (b : Bool). cond b (Some w) (lookup (is_at (R k)) es)) (at_same k k refl)
+    lookup-set_same k was w es found = search (rules, replaced, at_same)
 
     pub lookup-set_other : (k q : K) (was w : X) (es : List (K × X)) → lookup (is_at (R k)) es ≡ Some was → q ≢ k →
         lookup (is_at (R q)) (set_value (is_at (R k)) es w) ≡ lookup (is_at (R q)) es
-    lookup-set_other k q was w es found n =
-        replaced k q was w es found
-        ∙ ap (λ (b : Bool). cond b (Some w) (lookup (is_at (R q)) es)) (at_other k q n)
+    lookup-set_other k q was w es found n = search (rules, replaced, at_other)
 
     -- after one was removed, every other one is found as before
     removed_by : (k q : K) (e : K × X) (es more : List (K × X)) (b : Bool) →
         (b ≡ true → is_at (R q) e.0 ≡ false) → lookup (is_at (R q)) more ≡ lookup (is_at (R q)) es →
         lookup (is_at (R q)) (cond b es (e ∷ more)) ≡ lookup (is_at (R q)) (e ∷ es)
-    removed_by k q e es more true h rest = sym (lookup_tail (is_at (R q)) e es (h refl))
-    removed_by k q e es more false h rest = ap (cond (is_at (R q) e.0) (Some e.1)) rest
+    removed_by k q e es more b h rest = search rules
 
     pub lookup-remove_other : (k q : K) (es : List (K × X)) → q ≢ k →
         lookup (is_at (R q)) (remove_entry (is_at (R k)) es) ≡ lookup (is_at (R q)) es

@@ -1,12 +1,11 @@
 -- The options that a server's end agrees to: its block size, and that its OACK is a packet. For
 -- `a_request_opens_an_end` and the crates tftp_player and tftp_promises.
-use Rattle.std.proofs.Common.{◌≡◌, ℕ, suc, ◌^◌, ◌<◌, ◌≤◌, List, [], ◌∷◌, length, Ok, sym, refl, subst, arith}
-use Rattle.std.specs.Prelude.{◌≢◌}
+use Rattle.std.proofs.lemmas.Grind.{common_steps}
+use Rattle.std.proofs.Common.{◌≡◌, ℕ, ◌^◌, ◌<◌, ◌≤◌, List, [], ◌∷◌, Ok, sym, subst, arith}
 use Rattle.std.specs.List.{AllByRecursion}
-use Rattle.tftp_wire.specs.declared.limits.TheConstants.{MAX_REQUEST, MAX_BLOCK}
+use Rattle.tftp_wire.specs.declared.limits.TheConstants.{MAX_BLOCK}
 use Rattle.tftp_wire.specs.declared.mode.Mode.{Mode}
 use Rattle.tftp_wire.specs.declared.options.RawOption.{RawOption}
-use Rattle.tftp_wire.specs.Options.{options_bytes}
 use Rattle.tftp_negotiate.specs.declared.known.Kind.{Kind}
 use Rattle.tftp_negotiate.specs.declared.known.Kind.TheVariants as kinds
 use Rattle.tftp_negotiate.specs.declared.known.Known.{Known}
@@ -14,7 +13,7 @@ use Rattle.tftp_negotiate.specs.declared.known.Known.TheVariants as known
 use Rattle.tftp_negotiate.specs.declared.limits.Limits.{Limits}
 use Rattle.tftp_negotiate.specs.declared.name.Name.{Name}
 use Rattle.tftp_negotiate.specs.declared.name.Name.TheVariants.{Timeout, Tsize}
-use Rattle.tftp_negotiate.specs.Agreed.{agreed_options, size}
+use Rattle.tftp_negotiate.specs.Agreed.{size}
 use Rattle.tftp_negotiate.specs.Answer.{answer}
 use Rattle.tftp_negotiate.specs.Laws.{HasWord, IsWithinRequest, Requests}
 use Rattle.tftp_negotiate.specs.Ranges.{IsBlockSize}
@@ -44,10 +43,6 @@ module _ (options : List RawOption) (kind : Kind) (file_length : ℕ) (limits : 
   have_words [] h = tt
   have_words (k ∷ ks) h = (has_word k h.0, have_words ks h.1)
 
-some_options : (ks : List Known) → ks ≢ [] → agreed_options ks ≢ []
-some_options [] s e = s refl
-some_options (k ∷ ks) s e = cc
-
 -- a server may agree to what it answers
 pub answer_granted : AnswersAreGranted
 answer_granted options kind mode file_length limits agreed fits max e =
@@ -55,24 +50,12 @@ answer_granted options kind mode file_length limits agreed fits max e =
     let range = agreements_have_block_sizes agreed agreement in
     let low = range.0 in
     let words =
-    have_words options kind file_length limits fits max agreed
-    (answers_within_request options kind mode file_length limits agreed e) in
+    have_words options kind file_length limits fits max agreed (answers_within_request options kind mode file_length
+    limits agreed e) in
     let spelled = known_are_options agreed words in
     let three = agreements_are_short agreed agreement in
     let l = spelled.1 in
-    record {
-      values = agreement.values;
-      positive = omega (arith, low);
-      small = range.1;
-      oack = λ some. (
-        some_options agreed some,
-        spelled.0,
-        (
-            let bytes = options_bytes (agreed_options agreed) in
-            let n : suc (suc (length bytes)) ≤ MAX_REQUEST = omega (arith, l, three) in n
-            ),
-      );
-    }
+    grind (arith, common_steps)
 
 -- its block size does not depend on the length of the file
 pub answer_small :

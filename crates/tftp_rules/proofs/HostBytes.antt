@@ -1,9 +1,8 @@
 -- From wire text to the bytes of a file: a prefix on the wire is a prefix of the file. For NextBlocks and the crates
 -- tftp_player and tftp_promises.
-use Rattle.std.proofs.Common.{◌≡◌, ℕ, suc, zero, List, [], ◌∷◌, ◌++◌, sym, refl, ap, ◌∙◌, arith, inl, inr, append_assoc}
-use Rattle.std.proofs.Common.{length, replicate}
-use Rattle.std.specs.Prelude.{◌≢◌, ◌==◌, if◌then◌else◌}
-use Rattle.std.proofs.lemmas.Bool.{cases_eq, eq-eqb, ne_eqb, cond-true, cond-false}
+use Rattle.std.proofs.Common.{◌≡◌, ℕ, suc, zero, List, [], ◌∷◌, ◌++◌, sym, refl, ap, ◌∙◌, arith, append_assoc, length}
+use Rattle.std.proofs.Common.{replicate, rules}
+use Rattle.std.specs.Prelude.{◌≢◌, if◌then◌else◌}
 use Rattle.std.proofs.lemmas.List.{append-nil, length-append, nil_from_length}
 use Rattle.tftp_wire.specs.declared.mode.Mode.{Mode}
 use Rattle.tftp_wire.specs.declared.mode.Mode.TheVariants.{Octet, Netascii}
@@ -17,16 +16,7 @@ data ByteForm (x : ℕ) : Type 0 where
   Itself : x ≢ 13 → wire_byte x ≡ x ∷ [] → ByteForm x
 
 byte_form : (x : ℕ) → ByteForm x
-byte_form x = elim (cases_eq x 10) [
-  | inl e ↦ Line e (cond-true (x == 10) (13 ∷ 10 ∷ []) (if x == 13 then 13 ∷ 0 ∷ [] else x ∷ []) (eq-eqb x 10 e))
-  | inr n ↦
-      let first : wire_byte x ≡ (if x == 13 then 13 ∷ 0 ∷ [] else x ∷ []) =
-      cond-false (x == 10) (13 ∷ 10 ∷ []) (if x == 13 then 13 ∷ 0 ∷ [] else x ∷ []) (ne_eqb x 10 n) in
-      elim (cases_eq x 13) [
-        | inl e ↦ Return e (first ∙ cond-true (x == 13) (13 ∷ 0 ∷ []) (x ∷ []) (eq-eqb x 13 e))
-        | inr m ↦ Itself m (first ∙ cond-false (x == 13) (13 ∷ 0 ∷ []) (x ∷ []) (ne_eqb x 13 m))
-      ]
-]
+byte_form x = search rules
 
 heads : (x y : ℕ) (xs ys : List ℕ) → x ∷ xs ≡ y ∷ ys → x ≡ y
 heads x y xs ys e = cc
@@ -37,31 +27,10 @@ tails x y xs ys e = cc
 -- the next byte is determined by the wire text
 next_byte : (x y : ℕ) (xs ys : List ℕ) → ByteForm x → ByteForm y → wire_byte x ++ xs ≡ wire_byte y ++ ys →
     (x ≡ y) × (xs ≡ ys)
-next_byte x y xs ys (Line a b) (Line c d) e =
-    let f : 13 ∷ 10 ∷ xs ≡ 13 ∷ 10 ∷ ys = rw (b, d) at e in (a ∙ sym c, cc)
-next_byte x y xs ys (Return a b) (Return c d) e =
-    let f : 13 ∷ 0 ∷ xs ≡ 13 ∷ 0 ∷ ys = rw (b, d) at e in (a ∙ sym c, cc)
-next_byte x y xs ys (Itself a b) (Itself c d) e =
-    let f : x ∷ xs ≡ y ∷ ys = rw (b, d) at e in (cc, cc)
-next_byte x y xs ys (Line a b) (Return c d) e =
-    let f : 13 ∷ 10 ∷ xs ≡ 13 ∷ 0 ∷ ys = rw (b, d) at e in
-    absurd (let g : 10 ≡ 0 = heads 10 0 xs ys (tails 13 13 (10 ∷ xs) (0 ∷ ys) f) in omega arith)
-next_byte x y xs ys (Return a b) (Line c d) e =
-    let f : 13 ∷ 0 ∷ xs ≡ 13 ∷ 10 ∷ ys = rw (b, d) at e in
-    absurd (let g : 0 ≡ 10 = heads 0 10 xs ys (tails 13 13 (0 ∷ xs) (10 ∷ ys) f) in omega arith)
-next_byte x y xs ys (Itself a b) (Line c d) e =
-    let f : x ∷ xs ≡ 13 ∷ 10 ∷ ys = rw (b, d) at e in absurd (a (heads x 13 xs (10 ∷ ys) f))
-next_byte x y xs ys (Itself a b) (Return c d) e =
-    let f : x ∷ xs ≡ 13 ∷ 0 ∷ ys = rw (b, d) at e in absurd (a (heads x 13 xs (0 ∷ ys) f))
-next_byte x y xs ys (Line a b) (Itself c d) e =
-    let f : 13 ∷ 10 ∷ xs ≡ y ∷ ys = rw (b, d) at e in absurd (c (sym (heads 13 y (10 ∷ xs) ys f)))
-next_byte x y xs ys (Return a b) (Itself c d) e =
-    let f : 13 ∷ 0 ∷ xs ≡ y ∷ ys = rw (b, d) at e in absurd (c (sym (heads 13 y (0 ∷ xs) ys f)))
+next_byte x y xs ys h4 h5 e = search rules
 
 not_empty : (x : ℕ) (xs : List ℕ) → ByteForm x → wire_byte x ++ xs ≡ [] → ⊥
-not_empty x xs (Line a b) e = let f : 13 ∷ 10 ∷ xs ≡ [] = rw b at e in cc
-not_empty x xs (Return a b) e = let f : 13 ∷ 0 ∷ xs ≡ [] = rw b at e in cc
-not_empty x xs (Itself a b) e = let f : x ∷ xs ≡ [] = rw b at e in cc
+not_empty x xs h2 e = search rules
 
 joined : (x : ℕ) (xs rest : List ℕ) → netascii_text (x ∷ xs) ++ rest ≡ wire_byte x ++ (netascii_text xs ++ rest)
 joined x xs rest = append_assoc (wire_byte x) (netascii_text xs) rest
@@ -144,12 +113,7 @@ padded_one x ys (b ∷ bs) rest form e next =
 
 padded_by : (x : ℕ) (ys xs rest : List ℕ) → ByteForm x → wire_byte x ++ ys ≡ xs ++ rest →
     ((zs : List ℕ) → ys ≡ zs ++ rest → IsPadded zs rest) → IsPadded xs rest
-padded_by x ys xs rest (Line a b) e next =
-    padded_two x 10 ys xs rest b (sym (ap (λ (w : List ℕ). w ++ ys) b) ∙ e) next
-padded_by x ys xs rest (Return a b) e next =
-    padded_two x 0 ys xs rest b (sym (ap (λ (w : List ℕ). w ++ ys) b) ∙ e) next
-padded_by x ys xs rest (Itself a b) e next =
-    padded_one x ys xs rest b (sym (ap (λ (w : List ℕ). w ++ ys) b) ∙ e) next
+padded_by x ys xs rest h4 e next = search (rules, padded_two, padded_one)
 
 padded_netascii : (file xs rest : List ℕ) → netascii_text file ≡ xs ++ rest → IsPadded xs rest
 padded_netascii [] [] rest e = (replicate (length rest) 0, zeros_text (length rest))

@@ -1,7 +1,6 @@
 -- The host of an endpoint, by its address. For `is_foreign` and the crate tftp_player.
-use Rattle.std.proofs.Common.{◌≡◌, Bool, true, false, sym, refl, ap, ◌∙◌}
+use Rattle.std.proofs.Common.{◌≡◌, Bool, refl, rules}
 use Rattle.std.specs.Prelude.{◌&&◌, ◌↔◌, IsTrue, not, if◌then◌else◌}
-use Rattle.std.proofs.lemmas.Bool.{true≢false}
 use Rattle.tftp_rules.specs.Hosts.{host_of, server_ip, client_ip}
 use Rattle.tftp_rules.specs.Machine.{Endpoint, Host, At_server, At_client, Elsewhere, is_same_ip}
 
@@ -19,20 +18,13 @@ host_client a e = rw e refl
 host_by : (a : Endpoint) (s c : Bool) → is_same_ip a.ip server_ip ≡ s → is_same_ip a.ip client_ip ≡ c →
     host_of a ≡ (if s then At_server else if c then At_client else Elsewhere)
 unfolding host_of
-host_by a s c e f =
-    ap (λ (b : Bool). if b then At_server else if is_same_ip a.ip client_ip then At_client else Elsewhere) e
-    ∙ ap (λ (b : Bool). if s then At_server else if b then At_client else Elsewhere) f
+host_by a s c e f = search rules
 
 by_tests : (s c : Bool) (h : Host) → h ≡ (if s then At_server else if c then At_client else Elsewhere) →
     IsTrue (not s && not c) ↔ (h ≡ Elsewhere)
-by_tests true c h e = (λ t. absurd (true≢false (sym t)), λ f. absurd (let g : At_server ≡ Elsewhere = sym e ∙ f in cc))
-by_tests false true h e =
-    (λ t. absurd (true≢false (sym t)), λ f. absurd (let g : At_client ≡ Elsewhere = sym e ∙ f in cc))
-by_tests false false h e = (λ t. e, λ f. refl)
+by_tests s c h e = search rules
 
 -- an endpoint is at neither host if its address is not one of the two
 pub foreign_by : (a : Endpoint) →
     IsTrue (not (is_same_ip a.ip server_ip) && not (is_same_ip a.ip client_ip)) ↔ (host_of a ≡ Elsewhere)
-foreign_by a =
-    by_tests (is_same_ip a.ip server_ip) (is_same_ip a.ip client_ip) (host_of a)
-    (host_by a (is_same_ip a.ip server_ip) (is_same_ip a.ip client_ip) refl refl)
+foreign_by a = search (rules, by_tests, host_by)

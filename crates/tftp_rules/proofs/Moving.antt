@@ -1,6 +1,6 @@
 -- A receiver that stores a block, a sender that sends the next one, an end that fails. For Keeps.
-use Rattle.std.proofs.Common.{◌≡◌, ℕ, ◌+◌, ◌*◌, ◌<◌, ◌≤◌, true, false, List, [], ◌∷◌, ◌++◌, length, take, Some, None}
-use Rattle.std.proofs.Common.{sym, refl, ◌∙◌, subst, arith, inl, inr, rules}
+use Rattle.std.proofs.Common.{◌≡◌, ℕ, ◌+◌, ◌*◌, ◌≤◌, true, false, List, [], ◌∷◌, ◌++◌, length, take, Some, None, sym}
+use Rattle.std.proofs.Common.{refl, ◌∙◌, subst, arith, inl, inr, rules}
 use Rattle.std.specs.Prelude.{◌≢◌, nat_lt}
 use Rattle.std.specs.List.{Contains}
 use Rattle.std.proofs.lemmas.Bool.{true≢false, cases_Bool, ltb-true, ltb-false}
@@ -25,41 +25,18 @@ more_prefix x y piece q = rw (more_text x y piece q) (prefix_by_take ((x.number 
 -- and so it has received one block more
 pub received_more : (x y : Party) (piece : List ℕ) → GoesOn x y piece →
     HasReceived (record x { number = x.number + 1; complete = nat_lt (length piece) x.size; text = x.text ++ piece }) y
-received_more x y piece q = record {
-  prefix = more_prefix x y piece q;
-  whole = λ d. let short : length piece < x.size = ltb-true (length piece) x.size d in
-      rw (q.so_far, q.bytes) (last_block y.text x.number x.size (rw q.bytes at short));
-  so_far = λ _ _. more_text x y piece q;
-  room = λ d. let full : x.size ≤ length piece = ltb-false (length piece) x.size d in
-      full_block y.text x.number x.size q.positive q.room (rw q.bytes at full);
-}
+received_more x y piece q =
+    search (rules, more_prefix, ltb-true, last_block, more_text, ltb-false, full_block)
 
 -- if it fails at that block, what it stored is still a beginning of that text
 pub received_failed : (x y : Party) (piece : List ℕ) → x.complete ≡ false → GoesOn x y piece →
     HasReceived (record x { failed = true; text = x.text ++ piece }) y
-received_failed x y piece n q = record {
-  prefix = more_prefix x y piece q;
-  whole = λ d. absurd (true≢false (sym d ∙ n));
-  so_far = λ _ f. absurd (true≢false f);
-  room = λ _. q.room;
-}
+received_failed x y piece n q = search (rules, more_prefix, true≢false)
 
 -- an end that moves, and neither takes back its end nor changes what it sends, grows
 moves_grow : (x y : Party) → Moves x y → x.number ≤ y.number → (x.complete ≡ true → y.complete ≡ true) →
     (x.sender ≡ true → y.text ≡ x.text) → x.is_open ≡ true → Grows x y
-moves_grow x y v up done text o = record {
-  is_open = v.is_open ∙ o;
-  client = v.client;
-  sender = v.sender;
-  plain = v.plain;
-  mode = v.mode;
-  request = v.request;
-  peer = λ p e. v.peer ∙ e;
-  size = λ p e. v.size;
-  number = up;
-  complete = done;
-  text = text;
-}
+moves_grow x y v up done text o = search rules
 
 module _ (network : Network) where
   -- a receiver becomes x, with this part of its peer's text
@@ -72,28 +49,22 @@ module _ (network : Network) where
       Holds network (record { sent = m.sent ++ added; party = with_end m.party at x })
   receives m h at peer bytes g x v up f added attested =
       let old = m.party at in
-      let grows : old.is_open ≡ true → Grows old x =
-      moves_grow old x v up (λ d. absurd (true≢false (sym d ∙ g.0.1))) (λ s. absurd (true≢false (sym s ∙ g.1))) in
+      let grows : old.is_open ≡ true → Grows old x = search rules in
       let all = AllGrow-with m.party at x grows in
       let new = with_end m.party at x in
       let has : x.peer ≡ Some peer = v.peer ∙ g.2 in
       let receiver : x.sender ≡ false = v.sender ∙ g.1 in
-      kept network m at x added h grows
-      (λ _. IsSound-moves network new at old x v (IsSound-grows network m.party new all at old (h.ends at g.0.0))
-      (λ e. absurd (let k : Some peer ≡ None = sym has ∙ e in cc))
-      (λ c s b n p e o. absurd (true≢false (sym s ∙ receiver)))
-      (λ s p e o.
+      kept network m at x added h grows (λ _. IsSound-moves network new at old x v (IsSound-grows network m.party new
+      all at old (h.ends at g.0.0)) (λ e. absurd (let k : Some peer ≡ None = sym has ∙ e in cc)) (λ c s b n p e o.
+      absurd (true≢false (sym s ∙ receiver))) (λ s p e o.
       let same : peer ≡ p = (let k : Some peer ≡ Some p = sym has ∙ e in cc) in
       let t = h.attested (message peer at (Data (old.number + 1) bytes)) g.3 (rw same o) in
-      subst (λ (q : Endpoint). HasReceived x (new q)) same
-      (HasReceived-grows x (m.party peer) (new peer) (all.grows peer t.is_open) t.sender
-      (f (m.party peer) (next_block network m h at peer bytes g (rw same o)))))
-      (λ d p e o.
+      subst (λ (q : Endpoint). HasReceived x (new q)) same (HasReceived-grows x (m.party peer) (new peer) (all.grows
+      peer t.is_open) t.sender (f (m.party peer) (next_block network m h at peer bytes g (rw same o))))) (λ d p e o.
       let same : peer ≡ p = (let k : Some peer ≡ Some p = sym has ∙ e in cc) in
       let t = h.attested (message peer at (Data (old.number + 1) bytes)) g.3 (rw same o) in
-      subst (λ (q : Endpoint). (new q).peer ≡ Some at) same ((all.grows peer t.is_open).peer at t.peer))
-      (λ s d p e o. absurd (true≢false (sym s ∙ receiver))))
-      attested
+      subst (λ (q : Endpoint). (new q).peer ≡ Some at) same ((all.grows peer t.is_open).peer at t.peer)) (λ s d p e o.
+      absurd (true≢false (sym s ∙ receiver)))) attested
 
   -- a sender with its newest block acknowledged becomes x
   pub sends : (m : Machine) → Holds network m → (at peer : Endpoint) → IsAcked m.sent (m.party at) at peer →
@@ -105,29 +76,24 @@ module _ (network : Network) where
       Holds network (record { sent = m.sent ++ added; party = with_end m.party at x })
   sends m h at peer g x v up t ends added attested =
       let old = m.party at in
-      let grows : old.is_open ≡ true → Grows old x =
-      moves_grow old x v up (λ d. absurd (true≢false (sym d ∙ g.0.1))) (λ _. t) in
+      let grows = moves_grow old x v up (λ d. absurd (true≢false (sym d ∙ g.0.1))) (λ _. t) in
       let all = AllGrow-with m.party at x grows in
       let new = with_end m.party at x in
-      let has : x.peer ≡ Some peer = v.peer ∙ g.2 in
-      let sender : x.sender ≡ true = v.sender ∙ g.1 in
-      let decoded : network.host_of peer ≢ Elsewhere → Attests (m.party peer) at (Ack old.number) =
-      h.attested (message peer at (Ack old.number)) g.3 in
+      let has = v.peer ∙ g.2 in
+      let sender = v.sender ∙ g.1 in
+      let decoded = h.attested (message peer at (Ack old.number)) g.3 in
       let back : network.host_of peer ≢ Elsewhere → (new peer).peer ≡ Some at =
       λ o. let k = decoded o in (all.grows peer k.is_open).peer at k.peer in
-      kept network m at x added h grows
-      (λ _. IsSound-moves network new at old x v (IsSound-grows network m.party new all at old (h.ends at g.0.0))
-      (λ e. absurd (let k : Some peer ≡ None = sym has ∙ e in cc))
-      (λ c s b n p e o. let same : peer ≡ p = (let k : Some peer ≡ Some p = sym has ∙ e in cc) in
-      subst (λ (q : Endpoint). (new q).peer ≡ Some at) same (back (rw same o)))
-      (λ s p e o. absurd (true≢false (sym sender ∙ s)))
-      (λ d p e o. let same : peer ≡ p = (let k : Some peer ≡ Some p = sym has ∙ e in cc) in
-      subst (λ (q : Endpoint). (new q).peer ≡ Some at) same (back (rw same o)))
-      (λ s d p e o. let same : peer ≡ p = (let k : Some peer ≡ Some p = sym has ∙ e in cc) in
+      kept network m at x added h grows (λ _. IsSound-moves network new at old x v (IsSound-grows network m.party new
+      all at old (h.ends at g.0.0)) (λ e. absurd (let k = sym has ∙ e in cc)) (λ c s b n p e o. let same : peer ≡ p
+      = (let k = sym has ∙ e in cc) in
+      subst (λ (q : Endpoint). (new q).peer ≡ Some at) same (back (rw same o))) (λ s p e o. absurd (true≢false (sym
+      sender ∙ s))) (λ d p e o. let same : peer ≡ p = (let k = sym has ∙ e in cc) in
+      subst (λ (q : Endpoint). (new q).peer ≡ Some at) same (back (rw same o))) (λ s d p e o. let same : peer ≡ p
+      = (let k = sym has ∙ e in cc) in
       let own : network.host_of peer ≢ Elsewhere = rw same o in
-      subst (λ (q : Endpoint). (new q).complete ≡ true) same
-      ((all.grows peer (decoded own).is_open).complete (ends d own))))
-      attested
+      subst (λ (q : Endpoint). (new q).complete ≡ true) same ((all.grows peer (decoded own).is_open).complete (ends d
+      own)))) attested
 
   -- the peer of a sender whose last block is acknowledged is complete
   pub last_acked : (m : Machine) → Holds network m → (at peer : Endpoint) → IsAcked m.sent (m.party at) at peer →
@@ -176,7 +142,5 @@ module _ (network : Network) where
       let at = d.from in
       let x = m.party at in
       let all = AllGrow-with m.party at x (Grows-same x) in
-      kept network m at x (d ∷ []) h (Grows-same x) (λ o. IsSound-grows network m.party (with_end m.party at x) all at x
-      (h.ends at o))
-      (one_sent (λ e. network.host_of e.from ≢ Elsewhere → Attests (with_end m.party at x e.from) e.to e.packet) d
-      (λ o. attested_at m.party at x d.to d.packet (t o)))
+      kept network m at x (d ∷ []) h (Grows-same x) (λ o. IsSound-grows network _ _ all at x (h.ends at o)) (one_sent _
+      d (λ o. attested_at m.party at x d.to d.packet (t o)))

@@ -1,11 +1,10 @@
 -- The next block of a text: how long it is, and that it can be read.
 -- For StorableBlocks, and for the laws of worlds (tftp_player).
-use Rattle.std.proofs.Common.{◌≡◌, ℕ, ◌+◌, ◌*◌, ◌-◌, ◌/◌, ◌<◌, ◌≤◌, Bool, true, false, List, [], ◌∷◌, ◌++◌, length}
-use Rattle.std.proofs.Common.{drop, refl, sym, ap, ◌∙◌, subst, arith, inl, inr, append_assoc}
+use Rattle.std.proofs.lemmas.Grind.{common_steps}
+use Rattle.std.proofs.Common.{◌≡◌, ℕ, ◌+◌, ◌*◌, ◌-◌, ◌<◌, ◌≤◌, Bool, true, false, List, [], ◌∷◌, ◌++◌, length, drop}
+use Rattle.std.proofs.Common.{refl, sym, ap, ◌∙◌, subst, arith, inl, rules}
 use Rattle.std.specs.Prelude.{◌⊎◌, ◌&&◌, not, nat_lt}
-use Rattle.std.proofs.Math.Nat.{div-lt_iff_lt-mul}
-use Rattle.std.proofs.lemmas.Bool.{cases_Bool, ltb-true, ltb-false}
-use Rattle.std.proofs.lemmas.List.{append-nil, length-drop, nil_from_length}
+use Rattle.std.proofs.lemmas.List.{append-nil}
 use Rattle.tftp_wire.specs.declared.mode.Mode.{Mode}
 use Rattle.tftp_wire.specs.declared.mode.Mode.TheVariants.{Octet, Netascii}
 use Rattle.tftp_file.specs.Block.{block, block_count, Fits}
@@ -20,10 +19,7 @@ use Rattle.tftp_rules.proofs.StoredTexts.{wire_text-append}
 
 -- of two numbers one is smaller, or they are in order
 pub less : (a b : ℕ) → (b < a) ⊎ (a ≤ b)
-less a b = elim (cases_Bool (nat_lt b a)) [
-  | inl h ↦ inl (ltb-true b a h)
-  | inr h ↦ inr (ltb-false b a h)
-]
+less a b = search rules
 
 -- a prefix of a text in netascii can be read
 begins_text : (text rest more : List ℕ) → text ++ rest ≡ netascii_text more → begins_netascii text ≡ true
@@ -41,8 +37,7 @@ drop_front (x ∷ xs) ys zs e = drop_front xs ys zs (let f : x ∷ (xs ++ ys) �
 
 readable_by : (last : Bool) (begins ends : Bool) → begins ≡ true → (last ≡ true → ends ≡ false) →
     (begins && not (last && ends)) ≡ true
-readable_by true begins ends b e = ap (λ (c : Bool). c && not (true && ends)) b ∙ ap (λ (c : Bool). not c) (e refl)
-readable_by false begins ends b e = ap (λ (c : Bool). c && not (false && ends)) b
+readable_by last begins ends b e = search rules
 
 -- the next piece of the text of a file can be read
 pub piece_readable : (mode : Mode) (file stored held piece rest : List ℕ) (last : Bool) →
@@ -51,22 +46,19 @@ pub piece_readable : (mode : Mode) (file stored held piece rest : List ℕ) (las
 piece_readable Octet file stored held piece rest last e none = refl
 piece_readable Netascii file stored held piece rest last e none =
     let t = held ++ piece in
-    let joined : netascii_text stored ++ (t ++ rest) ≡ netascii_text file =
-    sym (append_assoc (netascii_text stored) t rest)
-    ∙ (ap (λ (z : List ℕ). z ++ rest) (sym (append_assoc (netascii_text stored) held piece)) ∙ e) in
+    let joined : netascii_text stored ++ (t ++ rest) ≡ netascii_text file = grind (arith, common_steps) in
     let more = wire_prefix Netascii stored file (t ++ rest, joined) in
     let whole_is : t ++ rest ≡ netascii_text more.0 =
-    drop_front (netascii_text stored) (t ++ rest) (netascii_text more.0)
-    (joined ∙ (ap netascii_text (sym more.1) ∙ wire_text-append Netascii stored more.0)) in
-    readable_by last (begins_netascii t) (ends_in_cr t) (begins_text t rest more.0 whole_is)
-    (λ l. ends_text t more.0 (sym (append-nil t) ∙ (ap (λ (z : List ℕ). t ++ z) (sym (none l)) ∙ whole_is)))
+    drop_front (netascii_text stored) (t ++ rest) (netascii_text more.0) (joined ∙ (ap netascii_text (sym more.1) ∙
+    wire_text-append Netascii stored more.0)) in
+    readable_by last (begins_netascii t) (ends_in_cr t) (begins_text t rest more.0 whole_is) (λ l. ends_text t more.0
+    (sym (append-nil t) ∙ (ap (λ (z : List ℕ). t ++ z) (sym (none l)) ∙ whole_is)))
 
 -- ---- how long a block is
 module _ (text : List ℕ) (size : ℕ) (positive : 0 < size) (fits : Fits text size) where
   -- the blocks of a text that fits are numbered by 16 bits
   pub numbered : block_count text size ≤ 65535
-  numbered = let d : length text / size < 65535 =
-      (div-lt_iff_lt-mul {k = size} {x = length text} {y = 65535} positive).1 fits in omega (arith, d)
+  numbered = search rules
 
   -- every block before the last is full
   pub block_full : (n : ℕ) → n + 1 < block_count text size → length (block text size (n + 1)) ≡ size
@@ -82,17 +74,8 @@ module _ (text : List ℕ) (size : ℕ) (positive : 0 < size) (fits : Fits text 
 
   -- a full block is never the last that could be numbered
   pub never_long : (n : ℕ) → n + 1 ≤ block_count text size → n + 1 ≡ 65535 → length (block text size (n + 1)) ≡ size → ⊥
-  never_long n l e full =
-      let most = numbered in
-      let last : n + 1 ≡ block_count text size = omega arith in
-      let short = block_last n last in
-      omega (arith, short, full)
+  never_long n l e full = search (rules, numbered, block_last)
 
   -- after a short block nothing is left
   pub last_rest : (n : ℕ) → nat_lt (length (block text size (n + 1))) size ≡ true → drop ((n + 1) * size) text ≡ []
-  last_rest n e =
-      let short = ltb-true (length (block text size (n + 1))) size e in
-      let l = length-block text n size in
-      let past : length text ≤ (n + 1) * size = omega (arith, short, l) in
-      nil_from_length (drop ((n + 1) * size) text)
-      (length-drop ((n + 1) * size) text ∙ (let z : length text - (n + 1) * size ≡ 0 = omega (arith, past) in z))
+  last_rest n e = grind (arith, common_steps)

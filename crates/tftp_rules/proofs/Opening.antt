@@ -1,40 +1,24 @@
 -- A client's request, the opening of a server's end, and a client that accepts its peer. For Keeps and RecordedKept.
-use Rattle.std.proofs.Common.{◌≡◌, ℕ, ◌<◌, Bool, true, false, not, List, [], ◌∷◌, ◌++◌, Some, None, sym, refl, ap, ◌∙◌}
-use Rattle.std.proofs.Common.{subst, arith}
+use Rattle.std.proofs.Common.{◌≡◌, ℕ, ◌<◌, Bool, true, false, not, List, [], ◌∷◌, ◌++◌, Some, sym, refl, ap, ◌∙◌, arith}
+use Rattle.std.proofs.Common.{rules}
 use Rattle.std.specs.Prelude.{◌≢◌, if◌then◌else◌}
 use Rattle.std.specs.List.{Contains}
-use Rattle.std.proofs.lemmas.Bool.{true≢false, cond_both}
+use Rattle.std.proofs.lemmas.Bool.{true≢false}
 use Rattle.tftp_negotiate.specs.declared.limits.TheConstants.{DEFAULT_BLOCK}
 use Rattle.tftp_wire.specs.declared.packet.Request.{Request as WireRequest}
 use Rattle.tftp_file.specs.Block.{block}
 use Rattle.tftp_rules.specs.Machine.{Endpoint, At_server, Elsewhere, Packet, Request, Data, Ack, Message, Party}
 use Rattle.tftp_rules.specs.Machine.{Machine, with_end, Network}
-use Rattle.tftp_rules.specs.Rules.{Asks, message, Waits, taken, opened, asking, Guard, after}
-use Rattle.tftp_rules.specs.Facts.{Attests, IsServing, HasAsked, Holds}
-use Rattle.tftp_rules.proofs.Grows.{Grows, AllGrow-with, IsServing-grows, kept}
-use Rattle.tftp_rules.proofs.Steps.{not-not, flip, own_of, received_nothing}
+use Rattle.tftp_rules.specs.Rules.{Asks, message, Waits, taken, opened, Guard, after}
+use Rattle.tftp_rules.specs.Facts.{Attests, IsServing, Holds}
+use Rattle.tftp_rules.proofs.Grows.{Grows, AllGrow-with, kept}
+use Rattle.tftp_rules.proofs.Steps.{not-not, own_of, received_nothing}
 use Rattle.tftp_rules.proofs.Attesting.{attested_one}
 
 -- the first datagram of a client that has accepted its peer
 pub attested_first : (x : Party) (peer : Endpoint) (size : ℕ) → x.is_open ≡ true → x.client ≡ true →
     Attests (taken x peer size) peer (if x.sender then Data 1 (block x.text size 1) else Ack 0)
-attested_first x peer size o c =
-    cond_both x.sender (Data 1 (block x.text size 1)) (Ack 0) (λ (k : Packet). Attests (taken x peer size) peer k)
-    (λ e. record {
-      is_open = o;
-      sender = e;
-      peer = refl;
-      first = omega arith;
-      number = rw e (omega arith);
-      bytes = refl;
-    })
-    (λ e. record {
-      is_open = o;
-      sender = e;
-      peer = refl;
-      number = omega arith;
-      plain = λ _ f. absurd (true≢false (sym c ∙ f));
-    })
+attested_first x peer size o c = search rules
 
 -- a client that has accepted this peer and size
 abbrev pub accepting : Party → Endpoint → ℕ → ℕ → Bool → Party
@@ -44,25 +28,7 @@ module _ (network : Network) where
   -- a client's request keeps the invariant
   pub asks : (m : Machine) → Holds network m → (at : Endpoint) (write : Bool) (request : WireRequest) (text : List ℕ) →
       Guard network (Asks at write request text) m → Holds network (after network (Asks at write request text) m)
-  asks m h at write request text g =
-      let x = asking write request text in
-      kept network m at x (message at network.request_port (Request write request) ∷ []) h
-      (λ o. absurd (true≢false (sym o ∙ g.0)))
-      (λ _. record {
-        at_home = g.1;
-        positive = omega arith;
-        no_peer = λ _. (refl, refl, g.2);
-        serving = λ c p e. cc;
-        has_peer = λ c. cc;
-        asked = λ c p e o. cc;
-        plain = λ c p. cc;
-        begun = λ c s f n p e o. cc;
-        received = λ s p e o. cc;
-        returned = λ d p e o. cc;
-        ended = λ s d p e o. cc;
-      })
-      (attested_one network m.party at x network.request_port (Request write request)
-      (record { is_open = refl; client = refl; sender = refl; mode = refl; request = refl }))
+  asks m h at write request text g = search (rules, kept, true≢false, attested_one)
 
   -- the opening of a server's end, with options or plain, keeps the invariant
   pub opens : (m : Machine) → Holds network m →
@@ -80,35 +46,20 @@ module _ (network : Network) where
       let x = opened plain peer write request text size number in
       let all = AllGrow-with m.party at x (λ o. absurd (true≢false (sym o ∙ closed))) in
       let new = with_end m.party at x in
-      kept network m at x (message at peer k ∷ []) h
-      (λ o. absurd (true≢false (sym o ∙ closed)))
-      (λ _. record {
+      kept network m at x (message at peer k ∷ []) h (λ o. absurd (true≢false (sym o ∙ closed))) (λ _. record {
         at_home = server;
         positive = positive;
         no_peer = λ e. cc;
         serving = λ c p e. cc;
         has_peer = λ c. (peer, refl);
-        asked = λ c p e o.
-            let same : peer ≡ p = cc in
-            let asked_by = h.attested (message peer network.request_port (Request write request)) asks_so (rw same o) in
-            let grown = (all.grows peer asked_by.is_open) in
-            subst (λ (q : Endpoint). HasAsked x (new q)) same
-            (record {
-              is_open = grown.is_open;
-              client = grown.client ∙ asked_by.client;
-              mode = grown.mode ∙ asked_by.mode;
-              sender = grown.sender ∙ (asked_by.sender ∙ sym (not-not write));
-              request = grown.request ∙ asked_by.request;
-            });
+        asked = search rules;
         plain = λ c p. small p;
         begun = λ c s f n p e o. absurd (let z = begins f in omega arith);
-        received =
-            λ s p e o. let w : write ≡ true = sym (not-not write) ∙ ap not s in
+        received = λ s p e o. let w : write ≡ true = sym (not-not write) ∙ ap not s in
             received_nothing x (new p) (empty w).0 (empty w).1 refl;
         returned = λ d p e o. cc;
         ended = λ s d p e o. cc;
-      })
-      (attested_one network m.party at x peer k t)
+      }) (attested_one network m.party at x peer k t)
 
   -- a waiting client accepts this peer and size, with this number, and may fail
   pub takes : (m : Machine) → Holds network m → (at peer : Endpoint) (size number : ℕ) (failed : Bool) →
@@ -130,40 +81,15 @@ module _ (network : Network) where
       let own : network.host_of at ≢ Elsewhere = own_of network m h at w.0.0 in
       let a = y.asked client at back own in
       let none = s.no_peer w.2 in
-      let grows : old.is_open ≡ true → Grows old x = λ o. record {
-        is_open = o;
-        client = refl;
-        sender = refl;
-        plain = refl;
-        mode = refl;
-        request = refl;
-        peer = λ p e. absurd (let k : None ≡ Some p = sym w.2 ∙ e in cc);
-        size = λ p e. absurd (let k : None ≡ Some p = sym w.2 ∙ e in cc);
-        number = let z = none.0 in omega arith;
-        complete = λ d. d;
-        text = λ _. refl;
-      } in
+      let grows : old.is_open ≡ true → Grows old x = search rules in
       let all = AllGrow-with m.party at x grows in
       let new = with_end m.party at x in
-      let serves : IsServing at x (m.party peer) =
-      record {
-        is_open = opens_there;
-        client = client;
-        peer = back;
-        size = sized;
-        mode = sym a.mode;
-        sender = flip old.sender (m.party peer).sender a.sender;
-        request = sym a.request;
-      } in
-      kept network m at x added h grows
-      (λ o. record {
+      let serves : IsServing at x (m.party peer) = search rules in
+      kept network m at x added h grows (λ o. record {
         at_home = s.at_home;
         positive = rw (← sized) y.positive;
         no_peer = λ e. cc;
-        serving =
-            λ c p e. let same : peer ≡ p = cc in
-            subst (λ (q : Endpoint). (network.host_of q ≡ At_server) × IsServing at x (new q)) same
-            (w.3, IsServing-grows at x (m.party peer) (new peer) (all.grows peer opens_there) serves);
+        serving = search rules;
         has_peer = λ c. absurd (true≢false (sym w.1 ∙ c));
         asked = λ c p e u. absurd (true≢false (sym w.1 ∙ c));
         plain = λ c p. absurd (true≢false (sym w.1 ∙ c));
@@ -171,5 +97,4 @@ module _ (network : Network) where
         received = λ z p e u. received_nothing x (new p) (none.2 z) (begins z) none.1;
         returned = λ d p e u. absurd (true≢false (sym d ∙ none.1));
         ended = λ z d p e u. absurd (true≢false (sym d ∙ none.1));
-      })
-      attested
+      }) attested

@@ -1,7 +1,7 @@
 -- An end by its phase: a sender, a receiver, one that dallies. For EndTurns, WaitingMoves and the crates tftp_player
 -- and tftp_promises.
-use Rattle.std.proofs.Common.{◌≡◌, ℕ, ◌+◌, ◌/◌, ◌<◌, ◌≤◌, Bool, true, false, List, [], ◌∷◌, ◌++◌, length, set, Option}
-use Rattle.std.proofs.Common.{Some, None, sym, refl, ap, ◌∙◌, subst, arith}
+use Rattle.std.proofs.Common.{◌≡◌, ℕ, ◌+◌, ◌/◌, ◌<◌, ◌≤◌, Bool, true, false, List, length, Option, Some, None, sym}
+use Rattle.std.proofs.Common.{refl, ap, ◌∙◌, arith, rules}
 use Rattle.std.specs.Prelude.{◌==◌, ◌&&◌, if◌then◌else◌, not, nat_lt, is_some}
 use Rattle.std.specs.List.{Contains}
 use Rattle.std.specs.Cmp.Lexicographic.{same_text}
@@ -28,17 +28,16 @@ use Rattle.tftp_ends.specs.End.{outcome_of}
 use Rattle.tftp_ends.specs.Receiver.{receiver_action, data_action, next_action, dally_response}
 use Rattle.tftp_ends.specs.Action.{same_address, same_endpoint}
 use Rattle.tftp_ends.specs.Sender.{sender_action, acked_action, illegal_action}
-use Rattle.tftp_ends.specs.Step.{Turn, Acts, StoresIn}
+use Rattle.tftp_ends.specs.Step.{Turn, Acts}
 use Rattle.tftp_ends.specs.Text.{is_readable}
 use Rattle.tftp_rules.specs.Machine.{Endpoint, Data as Says_data, Ack as Says_ack, Message, Network}
 use Rattle.tftp_rules.specs.Rules.{Rule, message}
 use Rattle.tftp_rules.specs.Said.{said}
-use Rattle.tftp_rules.specs.Shows.{EndView, IsShownWithin}
-use Rattle.tftp_rules.specs.OpenEnds.{OpenEnd, files_of, end_after, text_of as text_of_end, open_view, with_phase}
+use Rattle.tftp_rules.specs.Shows.{EndView}
+use Rattle.tftp_rules.specs.OpenEnds.{OpenEnd, files_of, end_after, open_view, with_phase}
 use Rattle.tftp_rules.specs.KnownFiles.{known_source, known_sink}
 use Rattle.tftp_rules.specs.EndKept.{EndKept}
 use Rattle.tftp_rules.specs.EndShown.{Stands, Goes, IsThere}
-use Rattle.tftp_rules.proofs.Endpoints.{endpoint_from}
 use Rattle.tftp_rules.proofs.Actions.{stores, refuses_next}
 use Rattle.tftp_rules.proofs.SaidLemmas.{data_of}
 use Rattle.tftp_rules.proofs.EndMoves.{from_response, ignores, answers_wrong_peer, answers_again, gives_up, refuses_now}
@@ -67,9 +66,7 @@ same_ips a b e = same_text a.ip b.ip (sym e)
 
 -- endpoints that are the same by the test of an end are one
 pub same_endpoints : (a b : Endpoint) → same_endpoint a b ≡ true → a ≡ b
-same_endpoints a b e =
-    let h = both_true (same_address a b) (a.port == b.port) e in
-    endpoint_from a b (same_ips a b h.0) (eqb-true a.port b.port h.1)
+same_endpoints a b e = search rules
 
 -- the packet that was handled was sent
 abbrev pub OfDecoded : List Message → Endpoint → OpenEnd → Option WirePacket → Type 0
@@ -128,34 +125,26 @@ module _ (network : Network) where
         let text = x0.text in
         let measured : x0.state.role.length ≡ length text = u.measured in
         if_acts P (acked == n) (if nat_lt n (x0.state.role.length / terms.size + 1) then Send terms (n + 1) else Respond
-        Complete) (if nat_lt acked n then Respond Ignore else illegal_action terms)
-        (λ e.
-        let here : Contains messages (message from x0.address (Says_ack n)) =
-        subst (λ (m : ℕ). Contains messages (message from x0.address (Says_ack m))) (eqb-true acked n e) come in
-        if_acts P (nat_lt n (x0.state.role.length / terms.size + 1)) (Send terms (n + 1)) (Respond Complete)
-        (λ l. let more : n < block_count text terms.size = subst (λ (m : ℕ). n < m / terms.size + 1) measured
-        (ltb-true n (x0.state.role.length / terms.size + 1) l) in
+        Complete) (if nat_lt acked n then Respond Ignore else illegal_action terms) (λ e.
+        let here : Contains messages (message from x0.address (Says_ack n)) = rw (← eqb-true acked n e) come in
+        if_acts P (nat_lt n (x0.state.role.length / terms.size + 1)) (Send terms (n + 1)) (Respond Complete) (λ l.
+        let more : n < block_count text terms.size = rw (← measured) (ltb-true n (x0.state.role.length / terms.size +
+        1) l) in
         λ turn held h. data_goes network first views messages k sender terms n from turn held u.sender measured u.left
-        (sends_next network first views messages k x0 terms n s kept from peer here more)
-        (refuses_now network first views messages k sender s kept replies.FileChanged outcomes.SourceFault from refl) h)
-        (λ l. let least : block_count text terms.size ≤ n = subst (λ (m : ℕ). m / terms.size + 1 ≤ n) measured
-        (ltb-false n (x0.state.role.length / terms.size + 1) l) in
+        (sends_next network first views messages k x0 terms n s kept from peer here more) (refuses_now network first
+        views messages k sender s kept replies.FileChanged outcomes.SourceFault from refl) h) (λ l. let least :
+        block_count text terms.size ≤ n = rw (← measured) (ltb-false n (x0.state.role.length / terms.size + 1) l) in
         let most = u.so_far in
         let last : n ≡ block_count text terms.size = omega arith in
-        λ turn held h. from_response network first views messages k sender Complete from turn held
-        (ends_whole network first views messages k x0 terms n s kept from peer here last) h))
-        (λ e. if_acts P (nat_lt acked n) (Respond Ignore) (illegal_action terms)
-        (λ l. ignore_acts first views messages k sender s kept from bytes refl)
-        (λ l. illegal_sender))
+        λ turn held h. from_response network first views messages k sender Complete from turn held (ends_whole network
+        first views messages k x0 terms n s kept from peer here last) h)) (λ e. if_acts P (nat_lt acked n) (Respond
+        Ignore) (illegal_action terms) (λ l. ignore_acts first views messages k sender s kept from bytes refl) (λ l.
+        illegal_sender))
 
     -- a sender with any packet
     pub sender_acts : (client : Bool) (decoded : Option WirePacket) → terms.peer ≡ from →
         OfDecoded messages from x0 decoded →
         Acting first views messages k sender from bytes (sender_action client x0.state.role.length terms n decoded)
-    sender_acts client None peer come = illegal_sender
-    sender_acts client (Some (Read r)) peer come = illegal_sender
-    sender_acts client (Some (Write r)) peer come = illegal_sender
-    sender_acts client (Some (Data number piece)) peer come = illegal_sender
     sender_acts client (Some (Ack acked)) peer come = acked_acts acked peer (come (Ack acked) refl)
     sender_acts client (Some (Error code text)) peer come =
         λ turn held h. from_response network first views messages k sender (Close (outcomes.PeerError code)) from turn
@@ -164,6 +153,7 @@ module _ (network : Network) where
         if_acts (Acting first views messages k sender from bytes) (client && terms.by_oack) (Respond Ignore)
         (illegal_action terms)
         (λ e. ignore_acts first views messages k sender s kept from bytes refl) (λ e. illegal_sender)
+    sender_acts client decoded peer come = illegal_sender
 
   module _ (first : List Rule) (views : List EndView) (messages : List Message) (k : ℕ) (x0 : OpenEnd) (terms : Terms)
       (n : ℕ)
@@ -198,14 +188,9 @@ module _ (network : Network) where
         let store =
         if is_readable x0.state.role.mode x0.state.position.held_back piece last then Store terms number else Respond
         (Refuse (Some terms) replies.NotNetascii outcomes.NotNetascii) in
-        if_acts P (nat_lt terms.size (length piece)) (illegal_action terms)
-        (if number == 65535 && (length piece == terms.size) then Respond
-        (Refuse (Some terms) replies.FileTooLarge outcomes.TooLarge) else store)
-        (λ e. refuse_receiver replies.IllegalOperation outcomes.Illegal)
-        (λ e.
-        let l : length piece ≤ terms.size = ltb-false terms.size (length piece) e in
-        let here : Contains messages (message from x0.address (Says_data (n + 1) piece)) =
-        subst (λ (m : ℕ). Contains messages (message from x0.address (Says_data m piece))) is come in
+        if_acts P _ _ _ (λ e. refuse_receiver replies.IllegalOperation outcomes.Illegal) (λ e.
+        let l = ltb-false terms.size (length piece) e in
+        let here = rw (is) at come in
         let got : Receives network first views messages k receiver terms number from piece = record {
           receiver = kept.phase.0;
           going = refl;
@@ -213,29 +198,16 @@ module _ (network : Network) where
           peer = sym peer;
           fits = spelled.valid.1;
           stored =
-              subst (λ (m : ℕ). IsShownWithin network 3 first
-              (set views k (record (open_view receiver) {
-                number = m;
-                complete = last;
-                text = text_of_end receiver ++ piece;
-              })) (messages ++ message x0.address from (Says_ack m) ∷ [])) (sym is)
-              (stores network first views messages k (open_view receiver) s from piece (refl, refl) kept.phase.0
+              rw (sym is) at (stores network first views messages k (open_view receiver) s from piece (refl, refl)
+              kept.phase.0
               (ap Some peer) here l);
-          refused =
-              λ t b. refuses_next network first views messages k (open_view receiver) s from piece t (refl, refl)
-              kept.phase.0 (ap Some peer) here l b;
+          refused = λ t b. refuses_next _ _ _ _ k _ s _ _ t (refl, refl) kept.phase.0 (ap Some peer) here l b;
         } in
-        if_acts P (number == 65535 && (length piece == terms.size))
-        (Respond (Refuse (Some terms) replies.FileTooLarge outcomes.TooLarge)) store
-        (λ f. refuse_receiver replies.FileTooLarge outcomes.TooLarge)
-        (λ f. if_acts P (is_readable x0.state.role.mode x0.state.position.held_back piece last) (Store terms number)
-        (Respond (Refuse (Some terms) replies.NotNetascii outcomes.NotNetascii))
-        (λ readable turn held h. block_goes network first views messages k receiver terms number from piece kept got
-        readable turn held
-        (subst (λ (bs : List ℕ). StoresIn known_source known_sink terms number from bs receiver.state
-        (files_of receiver) turn held) (sym (data_of number h.0 bytes h.1) ∙ data_of number piece bytes spelled)
-        h.2))
-        (λ g. refuse_receiver replies.NotNetascii outcomes.NotNetascii)))
+        if_acts P (number == 65535 && (length piece == terms.size)) (Respond (Refuse (Some terms) replies.FileTooLarge
+        outcomes.TooLarge)) store (λ f. refuse_receiver replies.FileTooLarge outcomes.TooLarge) (λ f. if_acts P _ _ _
+        (λ readable turn held h. block_goes _ _ _ _ k _ _ _ _ _ kept got readable _ _ (rw (sym (data_of number h.0 bytes
+        h.1) ∙ data_of number piece bytes spelled) at h.2)) (λ g. refuse_receiver replies.NotNetascii
+        outcomes.NotNetascii)))
 
     data_acts : (number : ℕ) (piece : List ℕ) → Spells (Data number piece) bytes →
         Contains messages (message from x0.address (Says_data number piece)) →
@@ -246,35 +218,27 @@ module _ (network : Network) where
         let later =
         if number == n + 1 then next_action x0.state.role.mode x0.state.position.held_back terms number piece else
         illegal_action terms in
-        if_acts P (number == n) (Respond ResendReply) (if nat_lt number n then Respond Ignore else later)
-        (λ e. again_receiver)
-        (λ e. if_acts P (nat_lt number n) (Respond Ignore) later
-        (λ f. ignore_receiver)
-        (λ f. if_acts P (number == n + 1)
-        (next_action x0.state.role.mode x0.state.position.held_back terms number piece) (illegal_action terms)
-        (λ g. next_acts number piece (eqb-true number (n + 1) g) spelled come)
-        (λ g. refuse_receiver replies.IllegalOperation outcomes.Illegal)))
+        if_acts P (number == n) (Respond ResendReply) (if nat_lt number n then Respond Ignore else later) (λ e.
+        again_receiver) (λ e. if_acts P (nat_lt number n) (Respond Ignore) later (λ f. ignore_receiver) (λ f. if_acts P
+        _ _ _ (λ g. next_acts number piece (eqb-true number (n + 1) g) spelled come) (λ g. refuse_receiver
+        replies.IllegalOperation outcomes.Illegal)))
 
     -- a receiver with any packet
     pub receiver_acts : (client : Bool) (decoded : Option WirePacket) →
         ((p : WirePacket) → decoded ≡ Some p → Spells p bytes) → OfDecoded messages from x0 decoded →
         Acting first views messages k receiver from bytes
         (receiver_action client x0.state.role.mode x0.state.position.held_back terms n decoded)
-    receiver_acts client None spelled come = refuse_receiver replies.IllegalOperation outcomes.Illegal
-    receiver_acts client (Some (Read r)) spelled come = refuse_receiver replies.IllegalOperation outcomes.Illegal
-    receiver_acts client (Some (Write r)) spelled come = refuse_receiver replies.IllegalOperation outcomes.Illegal
     receiver_acts client (Some (Data number piece)) spelled come =
-        data_acts number piece (spelled (Data number piece) refl) (come (Data number piece) refl)
-    receiver_acts client (Some (Ack acked)) spelled come = refuse_receiver replies.IllegalOperation outcomes.Illegal
+        data_acts _ _ (spelled (Data number piece) refl) (come (Data number piece) refl)
     receiver_acts client (Some (Error code text)) spelled come =
         λ turn held h. from_response network first views messages k receiver (Close (outcomes.PeerError code)) from turn
         held (gives_up network first views messages k receiver s kept (outcomes.PeerError code) from refl) h
     receiver_acts client (Some (Oack options)) spelled come =
         let P = Acting first views messages k receiver from bytes in
-        if_acts P (client && terms.by_oack) (if n == 0 then Respond ResendReply else Respond Ignore)
-        (illegal_action terms)
-        (λ e. if_acts P (n == 0) (Respond ResendReply) (Respond Ignore) (λ f. again_receiver) (λ f. ignore_receiver))
-        (λ e. refuse_receiver replies.IllegalOperation outcomes.Illegal)
+        if_acts P (client && terms.by_oack) (if n == 0 then Respond ResendReply else Respond Ignore) (illegal_action
+        terms) (λ e. if_acts P (n == 0) (Respond ResendReply) (Respond Ignore) (λ f. again_receiver) (λ f.
+        ignore_receiver)) (λ e. refuse_receiver replies.IllegalOperation outcomes.Illegal)
+    receiver_acts client decoded spelled come = refuse_receiver replies.IllegalOperation outcomes.Illegal
 
   module _ (first : List Rule) (views : List EndView) (messages : List Message) (k : ℕ) (x0 : OpenEnd) (terms : Terms)
       (n : ℕ) (dally : Dally)

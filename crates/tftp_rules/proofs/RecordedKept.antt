@@ -1,6 +1,7 @@
 -- Each rule of the machine preserves the record of the datagrams sent. For `every_run_is_safe` and Refines.
-use Rattle.std.proofs.Common.{◌≡◌, ℕ, ◌+◌, Bool, true, false, not, List, [], ◌∷◌, ◌++◌, length, Some, None, sym, refl}
-use Rattle.std.proofs.Common.{ap, ◌∙◌, subst, arith, inl, inr}
+use Rattle.std.proofs.lemmas.Grind.{common_steps}
+use Rattle.std.proofs.Common.{◌≡◌, ℕ, ◌+◌, Bool, true, false, not, List, [], ◌∷◌, ◌++◌, length, Some, sym, refl, ap}
+use Rattle.std.proofs.Common.{◌∙◌, subst, arith, inl, inr, rules as std_rules}
 use Rattle.std.specs.Prelude.{◌≢◌, if◌then◌else◌, nat_lt}
 use Rattle.std.specs.List.{Contains}
 use Rattle.std.proofs.lemmas.Bool.{true≢false, cases_eq}
@@ -16,7 +17,7 @@ use Rattle.tftp_rules.specs.Facts.{Holds}
 use Rattle.tftp_rules.specs.Recorded.{IsRecorded, IsFirstAck, AreRecorded}
 use Rattle.tftp_rules.proofs.Endpoints.{cases_same}
 use Rattle.tftp_rules.proofs.Grows.{with_at, with_other}
-use Rattle.tftp_rules.proofs.Steps.{not-not, none_sent, one_sent}
+use Rattle.tftp_rules.proofs.Steps.{not-not, none_sent}
 use Rattle.tftp_rules.proofs.Opening.{accepting}
 use Rattle.tftp_rules.proofs.Keeps.{keeps}
 
@@ -24,15 +25,7 @@ module _ (network : Network) where
   -- with more datagrams sent
   more : (sent added : List Message) (a : Endpoint) (x : Party) → IsRecorded network sent a x →
       IsRecorded network (sent ++ added) a x
-  more sent added a x h = record {
-    requested =
-        λ c p e. Contains-append_left sent added (message p network.request_port (Request (not x.sender) x.request))
-        (h.requested c p e);
-    oack = λ c f p e. Contains-append_left sent added (message a p (Oack x.size)) (h.oack c f p e);
-    begun = λ c s f n p e. Contains-append_left sent added (message p a (Ack 0)) (h.begun c s f n p e);
-    ended =
-        λ s d p e. Contains-append_left sent added (message p a (Ack (block_count x.text x.size))) (h.ended s d p e);
-  }
+  more sent added a x h = grind (arith, common_steps)
 
   -- the end at a became x, these datagrams were added, and the new ones are recorded
   kept : (m : Machine) (a : Endpoint) (x : Party) (added : List Message) → Holds network m → AreRecorded network m →
@@ -80,8 +73,7 @@ module _ (network : Network) where
   -- a datagram other than ACK 0
   other : (P : Endpoint → Endpoint → Type 0) (from to : Endpoint) (k : Packet) → (k ≡ Ack 0 → ⊥) → (y p : Endpoint) →
       network.host_of y ≢ Elsewhere → Contains (message from to k ∷ []) (message y p (Ack 0)) → P y p
-  other P from to k n y p own i =
-      absurd (one_sent (λ d. d.packet ≡ Ack 0 → ⊥) (message from to k) n (message y p (Ack 0)) i refl)
+  other P from to k n y p own i = search std_rules
 
   nothing : (P : Endpoint → Endpoint → Type 0) (y p : Endpoint) → network.host_of y ≢ Elsewhere →
       Contains [] (message y p (Ack 0)) → P y p
@@ -90,9 +82,7 @@ module _ (network : Network) where
   first_one : (P : Endpoint → Endpoint → Type 0) (d : Message) →
       (d.packet ≡ Ack 0 → network.host_of d.from ≢ Elsewhere → P d.from d.to) → (y p : Endpoint) →
       network.host_of y ≢ Elsewhere → Contains (d ∷ []) (message y p (Ack 0)) → P y p
-  first_one P d f y p own i =
-      one_sent (λ e. e.packet ≡ Ack 0 → network.host_of e.from ≢ Elsewhere → P e.from e.to) d f (message y p (Ack 0)) i
-      refl own
+  first_one P d f y p own i = search std_rules
 
   opens : (m : Machine) → Holds network m → AreRecorded network m → (at peer : Endpoint) (x : Party) (k : Packet) →
       (m.party at).is_open ≡ false → x.client ≡ false → x.complete ≡ false →
@@ -102,25 +92,18 @@ module _ (network : Network) where
       AreRecorded network (record { sent = m.sent ++ message at peer k ∷ []; party = with_end m.party at x })
   opens m h r at peer x k closed client alive same asked with plain =
       let added = message at peer k ∷ [] in
-      kept m at x added h r
-      (λ o. absurd (true≢false (sym o ∙ closed)))
-      (λ _. record {
+      kept m at x added h r (λ o. absurd (true≢false (sym o ∙ closed))) (λ _. record {
         requested =
-            λ c p e. subst (λ (q : Endpoint). Contains (m.sent ++ added)
-            (message q network.request_port (Request (not x.sender) x.request))) (same p e)
-            (Contains-append_left m.sent added (message peer network.request_port (Request (not x.sender) x.request))
-            asked);
-        oack =
-            λ c f p e. let w = with f in
-            subst (λ (q : Endpoint). Contains (m.sent ++ added) (message at q (Oack x.size))) (same p e)
-            (subst (λ (j : Packet). Contains (m.sent ++ added) (message at peer j)) w.1
-            (Contains-push m.sent (message at peer k)));
+            λ c p e. (rw (← same p e) (Contains-append_left m.sent added (message peer network.request_port (Request
+            (not x.sender) x.request))
+            asked));
+        oack = λ c f p e. let w = with f in
+            rw (← same p e) (subst (λ (j : Packet). Contains (m.sent ++ added) (message at peer j)) w.1 (Contains-push
+            m.sent (message at peer k)));
         begun = λ c s f n p e. absurd (let z = (with f).0 in omega arith);
         ended = λ s d p e. absurd (true≢false (sym d ∙ alive));
-      })
-      (first_one (λ y p. IsFirstAck (m.sent ++ added) y (with_end m.party at x y) p) (message at peer k)
-      (λ z _. subst (λ (v : Party). IsFirstAck (m.sent ++ added) at v peer) (sym (with_at m.party at x))
-      (λ c. plain z, λ c. absurd (true≢false (sym c ∙ client)))))
+      }) (first_one (λ y p. IsFirstAck (m.sent ++ added) y (with_end m.party at x y) p) (message at peer k) (λ z _.
+      (rw ((with_at m.party at x)) (λ c. plain z, λ c. absurd (true≢false (sym c ∙ client))))))
 
   takes : (m : Machine) → Holds network m → AreRecorded network m →
       (at peer : Endpoint) (size number : ℕ) (failed : Bool) → Waits network (m.party at) peer →
@@ -131,16 +114,7 @@ module _ (network : Network) where
         sent = m.sent ++ added;
         party = with_end m.party at (accepting (m.party at) peer size number failed);
       })
-  takes m h r at peer size number failed w added first =
-      kept m at (accepting (m.party at) peer size number failed) added h r
-      (λ _. (refl, refl, λ p e. absurd (let z : None ≡ Some p = sym w.2 ∙ e in cc)))
-      (λ _. record {
-        requested = λ c p e. absurd (true≢false (sym w.1 ∙ c));
-        oack = λ c f p e. absurd (true≢false (sym w.1 ∙ c));
-        begun = λ c s f n p e. absurd (true≢false (sym w.1 ∙ c));
-        ended = λ s d p e. absurd (true≢false (sym d ∙ w.0.1));
-      })
-      first
+  takes m h r at peer size number failed w added first = search (std_rules, kept, accepting, true≢false)
 
   says : (m : Machine) → Holds network m → AreRecorded network m → (d : Message) →
       (d.packet ≡ Ack 0 → network.host_of d.from ≢ Elsewhere → IsFirstAck m.sent d.from (m.party d.from) d.to) →
@@ -149,11 +123,9 @@ module _ (network : Network) where
       let at = d.from in
       let x = m.party at in
       let all = m.sent ++ d ∷ [] in
-      kept m at x (d ∷ []) h r (λ _. (refl, refl, λ p e. refl))
-      (λ o. more m.sent (d ∷ []) at x (r.ends at o))
-      (first_one (λ y p. IsFirstAck all y (with_end m.party at x y) p) d
-      (λ z own. let b = f z own in subst (λ (v : Party). IsFirstAck all at v d.to) (sym (with_at m.party at x))
-      (b.0, λ c. Contains-append_left m.sent (d ∷ []) (message d.to at (Oack x.size)) (b.1 c))))
+      kept m at x (d ∷ []) h r (λ _. (refl, refl, λ p e. refl)) (λ o. more m.sent (d ∷ []) at x (r.ends at o))
+      (first_one _ d (λ z own. let b = f z own in subst (λ (v : Party). IsFirstAck all at v d.to) (sym (with_at m.party
+      at x)) (b.0, λ c. Contains-append_left m.sent (d ∷ []) (message d.to at (Oack x.size)) (b.1 c))))
 
   receives : (m : Machine) → Holds network m → AreRecorded network m → (at : Endpoint) (x : Party) →
       (m.party at).is_open ≡ true → x.client ≡ (m.party at).client → x.plain ≡ (m.party at).plain →
@@ -164,14 +136,7 @@ module _ (network : Network) where
       AreRecorded network (record { sent = m.sent ++ added; party = with_end m.party at x })
   receives m h r at x o client plain peer size sender request receiver added first =
       let b = more m.sent added at (m.party at) (r.ends at o) in
-      kept m at x added h r (λ _. (client, plain, λ p e. size))
-      (λ _. record {
-        requested = λ c p e. rw (sender, request) (b.requested (sym client ∙ c) p (sym peer ∙ e));
-        oack = λ c f p e. rw size (b.oack (sym client ∙ c) (sym plain ∙ f) p (sym peer ∙ e));
-        begun = λ c s f n p e. absurd (true≢false (sym s ∙ receiver));
-        ended = λ s d p e. absurd (true≢false (sym s ∙ receiver));
-      })
-      first
+      search (std_rules, kept, true≢false)
 
   -- one rule keeps the record
   pub recorded_keeps : (r : Rule) (m : Machine) → Holds network m → AreRecorded network m → Guard network r m →
@@ -286,7 +251,4 @@ module _ (network : Network) where
 
   -- at the start nothing was sent, and all of it is recorded
   pub recorded_start : AreRecorded network start
-  recorded_start = record {
-    ends = λ a o. absurd (true≢false (sym o));
-    first = λ y p own i. absurd (none_sent (λ d. ⊥) (message y p (Ack 0)) i);
-  }
+  recorded_start = search std_rules

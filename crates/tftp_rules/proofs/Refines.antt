@@ -1,18 +1,17 @@
 -- What is shown stays shown after a step, an opening or a datagram. For four functions, Actions, ViewSafe and the
 -- crates tftp_player and tftp_promises.
-use Rattle.std.proofs.Common.{◌≡◌, ℕ, Bool, true, false, List, [], ◌∷◌, ◌++◌, length, set, Some, None, sym, refl, ap}
-use Rattle.std.proofs.Common.{◌∙◌, subst, arith, inl, inr}
-use Rattle.std.specs.Prelude.{◌≢◌, ◌≤◌, ◌⊎◌, not, slice_get}
-use Rattle.std.specs.List.{Contains}
-use Rattle.std.proofs.lemmas.Bool.{true≢false, cases_Bool}
+use Rattle.std.proofs.Common.{◌≡◌, ℕ, Bool, true, false, List, [], ◌∷◌, ◌++◌, length, set, Some, sym, refl, ap, ◌∙◌}
+use Rattle.std.proofs.Common.{subst, inl, inr, rules}
+use Rattle.std.specs.Prelude.{◌≢◌, ◌≤◌, ◌⊎◌, slice_get}
+use Rattle.std.proofs.lemmas.Bool.{cases_Bool}
 use Rattle.tftp_rules.specs.Machine.{Endpoint, Message, Party, nobody, Machine, start, Network}
 use Rattle.tftp_wire.specs.Spelling.{Spells}
 use Rattle.tftp_wire.specs.declared.packet.Packet.{Packet as WirePacket}
 use Rattle.tftp_wire.specs.declared.packet.Request.{Request as WireRequest}
 use Rattle.tftp_rules.specs.Facts.{Holds}
 use Rattle.tftp_rules.specs.Recorded.{AreRecorded}
-use Rattle.tftp_rules.specs.Rules.{Rule, Asks, Opens_plainly, Opens_with, Says_error, Repeats, Strays, actor, MayAct}
-use Rattle.tftp_rules.specs.Rules.{Guard, OpensNoDuplicate, AreOver, packets, party_after, after, IsLegal, run}
+use Rattle.tftp_rules.specs.Rules.{Rule, Asks, Opens_plainly, Opens_with, actor, MayAct, Guard, OpensNoDuplicate}
+use Rattle.tftp_rules.specs.Rules.{AreOver, packets, party_after, after, IsLegal, run}
 use Rattle.tftp_rules.specs.Shows.{EndView, party_of, Matches, requested, answered_by, HasRequest, IsInService}
 use Rattle.tftp_rules.specs.Shows.{AreApart, NoneAt}
 use Rattle.tftp_rules.specs.Shows.{Shows, IsShownAt, IsShownWithin, IsShown, ActInTurn, party_then, sent_by, OpensEnd}
@@ -24,31 +23,14 @@ use Rattle.tftp_rules.proofs.Indices.{slice_get-set_cases, slice_get-set_same, s
 use Rattle.tftp_rules.proofs.Indices.{slice_get-push_cases, slice_get-push_old, slice_get-push_new}
 use Rattle.tftp_rules.proofs.RecordedKept.{recorded_run, recorded_start}
 use Rattle.tftp_rules.proofs.Runs.{Holds-start, Holds-run, run_then, legal_then}
-use Rattle.tftp_rules.proofs.Steps.{not-not}
 
 -- the view of an end that did not fail has all of its party but `plain` and the request
 view_is_whole : (e : EndView) (x : Party) → Matches e x → x.text ≡ e.text →
     x ≡ with_unshown (record { plain = x.plain; request = x.request }) (party_of e)
-view_is_whole e x m t = λ i. record {
-  is_open = m.is_open i;
-  client = m.client i;
-  sender = m.sender i;
-  plain = x.plain;
-  mode = m.mode i;
-  request = x.request;
-  peer = m.peer i;
-  size = m.size i;
-  number = m.number i;
-  complete = m.complete i;
-  failed = m.failed i;
-  text = t i;
-}
+view_is_whole e x m t = search rules
 
 same_text : (e : EndView) (x : Party) → Matches e x → e.failed ≡ false → x.text ≡ e.text
-same_text e x m f = elim (cases_Bool e.complete) [
-  | inl d ↦ m.whole d
-  | inr d ↦ m.live d f
-]
+same_text e x m f = search rules
 
 -- a match does not depend on `plain` or on the request
 match_unshown : (f : EndView) (b : Unshown) (x : Party) → Matches f x → Matches f (with_unshown b x)
@@ -58,46 +40,20 @@ match_unshown f b x m = search
 apart_as : (xs ys : List EndView) →
     ((k : ℕ) (y : EndView) → slice_get ys k ≡ Some y → (x : EndView) × (slice_get xs k ≡ Some x)
     × (x.address ≡ y.address)) → AreApart xs → AreApart ys
-apart_as xs ys was apart j k y z at there same =
-    let a = was j y at in
-    let b = was k z there in
-    apart j k a.0 b.0 a.1 b.1 (a.2 ∙ (same ∙ sym b.2))
+apart_as xs ys was apart j k y z at there same = search rules
 
 -- after an end stays at its endpoint
 apart_set : (views : List EndView) (k : ℕ) (d f : EndView) → slice_get views k ≡ Some d → f.address ≡ d.address →
     AreApart views → AreApart (set views k f)
-apart_set views k d f at same = apart_as views (set views k f) (λ j y i. elim (slice_get-set_cases views k j f y i) [
-  | inl b ↦ (d, ap (slice_get views) b.0 ∙ at, sym same ∙ ap (λ (z : EndView). z.address) (sym b.1))
-  | inr b ↦ (y, b.1, refl)
-])
+apart_set views k d f at same = search (rules, apart_as, slice_get-set_cases)
 
 -- after an end opens at a new endpoint
 apart_push : (views : List EndView) (f : EndView) → NoneAt views f.address → AreApart views → AreApart (views ++ f ∷ [])
-apart_push views f none apart j k x y i l same = elim (slice_get-push_cases views j f x i) [
-  | inl p ↦ elim (slice_get-push_cases views k f y l) [
-    | inl q ↦ apart j k x y p q same
-    | inr q ↦ absurd (none j x p (same ∙ ap (λ (z : EndView). z.address) q.1))
-  ]
-  | inr p ↦ elim (slice_get-push_cases views k f y l) [
-    | inl q ↦ absurd (none k y q (sym same ∙ ap (λ (z : EndView). z.address) p.1))
-    | inr q ↦ p.0 ∙ sym q.0
-  ]
-]
+apart_push views f none apart j k x y i l same = search (rules, slice_get-push_cases)
 
 -- an end of the server answers the same request while it continues
 same_answer : (x y : Party) → KeepsOn x y → answered_by x ≡ answered_by y
-same_answer x y g =
-    ap (λ (b : Bool). requested (not b) x.request) (sym g.sender) ∙ ap (λ (r : WireRequest). requested (not y.sender) r)
-    (sym g.request)
-
--- an end in service was in service before
-was_in_service : (e f : EndView) (x y : Party) → Matches e x → Matches f y → KeepsOn x y → e.failed ≡ false →
-    IsInService f → IsInService e
-was_in_service e f x y m n g alive s =
-    (sym m.client ∙ (sym g.client ∙ (n.client ∙ s.0)), not_done (cases_Bool e.complete), alive) where
-      not_done : (e.complete ≡ true) ⊎ (e.complete ≡ false) → e.complete ≡ false
-      not_done (inl d) = absurd (true≢false (sym (g.complete (m.complete ∙ d)) ∙ (n.complete ∙ s.1)))
-      not_done (inr d) = d
+same_answer x y g = search rules
 
 -- an end whose request is shown is one of the server
 serves_by : (e : EndView) → HasRequest e → e.client ≡ false
@@ -107,17 +63,12 @@ serves_by e (inr shown) = shown.0
 -- its request was shown before
 had_request : (e f : EndView) (x y : Party) → Matches e x → Matches f y → KeepsOn x y → e.failed ≡ false →
     f.request ≡ e.request → HasRequest f → HasRequest e
-had_request e f x y m n g alive same (inl busy) = inl (was_in_service e f x y m n g alive busy)
-had_request e f x y m n g alive same (inr shown) =
-    inr (sym m.client ∙ (sym g.client ∙ (n.client ∙ shown.0)), λ none. shown.1 (same ∙ none))
+had_request e f x y m n g alive same h9 = search rules
 
 -- no end is open where none is shown
 none_open : (views : List EndView) (messages : List Message) (m : Machine) → Shows views messages m → (a : Endpoint) →
     NoneAt views a → (m.party a).is_open ≡ false
-none_open views messages m s a none = elim (cases_Bool (m.party a).is_open) [
-  | inl o ↦ let old = s.only a o in absurd (none old.0 old.1 old.2 old.3)
-  | inr n ↦ n
-]
+none_open views messages m s a none = search rules
 
 -- if no end that is shown answers the request, those that it opened are complete or failed
 all_over : (views : List EndView) (messages : List Message) (m : Machine) → Shows views messages m →
@@ -137,11 +88,7 @@ all_over views messages m s peer write request none a by =
           subst (λ (q : Endpoint). Matches e (m.party q)) there.3 (s.ends there.0 e there.2) in
           let busy : IsInService e = (sym t.client ∙ by.server, sym t.complete ∙ d, sym t.failed ∙ f) in
           let says = s.asked there.0 e there.2 (inl busy) in
-          let same : answered_by (m.party e.address) ≡ requested write request =
-          ap (λ (q : Endpoint). answered_by (m.party q)) there.3
-          ∙ (ap (λ (b : Bool). requested (not b) (m.party a).request) by.sender
-          ∙ (ap (λ (b : Bool). requested b (m.party a).request) (not-not write)
-          ∙ ap (requested write) by.request_is)) in
+          let same : answered_by (m.party e.address) ≡ requested write request = search rules in
           none there.0 e there.2 (record {
             serving = busy;
             peer_is = sym t.peer ∙ by.peer_is;
@@ -158,23 +105,12 @@ opens_no_duplicate views messages m (Opens_with at peer write request text size)
     all_over views messages m s peer write request h.1
 opens_no_duplicate views messages m r bytes s o h = absurd o
 
--- a new end of the server answers its request
-answers_so : (write : Bool) (request : WireRequest) (bytes : List ℕ) → Spells (requested write request) bytes →
-    Spells (requested (not (not write)) request) bytes
-answers_so write request bytes s = subst (λ (b : Bool). Spells (requested b request) bytes) (sym (not-not write)) s
-
 new_answer : (views : List EndView) (f : EndView) (r : Rule) → OpensEnd r → AsksUnanswered r f.request views →
     Matches f (party_after r nobody) → f.client ≡ false → Spells (answered_by (party_after r nobody)) f.request
-new_answer views f (Asks at write request text) o h t server = absurd (true≢false (t.client ∙ server))
-new_answer views f (Opens_plainly at peer write request text) o h t server = answers_so write request f.request h.0
-new_answer views f (Opens_with at peer write request text size) o h t server = answers_so write request f.request h.0
-new_answer views f r o h t server = absurd o
+new_answer views f r o h t server = search rules
 
 speaks_none : (r : Rule) → Speaks r → (m : Machine) → OpensNoDuplicate r m
-speaks_none (Says_error at to) o m = tt
-speaks_none (Repeats old) o m = tt
-speaks_none (Strays stray) o m = tt
-speaks_none r o m = absurd o
+speaks_none r o m = search rules
 
 -- an end that has closed, and whose request is not shown
 forgotten : (e : EndView) → HasRequest (record e { request = [] }) → (IsInService e → ⊥) → ⊥
@@ -184,19 +120,7 @@ forgotten e (inr shown) over = shown.1 refl
 module _ (network : Network) where
   -- no ends and no datagrams are shown by the empty run
   pub shown_start : IsShown network [] []
-  shown_start = (
-    [],
-    (
-      tt,
-      record {
-        sent = refl;
-        ends = λ k e i. absurd (let z : None ≡ Some e = i in cc);
-        apart = λ j k e f i. absurd (let z : None ≡ Some e = i in cc);
-        asked = λ k e i. absurd (let z : None ≡ Some e = i in cc);
-        only = λ a o. absurd (true≢false (sym o));
-      },
-    ),
-  )
+  shown_start = search rules
 
   -- a machine that shows them has the invariant
   pub shown_by : (views : List EndView) (messages : List Message) → IsShown network views messages →
@@ -213,15 +137,7 @@ module _ (network : Network) where
       (rs : List Rule) →
       IsLegal network rs (run network first start) → Shows vs ms (run network rs (run network first start)) →
       IsShownWithin network (length rs) first vs ms
-  shown_after first vs ms before rs legal shows = (
-    rs,
-    omega arith,
-    (
-      legal_then network first rs start before legal,
-      subst (λ (m : Machine). Shows vs ms m)
-          (sym (run_then network first rs start)) shows,
-    ),
-  )
+  shown_after first vs ms before rs legal shows = search (rules, legal_then, run_then)
 
   -- with no more rules it is still shown
   pub shown_still : (first : List Rule) (views : List EndView) (messages : List Message) →
@@ -231,8 +147,7 @@ module _ (network : Network) where
   -- it is shown within a greater number of rules, too
   pub shown_within : (few most : ℕ) (first : List Rule) (views : List EndView) (messages : List Message) → few ≤ most →
       IsShownWithin network few first views messages → IsShownWithin network most first views messages
-  shown_within few most first views messages fits shown =
-      (shown.0, (let l = shown.1 in omega (arith, l, fits)), shown.2)
+  shown_within few most first views messages fits shown = search rules
 
   -- an end that acts by some rules in turn stays shown
   pub shown_acts : (first : List Rule) (views : List EndView) (messages : List Message) (k : ℕ) (e f : EndView)
@@ -247,44 +162,35 @@ module _ (network : Network) where
       let here = s.ends k e at in
       let x = m.party a in
       let acted =
-      act_in_turn network rs a messages m (record { plain = x.plain; request = x.request }) (party_of e)
-      here.is_open (view_is_whole e x here (same_text e x here alive))
-      (λ d i. subst (λ (ds : List Message). Contains ds d) (sym s.sent) i) turns in
+      act_in_turn network rs a messages m (record { plain = x.plain; request = x.request }) (party_of e) here.is_open
+      (view_is_whole e x here (same_text e x here alive)) (λ d i. (rw (s.sent) i)) turns in
       let n = run network rs m in
       let w = acted.1 in
-      let now : Matches f (n.party a) =
-      subst (λ (y : Party). Matches f y) (sym w.here.1)
-      (match_unshown f w.here.0 (party_then rs (party_of e)) matches) in
-      let at_new : Matches f (n.party f.address) = subst (λ (y : Party). Matches f y) (ap n.party (sym same)) now in
+      let now : Matches f (n.party a) = rw (w.here.1) (match_unshown f w.here.0 (party_then rs (party_of e)) matches) in
+      let at_new : Matches f (n.party f.address) = rw (← ap n.party (sym same)) now in
       let asked_new : HasRequest f → Spells (answered_by (n.party f.address)) f.request = λ has.
-      subst (λ (bytes : List ℕ). Spells (answered_by (n.party f.address)) bytes) (sym asks)
-      (subst (λ (p : WirePacket). Spells p e.request) (same_answer x (n.party a) w.keeps
-      ∙ ap (λ (q : Endpoint). answered_by (n.party q)) (sym same))
-      (s.asked k e at (had_request e f x (n.party a) here now w.keeps alive asks has))) in
+      (rw (asks) (subst (λ (p : WirePacket). Spells p e.request) (same_answer x (n.party a) w.keeps ∙ ap (λ (q :
+      Endpoint). answered_by (n.party q)) (sym same)) (s.asked k e at (had_request e f x (n.party a) here now w.keeps
+      alive asks has)))) in
       let away : (j : ℕ) (y : EndView) → j ≢ k → slice_get views j ≡ Some y → y.address ≢ a =
       λ j y other i q. other (s.apart j k y e i at q) in
-      shown_after first (set views k f) (messages ++ sent_by network rs (party_of e)) shown.0 rs acted.0
-      (record {
+      shown_after first (set views k f) (messages ++ sent_by network rs (party_of e)) shown.0 rs acted.0 (record {
         sent = w.sent ∙ ap (λ (ds : List Message). ds ++ sent_by network rs (party_of e)) s.sent;
         ends = λ j y i. elim (slice_get-set_cases views k j f y i) [
-          | inl b ↦ subst (λ (z : EndView). Matches z (n.party z.address)) (sym b.1) at_new
-          | inr b ↦ subst (λ (z : Party). Matches y z) (sym (w.others y.address (away j y b.0 b.1))) (s.ends j y b.1)
+          | inl b ↦ rw (b.1) at_new
+          | inr b ↦ rw ((w.others y.address (away j y b.0 b.1))) (s.ends j y b.1)
         ];
         apart = apart_set views k e f at same s.apart;
         asked = λ j y i. elim (slice_get-set_cases views k j f y i) [
           | inl b ↦
-              subst (λ (z : EndView). HasRequest z → Spells (answered_by (n.party z.address)) z.request)
-              (sym b.1) asked_new
+              rw (b.1) asked_new
           | inr b ↦
-              λ has. subst (λ (z : Party). Spells (answered_by z) y.request)
-              (sym (w.others y.address (away j y b.0 b.1))) (s.asked j y b.1 has)
+              λ has. (rw ((w.others y.address (away j y b.0 b.1))) (s.asked j y b.1 has))
         ];
         only = λ b o. elim (cases_same b a) [
           | inl q ↦ (k, f, slice_get-set_same views k f e at, same ∙ sym q)
-          | inr d ↦ let old = s.only b (subst (λ (z : Party). z.is_open ≡ true) (w.others b d) o) in
-              let elsewhere : old.0 ≢ k =
-              λ q. d (let z : Some old.1 ≡ Some e = sym old.2 ∙ (ap (slice_get views) q ∙ at) in let v : old.1
-              ≡ e = cc in sym old.3 ∙ ap (λ (y : EndView). y.address) v) in
+          | inr d ↦ let old = s.only b (rw (← w.others b d) o) in
+              let elsewhere : old.0 ≢ k = search rules in
               (old.0, old.1, slice_get-set_other views k old.0 f elsewhere ∙ old.2, old.3)
         ];
       })
@@ -299,8 +205,7 @@ module _ (network : Network) where
       let s = shown.2.1 in
       let here = slice_get-set_same views k e d at in
       let old = s.ends k e here in
-      let matches : Matches (record e { request = [] }) (m.party e.address) =
-      search in
+      let matches : Matches (record e { request = [] }) (m.party e.address) = search in
       let now : Matches f (m.party f.address) =
       subst (λ (z : EndView). Matches z (m.party z.address)) (sym same) matches in
       let address : f.address ≡ e.address = ap (λ (z : EndView). z.address) same in
@@ -320,8 +225,7 @@ module _ (network : Network) where
               | inl b ↦ (
                 e,
                 ap (slice_get (set views k e)) b.0 ∙ here,
-                sym address ∙ ap (λ (z : EndView). z.address)
-                    (sym b.1),
+                sym address ∙ ap (λ (z : EndView). z.address) (sym b.1),
               )
               | inr b ↦ (y, slice_get-set_other views k j e b.0 ∙ b.1, refl)
             ]) s.apart;
@@ -329,33 +233,18 @@ module _ (network : Network) where
               | inl b ↦ λ has. absurd (idle (subst HasRequest b.1 has))
               | inr b ↦ s.asked j y (slice_get-set_other views k j e b.0 ∙ b.1)
             ];
-            only = λ b o. let there = s.only b o in elim (slice_get-set_cases views k there.0 e there.1 there.2) [
-              | inl c ↦ (
-                k,
-                f,
-                slice_get-set_same views k f d at,
-                address
-                    ∙ (ap (λ (z : EndView). z.address) (sym c.1) ∙ there.3),
-              )
-              | inr c ↦ (there.0, there.1, slice_get-set_other views k there.0 f c.0 ∙ c.1, there.3)
-            ];
+            only = search (rules, slice_get-set_cases, slice_get-set_same, slice_get-set_other);
           },
         ),
       )
 
   may_open : (r : Rule) → OpensEnd r → (sent : List Message) (x : Party) → x.is_open ≡ false →
       MayAct network r sent nobody → MayAct network r sent x
-  may_open (Asks at write request text) o sent x c h = (c, h.1, h.2)
-  may_open (Opens_plainly at peer write request text) o sent x c h = (c, h.1, h.2, h.3)
-  may_open (Opens_with at peer write request text size) o sent x c h = (c, h.1, h.2, h.3, h.4)
-  may_open r o sent x c h = absurd o
+  may_open r o sent x c h = search rules
 
   opens_alike : (r : Rule) → OpensEnd r → (x : Party) →
       (party_after r x ≡ party_after r nobody) × (packets network r x ≡ packets network r nobody)
-  opens_alike (Asks at write request text) o x = (refl, refl)
-  opens_alike (Opens_plainly at peer write request text) o x = (refl, refl)
-  opens_alike (Opens_with at peer write request text size) o x = (refl, refl)
-  opens_alike r o x = absurd o
+  opens_alike r o x = search rules
 
   -- an end that opens by a rule is shown
   pub shown_opens : (first : List Rule) (views : List EndView) (messages : List Message) (f : EndView) (r : Rule) →
@@ -369,61 +258,49 @@ module _ (network : Network) where
       let a = actor r in
       let x = m.party a in
       let closed = none_open views messages m s a (subst (NoneAt views) same none) in
-      let guard : Guard network r m =
-      subst (λ (ds : List Message). MayAct network r ds x) (sym s.sent)
-      (may_open r opening messages x closed may) in
+      let guard : Guard network r m = rw (s.sent) (may_open r opening messages x closed may) in
       let alike = opens_alike r opening x in
       let n = after network r m in
       let here : n.party f.address ≡ party_after r nobody =
       ap n.party same ∙ (with_at m.party a (party_after r x) ∙ alike.0) in
       let away : (j : ℕ) (y : EndView) → slice_get views j ≡ Some y → y.address ≢ a =
       λ j y i q. none j y i (q ∙ sym same) in
-      shown_after first (views ++ f ∷ []) (messages ++ packets network r nobody) shown.0 (r ∷ [])
-      (guard, opens_no_duplicate views messages m r f.request s opening asks, tt)
-      (record {
-        sent =
-            ap (λ (ds : List Message). ds ++ packets network r x) s.sent ∙ ap (λ (ds : List Message). messages ++ ds)
+      shown_after first (views ++ f ∷ []) (messages ++ packets network r nobody) shown.0 (r ∷ []) (
+        guard,
+        opens_no_duplicate views messages m r f.request s opening asks,
+        tt,
+      ) (record {
+        sent = ap (λ (ds : List Message). ds ++ packets network r x) s.sent ∙ ap (λ (ds : List Message). messages ++ ds)
             alike.1;
         ends = λ j y i. elim (slice_get-push_cases views j f y i) [
           | inl b ↦
-              subst (λ (z : Party). Matches y z) (sym (with_other m.party a (party_after r x) y.address (away j y b)))
-              (s.ends j y b)
+              rw ((with_other m.party a (party_after r x) y.address (away j y b))) (s.ends j y b)
           | inr b ↦
-              subst (λ (z : EndView). Matches z (n.party z.address)) (sym b.1)
-              (subst (λ (z : Party). Matches f z) (sym here) matches)
+              rw (b.1) (subst (λ (z : Party). Matches f z) (sym here) matches)
         ];
         apart = apart_push views f none s.apart;
         asked = λ j y i. elim (slice_get-push_cases views j f y i) [
           | inl b ↦
-              λ has. subst (λ (z : Party). Spells (answered_by z) y.request)
-              (sym (with_other m.party a (party_after r x) y.address (away j y b))) (s.asked j y b has)
+              λ has. (rw ((with_other m.party a (party_after r x) y.address (away j y b))) (s.asked j y b has))
           | inr b ↦
-              subst (λ (z : EndView). HasRequest z → Spells (answered_by (n.party z.address)) z.request) (sym b.1)
-              (λ has. subst (λ (z : Party). Spells (answered_by z) f.request) (sym here)
-              (new_answer views f r opening asks matches (serves_by f has)))
+              rw (b.1) (λ has. subst (λ (z : Party). Spells (answered_by z) f.request) (sym here) (new_answer views f r
+              opening asks matches (serves_by f has)))
         ];
         only = λ b o. elim (cases_same b a) [
           | inl q ↦ (length views, f, slice_get-push_new views f, same ∙ sym q)
           | inr d ↦
-              let old =
-              s.only b (subst (λ (z : Party). z.is_open ≡ true) (with_other m.party a (party_after r x) b d) o) in
+              let old = s.only b (rw (← with_other m.party a (party_after r x) b d) o) in
               (old.0, old.1, slice_get-push_old views old.0 f old.1 old.2, old.3)
         ];
       })
 
   may_speak : (r : Rule) → Speaks r → (sent : List Message) (x : Party) → MayAct network r sent nobody →
       MayAct network r sent x
-  may_speak (Says_error at to) o sent x h = h
-  may_speak (Repeats old) o sent x h = h
-  may_speak (Strays stray) o sent x h = h
-  may_speak r o sent x h = absurd o
+  may_speak r o sent x h = search rules
 
   speaks_alike : (r : Rule) → Speaks r → (x : Party) →
       (party_after r x ≡ x) × (packets network r x ≡ packets network r nobody)
-  speaks_alike (Says_error at to) o x = (refl, refl)
-  speaks_alike (Repeats old) o x = (refl, refl)
-  speaks_alike (Strays stray) o x = (refl, refl)
-  speaks_alike r o x = absurd o
+  speaks_alike r o x = search rules
 
   -- a datagram that changes no end is shown
   pub shown_speaks : (first : List Rule) (views : List EndView) (messages : List Message) (r : Rule) →
@@ -434,24 +311,22 @@ module _ (network : Network) where
       let s = shown.1 in
       let a = actor r in
       let x = m.party a in
-      let guard : Guard network r m =
-      subst (λ (ds : List Message). MayAct network r ds x) (sym s.sent) (may_speak r speaking messages x may) in
+      let guard : Guard network r m = rw (s.sent) (may_speak r speaking messages x may) in
       let alike = speaks_alike r speaking x in
       let n = after network r m in
       let stays : (q : Endpoint) → n.party q ≡ m.party q = λ q. elim (cases_same q a) [
         | inl e ↦ ap n.party e ∙ (with_at m.party a (party_after r x) ∙ (alike.0 ∙ ap m.party (sym e)))
         | inr d ↦ with_other m.party a (party_after r x) q d
       ] in
-      shown_after first views (messages ++ packets network r nobody) shown.0 (r ∷ [])
-      (guard, speaks_none r speaking m, tt)
-      (record {
-        sent =
-            ap (λ (ds : List Message). ds ++ packets network r x) s.sent ∙ ap (λ (ds : List Message). messages ++ ds)
+      shown_after first views (messages ++ packets network r nobody) shown.0 (r ∷ []) (
+        guard,
+        speaks_none r speaking m,
+        tt,
+      ) (record {
+        sent = ap (λ (ds : List Message). ds ++ packets network r x) s.sent ∙ ap (λ (ds : List Message). messages ++ ds)
             alike.1;
-        ends = λ j y i. subst (λ (z : Party). Matches y z) (sym (stays y.address)) (s.ends j y i);
+        ends = λ j y i. (rw ((stays y.address)) (s.ends j y i));
         apart = s.apart;
-        asked =
-            λ j y i has. subst (λ (z : Party). Spells (answered_by z) y.request) (sym (stays y.address))
-            (s.asked j y i has);
-        only = λ b o. s.only b (subst (λ (z : Party). z.is_open ≡ true) (stays b) o);
+        asked = λ j y i has. (rw ((stays y.address)) (s.asked j y i has));
+        only = λ b o. s.only b (rw (← stays b) o);
       })

@@ -1,7 +1,7 @@
 -- What each run of the guarded machine keeps: how its ends go on, and where requests are sent.
 -- For the laws of worlds on recovery and on blame (tftp_player).
-use Rattle.std.proofs.Common.{◌≡◌, ℕ, ◌≤◌, Bool, true, false, not, List, [], ◌∷◌, ◌++◌, Some, None, sym, refl, ap, ◌∙◌, subst, arith}
-use Rattle.std.proofs.Common.{inl, inr}
+use Rattle.std.proofs.Common.{◌≡◌, ℕ, ◌≤◌, Bool, true, false, not, List, [], ◌∷◌, ◌++◌, Some, sym, refl, ap, ◌∙◌, subst}
+use Rattle.std.proofs.Common.{arith, inl, inr, rules as std_rules}
 use Rattle.std.specs.Prelude.{◌≢◌, ◌⊎◌, if◌then◌else◌}
 use Rattle.std.specs.List.{Contains}
 use Rattle.std.proofs.lemmas.Bool.{true≢false}
@@ -21,88 +21,12 @@ use Rattle.tftp_rules.proofs.Steps.{none_sent, one_sent}
 
 -- ---- ends go on
 grows_then : (x y z : Party) → Grows x y → Grows y z → Grows x z
-grows_then x y z g h =
-    record {
-      is_open = h.is_open;
-      client = h.client ∙ g.client;
-      sender = h.sender ∙ g.sender;
-      plain = h.plain ∙ g.plain;
-      mode = h.mode ∙ g.mode;
-      request = h.request ∙ g.request;
-      peer = λ p e. h.peer p (g.peer p e);
-      size = λ p e. h.size p (g.peer p e) ∙ g.size p e;
-      number = let a = g.number in let b = h.number in omega (arith, a, b);
-      complete = λ d. h.complete (g.complete d);
-      text = λ s. h.text (g.sender ∙ s) ∙ g.text s;
-    }
+grows_then x y z g h = search std_rules
 
 module _ (network : Network) where
-  -- an end whose peer, size and sender stay, and which does not take back its numbers
-  goes_on : (x y : Party) → x.is_open ≡ true → y.is_open ≡ true → y.client ≡ x.client → y.sender ≡ x.sender →
-      y.plain ≡ x.plain → y.mode ≡ x.mode → y.request ≡ x.request → y.peer ≡ x.peer → y.size ≡ x.size →
-      x.number ≤ y.number → (x.complete ≡ true → y.complete ≡ true) → (x.sender ≡ true → y.text ≡ x.text) → Grows x y
-  goes_on x y o is_open client sender plain mode request peer size number complete text = record {
-    is_open = is_open;
-    client = client;
-    sender = sender;
-    plain = plain;
-    mode = mode;
-    request = request;
-    peer = λ p e. peer ∙ e;
-    size = λ p e. size;
-    number = number;
-    complete = complete;
-    text = text;
-  }
-
-  -- a client that has a peer now
-  takes_on : (m : Machine) (a peer : Endpoint) (size number : ℕ) (failed : Bool) → Holds network m →
-      (m.party a).is_open ≡ true → (m.party a).peer ≡ None →
-      Grows (m.party a) (record (m.party a) { peer = Some peer; size = size; number = number; failed = failed })
-  takes_on m a peer size number failed h there none =
-      let zero_now = ((h.ends a there).no_peer none).0 in
-      record {
-        is_open = there;
-        client = refl;
-        sender = refl;
-        plain = refl;
-        mode = refl;
-        request = refl;
-        peer = λ p e. absurd (let z : None ≡ Some p = sym none ∙ e in cc);
-        size = λ p e. absurd (let z : None ≡ Some p = sym none ∙ e in cc);
-        number = omega (arith, zero_now);
-        complete = λ d. d;
-        text = λ _. refl;
-      }
-
   rule_grows : (r : Rule) (m : Machine) → Holds network m → Guard network r m → (m.party (actor r)).is_open ≡ true →
       Grows (m.party (actor r)) (party_after r (m.party (actor r)))
-  rule_grows (Asks at write request text) m h g o = absurd (true≢false (sym o ∙ g.0))
-  rule_grows (Opens_plainly at peer write request text) m h g o = absurd (true≢false (sym o ∙ g.0))
-  rule_grows (Opens_with at peer write request text size) m h g o = absurd (true≢false (sym o ∙ g.0))
-  rule_grows (Takes_oack at peer size) m h g o =
-      let x = m.party at in takes_on m at peer size (if x.sender then 1 else 0) x.failed h o g.0.2
-  rule_grows (Takes_ack at peer) m h g o =
-      let x = m.party at in takes_on m at peer DEFAULT_BLOCK (if x.sender then 1 else 0) x.failed h o g.0.2
-  rule_grows (Takes_data at peer bytes) m h g o =
-      let x = m.party at in takes_on m at peer DEFAULT_BLOCK (if x.sender then 1 else 0) x.failed h o g.0.2
-  rule_grows (Appends at peer bytes) m h g o =
-      goes_on (m.party at) _ o o refl refl refl refl refl refl refl (omega arith)
-      (λ d. absurd (true≢false (sym d ∙ g.0.1))) (λ s. absurd (true≢false (sym s ∙ g.1)))
-  rule_grows (Sends_next at peer) m h g o =
-      goes_on (m.party at) _ o o refl refl refl refl refl refl refl (omega arith) (λ d. d) (λ s. refl)
-  rule_grows (Completes at peer) m h g o =
-      goes_on (m.party at) _ o o refl refl refl refl refl refl refl (omega arith) (λ d. refl) (λ s. refl)
-  rule_grows (Fails at) m h g o =
-      goes_on (m.party at) _ o o refl refl refl refl refl refl refl (omega arith) (λ d. d) (λ s. refl)
-  rule_grows (Fails_with at peer bytes) m h g o =
-      goes_on (m.party at) _ o o refl refl refl refl refl refl refl (omega arith) (λ d. d)
-      (λ s. absurd (true≢false (sym s ∙ g.1)))
-  rule_grows (Fails_to_begin at peer size) m h g o =
-      let x = m.party at in takes_on m at peer size x.number true h o g.0.2
-  rule_grows (Says_error at to) m h g o = Grows-same (m.party at) o
-  rule_grows (Repeats old) m h g o = Grows-same (m.party old.from) o
-  rule_grows (Strays stray) m h g o = Grows-same (m.party stray.from) o
+  rule_grows r m h g o = search std_rules
 
   -- every end that is open goes on
   pub run_grows : (rules : List Rule) (m : Machine) → Holds network m → IsLegal network rules m →
@@ -209,25 +133,19 @@ module _ (network : Network) where
 
   rule_fit : (r : Rule) (m : Machine) → Holds network m → AreFit m.party → Guard network r m →
       AreFit (after network r m).party
-  rule_fit (Asks at write request text) m h f g =
-      kept_fit m.party at _ f (λ _ s p e. absurd (let z : None ≡ Some p = e in cc))
+  rule_fit (Asks at write request text) m h f g = kept_fit m.party at _ f (λ _ s p e. absurd (let z = e in cc))
   rule_fit (Opens_plainly at peer write request text) m h f g =
       kept_fit m.party at _ f (λ _ s p e l. has_fit write text DEFAULT_BLOCK g.3 s)
   rule_fit (Opens_with at peer write request text size) m h f g =
       kept_fit m.party at _ f (λ _ s p e l. has_fit write text size g.3 s)
   rule_fit (Takes_oack at peer size) m h f g = kept_fit m.party at _ f (λ _ s p e l. g.2 s)
   rule_fit (Takes_ack at peer) m h f g = kept_fit m.party at _ f (λ _ s p e l. g.3)
-  rule_fit (Takes_data at peer bytes) m h f g =
-      kept_fit m.party at _ f (λ _ s p e l. absurd (true≢false (sym s ∙ g.1)))
-  rule_fit (Appends at peer bytes) m h f g =
-      kept_fit m.party at _ f (λ _ s p e l. absurd (true≢false (sym s ∙ g.1)))
-  rule_fit (Sends_next at peer) m h f g =
-      kept_fit m.party at _ f (λ o s p e l. f at g.0.0.0 s p e (inl g.0.0.2))
-  rule_fit (Completes at peer) m h f g =
-      kept_fit m.party at _ f (λ o s p e l. f at g.0.0.0 s p e (inl g.0.0.2))
+  rule_fit (Takes_data at peer bytes) m h f g = kept_fit m.party at _ f (λ _ s p e l. absurd (true≢false (sym s ∙ g.1)))
+  rule_fit (Appends at peer bytes) m h f g = kept_fit m.party at _ f (λ _ s p e l. absurd (true≢false (sym s ∙ g.1)))
+  rule_fit (Sends_next at peer) m h f g = kept_fit m.party at _ f (λ o s p e l. f at g.0.0.0 s p e (inl g.0.0.2))
+  rule_fit (Completes at peer) m h f g = kept_fit m.party at _ f (λ o s p e l. f at g.0.0.0 s p e (inl g.0.0.2))
   rule_fit (Fails at) m h f g = kept_fit m.party at _ f (λ o s p e l. f at g.0 s p e (inl g.2))
-  rule_fit (Fails_with at peer bytes) m h f g =
-      kept_fit m.party at _ f (λ _ s p e l. absurd (true≢false (sym s ∙ g.1)))
+  rule_fit (Fails_with at peer bytes) m h f g = kept_fit m.party at _ f (λ _ s p e l. absurd (true≢false (sym s ∙ g.1)))
   rule_fit (Fails_to_begin at peer size) m h f g =
       let none = ((h.ends at g.0.0.0).no_peer g.0.2).0 in
       kept_fit m.party at _ f (λ _ s p e l. elim l [

@@ -1,7 +1,7 @@
 -- A receiver whose sink stores a block or commits. For BlamelessActions, PhaseMoves, WaitingMoves and the crate
 -- tftp_player.
 use Rattle.std.proofs.Common.{◌≡◌, ℕ, ◌^◌, ◌<◌, Bool, true, false, List, [], ◌∷◌, ◌++◌, length, set, Some, Result, Ok}
-use Rattle.std.proofs.Common.{Err, sym, refl, ap, ◌∙◌, subst, inl, inr, append_assoc}
+use Rattle.std.proofs.Common.{Err, sym, refl, ap, ◌∙◌, subst, inl, inr, append_assoc, rules}
 use Rattle.std.specs.Prelude.{◌&&◌, if◌then◌else◌, not, nat_lt}
 use Rattle.std.proofs.lemmas.Bool.{true≢false, cases_Bool}
 use Rattle.std.proofs.lemmas.List.{append-nil}
@@ -14,9 +14,9 @@ use Rattle.tftp_file.specs.declared.fault.StoreFault.TheVariants as faults
 use Rattle.tftp_file.specs.declared.files.Files.{Files}
 use Rattle.tftp_file.specs.declared.files.Files.TheVariants.{Source, Sink}
 use Rattle.tftp_file.specs.Block.{IsPrefixOf}
-use Rattle.tftp_file.specs.Netascii.{wire_text, netascii_text}
-use Rattle.tftp_file.specs.Sink.{Holding, SinkMeaning, UnlessArmed, Appends, AppendsFreely, CommitsFreely}
-use Rattle.tftp_file.specs.Sink.{KeptPrefix, with_piece, disarmed}
+use Rattle.tftp_file.specs.Netascii.{wire_text}
+use Rattle.tftp_file.specs.Sink.{Holding, SinkMeaning, UnlessArmed, Appends, AppendsFreely, CommitsFreely, KeptPrefix}
+use Rattle.tftp_file.specs.Sink.{disarmed}
 use Rattle.tftp_file.specs.Source.{SourceMeaning}
 use Rattle.tftp_ends.specs.declared.error_reply.ErrorReply.{ErrorReply}
 use Rattle.tftp_ends.specs.declared.error_reply.ErrorReply.TheVariants as replies
@@ -29,7 +29,7 @@ use Rattle.tftp_ends.specs.declared.phase.Terms.{Terms}
 use Rattle.tftp_ends.specs.End.{EndState, is_sender, is_complete, number_of}
 use Rattle.tftp_ends.specs.Step.{Done, Turn, Appended, Committed, GoesOn, Stores, StoresIn, sent_turn, refused_turn}
 use Rattle.tftp_ends.specs.Step.{committed_turn, commit_reply, holding, ack_bytes}
-use Rattle.tftp_ends.specs.Text.{Decoded, is_readable, begins_netascii, ends_in_cr}
+use Rattle.tftp_ends.specs.Text.{Decoded, is_readable, ends_in_cr}
 use Rattle.tftp_rules.specs.Machine.{Endpoint, Ack as Says_ack, Error, Message, Network}
 use Rattle.tftp_rules.specs.Rules.{Rule, message}
 use Rattle.tftp_rules.specs.Shows.{EndView, IsShownWithin}
@@ -61,12 +61,10 @@ took_prefix : (before after : Holding) (bytes : List ℕ) (fault : StoreFault) �
     KeptPrefix before (Some after) bytes → Took before after bytes (Err fault)
 took_prefix before after bytes fault h =
     let e : after ≡ h.holding = same_Some after h.holding h.leaves in
-    Some_of_it fault h.kept refl h.prefix (ap (λ (z : Holding). z.bytes) e ∙ h.bytes)
-    (λ c. elim (cases_Bool after.committed) [
+    Some_of_it fault h.kept refl h.prefix (ap (λ z. z.bytes) e ∙ h.bytes) (λ c. elim (cases_Bool after.committed) [
       | inl t ↦
-          absurd (true≢false (sym t
-          ∙ (ap (λ (z : Holding). z.committed) (e ∙ h.uncommitted (ap (λ (z : Holding). z.committed) (sym e) ∙ t))
-          ∙ c)))
+          absurd (true≢false (sym t ∙ (ap (λ z. z.committed) (e ∙ h.uncommitted (ap (λ z. z.committed) (sym e) ∙ t)) ∙
+          c)))
       | inr f ↦ f
     ])
 
@@ -77,9 +75,7 @@ pub took_armed : (armed : Bool) (before after : Holding) (bytes : List ℕ) (ans
 took_armed true before after bytes answer h =
     subst (λ (a : Result Done StoreFault). Took before after bytes a) (sym h.answer)
     (took_none before after (disarmed before) bytes faults.Full (same_Some after (disarmed before) h.leaves) refl refl)
-took_armed false before after bytes (Ok done) h =
-    let e = same_Some after (with_piece before bytes) h in
-    All_of_it refl (ap (λ (z : Holding). z.bytes) e) (λ _. ap (λ (z : Holding). z.committed) e)
+took_armed false before after bytes (Ok done) h = search rules
 took_armed false before after bytes (Err faults.Missing) h = took_prefix before after bytes faults.Missing h
 took_armed false before after bytes (Err faults.Exists) h = took_prefix before after bytes faults.Exists h
 took_armed false before after bytes (Err faults.Full) h = took_prefix before after bytes faults.Full h
@@ -97,9 +93,7 @@ none_committed (Some_of_it fault kept err prefix same un) = un
 pub took : (sinks : SinkMeaning Holding) → ((holding : Holding) → sinks.held holding ≡ Some holding) →
     (before after : Holding) (bytes : List ℕ) (answer : Result Done StoreFault) →
     Appended sinks bytes before after answer → Took before after bytes answer
-took sinks known before after [] answer h =
-    All_of_it h.0 (ap (λ (z : Holding). z.bytes) h.1 ∙ sym (append-nil before.bytes))
-    (λ c. ap (λ (z : Holding). z.committed) h.1 ∙ c)
+took sinks known before after [] answer h = search rules
 took sinks known before after (b ∷ bytes) answer h =
     took_armed before.refuses before after (b ∷ bytes) answer
     (let f : Appends (Some before) (Some after) (b ∷ bytes) answer = rw (known before, known after) at h.0 in f)
@@ -117,9 +111,7 @@ pub kept_by : (armed : Bool) (before after : Holding) (answer : Result Done Stor
 kept_by true before after answer h =
     let e = same_Some after (record before { refuses = false }) h.leaves in
     Not_yet faults.Full h.answer (ap (λ (z : Holding). z.bytes) e) (ap (λ (z : Holding). z.committed) e)
-kept_by false before after (Ok done) h =
-    let e = same_Some after (record before { committed = true }) h in
-    For_good refl (ap (λ (z : Holding). z.bytes) e) (ap (λ (z : Holding). z.committed) e)
+kept_by false before after (Ok done) h = search rules
 kept_by false before after (Err fault) h =
     let e = same_Some after before h in
     Not_yet fault refl (ap (λ (z : Holding). z.bytes) e) (ap (λ (z : Holding). z.committed) e)
@@ -132,14 +124,12 @@ same_bytes (Not_yet fault err same still) = same
 
 -- after a commit that succeeds the file is committed
 pub now_committed : {before after : Holding} (done : Done) → Kept_all before after (Ok done) → after.committed ≡ true
-now_committed done (For_good ok same committed) = committed
-now_committed done (Not_yet fault err same still) = absurd (let e : Ok done ≡ Err fault = err in cc)
+now_committed done h1 = search rules
 
 -- after one that fails it is as before
 pub still_committed : {before after : Holding} (fault : StoreFault) → Kept_all before after (Err fault) →
     after.committed ≡ before.committed
-still_committed fault (For_good ok same committed) = absurd (let e : Err fault ≡ Ok tt = ok in cc)
-still_committed fault (Not_yet other err same still) = still
+still_committed fault h1 = search rules
 
 -- the text with a CR after it ends in a CR
 ends_cr : (bs : List ℕ) → ends_in_cr (bs ++ 13 ∷ []) ≡ true
@@ -149,32 +139,17 @@ ends_cr (b ∷ c ∷ bs) = ends_cr (c ∷ bs)
 
 -- after the last block nothing is held back
 none_held_in : (a c : Bool) → (a && not (true && c)) ≡ true → c ≡ false
-none_held_in true true e = absurd (true≢false (sym e))
-none_held_in false true e = absurd (true≢false (sym e))
-none_held_in true false e = refl
-none_held_in false false e = refl
+none_held_in a c e = search rules
 
 none_held : (mode : Mode) (held piece more after : List ℕ) → HeldBackFits mode held →
     Decoded mode held piece more after →
     is_readable mode held piece true ≡ true → after ≡ []
-none_held Octet held piece more after h d e = d.1 ∙ h
-none_held Netascii held piece more after h d e = elim d.0 [
-  | inl n ↦ n
-  | inr c ↦
-      let f : ends_in_cr (held ++ piece) ≡ false =
-      none_held_in (begins_netascii (held ++ piece)) (ends_in_cr (held ++ piece)) e in
-      let t : ends_in_cr (held ++ piece) ≡ true =
-      ap ends_in_cr (d.1 ∙ ap (λ (z : List ℕ). netascii_text more ++ z) c) ∙ ends_cr (netascii_text more) in
-      absurd (true≢false (sym t ∙ f))
-]
+none_held mode held piece more after h d e = search (rules, none_held_in, ends_cr, true≢false)
 
 -- a block continues with what is stored of it and held back then
 pub goes_on_with : (mode : Mode) (held piece more after : List ℕ) → HeldBackFits mode held →
     Decoded mode held piece more after → held ++ piece ≡ wire_text mode more ++ after
-goes_on_with Octet held piece more after h d =
-    ap (λ (z : List ℕ). z ++ piece) h
-    ∙ (sym d.0 ∙ (sym (append-nil more) ∙ ap (λ (z : List ℕ). more ++ z) (sym (d.1 ∙ h))))
-goes_on_with Netascii held piece more after h d = d.1
+goes_on_with mode held piece more after h d = search rules
 
 -- what netascii holds back of a block stays at most a CR
 pub held_fits : (mode : Mode) (held piece more after : List ℕ) → HeldBackFits mode held →
@@ -193,9 +168,7 @@ pub stores_in : (b : Bool) → b ≡ false →
     (piece : List ℕ) (e : EndState) (left : List ℕ) (sink : Holding) (turn : Turn) (held : Files (List ℕ) Holding) →
     StoresIn sources sinks terms number from piece e (if b then Source left else Sink sink) turn held →
     (sink' : Holding) × (held ≡ Sink sink') × Stores sinks terms number from piece e sink turn sink'
-stores_in true f sources sinks terms number from piece e left sink turn held h = absurd (true≢false f)
-stores_in false f sources sinks terms number from piece e left sink turn (Sink sink') h = (sink', refl, h)
-stores_in false f sources sinks terms number from piece e left sink turn (Source l) h = absurd h
+stores_in b f sources sinks terms number from piece e left sink turn held h = search rules
 
 -- the block goes on with netascii, or is octet
 abbrev pub Readable : OpenEnd → Terms → List ℕ → Type 0
@@ -236,11 +209,7 @@ module _ (network : Network) where
       (kept : EndKept network x) (r : Receives first views messages k x terms number from piece) where
     -- what it has of its peer's text
     pub wire_text_is : text_of_end x ≡ wire_text x.state.role.mode x.stored ++ x.state.position.held_back
-    wire_text_is =
-        let w = wire_text x.state.role.mode x.stored in
-        text_else (is_sender x.state.role.side) x.text (if goes_on x.state.position.phase then w
-        ++ x.state.position.held_back else w) r.receiver
-        ∙ ap (λ (b : Bool). if b then w ++ x.state.position.held_back else w) r.going
+    wire_text_is = search rules
 
     uncommitted : x.committed ≡ false
     uncommitted = kept.committed r.receiver ∙ r.incomplete
@@ -248,10 +217,7 @@ module _ (network : Network) where
     -- the text, with the block
     more_text : (more after : List ℕ) → Decoded x.state.role.mode x.state.position.held_back piece more after →
         text_of_end x ++ piece ≡ wire_text x.state.role.mode (x.stored ++ more) ++ after
-    more_text more after d =
-        ap (λ (t : List ℕ). t ++ piece) wire_text_is
-        ∙ stored_more x.state.role.mode x.stored x.state.position.held_back piece more after
-        (goes_on_with x.state.role.mode x.state.position.held_back piece more after kept.held_back d)
+    more_text more after d = search (rules, wire_text_is, stored_more, goes_on_with)
 
     -- the store refused it
     pub refused_goes : (held : List ℕ) (sink : Holding) (reply : ErrorReply) (outcome : Outcome) →
@@ -262,22 +228,9 @@ module _ (network : Network) where
     refused_goes held sink reply outcome fits un begins =
         let turn = refused_turn terms reply outcome from (holding held x.state) in
         let y = end_after x turn (Sink sink) in
-        let t = text_else (is_sender x.state.role.side) x.text (wire_text x.state.role.mode sink.bytes) r.receiver in
-        let shown_now =
-        r.refused (text_of_end y) (subst (λ (z : List ℕ). IsPrefixOf z (text_of_end x ++ piece))
-        (sym t) begins) in
-        record {
-          said_now = message x.address from Error ∷ [];
-          shown =
-              subst (λ (b : Bool). IsShownWithin network 3 first (set views k (record (open_view y) { failed = not b }))
-              (messages ++ message x.address from Error ∷ []))
-              (sym r.incomplete) shown_now;
-          replies = error_says reply x.address from;
-          kept = record { phase = tt; held_back = fits; committed = λ _. un ∙ sym r.incomplete };
-          side = refl;
-          last_sent = inl (refl, refl);
-          stored = λ c. absurd (true≢false (sym c ∙ r.incomplete));
-        }
+        let t = text_else _ x.text (wire_text x.state.role.mode sink.bytes) r.receiver in
+        let shown_now = r.refused (text_of_end y) (rw (t) begins) in
+        search (rules, error_says, true≢false)
 
     failed_not : has_failed x.state.position.phase ≡ false
     failed_not = (going_live x.state.position.phase r.going).1
@@ -298,11 +251,7 @@ module _ (network : Network) where
     acknowledged : (more after : List ℕ) → Decoded x.state.role.mode x.state.position.held_back piece more after →
         (t : List ℕ) → wire_text x.state.role.mode (x.stored ++ more) ++ after ≡ t → (done : Bool) →
         nat_lt (length piece) terms.size ≡ done → Acknowledged done false t
-    acknowledged more after d t text done last =
-        let failed = has_failed x.state.position.phase in
-        subst (λ (b : Bool). Acknowledged done b t) failed_not
-        (subst (Acknowledged done failed) (more_text more after d ∙ text)
-        (subst (λ (b : Bool). Acknowledged b failed (text_of_end x ++ piece)) last r.stored))
+    acknowledged more after d t text done last = search (rules, failed_not, more_text)
 
     -- the end in its next phase
     stored_goes : (phase : Phase) (sink : Holding) (more after : List ℕ) →
@@ -316,12 +265,7 @@ module _ (network : Network) where
       said_now = message x.address from (Says_ack number) ∷ [];
       shown = shown_now;
       replies = (Ack number, spells_own (Ack number) r.fits, refl);
-      kept =
-          record {
-            phase = phase_kept;
-            held_back = held_fits x.state.role.mode x.state.position.held_back piece more after kept.held_back d;
-            committed = λ _. committed;
-          };
+      kept = search rules;
       side = refl;
       last_sent = inr refl;
       stored = λ c. absurd (true≢false (sym c ∙ r.incomplete));
@@ -335,12 +279,10 @@ module _ (network : Network) where
     next_goes sink more after bytes un d last =
         let turn = sent_turn (Receiving terms number) from (ack_bytes number) (holding after x.state) in
         let y = end_after x turn (Sink sink) in
-        let text : wire_text x.state.role.mode (x.stored ++ more) ++ after ≡ text_of_end y =
-        ap (λ (z : List ℕ). wire_text x.state.role.mode z ++ after) (sym bytes)
-        ∙ sym (text_else (is_sender x.state.role.side) x.text (wire_text x.state.role.mode sink.bytes ++ after)
-        r.receiver) in
-        stored_goes (Receiving terms number) sink more after d
-        (acknowledged more after d (text_of_end y) text false last) (r.receiver, r.peer) un
+        let text : wire_text x.state.role.mode (x.stored ++ more) ++ after ≡ text_of_end y = search rules
+        in
+        stored_goes (Receiving terms number) sink more after d (acknowledged more after d (text_of_end y) text false
+        last) (r.receiver, r.peer) un
 
     whole_goes : Readable x terms piece → (sink : Holding) (more after : List ℕ) → sink.bytes ≡ x.stored ++ more →
         sink.committed ≡ true → Decoded x.state.role.mode x.state.position.held_back piece more after →
@@ -352,13 +294,10 @@ module _ (network : Network) where
         let y = end_after x turn (Sink sink) in
         let none : after ≡ [] = none_held x.state.role.mode x.state.position.held_back piece more after kept.held_back d
         (subst (λ (b : Bool). is_readable x.state.role.mode x.state.position.held_back piece b ≡ true) last readable) in
-        let text : wire_text x.state.role.mode (x.stored ++ more) ++ after ≡ text_of_end y =
-        ap (λ (z : List ℕ). wire_text x.state.role.mode (x.stored ++ more) ++ z) none
-        ∙ (append-nil (wire_text x.state.role.mode (x.stored ++ more))
-        ∙ (ap (wire_text x.state.role.mode) (sym bytes)
-        ∙ sym (text_else (is_sender x.state.role.side) x.text (wire_text x.state.role.mode sink.bytes) r.receiver))) in
-        stored_goes (Dallying terms number Fresh) sink more after d
-        (acknowledged more after d (text_of_end y) text true last) (r.receiver, r.peer) done
+        let text : wire_text x.state.role.mode (x.stored ++ more) ++ after ≡ text_of_end y = search rules
+        in
+        stored_goes (Dallying terms number Fresh) sink more after d (acknowledged more after d (text_of_end y) text true
+        last) (r.receiver, r.peer) done
 
     -- after a commit
     commit_goes : Readable x terms piece → (mid sink : Holding) (more after : List ℕ) (turn : Turn) →
@@ -373,20 +312,17 @@ module _ (network : Network) where
               turn ≡ committed_turn terms number from (holding after x.state) answer → Kept_all mid sink answer →
               Goes network first views messages k x turn (end_after x turn (Sink sink))
           by_commit answer t (For_good ok same done) =
-              let turn_is : turn ≡ sent_turn (Dallying terms number Fresh) from (ack_bytes number)
-              (holding after x.state) = t ∙ ap (committed_turn terms number from (holding after x.state)) ok in
+              let turn_is = t ∙ ap (committed_turn terms number from (holding after x.state)) ok in
               subst (λ (z : Turn). Goes network first views messages k x z (end_after x z (Sink sink))) (sym turn_is)
               (whole_goes readable sink more after (same ∙ bytes) done d last)
           by_commit answer t (Not_yet fault err same still) =
-              let turn_is : turn ≡ refused_turn terms (commit_reply fault) outcomes.StoreFault from
-              (holding after x.state) = t ∙ ap (committed_turn terms number from (holding after x.state)) err in
+              let turn_is = t ∙ ap (committed_turn terms number from (holding after x.state)) err in
               let begins : IsPrefixOf (wire_text x.state.role.mode sink.bytes) (text_of_end x ++ piece) = (
                 after,
                 ap (λ (z : List ℕ). wire_text x.state.role.mode z ++ after) (same ∙ bytes)
                     ∙ sym (more_text more after d),
               ) in
-              subst (λ (z : Turn). Goes network first views messages k x z (end_after x z (Sink sink))) (sym turn_is)
-              (refused_goes after sink (commit_reply fault) outcomes.StoreFault
+              rw (turn_is) (refused_goes after sink (commit_reply fault) outcomes.StoreFault
               (held_fits x.state.role.mode x.state.position.held_back piece more after kept.held_back d)
               (still ∙ un) begins)
 
@@ -397,28 +333,24 @@ module _ (network : Network) where
         Decoded x.state.role.mode x.state.position.held_back piece more after → Took (holding_of x) mid more answer →
         GoesOn known_sink terms number from x.state last after mid answer turn sink →
         Goes network first views messages k x turn (end_after x turn (Sink sink))
-    append_goes readable mid sink more after turn (Err f) last is d (All_of_it ok same un) h =
-        absurd (let e : Err f ≡ Ok tt = ok in cc)
-    append_goes readable mid sink more after turn (Ok u) last is d (Some_of_it fault kept_bytes err prefix same un)
-        h = absurd (let e : Ok u ≡ Err fault = err in cc)
-    append_goes readable mid sink more after turn (Err f) last is d (Some_of_it fault kept_bytes err prefix same un)
-        h =
+    append_goes readable mid sink more after turn (Err f) last is d (All_of_it ok same un) h = absurd (let e = ok in cc)
+    append_goes readable mid sink more after turn (Ok u) last is d (Some_of_it fault kept_bytes err prefix same un) h
+        = absurd (let e = err in cc)
+    append_goes readable mid sink more after turn (Err f) last is d (Some_of_it fault kept_bytes err prefix same un) h =
         let begun = stored_some x.state.role.mode x.stored kept_bytes more prefix in
         let begins : IsPrefixOf (wire_text x.state.role.mode mid.bytes) (text_of_end x ++ piece) = (
           begun.0 ++ after,
-          ap (λ (z : List ℕ). wire_text x.state.role.mode z ++ (begun.0 ++ after)) same
-              ∙ (sym (append_assoc (wire_text x.state.role.mode (x.stored ++ kept_bytes)) begun.0 after)
-              ∙ (ap (λ (z : List ℕ). z ++ after) begun.1 ∙ sym (more_text more after d))),
+          ap (λ (z : List ℕ). wire_text x.state.role.mode z ++ (begun.0 ++ after)) same ∙ (sym (append_assoc (wire_text
+              x.state.role.mode (x.stored ++ kept_bytes)) begun.0 after) ∙ (ap (λ (z : List ℕ). z ++ after) begun.1 ∙
+              sym (more_text more after d))),
         ) in
-        subst (λ (z : Holding). Goes network first views messages k x turn (end_after x turn (Sink z))) (sym h.1)
-        (subst (λ (t : Turn). Goes network first views messages k x t (end_after x t (Sink mid))) (sym h.0)
-        (refused_goes x.state.position.held_back mid replies.DiskFull outcomes.StoreFault kept.held_back
-        (un uncommitted) begins))
+        rw (h.1) (subst (λ (t : Turn). Goes network first views messages k x t (end_after x t (Sink mid))) (sym h.0)
+        (refused_goes x.state.position.held_back mid replies.DiskFull outcomes.StoreFault kept.held_back (un
+        uncommitted) begins))
     append_goes readable mid sink more after turn (Ok u) true is d (All_of_it ok same un) h =
-        commit_goes readable mid sink more after turn same (un uncommitted) d is h
+        commit_goes readable _ _ _ _ _ same (un uncommitted) d is h
     append_goes readable mid sink more after turn (Ok u) false is d (All_of_it ok same un) h =
-        subst (λ (z : Holding). Goes network first views messages k x turn (end_after x turn (Sink z))) (sym h.1)
-        (subst (λ (t : Turn). Goes network first views messages k x t (end_after x t (Sink mid))) (sym h.0)
+        rw (h.1) (subst (λ (t : Turn). Goes network first views messages k x t (end_after x t (Sink mid))) (sym h.0)
         (next_goes mid more after same (un uncommitted) d is))
 
     -- an action that stores has gone on

@@ -1,12 +1,11 @@
 -- A sender whose source gives the next block. For BlamelessTurns, PhaseMoves, WaitingMoves and the crates tftp_player
 -- and tftp_promises.
-use Rattle.std.proofs.Common.{◌≡◌, ℕ, ◌+◌, ◌*◌, ◌-◌, ◌/◌, ◌^◌, ◌<◌, ◌≤◌, Bool, true, false, List, [], ◌∷◌, ◌++◌, length}
-use Rattle.std.proofs.Common.{set, take, drop, min, Some, Result, Ok, Err, sym, refl, ap, ◌∙◌, subst, arith, inl, inr}
+use Rattle.std.proofs.Common.{◌≡◌, ℕ, ◌+◌, ◌*◌, ◌-◌, ◌^◌, ◌<◌, ◌≤◌, Bool, true, false, List, [], ◌∷◌, length, take}
+use Rattle.std.proofs.Common.{drop, min, Some, Result, Ok, Err, sym, refl, ap, ◌∙◌, subst, arith, inl, inr, rules}
 use Rattle.std.specs.Prelude.{◌≢◌, ◌⊎◌, if◌then◌else◌}
 use Rattle.std.specs.List.{Contains}
-use Rattle.std.proofs.Math.Nat.{div-lt_iff_lt-mul}
 use Rattle.std.proofs.lemmas.Bool.{true≢false, eq-eqb}
-use Rattle.std.proofs.lemmas.List.{append-nil, length-drop, length-take, take_min, drop_min, drop-drop}
+use Rattle.std.proofs.lemmas.List.{length-drop, length-take, take_min, drop_min, drop-drop}
 use Rattle.std.proofs.lemmas.Option.{same_Some}
 use Rattle.tftp_wire.specs.declared.limits.TheConstants.{MAX_BLOCK}
 use Rattle.tftp_wire.specs.declared.packet.Packet.TheVariants.{Data}
@@ -26,10 +25,10 @@ use Rattle.tftp_ends.specs.declared.action.Response.TheVariants.{Complete}
 use Rattle.tftp_ends.specs.End.{EndState, is_sender}
 use Rattle.tftp_ends.specs.Step.{Turn, response_turn, after, Sends, SendsFrom, sent_turn, refused_turn, data_bytes}
 use Rattle.tftp_ends.specs.Step.{block_length, filled_turn, result_count_is, after_turn, with_position}
-use Rattle.tftp_rules.specs.Machine.{Endpoint, Data as Says_data, Ack as Says_ack, Message, Network}
+use Rattle.tftp_rules.specs.Machine.{Endpoint, Ack as Says_ack, Message, Network}
 use Rattle.tftp_rules.specs.Rules.{Rule, message}
 use Rattle.tftp_rules.specs.Said.{said}
-use Rattle.tftp_rules.specs.Shows.{EndView, IsShownWithin}
+use Rattle.tftp_rules.specs.Shows.{EndView}
 use Rattle.tftp_rules.specs.OpenEnds.{OpenEnd, files_of, holding_of, in_state, end_after, text_of as text_of_end}
 use Rattle.tftp_rules.specs.OpenEnds.{received_text, open_view, with_phase}
 use Rattle.tftp_rules.specs.KnownFiles.{known_source, known_sink}
@@ -51,25 +50,17 @@ back n = omega arith
 requested_end : (terms : Terms) (n : ℕ) (e : EndState) (text left : List ℕ) → e.role.length ≡ length text →
     left ≡ drop (n * terms.size) text →
     block_length e.role.length terms.size (n + 1) ≡ min terms.size (length left)
-requested_end terms n e text left measured remaining_is =
-    let rest : length left ≡ length text - n * terms.size =
-    ap length remaining_is ∙ length-drop (n * terms.size) text in
-    let first : block_length e.role.length terms.size (n + 1) ≡ min terms.size (e.role.length - n * terms.size) =
-    ap (λ (m : ℕ). min terms.size (e.role.length - m * terms.size)) (back n) in
-    first ∙ ap (min terms.size) (ap (λ (l : ℕ). l - n * terms.size) measured ∙ sym rest)
+requested_end terms n e text left measured remaining_is = search (rules, length-drop, back)
 
 whole_count : (size l : ℕ) → min (min size l) l ≡ min size l
 whole_count size l = omega arith
 
 block_next : (text left : List ℕ) (size n : ℕ) → left ≡ drop (n * size) text → take size left ≡ block text size (n + 1)
-block_next text left size n remaining_is =
-    ap (take size) remaining_is ∙ ap (λ (m : ℕ). take size (drop (m * size) text)) (sym (back n))
+block_next text left size n remaining_is = search rules
 
 left_next : (text left : List ℕ) (size n : ℕ) → left ≡ drop (n * size) text →
     drop size left ≡ drop ((n + 1) * size) text
-left_next text left size n remaining_is =
-    let e : n * size + size ≡ (n + 1) * size = omega arith in
-    ap (drop size) remaining_is ∙ (drop-drop size (n * size) text ∙ ap (λ (m : ℕ). drop m text) e)
+left_next text left size n remaining_is = search (rules, drop-drop)
 
 counted : (want : ℕ) (k : ℕ) → k ≡ want → result_count_is want (Ok k) ≡ true
 counted want k e = eq-eqb k want e
@@ -77,9 +68,7 @@ counted want k e = eq-eqb k want e
 filled : (terms : Terms) (number : ℕ) (from : Endpoint) (piece : List ℕ) (e : EndState) (answer : Result ℕ FileFault) →
     result_count_is (block_length e.role.length terms.size number) answer ≡ true →
     filled_turn terms number from piece e answer ≡ sent_turn (Sending terms number) from (data_bytes number piece) e
-filled terms number from piece e answer h =
-    ap (λ (b : Bool). if b then sent_turn (Sending terms number) from (data_bytes number piece) e else refused_turn
-    terms replies.FileChanged outcomes.SourceFault from e) h
+filled terms number from piece e answer h = search rules
 
 -- the source failed, and the sender gave up
 pub record FillFailed (sources : SourceMeaning (List ℕ)) (terms : Terms) (from : Endpoint) (e : EndState)
@@ -117,14 +106,12 @@ block_sent sources known terms n from e text left turn left' measured remaining_
           f.given ∙ (ap (λ (j : ℕ). take j left) count
           ∙ (take_min terms.size left ∙ block_next text left terms.size n remaining_is)) in
           let rest : left' ≡ drop k left = same_Some left' (drop k left) f.rest in
-          inl (record {
-            turn_is =
-                a ∙ (turns ∙ ap (λ (p : List ℕ). sent_turn (Sending terms (n + 1)) from (data_bytes (n + 1) p) e)
-                piece);
-            left_is =
-                rest ∙ (ap (λ (j : ℕ). drop j left) count
-                ∙ (drop_min terms.size left ∙ left_next text left terms.size n remaining_is));
-          })
+          inl (search (
+            a ∙ (turns ∙ ap (λ (p : List ℕ). sent_turn (Sending terms (n + 1)) from (data_bytes (n + 1) p)
+                e) piece),
+            rest ∙ (ap (λ (j : ℕ). drop j left) count ∙ (drop_min terms.size left ∙ left_next text left
+                terms.size n remaining_is)),
+          ))
 
 -- what an action that sends did
 pub sends_from : (b : Bool) → b ≡ true →
@@ -132,22 +119,16 @@ pub sends_from : (b : Bool) → b ≡ true →
     (e : EndState) (left : List ℕ) (holding : Holding) (turn : Turn) (held : Files (List ℕ) Holding) →
     SendsFrom sources sinks terms number from e (if b then Source left else Sink holding) turn held →
     (left' : List ℕ) × (held ≡ Source left') × Sends sources terms number from e left turn left'
-sends_from true t sources sinks terms number from e left holding turn (Source left') h = (left', refl, h)
-sends_from true t sources sinks terms number from e left holding turn (Sink k) h = absurd h
-sends_from false t sources sinks terms number from e left holding turn held h = absurd (true≢false (sym t))
+sends_from b t sources sinks terms number from e left holding turn held h = search rules
 
 -- the number of a block fits two bytes
 pub number_fits : (text : List ℕ) (size n : ℕ) → 0 < size → Fits text size → n ≤ block_count text size → n < 2 ^ 16
-number_fits text size n p f l =
-    let d : length text / size < 65535 = (div-lt_iff_lt-mul {k = size} {x = length text} {y = 65535} p).1 f in
-    omega arith
+number_fits text size n p f l = search rules
 
 -- the DATA of the next block of a text that fits is a valid packet
 pub valid_data : (text : List ℕ) (size n : ℕ) → 0 < size → size ≤ MAX_BLOCK → Fits text size →
     n + 1 ≤ block_count text size → IsValid (Data (n + 1) (block text size (n + 1)))
-valid_data text size n p small f l =
-    let e = length-take size (drop ((n + 1 - 1) * size) text) in
-    ((let z : n + 1 ≢ 0 = omega arith in z), number_fits text size (n + 1) p f l, omega (arith, e))
+valid_data text size n p small f l = search (rules, length-take, number_fits)
 
 -- the turn in which block n + 1 is sent
 abbrev pub data_turn : OpenEnd → Terms → ℕ → Endpoint → Turn
@@ -176,15 +157,7 @@ module _ (network : Network) where
       (in_state (after_turn x.state (failed_turn terms from x)) x) →
       Goes network first views messages k x (failed_turn terms from x)
       (end_after x (failed_turn terms from x) (Source left))
-  failed_goes first views messages k x terms from left g = record {
-    said_now = g.said_now;
-    shown = g.shown;
-    replies = g.replies;
-    kept = record { phase = tt; held_back = g.kept.held_back; committed = g.kept.committed };
-    side = g.side;
-    last_sent = g.last_sent;
-    stored = g.stored;
-  }
+  failed_goes first views messages k x terms from left g = search rules
 
   -- an action that sends has sent the next block, or the source failed
   pub data_goes : (first : List Rule) (views : List EndView) (messages : List Message) (k : ℕ) (x : OpenEnd)
@@ -196,19 +169,16 @@ module _ (network : Network) where
       SendsFrom known_source known_sink terms (n + 1) from x.state (files_of x) turn held →
       Goes network first views messages k x turn (end_after x turn held)
   data_goes first views messages k x terms n from turn held sender measured remaining_is g failed h =
-      let f =
-      sends_from (is_sender x.state.role.side) sender known_source known_sink terms (n + 1) from x.state x.left
+      let f = sends_from (is_sender x.state.role.side) sender known_source known_sink terms (n + 1) from x.state x.left
       (holding_of x) turn held h in
-      subst (λ (fs : Files (List ℕ) Holding). Goes network first views messages k x turn (end_after x turn fs))
-      (sym f.1)
-      (elim (block_sent known_source (λ text. refl) terms n from x.state x.text x.left turn f.0 measured remaining_is
-      f.2) [
+      subst (λ fs. Goes network first views messages k x turn (end_after x turn fs)) (sym f.1) (elim (block_sent
+      known_source (λ text. refl) terms n from x.state x.text x.left turn f.0 measured remaining_is f.2) [
         | inl b ↦
-            subst (λ (t : Turn). Goes network first views messages k x t (end_after x t (Source f.0))) (sym b.turn_is)
-            (subst (λ (l : List ℕ). Goes network first views messages k x (data_turn x terms n from)
-            (end_after x (data_turn x terms n from) (Source l))) (sym b.left_is) g)
+            subst (λ t. Goes network first views messages k x t (end_after x t (Source f.0))) (sym b.turn_is)
+            (subst (λ l. Goes network first views messages k x (data_turn x terms n from) (end_after x (data_turn x
+            terms n from) (Source l))) (sym b.left_is) g)
         | inr b ↦
-            subst (λ (t : Turn). Goes network first views messages k x t (end_after x t (Source f.0))) (sym b.turn_is)
+            subst (λ t. Goes network first views messages k x t (end_after x t (Source f.0))) (sym b.turn_is)
             (failed_goes first views messages k x terms from f.0 failed)
       ])
 
@@ -218,21 +188,7 @@ module _ (network : Network) where
       terms.size ≤ MAX_BLOCK →
       Fits x.text terms.size → n + 1 ≤ block_count x.text terms.size → from ≡ terms.peer →
       EndKept network (data_end x terms n from)
-  data_kept x terms n from kept measured sender positive small fits l peer = record {
-    phase =
-        record {
-          sender = sender;
-          positive = positive;
-          size = small;
-          fits = fits;
-          so_far = l;
-          left = refl;
-          last_sent_to = peer;
-          measured = measured;
-        };
-    held_back = kept.held_back;
-    committed = λ r. absurd (true≢false (sym sender ∙ r));
-  }
+  data_kept x terms n from kept measured sender positive small fits l peer = search rules
 
   module _ (first : List Rule) (views : List EndView) (messages : List Message) (k : ℕ) (x0 : OpenEnd) (terms : Terms)
       (n : ℕ)
@@ -258,10 +214,7 @@ module _ (network : Network) where
         sends network first views messages k (open_view x) s from (refl, refl) u.sender (ap Some peer) acked room in
         record {
           said_now = message x.address from (said packet) ∷ [];
-          shown =
-              subst (λ (t : List ℕ). IsShownWithin network 3 first (set views k (open_view (data_end x terms n from)))
-              (messages ++ message x.address from (Says_data (n + 1) (block t terms.size (n + 1))) ∷ [])) text_is
-              shown_now;
+          shown = search rules;
           replies = (packet, spells_own packet (valid_data text terms.size n u.positive u.size u.fits l), refl);
           kept = data_kept x terms n from kept u.measured u.sender u.positive u.size u.fits l (sym peer);
           side = refl;
@@ -285,26 +238,9 @@ module _ (network : Network) where
         let whole : n ≡ block_count (text_of_end x) terms.size =
         subst (λ (t : List ℕ). n ≡ block_count t terms.size) (sym text_is) last in
         let shown_now =
-        completes network first views messages k (open_view x) s from (refl, refl) u.sender (ap Some peer) acked
-        whole in
+        completes network first views messages k (open_view x) s from (refl, refl) u.sender (ap Some peer) acked whole
+        in
         let y = in_state (with_position (after Complete from x.state) x.state) x in
         let still : text_of_end x ≡ text_of_end y =
         text_is ∙ sym (text_if (is_sender x.state.role.side) text (received_text y.state y.stored) u.sender) in
-        record {
-          said_now = [];
-          shown =
-              subst (λ (ms : List Message). IsShownWithin network 3 first (set views k (open_view y)) ms)
-              (sym (append-nil messages))
-              (subst (λ (t : List ℕ). IsShownWithin network 3 first
-              (set views k (record (open_view x) { complete = true; text = t })) messages) still shown_now);
-          replies = refl;
-          kept =
-              record {
-                phase = tt;
-                held_back = kept.held_back;
-                committed = λ r. absurd (true≢false (sym u.sender ∙ r));
-              };
-          side = refl;
-          last_sent = inl (refl, refl);
-          stored = λ _. refl;
-        }
+        search rules

@@ -1,17 +1,15 @@
 -- Small facts on rules: whose datagram one is, and the hosts. For 13 other files and the crates tftp_player and
 -- tftp_promises.
 use Rattle.std.proofs.Common.{◌≡◌, ℕ, ◌+◌, ◌*◌, ◌<◌, ◌≤◌, Bool, true, false, not, List, [], ◌∷◌, length, take, Some}
-use Rattle.std.proofs.Common.{None, sym, refl, ap, ◌∙◌, subst, arith, inl, inr}
+use Rattle.std.proofs.Common.{None, sym, refl, ap, ◌∙◌, arith, rules}
 use Rattle.std.specs.Prelude.{◌≢◌}
 use Rattle.std.specs.List.{Contains}
-use Rattle.std.proofs.lemmas.Bool.{true≢false, cases_Bool}
+use Rattle.std.proofs.lemmas.Bool.{true≢false}
 use Rattle.tftp_file.specs.Block.{block}
-use Rattle.tftp_rules.specs.Machine.{Endpoint, At_server, At_client, Elsewhere, Data, Message, Party, Machine}
-use Rattle.tftp_rules.specs.Machine.{Network}
-use Rattle.tftp_rules.specs.Rules.{message, IsNext}
+use Rattle.tftp_rules.specs.Machine.{Endpoint, At_server, At_client, Elsewhere, Message, Party, Machine, Network}
+use Rattle.tftp_rules.specs.Rules.{IsNext}
 use Rattle.tftp_rules.specs.Facts.{home, HasReceived, IsSoundParty, Holds}
 use Rattle.tftp_rules.specs.MachineSafety.{Established}
-use Rattle.tftp_rules.proofs.Grows.{peer_of}
 
 -- twice negated is the same
 pub not-not : (b : Bool) → not (not b) ≡ b
@@ -28,10 +26,7 @@ none_sent P d c = absurd (let h : c.0 < 0 = c.1 in omega arith)
 
 -- if one datagram has a property, each of a list of it alone has it
 pub one_sent : (P : Message → Type 0) (a : Message) → P a → (d : Message) → Contains (a ∷ []) d → P d
-one_sent P a p d c =
-    let z : c.0 ≡ 0 = let h : c.0 < 1 = c.1 in omega arith in
-    let e : a ≡ d = rw z at c.2 in
-    subst P e p
+one_sent P a p d c = search rules
 
 -- x became y, which differs only in the number, the text and how it ended
 pub record Moves (x y : Party) : Type 0 where
@@ -90,12 +85,7 @@ module _ (network : Network) where
   -- two ends that have each other as peers have one size
   pub same_size : (m : Machine) → Holds network m → (x y : Endpoint) → Established m.party x y →
       (m.party x).size ≡ (m.party y).size
-  same_size m h x y e = elim (cases_Bool (m.party x).client) [
-    | inl c ↦ sym (((h.ends x e.0).serving c y e.2).1.size)
-    | inr c ↦ let p = peer_of network m.party x (m.party x) (h.ends x e.0) y e.2 (own_of m h y e.1) in
-        let d : (m.party y).client ≡ true = rw c at p.client in
-        (((h.ends y e.1).serving d x e.3).1.size)
-  ]
+  same_size m h x y e = search rules
 
   -- an end that moves is consistent if its peer and its blocks are as the phase says
   pub IsSound-moves : (ends : Endpoint → Party) (a : Endpoint) (x y : Party) → Moves x y →
@@ -109,46 +99,10 @@ module _ (network : Network) where
       (y.sender ≡ true → y.complete ≡ true → (p : Endpoint) → y.peer ≡ Some p → network.host_of p ≢ Elsewhere →
       (ends p).complete ≡ true) →
       IsSoundParty network ends a y
-  IsSound-moves ends a x y v h n b r u d = record {
-    at_home = rw v.client h.at_home;
-    positive = rw v.size h.positive;
-    no_peer = n;
-    serving = λ c p e. let s = h.serving (sym v.client ∙ c) p (sym v.peer ∙ e) in (
-      s.0,
-      record {
-        is_open = s.1.is_open;
-        client = s.1.client;
-        peer = s.1.peer;
-        size = s.1.size ∙ sym v.size;
-        mode = s.1.mode ∙ sym v.mode;
-        sender = rw v.sender s.1.sender;
-        request = s.1.request ∙ sym v.request;
-      },
-    );
-    has_peer = λ c. let s = h.has_peer (sym v.client ∙ c) in (s.0, v.peer ∙ s.1);
-    asked = λ c p e o. let s = h.asked (sym v.client ∙ c) p (sym v.peer ∙ e) o in
-        record {
-          is_open = s.is_open;
-          client = s.client;
-          mode = s.mode ∙ sym v.mode;
-          sender = rw v.sender s.sender;
-          request = s.request ∙ sym v.request;
-        };
-    plain = λ c p. v.size ∙ h.plain (sym v.client ∙ c) (sym v.plain ∙ p);
-    begun = b;
-    received = r;
-    returned = u;
-    ended = d;
-  }
+  IsSound-moves ends a x y v h n b r u d = search rules
 
   -- a DATA of its peer with the next number carries the next block of its peer's text
   pub next_block : (m : Machine) → Holds network m → (at peer : Endpoint) (bytes : List ℕ) →
       IsNext m.sent (m.party at) at peer bytes → network.host_of peer ≢ Elsewhere →
       GoesOn (m.party at) (m.party peer) bytes
-  next_block m h at peer bytes g o =
-      let x = m.party at in
-      let t = h.attested (message peer at (Data (x.number + 1) bytes)) g.3 o in
-      let s = h.ends at g.0.0 in
-      let r = s.received g.1 peer g.2 o in
-      let e = same_size m h at peer (g.0.0, t.is_open, g.2, t.peer) in
-      record { so_far = r.so_far g.0.1 g.0.2; room = r.room g.0.1; bytes = rw e t.bytes; positive = s.positive }
+  next_block m h at peer bytes g o = search rules

@@ -1,20 +1,18 @@
 -- The next block of a text is stored: it is short enough, not the last but one, and readable.
 -- For BlamelessActions.
 use Rattle.std.proofs.Common.{◌≡◌, ℕ, ◌+◌, ◌*◌, ◌<◌, ◌≤◌, Bool, true, false, not, List, ◌++◌, length, take, drop, Some}
-use Rattle.std.proofs.Common.{refl, sym, ap, ◌∙◌, subst, arith, inl, inr}
+use Rattle.std.proofs.Common.{refl, sym, ap, ◌∙◌, arith, inl, inr, rules}
 use Rattle.std.specs.Prelude.{◌≢◌, ◌==◌, nat_lt, ◌&&◌}
-use Rattle.std.specs.Cmp.Lexicographic.{same_text}
-use Rattle.std.proofs.lemmas.Bool.{true≢false, eqb-true, eq-eqb}
+use Rattle.std.proofs.lemmas.Bool.{true≢false, eq-eqb}
 use Rattle.std.proofs.lemmas.List.{take-append-drop}
 use Rattle.tftp_wire.specs.declared.mode.Mode.{Mode}
 use Rattle.tftp_file.specs.Block.{block, block_count, Fits}
 use Rattle.tftp_file.specs.Netascii.{wire_text}
 use Rattle.tftp_ends.specs.declared.phase.Terms.{Terms}
-use Rattle.tftp_ends.specs.Action.{is_wrong_peer, same_address, same_endpoint}
+use Rattle.tftp_ends.specs.Action.{is_wrong_peer}
 use Rattle.tftp_ends.specs.Text.{is_readable}
 use Rattle.tftp_rules.specs.Machine.{Endpoint}
 use Rattle.tftp_rules.proofs.Blocks.{count_is_past, take-block}
-use Rattle.tftp_rules.proofs.Endpoints.{endpoint_from}
 use Rattle.tftp_rules.proofs.NextBlocks.{less, piece_readable, block_within, never_long, last_rest}
 
 -- ---- small facts
@@ -40,11 +38,7 @@ from_not false e = absurd (true≢false (sym e))
 
 -- the peer of an end is no wrong peer
 pub the_peer : (terms : Terms) (to from : Endpoint) → is_wrong_peer (Some terms) to from ≡ false → terms.peer ≡ from
-the_peer terms to from right =
-    let same = not_false (same_endpoint terms.peer from) right in
-    let parts = and_true (same_address terms.peer from) (terms.peer.port == from.port) same in
-    endpoint_from terms.peer from (same_text terms.peer.ip from.ip (sym parts.0))
-    (eqb-true terms.peer.port from.port parts.1)
+the_peer terms to from right = search rules
 
 -- numbers that are not the same
 pub differs : (a b : ℕ) → (a == b) ≡ false → a ≢ b
@@ -52,10 +46,7 @@ differs a b e f = true≢false (sym (eq-eqb a b f) ∙ e)
 
 -- no number lies between two that follow one another
 pub by_one : (j n : ℕ) → n ≤ j → j ≤ n + 1 → j ≢ n → j ≢ n + 1 → ⊥
-by_one j n low high a b = elim (less (n + 1) j) [
-  | inl h ↦ a (omega (arith, low, h))
-  | inr h ↦ b (omega (arith, high, h))
-]
+by_one j n low high a b = search rules
 
 -- ---- the next block of a text is stored
 -- it is short enough, and can be read if what is sent is the text of a file
@@ -78,13 +69,6 @@ storable IsText mode stored held text size n piece positive fits file received r
     let own = block text size (n + 1) in
     let rest = drop ((n + 1) * size) text in
     let whole : ((wire_text mode stored ++ held) ++ own) ++ rest ≡ text =
-    ap (λ (t : List ℕ). (t ++ own) ++ rest) received
-    ∙ (ap (λ (t : List ℕ). t ++ rest) (take-block text n size) ∙ take-append-drop ((n + 1) * size) text) in
-    subst (λ (b : List ℕ). IsStorable IsText mode held size (n + 1) b) (sym piece_is) (record {
-      within = block_within text size positive fits n l;
-      short = λ a b. never_long text size positive fits n l a b;
-      readable = λ is.
-          let f = file is in
-          piece_readable mode f.0 stored held own rest (nat_lt (length own) size) (whole ∙ sym f.1)
-          (λ e. last_rest text size positive fits n e);
-    })
+    ap (λ (t : List ℕ). (t ++ own) ++ rest) received ∙ (ap (λ (t : List ℕ). t ++ rest) (take-block text n size) ∙
+    take-append-drop ((n + 1) * size) text) in
+    search (rules, block_within, never_long, piece_readable, last_rest)

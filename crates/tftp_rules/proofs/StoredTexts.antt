@@ -1,6 +1,7 @@
 -- The wire text of what a receiver has stored, after more was stored. For NextBlocks, SinkMoves and the crate
 -- tftp_player.
-use Rattle.std.proofs.Common.{◌≡◌, ℕ, List, ◌++◌, sym, refl, ap, ◌∙◌, append_assoc}
+use Rattle.std.proofs.lemmas.Grind.{common_steps}
+use Rattle.std.proofs.Common.{◌≡◌, ℕ, List, ◌++◌, sym, refl, ap, ◌∙◌, append_assoc, arith}
 use Rattle.std.proofs.lemmas.List.Concat.{flat_map-append}
 use Rattle.tftp_wire.specs.declared.mode.Mode.{Mode}
 use Rattle.tftp_wire.specs.declared.mode.Mode.TheVariants.{Octet, Netascii}
@@ -16,10 +17,7 @@ wire_text-append Netascii xs ys = flat_map-append wire_byte xs ys
 -- a block continues with what is stored of it and the text that is held back then
 pub stored_more : (mode : Mode) (stored held bytes more after : List ℕ) → held ++ bytes ≡ wire_text mode more ++ after →
     (wire_text mode stored ++ held) ++ bytes ≡ wire_text mode (stored ++ more) ++ after
-stored_more mode stored held bytes more after e =
-    append_assoc (wire_text mode stored) held bytes ∙ (ap (λ (zs : List ℕ). wire_text mode stored ++ zs) e
-    ∙ (sym (append_assoc (wire_text mode stored) (wire_text mode more) after) ∙ ap (λ (zs : List ℕ). zs ++ after)
-    (sym (wire_text-append mode stored more))))
+stored_more mode stored held bytes more after e = grind (arith, common_steps)
 
 -- a prefix of what was to be stored is a prefix on the wire
 pub stored_some : (mode : Mode) (stored kept more : List ℕ) → IsPrefixOf kept more →

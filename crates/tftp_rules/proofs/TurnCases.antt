@@ -1,6 +1,6 @@
 -- The turns by which an open end carries out an action.
 -- For TermsTaken, and for the laws of worlds (tftp_player).
-use Rattle.std.proofs.Common.{◌≡◌, ℕ, Bool, true, false, List, Result, Ok, Err, sym, subst}
+use Rattle.std.proofs.Common.{◌≡◌, ℕ, Bool, true, false, List, Result, Ok, Err, sym, subst, rules}
 use Rattle.std.specs.Prelude.{◌≢◌, if◌then◌else◌}
 use Rattle.tftp_file.specs.Sink.{Holding, SinkMeaning}
 use Rattle.tftp_file.specs.Source.{SourceMeaning}
@@ -68,20 +68,14 @@ module _ (sources : SourceMeaning (List ℕ)) (sinks : SinkMeaning Holding) (fro
       number ≢ 0 →
       StoresIn sources sinks terms number from piece e files turn files' →
       TurnBy from e (Store terms number) turn
-  stores terms number piece (Sink sink) (Sink sink') turn positive d =
-      goes terms number _ d.after d.mid sink' d.answer turn positive d.rest
-  stores terms number piece (Sink sink) (Source left) turn positive d = absurd d
-  stores terms number piece (Source left) files' turn positive d = absurd d
+  stores terms number piece files files' turn positive d = search (rules, goes)
 
   sends : (terms : Terms) (number : ℕ) (files files' : Files (List ℕ) Holding) (turn : Turn) →
       SendsFrom sources sinks terms number from e files turn files' →
       TurnBy from e (Send terms number) turn
   sends terms number (Source left) (Source left') turn d =
-      moved (Send terms number) turn _ d.answers
-      (one_of (Send terms number) (result_count_is (block_length e.role.length terms.size number) d.answer)
-      (sent_turn (Sending terms number) from (data_bytes number d.piece) e)
-      (refused_turn terms FileChanged outcomes.SourceFault from e) (Sends_data terms number d.piece)
-      (Cannot_read terms number))
+      moved _ _ _ d.answers (one_of _ (result_count_is (block_length e.role.length terms.size number) d.answer) _ _
+      (Sends_data terms number d.piece) (Cannot_read terms number))
   sends terms number (Source left) (Sink sink) turn d = absurd d
   sends terms number (Sink sink) files' turn d = absurd d
 

@@ -1,6 +1,7 @@
 -- An end that has blamed no peer, and knows whether its peer was opened without options, does so after each turn.
 -- For the law on blame of programs (tftp_promises).
 use Rattle.std.proofs.Common.{◌≡◌, ℕ, true, false, List, ◌++◌, Option, Some, None, refl, sym, ap, ◌∙◌, subst}
+use Rattle.std.proofs.Common.{rules as std_rules}
 use Rattle.std.specs.Prelude.{◌≢◌, ⊤, option_map, slice_get}
 use Rattle.std.specs.List.{Contains}
 use Rattle.std.proofs.lemmas.Bool.{true≢false}
@@ -8,7 +9,6 @@ use Rattle.std.proofs.lemmas.Option.{same_Some}
 use Rattle.tftp_wire.specs.Spelling.{Spells}
 use Rattle.tftp_wire.specs.declared.mode.Mode.{Mode}
 use Rattle.tftp_wire.specs.declared.packet.Packet.{Packet}
-use Rattle.tftp_wire.specs.declared.packet.Packet.TheVariants.{Read, Write, Data, Ack, Error, Oack}
 use Rattle.tftp_wire.proofs.SpellingLemmas.{one_meaning}
 use Rattle.tftp_negotiate.specs.declared.asked.Asked.{Asked}
 use Rattle.tftp_file.specs.Netascii.{wire_text}
@@ -17,11 +17,11 @@ use Rattle.tftp_file.specs.declared.files.Files.{Files}
 use Rattle.tftp_ends.specs.declared.outcome.Outcome.{Outcome}
 use Rattle.tftp_ends.specs.declared.outcome.Outcome.TheVariants as outcomes
 use Rattle.tftp_ends.specs.declared.phase.Phase.{Phase}
-use Rattle.tftp_ends.specs.declared.phase.Phase.TheVariants.{Waiting, Sending, Receiving, Dallying, Closed}
+use Rattle.tftp_ends.specs.declared.phase.Phase.TheVariants.{Waiting}
 use Rattle.tftp_ends.specs.declared.phase.Terms.{Terms}
 use Rattle.tftp_ends.specs.declared.role.Role.{Role}
 use Rattle.tftp_ends.specs.End.{EndState, is_sender, is_client, outcome_of, terms_of}
-use Rattle.tftp_ends.specs.Action.{Decodes, is_wrong_peer, same_address, datagram_action}
+use Rattle.tftp_ends.specs.Action.{Decodes, is_wrong_peer, same_address}
 use Rattle.tftp_ends.specs.Step.{Turn, DatagramStep, after_turn, timeout_turn}
 use Rattle.tftp_ends.specs.Waiting.{default_terms}
 use Rattle.tftp_rules.specs.EndKept.{EndKept, PhaseKept, IsAnswer, IsFromServer}
@@ -35,13 +35,12 @@ use Rattle.tftp_rules.specs.Said.{said}
 use Rattle.tftp_rules.specs.Shows.{EndView, IsShownAt, Matches}
 use Rattle.tftp_rules.proofs.ActionCases.{IsPlainAnswer}
 use Rattle.tftp_rules.proofs.BlamelessActions.{datagram_fine}
-use Rattle.tftp_rules.proofs.BlamelessTurns.{Blameless, IsCalm, acts_blameless, open_blameless, timeout_blameless}
+use Rattle.tftp_rules.proofs.BlamelessTurns.{Blameless, IsCalm, acts_blameless}
 use Rattle.tftp_rules.proofs.PlainPeers.{HasPlainPeer, AreOpenedAs, opened_as, opened_still, plain_answer, run_opens}
 use Rattle.tftp_rules.proofs.PlainPeers.{start_opens}
 use Rattle.tftp_rules.proofs.Runs.{Holds-start, Holds-run}
 use Rattle.tftp_rules.proofs.Steps.{own_of, own_server, server_end}
-use Rattle.tftp_rules.proofs.StorableBlocks.{not_false}
-use Rattle.tftp_rules.proofs.TermsTaken.{step_are, timeout_are}
+use Rattle.tftp_rules.proofs.TermsTaken.{step_are}
 
 -- which outcomes of an end blame its peer there: no netascii does if what that peer sends is the text of a file, and a
 -- fault of a source if the end sends nothing
@@ -57,12 +56,7 @@ BlamesBy IsText role p outcomes.StoreFault = ⊥
 BlamesBy IsText role p outcomes.SourceFault = is_sender role.side ≡ false
 
 calm : (IsText : Endpoint → Mode → Type 0) (role : Role) → IsCalm (BlamesBy IsText role)
-calm IsText role = record {
-  complete = λ p b. b;
-  timed_out = λ p b. b;
-  heard = λ p code b. b;
-  refused = λ p b. b;
-}
+calm IsText role = search std_rules
 
 -- the peer of these terms was opened without options, unless by an OACK
 abbrev IsPlain : List Message → Terms → Type 0
@@ -87,35 +81,20 @@ module _ (network : Network) {IsText : Endpoint → Mode → Type 0} where
   -- so is an end that opens
   pub opens_unblamed : (messages : List Message) (e : EndState) → outcome_of e.position.phase ≡ None →
       (is_client e.role.side ≡ true → terms_of e.position.phase ≡ None) → IsUnblamed network IsText messages e
-  opens_unblamed messages e still none = record {
-    blameless = open_blameless network (BlamesBy IsText e.role) e.position still;
-    plain = λ c t is b. absurd (let f : None ≡ Some t = sym (none c) ∙ is in cc);
-  }
+  opens_unblamed messages e still none = search std_rules
 
   -- and one after a timeout
   pub timeout_unblamed : (messages : List Message) (e : EndState) → IsUnblamed network IsText messages e →
       IsUnblamed network IsText messages (after_turn e (timeout_turn e))
-  timeout_unblamed messages e h = record {
-    blameless = timeout_blameless network (BlamesBy IsText e.role) (calm IsText e.role) e h.blameless;
-    plain = λ c. timeout_are (IsPlain messages) e (h.plain c);
-  }
+  timeout_unblamed messages e h = search std_rules
 
 -- an open end without terms waits
 waits : (phase : Phase) → outcome_of phase ≡ None → terms_of phase ≡ None →
     (asked : Asked) × (limit : ℕ) × (phase ≡ Waiting asked limit)
-waits (Waiting asked limit) still none = (asked, limit, refl)
-waits (Sending terms n) still none = absurd (let f : Some terms ≡ None = none in cc)
-waits (Receiving terms n) still none = absurd (let f : Some terms ≡ None = none in cc)
-waits (Dallying terms n dally) still none = absurd (let f : Some terms ≡ None = none in cc)
-waits (Closed terms n complete outcome) still none = absurd (let f : Some outcome ≡ None = still in cc)
+waits phase still none = search std_rules
 
 plain_is_answer : (p : Packet) → IsPlainAnswer (Some p) → IsAnswer p
-plain_is_answer (Read r) h = h
-plain_is_answer (Write r) h = h
-plain_is_answer (Data n piece) h = tt
-plain_is_answer (Ack n) h = tt
-plain_is_answer (Error code text) h = h
-plain_is_answer (Oack options) h = absurd h
+plain_is_answer p h = search std_rules
 
 -- ---- an open end that is shown, with a datagram that arrives there
 module _ (network : Network) (IsText : Endpoint → Mode → Type 0) (rules : List Rule) (views : List EndView)
@@ -140,9 +119,7 @@ module _ (network : Network) (IsText : Endpoint → Mode → Type 0) (rules : Li
     holds = Holds-run network rules start (Holds-start network) shown.0
 
     opened : AreOpenedAs network messages ends
-    opened =
-        subst (λ (ms : List Message). AreOpenedAs network ms ends) shown.1.sent
-        (run_opens network rules start (Holds-start network) (start_opens network) shown.0)
+    opened = search (std_rules, run_opens, start_opens)
 
     at_x : Matches (open_view x) (ends x.address)
     at_x = shown.1.ends k (open_view x) there
@@ -165,19 +142,14 @@ module _ (network : Network) (IsText : Endpoint → Mode → Type 0) (rules : Li
     takes_plain p spells right none plain =
         let phase = waits x.state.position.phase still none in
         let kept_now = subst (λ (q : Phase). PhaseKept network x q) phase.2 kept.phase in
-        let near : same_address network.request_port from ≡ true =
-        subst (λ (a : Endpoint). same_address a from ≡ true) kept_now.2
-        (not_false (same_address x.state.position.last_sent_to from)
-        (sym (ap (λ (o : Option Terms). is_wrong_peer o x.state.position.last_sent_to from) none) ∙ right)) in
-        let here =
-        serves (ap (option_map (λ (t : Terms). t.peer)) none) near p spells (plain_is_answer p plain) in
+        let near : same_address network.request_port from ≡ true = search std_rules in
+        let here = serves (ap (option_map (λ (t : Terms). t.peer)) none) near p spells (plain_is_answer p plain) in
         let own : network.host_of from ≢ Elsewhere = own_server network from here in
         let sent = arrives own in
         let truth : Attests (ends from) x.address (said p) =
-        holds.attested (message from x.address (said p))
-        (subst (λ (ms : List Message). Contains ms (message from x.address (said p))) (sym shown.1.sent)
-        (subst (λ (q : Packet). Contains messages (message from x.address (said q)))
-        (one_meaning sent.0 p bytes sent.1 spells) sent.2)) own in
+        holds.attested (message from x.address (said p)) (subst (λ (ms : List Message). Contains ms (message from
+        x.address (said p))) (sym shown.1.sent) (subst (λ (q : Packet). Contains messages (message from x.address (said
+        q))) (one_meaning sent.0 p bytes sent.1 spells) sent.2)) own in
         let nobody : (ends x.address).peer ≡ None = at_x.peer ∙ ap (option_map (λ (t : Terms). t.peer)) none in
         let is_plain =
         plain_answer network m holds x.address from (own_of network m holds x.address at_x.is_open) nobody here p truth
@@ -187,8 +159,7 @@ module _ (network : Network) (IsText : Endpoint → Mode → Type 0) (rules : Li
     takes : (decoded : Option Packet) → Decodes bytes decoded →
         is_wrong_peer (terms_of x.state.position.phase) x.state.position.last_sent_to from ≡ false →
         terms_of x.state.position.phase ≡ None → IsPlainAnswer decoded → IsPlain messages (default_terms from)
-    takes None says right none plain b = absurd plain
-    takes (Some p) says right none plain b = takes_plain p says right none plain
+    takes decoded says right none plain b = search (std_rules, takes_plain)
 
     -- a turn on a datagram
     pub datagram_unblamed : (turn : Turn) (held : Files (List ℕ) Holding) →
@@ -198,13 +169,10 @@ module _ (network : Network) (IsText : Endpoint → Mode → Type 0) (rules : Li
         let Blames = BlamesBy IsText x.state.role in
         record {
           blameless =
-              acts_blameless network Blames (calm IsText x.state.role) known_source (λ text. refl) known_sink from x
-              (λ sends left want may p b. true≢false (sym sends ∙ b)) bytes
-              (datagram_action x.state from bytes d.decoded) held turn
-              (datagram_fine network Blames (calm IsText x.state.role) rules views messages shown k x there kept not_port
-              from bytes arrives serves has_plain (λ own b is_open sender mode. readable own b is_open sender) d.decoded
+              acts_blameless network _ (calm IsText x.state.role) _ (λ text. refl) _ _ x (λ sends left want may p b.
+              true≢false (sym sends ∙ b)) _ _ _ _ (datagram_fine _ _ (calm IsText x.state.role) _ _ _ shown k x there
+              kept not_port _ _ arrives serves has_plain (λ own b is_open sender mode. readable own b is_open sender) _
               d.says) still d.acts;
           plain = λ c.
-              step_are (IsPlain messages) known_source known_sink from bytes x.state (files_of x) held turn
-              (unblamed.plain c) (λ ks b. absurd (true≢false b)) takes d;
+              step_are _ _ _ _ _ _ _ _ _ (unblamed.plain c) (λ ks b. absurd (true≢false b)) takes d;
         }

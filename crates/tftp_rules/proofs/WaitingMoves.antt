@@ -1,6 +1,6 @@
 -- A waiting client with its first answer. For EndTurns and the crate tftp_player.
 use Rattle.std.proofs.Common.{◌≡◌, ℕ, ◌*◌, ◌<◌, ◌≤◌, true, false, List, [], ◌∷◌, ◌++◌, length, set, drop, Option, Some}
-use Rattle.std.proofs.Common.{None, Result, Ok, Err, sym, refl, ap, ◌∙◌, subst, arith, inl, inr, append_assoc}
+use Rattle.std.proofs.Common.{None, Result, Ok, Err, sym, refl, ap, ◌∙◌, subst, arith, inl, inr, append_assoc, rules}
 use Rattle.std.specs.Prelude.{◌==◌, ◌&&◌, if◌then◌else◌, nat_lt, nat_le}
 use Rattle.std.specs.List.{Contains, AllByRecursion}
 use Rattle.std.proofs.lemmas.Bool.{leb-true, ltb-true, eqb-true}
@@ -36,7 +36,7 @@ use Rattle.tftp_ends.specs.declared.action.Response.TheVariants.{Close, Refuse, 
 use Rattle.tftp_ends.specs.End.{is_sender}
 use Rattle.tftp_ends.specs.Receiver.{receiver_action}
 use Rattle.tftp_ends.specs.Sender.{illegal_action}
-use Rattle.tftp_ends.specs.Step.{StoresIn, response_turn, after, after_turn, with_position}
+use Rattle.tftp_ends.specs.Step.{response_turn, after, after_turn, with_position}
 use Rattle.tftp_ends.specs.Text.{is_readable}
 use Rattle.tftp_ends.specs.Waiting.{default_terms, agreed_terms, no_answer, refusal_action, accept_action, begin_action}
 use Rattle.tftp_ends.specs.Waiting.{begin_with_action, reader_action, writer_action}
@@ -45,9 +45,7 @@ use Rattle.tftp_rules.specs.Machine.{Oack as Says_oack, Message, Network}
 use Rattle.tftp_rules.specs.Rules.{Rule, message}
 use Rattle.tftp_rules.specs.Said.{said, oack_size}
 use Rattle.tftp_rules.specs.Shows.{EndView, IsShownWithin}
-use Rattle.tftp_rules.specs.OpenEnds.{OpenEnd, files_of, holding_of, in_state, received_text, text_of as text_of_end}
-use Rattle.tftp_rules.specs.OpenEnds.{open_view, with_phase}
-use Rattle.tftp_rules.specs.KnownFiles.{known_source, known_sink}
+use Rattle.tftp_rules.specs.OpenEnds.{OpenEnd, in_state, received_text, text_of as text_of_end, open_view, with_phase}
 use Rattle.tftp_rules.specs.EndKept.{EndKept, IsAnswer}
 use Rattle.tftp_rules.specs.EndShown.{Stands, Goes}
 use Rattle.tftp_rules.proofs.Actions.{IsWaiting, stores_first, refuses_first, accepts, sends_first, sends_first_with}
@@ -114,14 +112,12 @@ module _ (network : Network) where
         let response = Accept (agreed_terms from known) in
         let y = in_state (with_position (after response from waiter.state) waiter.state) waiter in
         let here : Contains messages (message from x0.address (Says_oack (size known))) =
-        subst (λ (n : ℕ). Contains messages (message from x0.address (Says_oack n)))
-        (taken_oack asked kinds.Read x0.state.role.mode options limit known e) come in
+        subst (λ (n : ℕ). Contains messages (message from x0.address (Says_oack n))) (taken_oack asked kinds.Read
+        x0.state.role.mode options limit known e) come in
         let goes_now : Goes network first views messages k waiter (response_turn response from waiter.state) y =
         record {
           said_now = message x0.address from (Says_ack 0) ∷ [];
-          shown =
-              accepts network first views messages k (open_view waiter) s from (size known)
-              ((refl, refl), kept.phase.0, refl, server) reader here;
+          shown = accepts _ _ _ _ k _ s _ _ ((refl, refl), kept.phase.0, refl, server) reader here;
           replies = (Ack 0, spells_own (Ack 0) (omega arith), refl);
           kept = record { phase = (reader, refl); held_back = kept.held_back; committed = kept.committed };
           side = refl;
@@ -134,8 +130,7 @@ module _ (network : Network) where
         (options : List RawOption) → Contains messages (message from x0.address (Says_oack (oack_size options))) →
         (r : Result (List Known) Refusal) → agreement asked kinds.Read x0.state.role.mode options limit ≡ r →
         Answers (accept_action from r)
-    accept_cases server reader options come (Ok known) e = accept_acts server reader options known come e
-    accept_cases server reader options come (Err refusal) e = refusal_acts refusal
+    accept_cases server reader options come r e = search (rules, accept_acts, refusal_acts)
 
     -- a reader receives DATA 1
     first_acts : network.host_of from ≡ At_server → is_sender x0.state.role.side ≡ false → (piece : List ℕ) →
@@ -145,7 +140,7 @@ module _ (network : Network) where
     first_acts server reader piece l spelled come =
         let terms = default_terms from in
         let last = nat_lt (length piece) DEFAULT_BLOCK in
-        let none : x0.state.position.held_back ≡ [] = kept.phase.4 reader in
+        let none = kept.phase.4 reader in
         let waits : IsWaiting network (open_view waiter) from = ((refl, refl), kept.phase.0, refl, server) in
         let got : Receives network first views messages k waiter terms 1 from piece = record {
           receiver = reader;
@@ -153,63 +148,45 @@ module _ (network : Network) where
           incomplete = refl;
           peer = refl;
           fits = omega arith;
-          stored = stores_first network first views messages k (open_view waiter) s from piece waits reader come l;
-          refused =
-              λ t b. refuses_first network first views messages k (open_view waiter) s from piece t waits reader come l
-              b;
+          stored = stores_first _ _ _ _ k _ s _ _ waits reader come l;
+          refused = λ t b. refuses_first _ _ _ _ k _ s _ _ t waits reader come l b;
         } in
         let refuse : (reply : ErrorReply) (outcome : Outcome) → Answers (Respond (Refuse (Some terms) reply outcome)) =
-        λ reply outcome turn held h. from_response network first views messages k waiter
-        (Refuse (Some terms) reply outcome) from turn held
-        (refused_goes network first views messages k waiter terms 1 from piece kept got x0.state.position.held_back
-        (holding_of waiter) reply outcome kept.held_back (kept.committed reader) (
+        λ reply outcome turn held h. from_response network first views messages k waiter (Refuse (Some terms) reply
+        outcome) from turn held (refused_goes _ _ _ _ k _ _ 1 _ _ kept got _ _ reply outcome kept.held_back
+        (kept.committed reader) (
           x0.state.position.held_back ++ piece,
-          sym (append_assoc (wire_text x0.state.role.mode x0.stored) x0.state.position.held_back piece)
-              ∙ ap (λ (t : List ℕ). t ++ piece)
-              (sym (wire_text_is network first views messages k waiter terms 1 from piece kept got)),
+          sym (append_assoc (wire_text x0.state.role.mode x0.stored) x0.state.position.held_back piece) ∙ ap (λ (t :
+              List ℕ). t ++ piece) (sym (wire_text_is _ _ _ _ k _ _ 1 _ _ kept got)),
         )) h in
-        if_acts Answers (nat_lt DEFAULT_BLOCK (length piece)) (illegal_action terms)
-        (if is_readable x0.state.role.mode [] piece last then Store terms 1 else Respond
-        (Refuse (Some terms) replies.NotNetascii outcomes.NotNetascii))
-        (λ e. refuse replies.IllegalOperation outcomes.Illegal)
-        (λ e. if_acts Answers (is_readable x0.state.role.mode [] piece last) (Store terms 1)
-        (Respond (Refuse (Some terms) replies.NotNetascii outcomes.NotNetascii))
-        (λ readable turn held h. block_goes network first views messages k waiter terms 1 from piece kept got
-        (subst (λ (hs : List ℕ). is_readable x0.state.role.mode hs piece last ≡ true) (sym none) readable) turn held
-        (subst (λ (bs : List ℕ). StoresIn known_source known_sink terms 1 from bs waiter.state (files_of waiter) turn
-        held) (sym (data_of 1 h.0 bytes h.1) ∙ data_of 1 piece bytes spelled) h.2))
-        (λ g. refuse replies.NotNetascii outcomes.NotNetascii))
+        if_acts Answers (nat_lt DEFAULT_BLOCK (length piece)) (illegal_action terms) (if is_readable x0.state.role.mode
+        [] piece last then Store terms 1 else Respond (Refuse (Some terms) replies.NotNetascii outcomes.NotNetascii))
+        (λ e. refuse replies.IllegalOperation outcomes.Illegal) (λ e. if_acts Answers (is_readable x0.state.role.mode []
+        piece last) (Store terms 1) (Respond (Refuse (Some terms) replies.NotNetascii outcomes.NotNetascii)) (λ readable
+        turn held h. block_goes _ _ _ _ k _ _ 1 _ _ kept got (rw (sym none) at readable) _ _ (rw (sym (data_of 1 h.0
+        bytes h.1) ∙ data_of 1 piece bytes spelled) at h.2)) (λ g. refuse replies.NotNetascii outcomes.NotNetascii))
 
     first_cases : network.host_of from ≡ At_server → is_sender x0.state.role.side ≡ false →
         (number : ℕ) (piece : List ℕ) → number ≡ 1 → length piece ≤ DEFAULT_BLOCK → Spells (Data number piece) bytes →
         Contains messages (message from x0.address (Says_data number piece)) →
         Answers (receiver_action true x0.state.role.mode [] (default_terms from) 0 (Some (Data number piece)))
-    first_cases server reader number piece is l =
-        subst (λ (n : ℕ). Spells (Data n piece) bytes →
-        Contains messages (message from x0.address (Says_data n piece)) →
-        Answers (receiver_action true x0.state.role.mode [] (default_terms from) 0 (Some (Data n piece))))
-        (sym is) (first_acts server reader piece l)
+    first_cases server reader number piece is l = rw (is) (first_acts server reader piece l)
 
     -- a waiting reader with any packet
     pub reader_acts : is_sender x0.state.role.side ≡ false → (decoded : Option WirePacket) → OfServer from decoded →
         ((p : WirePacket) → decoded ≡ Some p → Spells p bytes) → OfDecoded messages from x0 decoded →
         Answers (reader_action x0.state.role.mode asked limit from decoded)
-    reader_acts reader None serves spelled come = refuse_waiter replies.IllegalOperation outcomes.Illegal
-    reader_acts reader (Some (Read r)) serves spelled come = refuse_waiter replies.IllegalOperation outcomes.Illegal
-    reader_acts reader (Some (Write r)) serves spelled come = refuse_waiter replies.IllegalOperation outcomes.Illegal
     reader_acts reader (Some (Data number piece)) serves spelled come =
-        if_acts Answers (number == 1 && nat_le (length piece) DEFAULT_BLOCK)
-        (receiver_action true x0.state.role.mode [] (default_terms from) 0 (Some (Data number piece))) no_answer
-        (λ e. let b = both_true (number == 1) (nat_le (length piece) DEFAULT_BLOCK) e in
-        first_cases (serves (Data number piece) refl tt) reader number piece (eqb-true number 1 b.0)
-        (leb-true (length piece) DEFAULT_BLOCK b.1) (spelled (Data number piece) refl)
-        (come (Data number piece) refl))
-        (λ e. refuse_waiter replies.IllegalOperation outcomes.Illegal)
-    reader_acts reader (Some (Ack acked)) serves spelled come = refuse_waiter replies.IllegalOperation outcomes.Illegal
+        if_acts Answers (number == 1 && nat_le (length piece) DEFAULT_BLOCK) (receiver_action true x0.state.role.mode []
+        (default_terms from) 0 (Some (Data number piece))) no_answer (λ e. let b = both_true (number == 1) (nat_le
+        (length piece) DEFAULT_BLOCK) e in
+        first_cases (serves (Data number piece) refl tt) reader number piece (eqb-true number 1 b.0) (leb-true (length
+        piece) DEFAULT_BLOCK b.1) (spelled (Data number piece) refl) (come (Data number piece) refl)) (λ e.
+        refuse_waiter replies.IllegalOperation outcomes.Illegal)
     reader_acts reader (Some (Error code text)) serves spelled come = close_waiter (outcomes.PeerError code)
     reader_acts reader (Some (Oack options)) serves spelled come =
-        accept_cases (serves (Oack options) refl tt) reader options (come (Oack options) refl)
-        (agreement asked kinds.Read x0.state.role.mode options limit) refl
+        accept_cases (serves (Oack options) refl tt) reader _ (come (Oack options) refl) _ refl
+    reader_acts reader decoded serves spelled come = refuse_waiter replies.IllegalOperation outcomes.Illegal
 
     -- a writer begins
     begin_acts : is_sender x0.state.role.side ≡ true → (terms : Terms) → terms.peer ≡ from → 0 < terms.size →
@@ -223,9 +200,8 @@ module _ (network : Network) where
         (messages ++ message x0.address from Says_error ∷ []) →
         Answers (begin_action x0.state.role.length terms)
     begin_acts writer terms peer positive small shown failing =
-        if_acts Answers (nat_lt x0.state.role.length (65535 * terms.size)) (Send terms 1)
-        (Respond (Refuse None replies.FileTooLarge outcomes.TooLarge))
-        (λ e.
+        if_acts Answers (nat_lt x0.state.role.length (65535 * terms.size)) (Send terms 1) (Respond (Refuse None
+        replies.FileTooLarge outcomes.TooLarge)) (λ e.
         let text = x0.text in
         let measured : x0.state.role.length ≡ length text = kept.phase.5 writer in
         let fits : Fits text terms.size =
@@ -237,17 +213,23 @@ module _ (network : Network) where
         kept.phase.3 ∙ ap (λ (n : ℕ). drop n text) (sym zero_blocks) in
         let l : 1 ≤ block_count text terms.size = omega arith in
         let packet = Data 1 (block text terms.size 1) in
-        let goes_now : Goes network first views messages k waiter (data_turn waiter terms 0 from)
-        (data_end waiter terms 0 from) = record {
+        let goes_now : Goes network first views messages k waiter (data_turn waiter terms 0 from) (data_end waiter terms
+        0 from) = record {
           said_now = message x0.address from (said packet) ∷ [];
           shown =
-              subst (λ (p : Endpoint). IsShownWithin network 3 first
-              (set views k (record (open_view waiter) { peer = Some p; size = terms.size; number = 1 }))
-              (messages ++ message x0.address from (said packet) ∷ [])) (sym peer)
-              (subst (λ (t : List ℕ). IsShownWithin network 3 first
-              (set views k (record (open_view waiter) { peer = Some from; size = terms.size; number = 1 }))
-              (messages ++ message x0.address from (Says_data 1 (block t terms.size 1)) ∷ [])) text_is
-              (shown (subst (λ (t : List ℕ). Fits t terms.size) (sym text_is) fits)));
+              subst (λ (p : Endpoint). IsShownWithin network 3 first (set views k (record (open_view waiter) {
+                peer
+                    = Some p;
+                size = terms.size;
+                number = 1;
+              })) (messages ++ message x0.address from (said packet) ∷ [])) (sym
+              peer) (subst (λ (t : List ℕ). IsShownWithin network 3 first (set views k (record (open_view waiter) {
+                peer
+                    = Some from;
+                size = terms.size;
+                number = 1;
+              })) (messages ++ message x0.address from (Says_data 1 (block t
+              terms.size 1)) ∷ [])) text_is (shown (subst (λ (t : List ℕ). Fits t terms.size) (sym text_is) fits)));
           replies = (packet, spells_own packet (valid_data text terms.size 0 positive small fits l), refl);
           kept = data_kept network waiter terms 0 from kept measured writer positive small fits l (sym peer);
           side = refl;
@@ -259,17 +241,7 @@ module _ (network : Network) where
         text_is ∙ sym (text_if (is_sender x0.state.role.side) text (received_text y.state y.stored) writer) in
         let failed : Goes network first views messages k waiter (failed_turn terms from waiter) y = record {
           said_now = message x0.address from Says_error ∷ [];
-          shown =
-              subst (λ (p : Endpoint). IsShownWithin network 3 first
-              (set views k (record (open_view y) { peer = Some p }))
-              (messages ++ message x0.address from Says_error ∷ [])) (sym peer)
-              (subst (λ (t : List ℕ). IsShownWithin network 3 first
-              (set views k (record (open_view waiter) {
-                peer = Some from;
-                size = terms.size;
-                failed = true;
-                text = t;
-              })) (messages ++ message x0.address from Says_error ∷ [])) still failing);
+          shown = search rules;
           replies = error_says replies.FileChanged x0.address from;
           kept = record { phase = tt; held_back = kept.held_back; committed = kept.committed };
           side = refl;
@@ -277,50 +249,50 @@ module _ (network : Network) where
           stored = λ _. refl;
         } in
         λ turn held h. data_goes network first views messages k waiter terms 0 from turn held writer measured
-        remaining_is goes_now failed h)
-        (λ e. refuse_waiter replies.FileTooLarge outcomes.TooLarge)
+        remaining_is goes_now failed h) (λ e. refuse_waiter replies.FileTooLarge outcomes.TooLarge)
 
     begin_plain : network.host_of from ≡ At_server → is_sender x0.state.role.side ≡ true →
         Contains messages (message from x0.address (Says_ack 0)) →
         Answers (begin_action x0.state.role.length (default_terms from))
     begin_plain server writer come =
-        begin_acts writer (default_terms from) refl (omega arith) (omega arith)
-        (λ fits. sends_first network first views messages k (open_view waiter) s from
-        ((refl, refl), kept.phase.0, refl, server) writer come fits)
-        (refuses_to_begin network first views messages k (open_view waiter) s from DEFAULT_BLOCK
-        ((refl, refl), kept.phase.0, refl, server) writer (inr (refl, come)))
+        begin_acts writer _ refl (omega arith) (omega arith) (λ fits. sends_first _ _ _ _ k _ s _ (
+          (refl, refl),
+          kept.phase.0,
+          refl,
+          server,
+        ) writer come fits) (refuses_to_begin _ _ _ _ k _ s _ _ (
+          (refl, refl),
+          kept.phase.0,
+          refl,
+          server,
+        ) writer (inr (refl, come)))
 
     begin_with : network.host_of from ≡ At_server → is_sender x0.state.role.side ≡ true → (options : List RawOption) →
         Contains messages (message from x0.address (Says_oack (oack_size options))) →
         (r : Result (List Known) Refusal) → agreement asked kinds.Write x0.state.role.mode options limit ≡ r →
         Answers (begin_with_action from x0.state.role.length r)
     begin_with server writer options come (Ok known) e =
-        let b = taken_size asked kinds.Write options x0.state.role.mode limit known kept.phase.1 e in
+        let b = taken_size _ _ _ _ _ _ kept.phase.1 e in
         let here : Contains messages (message from x0.address (Says_oack (size known))) =
-        subst (λ (n : ℕ). Contains messages (message from x0.address (Says_oack n)))
-        (taken_oack asked kinds.Write x0.state.role.mode options limit known e) come in
-        begin_acts writer (agreed_terms from known) refl b.0 b.1
-        (λ fits. sends_first_with network first views messages k (open_view waiter) s from (size known)
-        ((refl, refl), kept.phase.0, refl, server) writer here fits)
-        (refuses_to_begin network first views messages k (open_view waiter) s from (size known)
-        ((refl, refl), kept.phase.0, refl, server) writer (inl here))
+        subst (λ (n : ℕ). Contains messages (message from x0.address (Says_oack n))) (taken_oack _ _ _ _ _ _ e) come in
+        begin_acts writer _ refl b.0 b.1 (λ fits. sends_first_with _ _ _ _ k _ s _ _ (
+          (refl, refl),
+          kept.phase.0,
+          refl,
+          server,
+        ) writer here fits) (refuses_to_begin _ _ _ _ k _ s _ _ ((refl, refl), kept.phase.0, refl, server) writer
+        (inl here))
     begin_with server writer options come (Err refusal) e = refusal_acts refusal
 
     -- a waiting writer with any packet
     pub writer_acts : is_sender x0.state.role.side ≡ true → (decoded : Option WirePacket) → OfServer from decoded →
         OfDecoded messages from x0 decoded →
         Answers (writer_action x0.state.role.mode asked limit x0.state.role.length from decoded)
-    writer_acts writer None serves come = refuse_waiter replies.IllegalOperation outcomes.Illegal
-    writer_acts writer (Some (Read r)) serves come = refuse_waiter replies.IllegalOperation outcomes.Illegal
-    writer_acts writer (Some (Write r)) serves come = refuse_waiter replies.IllegalOperation outcomes.Illegal
-    writer_acts writer (Some (Data number piece)) serves come = refuse_waiter replies.IllegalOperation outcomes.Illegal
     writer_acts writer (Some (Ack acked)) serves come =
-        if_acts Answers (acked == 0) (begin_action x0.state.role.length (default_terms from)) no_answer
-        (λ e. begin_plain (serves (Ack acked) refl tt) writer
-        (subst (λ (n : ℕ). Contains messages (message from x0.address (Says_ack n))) (eqb-true acked 0 e)
-        (come (Ack acked) refl)))
-        (λ e. refuse_waiter replies.IllegalOperation outcomes.Illegal)
+        if_acts Answers (acked == 0) (begin_action x0.state.role.length (default_terms from)) no_answer (λ e.
+        begin_plain (serves (Ack acked) refl tt) writer (rw (← eqb-true acked 0 e) (come (Ack acked) refl))) (λ e.
+        refuse_waiter replies.IllegalOperation outcomes.Illegal)
     writer_acts writer (Some (Error code text)) serves come = close_waiter (outcomes.PeerError code)
     writer_acts writer (Some (Oack options)) serves come =
-        begin_with (serves (Oack options) refl tt) writer options (come (Oack options) refl)
-        (agreement asked kinds.Write x0.state.role.mode options limit) refl
+        begin_with (serves (Oack options) refl tt) writer _ (come (Oack options) refl) _ refl
+    writer_acts writer decoded serves come = refuse_waiter replies.IllegalOperation outcomes.Illegal

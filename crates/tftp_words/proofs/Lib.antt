@@ -9,6 +9,7 @@ pub mod BegunAt
 pub mod FromDiskMade
 pub mod PutFromDiskMade
 pub mod SharedFolderLemmas
+pub mod SharedDraftsLemmas
 mod NamedServer
 mod WitnessRuns
 mod WitnessSeveral

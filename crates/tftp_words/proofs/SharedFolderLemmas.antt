@@ -152,7 +152,7 @@ gives_no_look path at answer (Makes is) = let f : Looked at answer ≡ Made path
 gives_no_look path at answer (Links file from is) = let f : Looked at answer ≡ Linked file from path (Ok tt) = is in cc
 gives_no_look path at answer (Renames file from is) = let f : Looked at answer ≡ Renamed file from path (Ok tt) = is in cc
 
-left_after : (path : List ℕ) (n : List FolderCall) (c : FolderCall) (b : List FolderCall) → AllLeaveIt path (n ++ c ∷ b)
+pub left_after : (path : List ℕ) (n : List FolderCall) (c : FolderCall) (b : List FolderCall) → AllLeaveIt path (n ++ c ∷ b)
     → LeavesPath path c.1 × AllLeaveIt path b
 left_after path [] c b left = left
 left_after path (x ∷ n) c b left = left_after path n c b left.1
@@ -177,12 +177,12 @@ after_by p x n b false own rest =
     ∙ ap (λ (l : List DiskEvent). l ++ calls_by p b)
     (sym (cond-false (x.0 == p) (x.1 ∷ calls_by p n) (calls_by p n) own)))
 
-calls_after : (p : ℕ) (n b : List FolderCall) → calls_by p (n ++ b) ≡ calls_by p n ++ calls_by p b
+pub calls_after : (p : ℕ) (n b : List FolderCall) → calls_by p (n ++ b) ≡ calls_by p n ++ calls_by p b
 calls_after p [] b = refl
 calls_after p (x ∷ n) b = after_by p x n b (x.0 == p) refl (calls_after p n b)
 
 -- the call of this program, among its own
-own_call : (p : ℕ) (call : DiskEvent) (rest : List FolderCall) → calls_by p ((p, call) ∷ rest) ≡ call ∷ calls_by p rest
+pub own_call : (p : ℕ) (call : DiskEvent) (rest : List FolderCall) → calls_by p ((p, call) ∷ rest) ≡ call ∷ calls_by p rest
 own_call p call rest = cond-true (p == p) (call ∷ calls_by p rest) (calls_by p rest) (eq-eqb p p refl)
 
 differ : (p q : ℕ) (own : Bool) → (p == q) ≡ own → p ≢ q → (p == q) ≡ false
@@ -198,7 +198,7 @@ all_keep_after lock n b keep program =
     keep_after lock (calls_by program n) (calls_by program b)
     (subst (λ (l : List DiskEvent). KeepLock lock l) (calls_after program n b) (keep program))
 
-leave_after : (lock : List ℕ) (n b : List DiskEvent) → AllLeave lock (n ++ b) → AllLeave lock b
+pub leave_after : (lock : List ℕ) (n b : List DiskEvent) → AllLeave lock (n ++ b) → AllLeave lock b
 leave_after lock [] b left = left
 leave_after lock (x ∷ n) b left = leave_after lock n b left.1
 

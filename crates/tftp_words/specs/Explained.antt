@@ -1,5 +1,5 @@
--- Why a `tftp` did not complete: a file or a store failed, an ERROR came, or all copies of one
--- datagram, or all answers to them, were lost.
+-- Why a `tftp` did not complete: a file or a store failed or was too long, an ERROR came, or all
+-- copies of one datagram, or all answers to them, were lost.
 use Rattle.std.specs.Prelude.{ℕ, ◌≡◌, List, slice_get, Some}
 use Rattle.tftp_file.specs.Sink.{SinkMeaning}
 use Rattle.tftp_file.specs.Source.{SourceMeaning}

@@ -8,4 +8,5 @@ pub mod PutFromDisk
 pub mod OverSeveral
 pub mod SeveralFromDisk
 pub mod SharedFolder
+pub mod SharedDrafts
 pub mod Explained

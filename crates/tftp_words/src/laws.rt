@@ -7,6 +7,7 @@ ghost use Rattle.tftp_words.specs.OverSeveral.{SeveralMoveFiles};
 ghost use Rattle.tftp_words.specs.PutFromDisk.{PutsFromDiskToDisk};
 ghost use Rattle.tftp_words.specs.SeveralFromDisk.{SeveralFromDiskToDisk};
 ghost use Rattle.tftp_words.specs.SeveralFromDisk.{SeveralPutsFromDiskToDisk};
+ghost use Rattle.tftp_words.specs.SharedDrafts.{HeldIsLeft, NamesTheirOwn};
 ghost use Rattle.tftp_words.specs.SharedFolder.{OneHasTheName, PutsAreNamed, PutsNameTheirFiles};
 ghost use Rattle.tftp_words.specs.Unblamed.{NoCommandIsBlamed, NoneOfSeveralIsBlamed};
 ghost use Rattle.tftp_words.specs.Witness.{SomeMeetAll};
@@ -17,7 +18,7 @@ use tftp_client::LocalFile;
 use tftp_daemon::laws::a_run_keeps_the_settings;
 use tftp_disk::{Disk, DiskSource};
 use tftp_file::{Sink, Source};
-use tftp_folder::laws::{gives_its_file, stores_what_it_took};
+use tftp_folder::laws::{drafts_are_taken_by_their_holders, gives_its_file, stores_what_it_took};
 use tftp_folder::{FolderSource, FolderStore};
 use tftp_promises::laws::{
     a_client_ends_for_a_reason, a_client_is_one_run, a_server_is_one_run,
@@ -71,12 +72,13 @@ pub fn no_command_is_blamed<D: Disk, G: Source, K: Sink>()
 
 /// Of a run of `tftpd`, and runs of `tftp` whose arguments name that server, over an honest network
 /// with fresh ports, each `tftp` that sent its request and ended otherwise than by `complete N` did so
-/// because its file or its store failed, an ERROR came, or the other file was no netascii; because it
-/// refused the first answer; because it had made all its waits; or because of one datagram, its
-/// request or a later one, all copies were not received, or all answers to them: it sent that once
-/// and for each retry, and the server, if it handled a copy, answered, or its transfer failed (RFC
-/// 1350, sections 2 and 7). Of several `tftpd` at one address and request port the same holds of
-/// each, and each client that it serves.
+/// because its file or its store failed, an ERROR came, or the other file was no netascii; because
+/// the file of a put has more blocks than can be numbered at the block size that the server agreed to,
+/// or that of a get is longer than the client accepts; because it had made all its waits; or because
+/// of one datagram, its request or a later one, all copies were not received, or all answers to them:
+/// it sent that once and for each retry, and the server, if it handled a copy, answered, or its
+/// transfer failed (RFC 1350, sections 2 and 7). Of several `tftpd` at one address and request port
+/// the same holds of each, and each client that it serves.
 pub fn a_command_ends_for_a_reason<D: Disk, G: Source, K: Sink>()
     ensures one { EachCommandIsExplained D.log ⟦<FolderStore<D> as Store>⟧.meaning
         ⟦<FolderSource<D::View> as Source>⟧.meaning G.meaning K.meaning }
@@ -162,6 +164,21 @@ pub fn one_put_has_the_name()
     ensures files { PutsNameTheirFiles }
     ensures one { OneHasTheName }
 {}
+
+/// Of a folder that several servers share, by the calls of all on its files in any order: from the call
+/// that made the temporary file of a put until its last, by which the file gets its name or its path is
+/// removed, no call takes that path away, gives it to another file or makes one there; and no other
+/// server removes, links or renames it. So each file that is to get a name is the one that its server
+/// made for that put, and no name gets a file that another put still writes. Each server keeps within its
+/// limits, and by its own calls its files are still where it made them. What the system must promise is
+/// that a lock which one server has is granted to no other (flock(2)), and that no file is made where one
+/// is (open(2)). A program that takes no locks may still do all of that, if the folder's permissions let it.
+pub fn no_put_takes_anothers_file()
+    ensures held { HeldIsLeft }
+    ensures named { NamesTheirOwn }
+{
+    drafts_are_taken_by_their_holders();
+}
 
 /// The premises of the laws from disk to disk can be met, all of them: by a `tftpd` and a `tftp get`,
 /// by another `tftpd` and a `tftp put`, and by all four at one address and port, where each server

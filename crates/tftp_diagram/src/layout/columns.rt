@@ -146,10 +146,7 @@ impl Columns {
     /// The width of the picture, and the distance of neighbours, whose frames are side by side.
     fn add_frames(&self, diagram: &Diagram, needs: &mut Vec<Need>) -> Result<(), AllocError> {
         let last = self.last_stop();
-        let mut texts = width_of(diagram.summary.as_str()).max(width_of(diagram.title.as_str()));
-        for comment in &diagram.comments {
-            texts = texts.max(width_of(comment.text.as_str()));
-        }
+        let texts = width_of(diagram.summary.as_str()).max(width_of(diagram.title.as_str()));
         needs.push(Need {
             left: 0,
             right: last,

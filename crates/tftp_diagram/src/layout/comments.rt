@@ -1,40 +1,56 @@
-//! The comments: each in a row of its own, from the left edge across the lanes.
+//! The comments: each at the height of its row, at the right of everything else, so that no arrow
+//! passes behind one.
 
 use crate::diagram::Diagram;
 use crate::ink::Ink;
-use crate::layout::area::Area;
-use crate::layout::columns::Columns;
-use crate::layout::heading::LEFT;
-use crate::layout::spots::HALF;
 use crate::layout::{Anchor, Layout, Point, sending_of, width_of};
-use std::alloc::AllocError;
+use std::alloc::{AllocError, Global};
+use std::mem;
+
+/// The most letters of a line, unless a word is longer.
+const MOST_LETTERS: usize = 40;
+/// From one line of a comment to the next.
+const LINE_HEIGHT: u32 = 15;
+/// From the last lane's texts to the comments, and from these to the edge.
+const GAP: u32 = 24;
 
 impl Layout {
-    /// Adds the comments, which hide what is behind them, and which no other text may cover.
+    /// Adds the comments at the right of what is drawn so far, and makes room for them there.
     pub(crate) fn add_comments(
         &mut self,
+        alloc: Global,
         diagram: &Diagram,
-        columns: &Columns,
     ) -> Result<(), AllocError> {
+        let left = self.width;
+        let mut widest = 0;
         for comment in &diagram.comments {
-            let width = width_of(comment.text.as_str());
-            let at = Point {
-                x: columns.left().saturating_add(LEFT),
-                y: sending_of(comment.row),
-            };
-            self.taken.push(area_of(at, width))?;
-            self.add_text(at, Anchor::Start, width, Ink::Quiet, comment.text.clone()?)?;
+            let mut y = sending_of(comment.row);
+            for line in wrapped(alloc, comment.text.as_str())? {
+                let width = width_of(line.as_str());
+                widest = widest.max(width.saturating_add(GAP));
+                self.add_text(Point { x: left, y }, Anchor::Start, width, Ink::Quiet, line)?;
+                y = y.saturating_add(LINE_HEIGHT);
+            }
         }
+        self.width = left.saturating_add(widest);
         Ok(())
     }
 }
 
-/// The area of a text of this width that begins here.
-fn area_of(at: Point, width: u32) -> Area {
-    Area {
-        left: at.x,
-        top: at.y.saturating_sub(HALF),
-        right: at.x.saturating_add(width),
-        bottom: at.y.saturating_add(HALF),
+/// A text in lines, which are broken between words.
+fn wrapped(alloc: Global, text: &str) -> Result<Vec<String>, AllocError> {
+    let mut lines = Vec::new(alloc);
+    let mut line = String::new(alloc);
+    for word in text.split(' ') {
+        if !line.is_empty() {
+            if line.len().saturating_add(word.len()) < MOST_LETTERS {
+                line.push(' ')?;
+            } else {
+                lines.push(mem::replace(&mut line, String::new(alloc)))?;
+            }
+        }
+        line.push_str(word)?;
     }
+    lines.push(line)?;
+    Ok(lines)
 }

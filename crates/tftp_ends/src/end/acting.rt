@@ -1,7 +1,7 @@
 //! How an end carries out a response, and a receiver an action: the next phase, and the datagram to
 //! send.
 
-ghost use Rattle.std.specs.Prelude.{◌≡◌, ◌≤◌, drop, false, length, OnErr, IfOk};
+ghost use Rattle.std.specs.Prelude.{◌≡◌, ◌≤◌, drop, false, length, OnErr, IfOk, Some};
 ghost use Rattle.tftp_ends.specs.Files.{KeepsSink};
 ghost use Rattle.tftp_ends.specs.OneFile.{ReceiverActs, ReceiverActLacksMemory};
 ghost use Rattle.tftp_ends.specs.Step.{Turn, AcksAgain, Lends, UsesFile, ack_bytes};
@@ -9,7 +9,7 @@ ghost use Rattle.tftp_ends.specs.Step.{having_sent, in_phase, response_turn, wit
 ghost use Rattle.tftp_ends.specs.Step.{lent};
 ghost use Rattle.tftp_ends.specs.Phase.{refused};
 ghost use Rattle.tftp_ends.specs.Room.{room_of, response_room};
-ghost use Rattle.tftp_ends.specs.End.{is_sender, number_of, terms_of};
+ghost use Rattle.tftp_ends.specs.End.{is_sender, number_of, step_of, terms_of};
 ghost use Rattle.tftp_ends.specs.Fits.{ActionFits, BytesFit, ReplyFits, ResponseFits, SentFits};
 ghost use Rattle.tftp_ends.specs.Sound.{PhaseFits, ResendsAck};
 
@@ -21,13 +21,14 @@ use crate::error_reply::ErrorReply;
 use crate::outcome::Outcome;
 use crate::outgoing::Outgoing;
 use crate::phase::{Phase, Terms};
+use crate::record::Step;
 use crate::reply::MAX_ERROR;
 use std::alloc::AllocError;
 use tftp_file::Sink;
 use tftp_wire::append_ack;
 
 /// The data of a DATA packet, after its opcode and number.
-fn piece_of(bytes: &[u8]) -> &[u8]
+pub(crate) fn piece_of(bytes: &[u8]) -> &[u8]
     ensures { result.now ≡ drop 4 bytes.now }
 {
     match bytes {
@@ -60,9 +61,37 @@ impl End {
         self.go_into(self.phase.refused(terms, outcome));
     }
 
-    /// Enters a phase and acknowledges its block. It allocates no memory.
+    /// Closes because of a fault of the file, with an ERROR for `from`.
+    #[inline(never)]
+    pub(crate) fn close_for(&mut self, terms: Terms, outcome: Outcome, from: Endpoint) -> Step
+        requires { SentFits self.old (Some terms) }
+        ensures state { self.new ≡ with_position (in_phase
+            (refused (Some terms) outcome self.old.position.phase) self.old) self.old }
+        ensures step { result
+            ≡ step_of self.old.position.phase self.new.position.phase (Some from) }
+    {
+        let before = self.phase();
+        self.close(Some(terms), outcome);
+        before.step_to(self.phase(), Some(from))
+    }
+
+    /// As [`End::close_for`], by the terms of the phase.
+    #[inline(never)]
+    pub(crate) fn close_of(&mut self, outcome: Outcome, from: Endpoint) -> Step
+        ensures state { self.new ≡ with_position (in_phase (refused
+            (terms_of self.old.position.phase) outcome self.old.position.phase) self.old) self.old }
+        ensures step { result
+            ≡ step_of self.old.position.phase self.new.position.phase (Some from) }
+    {
+        let before = self.phase;
+        self.close(before.terms(), outcome);
+        before.step_to(self.phase(), Some(from))
+    }
+
+    /// Enters a phase from the one before it, and acknowledges its block. It allocates no memory.
     #[inline(always)]
-    pub(crate) fn acknowledge(&mut self, phase: Phase, from: Endpoint) -> Outgoing
+    pub(crate) fn acknowledge(&mut self, before: Phase, phase: Phase, from: Endpoint) -> Outgoing
+        requires before { self.old.position.phase ≡ before }
         requires fits { PhaseFits self.old phase }
         requires receiver { is_sender self.old.role.side ≡ false }
         ensures state { self.new ≡ with_position (having_sent
@@ -75,9 +104,7 @@ impl End {
             unreachable!()
         };
         self.last_sent_to = from;
-        self.retries_left = self
-            .phase
-            .retries_left(phase, self.role.retries, self.retries_left);
+        self.retries_left = before.retries_left(phase, self.role.retries, self.retries_left);
         self.phase = phase;
         Outgoing::LastSent
     }
@@ -144,7 +171,8 @@ impl End {
                 (Some(from), Outgoing::Error(reply))
             }
             Response::Accept { terms } => {
-                let outgoing = self.acknowledge(Phase::Receiving { terms, number: 0 }, from);
+                let phase = Phase::Receiving { terms, number: 0 };
+                let outgoing = self.acknowledge(self.phase, phase, from);
                 (Some(from), outgoing)
             }
             Response::Complete => {
@@ -184,8 +212,15 @@ impl End {
             Action::Respond(response) => Ok(self.respond(response, from)),
             Action::Send { .. } => unreachable!(),
             Action::Store { terms, number } => {
-                let outgoing = self.store(terms, number, piece_of(bytes), sink, from)?;
-                Ok((Some(from), outgoing))
+                let (step, outgoing) = self.store(
+                    self.phase,
+                    terms,
+                    number,
+                    piece_of(bytes),
+                    sink,
+                    from,
+                )?;
+                Ok((step.to, outgoing))
             }
         }
     }

@@ -7,20 +7,24 @@ ghost use Rattle.tftp_ends.specs.BlockRead.{is_whole};
 ghost use Rattle.tftp_ends.specs.End.{is_sender};
 ghost use Rattle.tftp_ends.specs.Files.{KeepsSource};
 ghost use Rattle.tftp_ends.specs.Fits.{ActionFits, BytesFit, SentFits};
+ghost use Rattle.tftp_ends.specs.Sound.{IsSending};
+ghost use Rattle.tftp_ends.specs.declared.phase.Phase.TheVariants.{Sending};
 ghost use Rattle.tftp_ends.specs.OneFile.{SenderActs, SenderActLacksMemory};
-ghost use Rattle.tftp_ends.specs.Phase.{refused};
 ghost use Rattle.tftp_ends.specs.Room.{ReadsData, room_of};
-ghost use Rattle.tftp_ends.specs.Shortage.{FillLacksMemory};
-ghost use Rattle.tftp_ends.specs.Step.{Turn, AcksAgain, Lends, UsesFile, block_length, in_phase};
-ghost use Rattle.tftp_ends.specs.Step.{lent, with_position};
+ghost use Rattle.tftp_ends.specs.Shortage.{FillLacksMemory, SendLacksMemory};
+ghost use Rattle.tftp_ends.specs.Step.{Turn, AcksAgain, Lends, Sends, UsesFile, block_length};
+ghost use Rattle.tftp_ends.specs.Step.{lent, reported};
+ghost use Rattle.tftp_ends.specs.declared.reply.TheConstants.{MAX_ERROR};
 
 use crate::action::Action;
 use crate::end::End;
 use crate::endpoint::Endpoint;
 use crate::error_reply::ErrorReply;
+use crate::next_block::NextBlock;
 use crate::outcome::Outcome;
 use crate::outgoing::Outgoing;
 use crate::phase::{Phase, Terms};
+use crate::record::Step;
 use std::alloc::AllocError;
 use std::mem;
 use tftp_file::{FileFault, Source};
@@ -140,36 +144,115 @@ impl End {
         match action {
             Action::Respond(response) => Ok(self.respond(response, from)),
             Action::Send { terms, number } => {
-                let want = block_length(self.role.length, terms.size, number);
-                reserve_datagram(&mut self.last_sent, &mut self.spare, HEADER + want)?;
-                match read_data(source, number, want, &mut self.spare)? {
-                    BlockRead::Whole => {
-                        mem::swap(&mut self.last_sent, &mut self.spare);
-                        self.spare.clear();
-                        self.last_sent_to = from;
-                        let phase = Phase::Sending { terms, number };
-                        self.retries_left = self
-                            .phase
-                            .retries_left(phase, self.role.retries, self.retries_left);
-                        self.phase = phase;
-                        Ok((Some(from), Outgoing::LastSent))
-                    }
-                    BlockRead::Changed => Ok((Some(from), self.close_changed(terms))),
-                }
+                let (step, outgoing) = self.send(self.phase, terms, number, source, from)?;
+                Ok((step.to, outgoing))
             }
             Action::Store { .. } => unreachable!(),
         }
     }
 
-    /// Closes with an ERROR, since the source did not give the block. The last datagram sent is
-    /// unchanged.
-    fn close_changed(&mut self, terms: Terms) -> Outgoing
-        requires { SentFits self.old (Some terms) }
-        ensures state { self.new ≡ with_position (in_phase
-            (refused (Some terms) Outcome.SourceFault self.old.position.phase) self.old) self.old }
-        ensures sent { result ≡ Outgoing.Error ErrorReply.FileChanged }
+    /// Sends the block of this number: DATA, or an ERROR if the source does not give the block. Then
+    /// the last datagram sent is unchanged. `before` is the phase: where it is known, no test of it is
+    /// left.
+    #[inline(always)]
+    pub(crate) fn send<S: Source>(
+        &mut self,
+        before: Phase,
+        terms: Terms,
+        number: u16,
+        source: &mut S,
+        from: Endpoint,
+    ) -> Result<(Step, Outgoing), AllocError>
+        requires before { self.old.position.phase ≡ before }
+        requires sending { IsSending self.old terms }
+        requires sent { SentFits self.old (Some terms) }
+        ensures sends { IfOk result (λ made. (turn : Turn)
+            × Sends S.meaning terms number from self.old source.old turn source.new
+            × Lends self.old turn self.new made.0.to made.1
+            × (made.0 ≡ reported self.old turn)) }
+        ensures room { IfOk result (λ made. length (lent made.1 self.new)
+            ≤ MAX_ERROR + block_length self.old.role.length terms.size number) }
+        ensures why { OnErr result (SendLacksMemory S.meaning
+            (block_length self.old.role.length terms.size number) self.old source.old source.new) }
+        ensures err { OnErr result ((self.new ≡ self.old)
+            × KeepsSource S.meaning source.old source.new) }
+        ensures same { S.is_same source.old source.new }
     {
-        self.close(Some(terms), Outcome::SourceFault);
-        Outgoing::Error(ErrorReply::FileChanged)
+        let want = block_length(self.role.length, terms.size, number);
+        reserve_datagram(&mut self.last_sent, &mut self.spare, HEADER + want)?;
+        match read_data(source, number, want, &mut self.spare)? {
+            BlockRead::Whole => {
+                mem::swap(&mut self.last_sent, &mut self.spare);
+                self.spare.clear();
+                self.last_sent_to = from;
+                let phase = Phase::Sending { terms, number };
+                self.retries_left = before.retries_left(
+                    phase,
+                    self.role.retries,
+                    self.retries_left,
+                );
+                self.phase = phase;
+                Ok((before.step_to(phase, Some(from)), Outgoing::LastSent))
+            }
+            BlockRead::Changed => {
+                let step = self.close_for(terms, Outcome::SourceFault, from);
+                Ok((step, Outgoing::Error(ErrorReply::FileChanged)))
+            }
+        }
+    }
+
+    /// Sends the next block of a sender, as [`End::send`] does. No terms are copied.
+    #[inline(always)]
+    pub(crate) fn send_after<S: Source>(
+        &mut self,
+        next: NextBlock,
+        source: &mut S,
+        from: Endpoint,
+    ) -> Result<(Step, Outgoing), AllocError>
+        requires phase { self.old.position.phase ≡ Sending next.terms next.newest }
+        requires sending { IsSending self.old next.terms }
+        ensures sends { IfOk result (λ made. (turn : Turn)
+            × Sends S.meaning next.terms next.number from self.old source.old turn source.new
+            × Lends self.old turn self.new made.0.to made.1
+            × (made.0 ≡ reported self.old turn)) }
+        ensures room { IfOk result (λ made. length (lent made.1 self.new)
+            ≤ MAX_ERROR + block_length self.old.role.length next.terms.size next.number) }
+        ensures why { OnErr result (SendLacksMemory S.meaning
+            (block_length self.old.role.length next.terms.size next.number) self.old
+            source.old source.new) }
+        ensures err { OnErr result ((self.new ≡ self.old)
+            × KeepsSource S.meaning source.old source.new) }
+        ensures same { S.is_same source.old source.new }
+    {
+        let want = block_length(self.role.length, next.terms.size, next.number);
+        reserve_datagram(&mut self.last_sent, &mut self.spare, HEADER + want)?;
+        match read_data(source, next.number, want, &mut self.spare)? {
+            BlockRead::Whole => {
+                mem::swap(&mut self.last_sent, &mut self.spare);
+                self.spare.clear();
+                self.last_sent_to = from;
+                let NextBlock {
+                    terms,
+                    newest,
+                    number,
+                } = next;
+                let before = Phase::Sending {
+                    terms,
+                    number: newest,
+                };
+                let phase = Phase::Sending { terms, number };
+                self.retries_left = before.retries_left(
+                    phase,
+                    self.role.retries,
+                    self.retries_left,
+                );
+                self.phase.set_number(number);
+                Ok((next.sent(from), Outgoing::LastSent))
+            }
+            BlockRead::Changed => {
+                let step = self.close_of(Outcome::SourceFault, from);
+                Ok((step, Outgoing::Error(ErrorReply::FileChanged)))
+            }
+        }
     }
 }

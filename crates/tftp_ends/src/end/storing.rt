@@ -8,6 +8,7 @@ ghost use Rattle.tftp_ends.specs.Files.{KeepsSink};
 ghost use Rattle.tftp_ends.specs.Shortage.{StoreLacksMemory};
 ghost use Rattle.tftp_ends.specs.Text.{begins_netascii, is_readable};
 ghost use Rattle.tftp_ends.specs.Step.{Turn, Lends, Stores, Appended, commit_reply, lent};
+ghost use Rattle.tftp_ends.specs.Step.{reported};
 ghost use Rattle.tftp_ends.specs.End.{is_sender};
 ghost use Rattle.tftp_ends.specs.Fits.{SentFits};
 ghost use Rattle.tftp_ends.specs.declared.reply.TheConstants.{MAX_ERROR};
@@ -18,6 +19,7 @@ use crate::error_reply::ErrorReply;
 use crate::outcome::Outcome;
 use crate::outgoing::Outgoing;
 use crate::phase::{Dally, Phase, Terms};
+use crate::record::Step;
 use std::alloc::AllocError;
 use tftp_file::{NetDecoder, NetFault, Sink, StoreFault};
 use tftp_wire::Mode;
@@ -197,24 +199,28 @@ fn store_piece<K: Sink>(
 
 impl End {
     /// Stores the received data and acknowledges it: the last block only after the commit. If the
-    /// sink refuses, it sends an ERROR and closes.
+    /// sink refuses, it sends an ERROR and closes. `before` is the phase: where it is known, no test
+    /// of it is left.
     #[inline(always)]
     pub(crate) fn store<K: Sink>(
         &mut self,
+        before: Phase,
         terms: Terms,
         number: u16,
         piece: &[u8],
         sink: &mut K,
         from: Endpoint,
-    ) -> Result<Outgoing, AllocError>
+    ) -> Result<(Step, Outgoing), AllocError>
+        requires before { self.old.position.phase ≡ before }
         requires receiver { is_sender self.old.role.side ≡ false }
         requires sent { SentFits self.old (Some terms) }
         requires reads { is_readable self.old.role.mode self.old.position.held_back piece.now
             (nat_lt (length piece.now) terms.size) ≡ true }
-        ensures stores { IfOk result (λ outgoing. (turn : Turn)
+        ensures stores { IfOk result (λ made. (turn : Turn)
             × Stores K.meaning terms number from piece.now self.old sink.old turn sink.new
-            × Lends self.old turn self.new (Some from) outgoing) }
-        ensures room { IfOk result (λ outgoing. length (lent outgoing self.new) ≤ MAX_ERROR) }
+            × Lends self.old turn self.new made.0.to made.1
+            × (made.0 ≡ reported self.old turn)) }
+        ensures room { IfOk result (λ made. length (lent made.1 self.new) ≤ MAX_ERROR) }
         ensures err { OnErr result ((self.new ≡ self.old)
             × KeepsSink K.meaning sink.old sink.new) }
         ensures why { OnErr result (StoreLacksMemory K.meaning self.old.role.mode
@@ -226,9 +232,10 @@ impl End {
         let (stored, after) = store_piece(sink, self.role.mode, self.decoder, piece, kind, spare)?;
         match stored {
             BlockStored::More => {
-                let outgoing = self.acknowledge(Phase::Receiving { terms, number }, from);
+                let phase = Phase::Receiving { terms, number };
+                let outgoing = self.acknowledge(before, phase, from);
                 self.decoder = after;
-                Ok(outgoing)
+                Ok((before.step_to(phase, Some(from)), outgoing))
             }
             BlockStored::All => {
                 let phase = Phase::Dallying {
@@ -236,18 +243,18 @@ impl End {
                     number,
                     dally: Dally::Fresh,
                 };
-                let outgoing = self.acknowledge(phase, from);
+                let outgoing = self.acknowledge(before, phase, from);
                 self.decoder = after;
-                Ok(outgoing)
+                Ok((before.step_to(phase, Some(from)), outgoing))
             }
             BlockStored::Refused => {
-                self.close(Some(terms), Outcome::StoreFault);
-                Ok(Outgoing::Error(ErrorReply::DiskFull))
+                let step = self.close_for(terms, Outcome::StoreFault, from);
+                Ok((step, Outgoing::Error(ErrorReply::DiskFull)))
             }
             BlockStored::Uncommitted(reply) => {
-                self.close(Some(terms), Outcome::StoreFault);
+                let step = self.close_for(terms, Outcome::StoreFault, from);
                 self.decoder = after;
-                Ok(Outgoing::Error(reply))
+                Ok((step, Outgoing::Error(reply)))
             }
         }
     }

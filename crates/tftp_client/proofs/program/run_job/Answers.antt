@@ -10,10 +10,9 @@ use Rattle.tftp_client.proofs.program.run_job.Goals as goal
 pub returns-in-Ok-clause-runs : goal.returns-in-Ok-clause-runs
 returns-in-Ok-clause-runs g c =
     let stored = rw c.in-Ok.is at c.transfer-ended.ensures.ok in
-    let ends = rw c.in-Ok.is at c.transfer-ended.ensures.ends in
     let done = stored.0 in (
       inl (
-        ends,
+        done.ends,
         record {
           port = done.port;
           last = done.last;

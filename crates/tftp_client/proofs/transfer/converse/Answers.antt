@@ -14,6 +14,7 @@ pub returns-in-Ok-clause-ok : goal.returns-in-Ok-clause-ok
 returns-in-Ok-clause-ok g c =
     let last = state_of c.run-ended.new.self (g.N.Udp.log c.run-ended.new.net) in
     record {
+      ends = c.conclude.ensures.ends;
       last = last;
       files = c.run-ended.new.files;
       converses = c.run-ended.ensures.converses;
@@ -34,8 +35,9 @@ returns-in-Ok-clause-keeps g c =
     (kept _ _ (λ before after committed same. same) c.run-ended.new.files c.conclude.new.files
     c.conclude.ensures.goes.converses)
 
-pub returns-in-Ok-clause-within : goal.returns-in-Ok-clause-within
-returns-in-Ok-clause-within g c = omega (arith, c.conclude.ensures.waits, c.run-ended.ensures.counted)
+pub returns-in-Ok-clause-counts : goal.returns-in-Ok-clause-counts
+returns-in-Ok-clause-counts g c =
+    record { counted = tt; within = omega (arith, c.conclude.ensures.waits, c.run-ended.ensures.counted) }
 
 pub returns-in-Err-clause-err : goal.returns-in-Err-clause-err
 returns-in-Err-clause-err g c = (
@@ -58,5 +60,6 @@ returns-in-Err-clause-keeps g c =
     kept _ _ (λ before after committed same. same) c.args.files.now c.write_out.new.files
     (written_out _ _ c.write_out.new.files c.write_out.ensures.works c.run-ended.ensures.converses)
 
-pub returns-in-Err-clause-within : goal.returns-in-Err-clause-within
-returns-in-Err-clause-within g c = omega (arith, c.run-ended.ensures.counted)
+pub returns-in-Err-clause-counts : goal.returns-in-Err-clause-counts
+returns-in-Err-clause-counts g c =
+    record { counted = c.run-ended.ensures.counted; within = omega (arith, c.run-ended.ensures.counted) }

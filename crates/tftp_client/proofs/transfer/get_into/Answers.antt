@@ -8,7 +8,7 @@ use Rattle.tftp_client.specs.OnDisk.{job_paths}
 use Rattle.tftp_client.proofs.Concluding.{stores}
 use Rattle.tftp_client.proofs.LeftBytes.{leaves, leaves_none}
 use Rattle.tftp_client.proofs.NamedOnDisk.{has_calls, keeps_disk, received}
-use Rattle.tftp_client.proofs.Running.{if_err}
+use Rattle.tftp_client.proofs.Running.{counts_from, if_err}
 use Rattle.tftp_client.proofs.transfer.get_into.Goals as goal
 
 pub returns-clause-ok : goal.returns-clause-ok
@@ -33,15 +33,9 @@ returns-clause-keeps g c =
     keeps_disk c.args.local c.converse-ended.new.files c.disk_of.result (job_paths c.args.job.now) c.requires.paths
     c.converse-ended.ensures.keeps c.disk_of.ensures
 
-pub returns-clause-within : goal.returns-clause-within
-returns-clause-within g c =
-    omega (arith, c.converse-ended.ensures.within, ap (λ (s : State). waits s.events) c.in-Ok.ensures.begins)
-
-pub returns-clause-counted : goal.returns-clause-counted
-returns-clause-counted g c =
-    if_err c.converse-ended.result _ _
-    (λ failure counted. omega (arith, counted, ap (λ (s : State). waits s.events) c.in-Ok.ensures.begins))
-    c.converse-ended.ensures.counted
+pub returns-clause-counts : goal.returns-clause-counts
+returns-clause-counts g c =
+    counts_from c.converse-ended.ensures.counts (omega (arith, ap (λ (s : State). waits s.events) c.in-Ok.ensures.begins))
 
 pub disk_of-requires : goal.disk_of-requires
 disk_of-requires g c = received c.args.local c.converse-ended.new.files c.converse-ended.ensures.keeps

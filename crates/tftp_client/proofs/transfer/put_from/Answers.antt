@@ -10,7 +10,7 @@ use Rattle.tftp_client.proofs.Concluding.{concludes, sends_so}
 use Rattle.tftp_client.proofs.Conversing.{begun_open, begun_ready, opens_open}
 use Rattle.tftp_client.proofs.LeftBytes.{leaves, leaves_none}
 use Rattle.tftp_client.proofs.NamedOnDisk.{sends_calls}
-use Rattle.tftp_client.proofs.Running.{if_err}
+use Rattle.tftp_client.proofs.Running.{counts_from, if_err}
 use Rattle.tftp_client.proofs.SentFile.{octet_length}
 use Rattle.tftp_client.proofs.transfer.put_from.Goals as goal
 
@@ -35,15 +35,9 @@ returns-in-Ok-clause-err g c =
     (sends_calls c.args.outbound.source c.converse.new.files calls c.converse.ensures.keeps))
     c.converse.ensures.err
 
-pub returns-in-Ok-clause-within : goal.returns-in-Ok-clause-within
-returns-in-Ok-clause-within g c =
-    omega (arith, c.converse.ensures.within, ap (λ (s : State). waits s.events) c.in-Ok.ensures.begins)
-
-pub returns-in-Ok-clause-counted : goal.returns-in-Ok-clause-counted
-returns-in-Ok-clause-counted g c =
-    if_err c.converse.result _ _
-    (λ failure counted. omega (arith, counted, ap (λ (s : State). waits s.events) c.in-Ok.ensures.begins))
-    c.converse.ensures.counted
+pub returns-in-Ok-clause-counts : goal.returns-in-Ok-clause-counts
+returns-in-Ok-clause-counts g c =
+    counts_from c.converse.ensures.counts (omega (arith, ap (λ (s : State). waits s.events) c.in-Ok.ensures.begins))
 
 pub returns-in-Err-clause-err : goal.returns-in-Err-clause-err
 returns-in-Err-clause-err g c calls =

@@ -21,7 +21,7 @@ returns-then-not-falls_back-clause-err g c =
 pub returns-clause-ok : goal.returns-clause-ok
 returns-clause-ok g c =
     let left = rw c.in-Err.is at c.transfer_once-ended.ensures.err in
-    let counted = rw c.in-Err.is at c.transfer_once-ended.ensures.counted in
+    let counted = rw c.in-Err.is at c.transfer_once-ended.ensures.counts.counted in
     IfOk-weaker c.transfer_once.result.0 _ _
     (λ status ended. again_stores _ _ c.args.job.now c.plain.result _
     (record {
@@ -35,7 +35,7 @@ returns-clause-ok g c =
 pub returns-clause-err : goal.returns-clause-err
 returns-clause-err g c =
     let left = rw c.in-Err.is at c.transfer_once-ended.ensures.err in
-    let counted = rw c.in-Err.is at c.transfer_once-ended.ensures.counted in
+    let counted = rw c.in-Err.is at c.transfer_once-ended.ensures.counts.counted in
     if_err c.transfer_once.result.0 _ _
     (λ failure again. leaves_again _ _ c.args.job.now c.plain.result _ _ _ _ failure.end
     (record {

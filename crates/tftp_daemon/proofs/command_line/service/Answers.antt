@@ -15,6 +15,7 @@ returns-clause-names c =
       read_only = search rules;
       uploads = search rules;
       longest = search rules;
+      length_memory = search rules;
       backoff = search rules;
       ending = search rules;
       drain = search rules;

@@ -1,6 +1,7 @@
 -- The server has the store that was opened.
 use Rattle.std.proofs.Common.{◌≡◌, ◌∙◌, [], ap, subst, sym, option_map}
 use Rattle.std.specs.String.{string_bytes}
+use Rattle.tftp_folder.specs.Counted.{lengths_in}
 use Rattle.tftp_folder.specs.Effects.{changes_of}
 use Rattle.tftp_disk.specs.Changes.{changes}
 use Rattle.tftp_folder.specs.Inside.{StaysInside}
@@ -38,4 +39,7 @@ returns-in-Ok-new g c =
           subst (λ (s : FolderStore _ _ _ _). StaysInside (string_bytes s.folder.root)
           (g.D.Looks.log c.args.disk) (g.D.Looks.log s.disk)) same
           c.in-Ok.ensures.inside;
+      lengths =
+          subst (λ (s : FolderStore _ _ _ _). s.lengths.most ≡ lengths_in c.args.config.now.length_memory) same
+          c.in-Ok.ensures.lengths;
     }

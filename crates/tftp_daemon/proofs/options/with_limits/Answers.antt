@@ -9,5 +9,6 @@ returns c app is =
     let retries = commands_grow.adds files c.retries.ensures c.in_ok-command-3.ensures in
     let backoffs = commands_grow.adds retries c.backoff.ensures c.in_ok-command-4.ensures in
     let caps = commands_grow.adds backoffs c.cap.ensures c.in_ok-command-5.ensures in
-    commands_grow.adds (commands_grow.adds caps c.per_client.ensures c.in_ok-command-6.ensures) c.longest.ensures
-    c.in_ok-arg.ensures
+    let shares = commands_grow.adds caps c.per_client.ensures c.in_ok-command-6.ensures in
+    let ages = commands_grow.adds shares c.longest.ensures c.in_ok-command-7.ensures in
+    commands_grow.adds ages c.length_memory.ensures c.in_ok-arg.ensures

@@ -7,6 +7,7 @@ use Rattle.tftp_folder.specs.Begin.{TriesDraft}
 use Rattle.tftp_folder.specs.Begin.TriesDraft.{Nothing}
 use Rattle.tftp_folder.proofs.MakingLemmas.{calls_inside, follows_by, made_calls, makes_draft, new_draft_there, on_err, others_by, tries_by}
 use Rattle.tftp_folder.proofs.PlacedLemmas.{same_there, still_by, then_others}
+use Rattle.tftp_folder.proofs.ReachedLemmas.{draft_reaches, looks_reach, then_reaches}
 use Rattle.tftp_folder.proofs.beginning.begin_draft.Goals as goal
 
 pub returns-in_err-place-clause-err : goal.returns-in_err-place-clause-err
@@ -134,3 +135,34 @@ returns-in-None-clause-there g c =
     new_draft_there c.new-draft.result (string_bytes c.args.served.now.drafts) (string_bytes c.new-draft.result.target)
     (string_bytes c.in_ok-made.made.path) c.args.port c.new.result c.in_ok-made.made.file (g.D.Looks.log c.place_to_write.new.disk) (g.D.Looks.log c.make_draft.new.disk)
     (ap string_bytes c.new-draft.ensures.draft) refl c.new-draft.ensures.writer c.new.ensures.file c.in_ok-made.ensures.ok
+
+pub returns-in_err-place-clause-reaches : goal.returns-in_err-place-clause-reaches
+returns-in_err-place-clause-reaches g c = λ root.
+    looks_reach root (g.D.Looks.log c.args.disk.now) (g.D.Looks.log c.place_to_write.new.disk) c.place_to_write.ensures.placed
+
+pub returns-in_err-made-clause-reaches : goal.returns-in_err-made-clause-reaches
+returns-in_err-made-clause-reaches g c = λ root.
+    then_reaches root (g.D.Looks.log c.args.disk.now) (g.D.Looks.log c.place_to_write.new.disk) (g.D.Looks.log c.make_draft.new.disk)
+    (looks_reach root (g.D.Looks.log c.args.disk.now) (g.D.Looks.log c.place_to_write.new.disk) c.place_to_write.ensures.placed)
+    (draft_reaches root (string_bytes c.args.served.now.drafts) c.args.port (g.D.Looks.log c.place_to_write.new.disk) (g.D.Looks.log c.make_draft.new.disk) c.in_err-made.ensures.err)
+
+pub returns-in-Ok-clause-reaches : goal.returns-in-Ok-clause-reaches
+returns-in-Ok-clause-reaches g c = λ root.
+    then_reaches root (g.D.Looks.log c.args.disk.now) (g.D.Looks.log c.place_to_write.new.disk) (g.D.Looks.log c.make_draft.new.disk)
+    (looks_reach root (g.D.Looks.log c.args.disk.now) (g.D.Looks.log c.place_to_write.new.disk) c.place_to_write.ensures.placed)
+    (draft_reaches root (string_bytes c.args.served.now.drafts) c.args.port (g.D.Looks.log c.place_to_write.new.disk) (g.D.Looks.log c.make_draft.new.disk)
+    (made_calls (string_bytes c.args.served.now.drafts) c.args.port (string_bytes c.in_ok-made.made.path) c.in_ok-made.made.file.trace.events (g.D.Looks.log c.place_to_write.new.disk) (g.D.Looks.log c.make_draft.new.disk) c.in_ok-made.ensures.ok))
+
+pub returns-in-Err-clause-reaches : goal.returns-in-Err-clause-reaches
+returns-in-Err-clause-reaches g c = λ root.
+    then_reaches root (g.D.Looks.log c.args.disk.now) (g.D.Looks.log c.place_to_write.new.disk) (g.D.Looks.log c.make_draft.new.disk)
+    (looks_reach root (g.D.Looks.log c.args.disk.now) (g.D.Looks.log c.place_to_write.new.disk) c.place_to_write.ensures.placed)
+    (draft_reaches root (string_bytes c.args.served.now.drafts) c.args.port (g.D.Looks.log c.place_to_write.new.disk) (g.D.Looks.log c.make_draft.new.disk)
+    (made_calls (string_bytes c.args.served.now.drafts) c.args.port (string_bytes c.in_ok-made.made.path) c.in_ok-made.made.file.trace.events (g.D.Looks.log c.place_to_write.new.disk) (g.D.Looks.log c.make_draft.new.disk) c.in_ok-made.ensures.ok))
+
+pub returns-in-None-clause-reaches : goal.returns-in-None-clause-reaches
+returns-in-None-clause-reaches g c = λ root.
+    then_reaches root (g.D.Looks.log c.args.disk.now) (g.D.Looks.log c.place_to_write.new.disk) (g.D.Looks.log c.make_draft.new.disk)
+    (looks_reach root (g.D.Looks.log c.args.disk.now) (g.D.Looks.log c.place_to_write.new.disk) c.place_to_write.ensures.placed)
+    (draft_reaches root (string_bytes c.args.served.now.drafts) c.args.port (g.D.Looks.log c.place_to_write.new.disk) (g.D.Looks.log c.make_draft.new.disk)
+    (made_calls (string_bytes c.args.served.now.drafts) c.args.port (string_bytes c.in_ok-made.made.path) c.in_ok-made.made.file.trace.events (g.D.Looks.log c.place_to_write.new.disk) (g.D.Looks.log c.make_draft.new.disk) c.in_ok-made.ensures.ok))

@@ -5,6 +5,7 @@ use Rattle.tftp_folder.specs.Inside.{AreInside}
 use Rattle.tftp_folder.proofs.InsideLemmas.{lock_inside}
 use Rattle.tftp_folder.proofs.PlacedLemmas.{lock_there}
 use Rattle.tftp_folder.specs.Placed.{NamesThere}
+use Rattle.tftp_folder.proofs.ReachedLemmas.{lock_reached, make_reaches, remove_reaches, then_reaches}
 use Rattle.tftp_folder.proofs.locked.rename_locked.Goals as goal
 
 pub returns-in-Ok-rename_new-clause-inside : goal.returns-in-Ok-rename_new-clause-inside
@@ -38,3 +39,34 @@ returns-clause-there g c = λ there names.
     (lock_there c.args.draft.now c.as_str-path.result.now _ (g.D.Looks.log c.args.disk.now) locked
     (c.as_str-path.ensures.value ∙ c.in-Ok.ensures) c.make.ensures.noted there)
     (subst NamesThere (sym c.make.ensures.noted) names))
+
+pub returns-in-Ok-rename_new-clause-reaches : goal.returns-in-Ok-rename_new-clause-reaches
+returns-in-Ok-rename_new-clause-reaches g c = λ root reached.
+    let before = g.D.Looks.log c.args.disk.now in
+    let locked = g.D.Looks.log c.make.new.self in
+    let renamed = g.D.Looks.log c.rename_new.new.disk in
+    then_reaches root before locked (g.D.Looks.log c.remove.new.self)
+    (make_reaches root c.as_str-path.result.now _ before locked c.make.ensures.noted)
+    (then_reaches root locked renamed (g.D.Looks.log c.remove.new.self)
+    (c.rename_new.ensures.reaches root
+    (lock_reached root c.as_str-path.result.now (string_bytes c.args.draft.now.target) _ before locked
+    (c.as_str-path.ensures.value ∙ c.in-Ok.ensures) c.make.ensures.noted reached))
+    (remove_reaches root c.as_str-path.result.now _ renamed (g.D.Looks.log c.remove.new.self) c.remove.ensures))
+
+pub returns-clause-reaches : goal.returns-clause-reaches
+returns-clause-reaches g c = λ root reached.
+    let before = g.D.Looks.log c.args.disk.now in
+    let locked = g.D.Looks.log c.make.new.self in
+    let renamed = g.D.Looks.log c.rename_new.new.disk in
+    then_reaches root before locked (g.D.Looks.log c.remove-in-Err-rename_new.new.self)
+    (make_reaches root c.as_str-path.result.now _ before locked c.make.ensures.noted)
+    (then_reaches root locked renamed (g.D.Looks.log c.remove-in-Err-rename_new.new.self)
+    (c.rename_new.ensures.reaches root
+    (lock_reached root c.as_str-path.result.now (string_bytes c.args.draft.now.target) _ before locked
+    (c.as_str-path.ensures.value ∙ c.in-Ok.ensures) c.make.ensures.noted reached))
+    (remove_reaches root c.as_str-path.result.now _ renamed (g.D.Looks.log c.remove-in-Err-rename_new.new.self) c.remove-in-Err-rename_new.ensures))
+
+pub returns-in-Err-make-clause-reaches : goal.returns-in-Err-make-clause-reaches
+returns-in-Err-make-clause-reaches g c = λ root reached.
+    make_reaches root c.as_str-path.result.now _ (g.D.Looks.log c.args.disk.now) (g.D.Looks.log c.make.new.self)
+    c.make.ensures.noted

@@ -8,6 +8,7 @@ use Rattle.tftp_folder.proofs.InsideLemmas.{above_inside, folder_fits, opens_ins
 use Rattle.tftp_folder.proofs.NamingLemmas.{looks_as, then_renames}
 use Rattle.tftp_folder.proofs.InsideLemmas.{opens_follows}
 use Rattle.tftp_folder.proofs.PlacedLemmas.{looks_past, looks_there, opens_placed, same_there}
+use Rattle.tftp_folder.proofs.ReachedLemmas.{looks_reach, then_reaches, walk_reached}
 use Rattle.tftp_folder.proofs.naming.give_name.Goals as goal
 
 pub returns-clause-err : goal.returns-clause-err
@@ -141,3 +142,48 @@ pub returns-clause-follows : goal.returns-clause-follows
 returns-clause-follows g c =
     c.name_in.ensures.follows ∙ opens_follows c.as_str-2.result.now (g.D.Looks.log c.leads_to.new.looks) (g.D.Looks.log c.of.new.disk)
     c.of.ensures.calls ∙ c.leads_to.ensures.follows ∙ c.is_at_draft.ensures.follows
+
+pub returns-then-not-is_at_draft-clause-reaches : goal.returns-then-not-is_at_draft-clause-reaches
+returns-then-not-is_at_draft-clause-reaches g c =
+    looks_reach c.args.root.now (g.D.Looks.log c.args.disk.now) (g.D.Looks.log c.is_at_draft.new.looks) c.is_at_draft.ensures.placed
+
+pub returns-then-not-leads_to-clause-reaches : goal.returns-then-not-leads_to-clause-reaches
+returns-then-not-leads_to-clause-reaches g c =
+    looks_reach c.args.root.now (g.D.Looks.log c.args.disk.now) (g.D.Looks.log c.leads_to.new.looks)
+    (c.leads_to.ensures.placed ∙ c.is_at_draft.ensures.placed)
+
+pub returns-in-Err-clause-reaches : goal.returns-in-Err-clause-reaches
+returns-in-Err-clause-reaches g c =
+    looks_reach c.args.root.now (g.D.Looks.log c.args.disk.now) (g.D.Looks.log c.of.new.disk)
+    (opens_placed c.as_str-2.result.now (g.D.Looks.log c.leads_to.new.looks) (g.D.Looks.log c.of.new.disk)
+    c.of.ensures.calls ∙ c.leads_to.ensures.placed ∙ c.is_at_draft.ensures.placed)
+
+pub returns-in-Ok-name_in-clause-reaches : goal.returns-in-Ok-name_in-clause-reaches
+returns-in-Ok-name_in-clause-reaches g c =
+    let root = c.args.root.now in
+    let before = g.D.Looks.log c.args.disk.now in
+    let looked = g.D.Looks.log c.leads_to.new.looks in
+    let opened = g.D.Looks.log c.of.new.disk in
+    then_reaches root before opened (g.D.Looks.log c.name_in.new.disk)
+    (looks_reach root before opened
+    (opens_placed c.as_str-2.result.now looked opened c.of.ensures.calls ∙ c.leads_to.ensures.placed
+    ∙ c.is_at_draft.ensures.placed))
+    (c.name_in.ensures.reaches
+    (walk_reached root (string_bytes c.is_at_draft.new.self.target) c.as_str.result.now c.as_str-2.result.now
+    c.folder_of-folder.result.now looked opened c.as_str.ensures.value c.as_str-2.ensures.value c.folder_of-folder.ensures
+    (c.leads_to.ensures.folders c.if-not-leads_to.false) c.of.ensures.calls))
+
+pub returns-clause-reaches : goal.returns-clause-reaches
+returns-clause-reaches g c =
+    let root = c.args.root.now in
+    let before = g.D.Looks.log c.args.disk.now in
+    let looked = g.D.Looks.log c.leads_to.new.looks in
+    let opened = g.D.Looks.log c.of.new.disk in
+    then_reaches root before opened (g.D.Looks.log c.name_in.new.disk)
+    (looks_reach root before opened
+    (opens_placed c.as_str-2.result.now looked opened c.of.ensures.calls ∙ c.leads_to.ensures.placed
+    ∙ c.is_at_draft.ensures.placed))
+    (c.name_in.ensures.reaches
+    (walk_reached root (string_bytes c.is_at_draft.new.self.target) c.as_str.result.now c.as_str-2.result.now
+    c.folder_of-folder.result.now looked opened c.as_str.ensures.value c.as_str-2.ensures.value c.folder_of-folder.ensures
+    (c.leads_to.ensures.folders c.if-not-leads_to.false) c.of.ensures.calls))

@@ -5,6 +5,7 @@ use Rattle.tftp_folder.proofs.InsideLemmas.{above_inside}
 use Rattle.tftp_folder.proofs.NamingLemmas.{leaves_other, then_may_remove, then_takes_back}
 use Rattle.tftp_folder.proofs.PlacedLemmas.{looks_there}
 use Rattle.std.proofs.Common.{◌∙◌}
+use Rattle.tftp_folder.proofs.ReachedLemmas.{looks_reach, then_reaches}
 use Rattle.tftp_folder.proofs.naming.look_again.Goals as goal
 
 pub returns-then-not-leads_to-clause-err : goal.returns-then-not-leads_to-clause-err
@@ -60,4 +61,20 @@ returns-then-is_at_target-clause-there g c =
 pub returns-else-is_at_target-clause-there : goal.returns-else-is_at_target-clause-there
 returns-else-is_at_target-clause-there g c =
     looks_there (g.D.Looks.log c.args.disk.now) (g.D.Looks.log c.is_at_target.new.looks)
+    (c.is_at_target.ensures.placed ∙ c.leads_to.ensures.placed)
+
+pub returns-then-not-leads_to-clause-reaches : goal.returns-then-not-leads_to-clause-reaches
+returns-then-not-leads_to-clause-reaches g c = λ root.
+    let looked = g.D.Looks.log c.leads_to.new.looks in
+    then_reaches root (g.D.Looks.log c.args.disk.now) looked (g.D.Looks.log c.take_back.new.disk)
+    (looks_reach root (g.D.Looks.log c.args.disk.now) looked c.leads_to.ensures.placed) (c.take_back.ensures.reaches root)
+
+pub returns-then-is_at_target-clause-reaches : goal.returns-then-is_at_target-clause-reaches
+returns-then-is_at_target-clause-reaches g c = λ root.
+    looks_reach root (g.D.Looks.log c.args.disk.now) (g.D.Looks.log c.is_at_target.new.looks)
+    (c.is_at_target.ensures.placed ∙ c.leads_to.ensures.placed)
+
+pub returns-else-is_at_target-clause-reaches : goal.returns-else-is_at_target-clause-reaches
+returns-else-is_at_target-clause-reaches g c = λ root.
+    looks_reach root (g.D.Looks.log c.args.disk.now) (g.D.Looks.log c.is_at_target.new.looks)
     (c.is_at_target.ensures.placed ∙ c.leads_to.ensures.placed)

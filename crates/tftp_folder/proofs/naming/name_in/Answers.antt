@@ -8,6 +8,7 @@ use Rattle.tftp_folder.proofs.InsideLemmas.{stays_below, syncs_inside}
 use Rattle.tftp_folder.proofs.NamingLemmas.{names_stay, renames_then, stays_done}
 use Rattle.tftp_folder.proofs.InsideLemmas.{syncs_follows}
 use Rattle.tftp_folder.proofs.PlacedLemmas.{looks_there, syncs_placed}
+use Rattle.tftp_folder.proofs.ReachedLemmas.{looks_reach, then_reaches}
 use Rattle.tftp_folder.proofs.naming.name_in.Goals as goal
 
 pub returns-in-Err-look_again-clause-err : goal.returns-in-Err-look_again-clause-err
@@ -119,3 +120,36 @@ returns-in-Err-sync-clause-follows g c =
     c.take_back_new.ensures.follows
     ∙ syncs_follows c.args.folder.now.folder (g.D.Looks.log c.look_again.new.disk) (g.D.Looks.log c.sync.new.disk)
     c.sync.ensures.calls ∙ c.look_again.ensures.follows ∙ c.put_name.ensures.follows
+
+pub returns-in-Err-clause-reaches : goal.returns-in-Err-clause-reaches
+returns-in-Err-clause-reaches g c = λ reached. c.put_name.ensures.reaches c.args.root.now reached
+
+pub returns-in-Err-look_again-clause-reaches : goal.returns-in-Err-look_again-clause-reaches
+returns-in-Err-look_again-clause-reaches g c = λ reached.
+    let root = c.args.root.now in
+    then_reaches root (g.D.Looks.log c.args.disk.now) (g.D.Looks.log c.put_name.new.disk) (g.D.Looks.log c.look_again.new.disk)
+    (c.put_name.ensures.reaches root reached) (c.look_again.ensures.reaches root)
+
+pub returns-in-Ok-sync-clause-reaches : goal.returns-in-Ok-sync-clause-reaches
+returns-in-Ok-sync-clause-reaches g c = λ reached.
+    let root = c.args.root.now in
+    let looked = g.D.Looks.log c.look_again.new.disk in
+    let synced = g.D.Looks.log c.sync.new.disk in
+    then_reaches root (g.D.Looks.log c.args.disk.now) looked (g.D.Looks.log c.remove_draft.new.disk)
+    (then_reaches root (g.D.Looks.log c.args.disk.now) (g.D.Looks.log c.put_name.new.disk) looked
+    (c.put_name.ensures.reaches root reached) (c.look_again.ensures.reaches root))
+    (then_reaches root looked synced (g.D.Looks.log c.remove_draft.new.disk)
+    (looks_reach root looked synced (syncs_placed c.args.folder.now.folder looked synced c.sync.ensures.calls))
+    (c.remove_draft.ensures.reaches root))
+
+pub returns-in-Err-sync-clause-reaches : goal.returns-in-Err-sync-clause-reaches
+returns-in-Err-sync-clause-reaches g c = λ reached.
+    let root = c.args.root.now in
+    let looked = g.D.Looks.log c.look_again.new.disk in
+    let synced = g.D.Looks.log c.sync.new.disk in
+    then_reaches root (g.D.Looks.log c.args.disk.now) looked (g.D.Looks.log c.take_back_new.new.disk)
+    (then_reaches root (g.D.Looks.log c.args.disk.now) (g.D.Looks.log c.put_name.new.disk) looked
+    (c.put_name.ensures.reaches root reached) (c.look_again.ensures.reaches root))
+    (then_reaches root looked synced (g.D.Looks.log c.take_back_new.new.disk)
+    (looks_reach root looked synced (syncs_placed c.args.folder.now.folder looked synced c.sync.ensures.calls))
+    (c.take_back_new.ensures.reaches root))

@@ -5,6 +5,8 @@ use Rattle.tftp_folder.specs.Uploads.{IsBelow}
 use Rattle.tftp_folder.proofs.PlacedLemmas.{link_there, past_there, same_making}
 use Rattle.tftp_disk.specs.DiskTrace.{state_of}
 use Rattle.tftp_disk.specs.DiskTrace.DiskEvent.{Linked}
+use Rattle.std.specs.String.{string_bytes}
+use Rattle.tftp_folder.proofs.ReachedLemmas.{link_reaches, refuse_reached, then_reaches}
 use Rattle.tftp_folder.proofs.naming.name_new.Goals as goal
 
 pub returns-in-Ok-rename_locked-clause-inside : goal.returns-in-Ok-rename_locked-clause-inside
@@ -64,3 +66,37 @@ returns-then-eq-clause-there g c = λ there names.
     c.as_str-target.result.now _ (g.D.Looks.log c.args.disk.now) (g.D.Looks.log c.link.new.self)
     (same_making c.args.draft.now c.file.result.now c.file.ensures) c.as_str-path.ensures.value
     c.link.ensures there names)
+
+pub returns-in-Ok-clause-reaches : goal.returns-in-Ok-clause-reaches
+returns-in-Ok-clause-reaches g c = λ root reached.
+    link_reaches root (state_of c.file.result.now.trace.events) c.as_str-path.result.now c.as_str-target.result.now
+    (string_bytes c.args.draft.now.target) _ (g.D.Looks.log c.args.disk.now) (g.D.Looks.log c.link.new.self)
+    c.as_str-target.ensures.value c.link.ensures reached
+
+pub returns-then-eq-clause-reaches : goal.returns-then-eq-clause-reaches
+returns-then-eq-clause-reaches g c = λ root reached.
+    link_reaches root (state_of c.file.result.now.trace.events) c.as_str-path.result.now c.as_str-target.result.now
+    (string_bytes c.args.draft.now.target) _ (g.D.Looks.log c.args.disk.now) (g.D.Looks.log c.link.new.self)
+    c.as_str-target.ensures.value c.link.ensures reached
+
+pub returns-in-Ok-rename_locked-clause-reaches : goal.returns-in-Ok-rename_locked-clause-reaches
+returns-in-Ok-rename_locked-clause-reaches g c = λ root reached.
+    then_reaches root (g.D.Looks.log c.args.disk.now) (g.D.Looks.log c.link.new.self) (g.D.Looks.log c.rename_locked.new.disk)
+    (link_reaches root (state_of c.file.result.now.trace.events) c.as_str-path.result.now c.as_str-target.result.now
+    (string_bytes c.args.draft.now.target) _ (g.D.Looks.log c.args.disk.now) (g.D.Looks.log c.link.new.self)
+    c.as_str-target.ensures.value c.link.ensures reached)
+    (c.rename_locked.ensures.reaches root
+    (refuse_reached root (state_of c.file.result.now.trace.events) c.as_str-path.result.now c.as_str-target.result.now
+    (string_bytes c.args.draft.now.target) c.in-Err.error (g.D.Looks.log c.args.disk.now) (g.D.Looks.log c.link.new.self)
+    c.as_str-target.ensures.value c.in-Err.ensures reached))
+
+pub returns-in-Err-rename_locked-clause-reaches : goal.returns-in-Err-rename_locked-clause-reaches
+returns-in-Err-rename_locked-clause-reaches g c = λ root reached.
+    then_reaches root (g.D.Looks.log c.args.disk.now) (g.D.Looks.log c.link.new.self) (g.D.Looks.log c.rename_locked.new.disk)
+    (link_reaches root (state_of c.file.result.now.trace.events) c.as_str-path.result.now c.as_str-target.result.now
+    (string_bytes c.args.draft.now.target) _ (g.D.Looks.log c.args.disk.now) (g.D.Looks.log c.link.new.self)
+    c.as_str-target.ensures.value c.link.ensures reached)
+    (c.rename_locked.ensures.reaches root
+    (refuse_reached root (state_of c.file.result.now.trace.events) c.as_str-path.result.now c.as_str-target.result.now
+    (string_bytes c.args.draft.now.target) c.in-Err.error (g.D.Looks.log c.args.disk.now) (g.D.Looks.log c.link.new.self)
+    c.as_str-target.ensures.value c.in-Err.ensures reached))

@@ -6,6 +6,7 @@ use Rattle.tftp_folder.proofs.InsideLemmas.{stays_below}
 use Rattle.tftp_folder.proofs.NamingLemmas.{leaves_other, removes_own}
 use Rattle.tftp_folder.proofs.PlacedLemmas.{looks_there}
 use Rattle.tftp_folder.specs.Placed.{NamesThere}
+use Rattle.tftp_folder.proofs.ReachedLemmas.{looks_reach, remove_reaches, then_reaches}
 use Rattle.tftp_folder.proofs.naming.take_back.Goals as goal
 
 pub returns-then-not-is_at_target-clause-own : goal.returns-then-not-is_at_target-clause-own
@@ -38,3 +39,14 @@ returns-clause-there g c = λ names.
     subst NamesThere (sym c.remove.ensures)
     (looks_there (g.D.Looks.log c.args.disk.now) (g.D.Looks.log c.is_at_target.new.looks) c.is_at_target.ensures.placed
     names)
+
+pub returns-then-not-is_at_target-clause-reaches : goal.returns-then-not-is_at_target-clause-reaches
+returns-then-not-is_at_target-clause-reaches g c = λ root.
+    looks_reach root (g.D.Looks.log c.args.disk.now) (g.D.Looks.log c.is_at_target.new.looks) c.is_at_target.ensures.placed
+
+pub returns-clause-reaches : goal.returns-clause-reaches
+returns-clause-reaches g c = λ root.
+    let looked = g.D.Looks.log c.is_at_target.new.looks in
+    then_reaches root (g.D.Looks.log c.args.disk.now) looked (g.D.Looks.log c.remove.new.self)
+    (looks_reach root (g.D.Looks.log c.args.disk.now) looked c.is_at_target.ensures.placed)
+    (remove_reaches root c.as_str.result.now _ looked (g.D.Looks.log c.remove.new.self) c.remove.ensures)

@@ -5,6 +5,7 @@ use Rattle.tftp_disk.specs.DiskTrace.{state_of}
 use Rattle.tftp_folder.proofs.InsideLemmas.{rename_inside, stays_below}
 use Rattle.tftp_folder.proofs.NamingLemmas.{renamed}
 use Rattle.tftp_folder.proofs.PlacedLemmas.{looks_there, rename_there, same_making, same_there}
+use Rattle.tftp_folder.proofs.ReachedLemmas.{looks_reach, rename_reaches, then_reaches}
 use Rattle.tftp_folder.proofs.replacing.rename_over.Goals as goal
 
 pub returns-in-Ok-rename-clause-over : goal.returns-in-Ok-rename-clause-over
@@ -62,3 +63,27 @@ returns-in-Err-rename-clause-there g c = λ there.
     c.in-Err-rename.ensures
     (same_there c.args.draft.now c.check_named.new.draft (g.D.Looks.log c.args.disk.now) c.check_named.ensures.names
     there)
+
+pub returns-in-Err-clause-reaches : goal.returns-in-Err-clause-reaches
+returns-in-Err-clause-reaches g c = λ root reached.
+    looks_reach root (g.D.Looks.log c.args.disk.now) (g.D.Looks.log c.check_named.new.disk) c.check_named.ensures.placed
+
+pub returns-in-Ok-rename-clause-reaches : goal.returns-in-Ok-rename-clause-reaches
+returns-in-Ok-rename-clause-reaches g c = λ root reached.
+    let before = g.D.Looks.log c.args.disk.now in
+    let looked = g.D.Looks.log c.check_named.new.disk in
+    then_reaches root before looked (g.D.Looks.log c.rename.new.self) (looks_reach root before looked c.check_named.ensures.placed)
+    (rename_reaches root (state_of c.file.result.now.trace.events) c.as_str-path.result.now c.as_str-target.result.now
+    (string_bytes c.args.draft.now.target) (Ok tt) looked (g.D.Looks.log c.rename.new.self)
+    (c.as_str-target.ensures.value ∙ ap string_bytes c.check_named.ensures.names.target) c.in-Ok-rename.ensures
+    (c.in-Ok.ensures.reached root reached))
+
+pub returns-in-Err-rename-clause-reaches : goal.returns-in-Err-rename-clause-reaches
+returns-in-Err-rename-clause-reaches g c = λ root reached.
+    let before = g.D.Looks.log c.args.disk.now in
+    let looked = g.D.Looks.log c.check_named.new.disk in
+    then_reaches root before looked (g.D.Looks.log c.rename.new.self) (looks_reach root before looked c.check_named.ensures.placed)
+    (rename_reaches root (state_of c.file.result.now.trace.events) c.as_str-path.result.now c.as_str-target.result.now
+    (string_bytes c.args.draft.now.target) (Err c.in-Err-rename.error) looked (g.D.Looks.log c.rename.new.self)
+    (c.as_str-target.ensures.value ∙ ap string_bytes c.check_named.ensures.names.target) c.in-Err-rename.ensures
+    (c.in-Ok.ensures.reached root reached))

@@ -1,6 +1,6 @@
 -- Two words draw an event, and none is drawn if no end was opened.
-use Rattle.std.proofs.Common.{ℕ, ◌≡◌, ◌≤◌, length, ap, ◌∙◌, arith, rules}
-use Rattle.std.specs.Prelude.{◌%◌}
+use Rattle.tftp_player.proofs.Common.{common_steps, ℕ, ◌≡◌, ◌≤◌, length, ap, ◌∙◌, arith, rules}
+use Rattle.std.proofs.Common.{◌%◌}
 use Rattle.rand_pcg.specs.Lcg.{Lcg}
 use Rattle.rand_pcg.specs.Pcg.{pcg32}
 use Rattle.tftp_player.specs.Draw.{drawn}
@@ -8,14 +8,10 @@ use Rattle.tftp_player.proofs.SentLemmas.{draws_none, draws_timeout, no_words}
 use Rattle.tftp_player.proofs.random.draw.Goals as goal
 
 pub returns-then-is_empty-clause-event : goal.returns-then-is_empty-clause-event
-returns-then-is_empty-clause-event c =
-    let none : length c.records-records.result.now ≡ 0 = search rules in
-    draws_none c.args.world.now.state _ _ c.records-records.result.now c.records-records.ensures.records none
+returns-then-is_empty-clause-event c = grind (arith, common_steps, draws_none)
 
 pub returns-then-is_empty-clause-words : goal.returns-then-is_empty-clause-words
-returns-then-is_empty-clause-words c =
-    let none : length c.records-records.result.now ≡ 0 = search rules in
-    no_words c.args.world.now.state c.args.rng.now c.records-records.result.now c.records-records.ensures.records none
+returns-then-is_empty-clause-words c = search (rules, no_words)
 
 pub returns-clause-event : goal.returns-clause-event
 returns-clause-event c =

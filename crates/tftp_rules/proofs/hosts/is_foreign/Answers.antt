@@ -1,21 +1,17 @@
 -- An endpoint with neither address is at neither host.
-use Rattle.std.proofs.Common.{◌≡◌, Bool, ap, sym, ◌∙◌, subst}
-use Rattle.std.specs.Prelude.{IsTrue, ◌&&◌, ◌↔◌, not}
-use Rattle.tftp_rules.specs.Hosts.{host_of, client_ip}
-use Rattle.tftp_rules.specs.Machine.{Elsewhere, is_same_ip}
+use Rattle.std.proofs.Common.{Bool, ap, sym, ◌∙◌}
+use Rattle.std.specs.Prelude.{◌&&◌, not}
+use Rattle.tftp_rules.specs.Hosts.{client_ip}
+use Rattle.tftp_rules.specs.Machine.{is_same_ip}
 use Rattle.tftp_rules.proofs.HostLemmas.{foreign_by}
 use Rattle.tftp_rules.proofs.hosts.is_foreign.Goals as goal
 
 pub returns-then-not-is_server : goal.returns-then-not-is_server
 returns-then-not-is_server c =
-    subst (λ (b : Bool). IsTrue b ↔ (host_of c.args.endpoint.now ≡ Elsewhere))
-    (ap (λ (b : Bool). b && not (is_same_ip c.args.endpoint.now.ip client_ip))
-    (ap not (sym c.is_server.ensures ∙ c.if-not-is_server.true)) ∙ ap not (sym c.is_client.ensures))
-    (foreign_by c.args.endpoint.now)
+    rw (← ap (λ (b : Bool). b && not (is_same_ip c.args.endpoint.now.ip client_ip)) (ap not (sym c.is_server.ensures ∙
+    c.if-not-is_server.true)) ∙ ap not (sym c.is_client.ensures)) (foreign_by c.args.endpoint.now)
 
 pub returns-else-not-is_server : goal.returns-else-not-is_server
 returns-else-not-is_server c =
-    subst (λ (b : Bool). IsTrue b ↔ (host_of c.args.endpoint.now ≡ Elsewhere))
-    (ap (λ (b : Bool). b && not (is_same_ip c.args.endpoint.now.ip client_ip))
-    (ap not (sym c.is_server.ensures ∙ c.if-not-is_server.false)) ∙ ap not (sym c.if-not-is_server.false))
-    (foreign_by c.args.endpoint.now)
+    rw (← ap (λ (b : Bool). b && not (is_same_ip c.args.endpoint.now.ip client_ip)) (ap not (sym c.is_server.ensures ∙
+    c.if-not-is_server.false)) ∙ ap not (sym c.if-not-is_server.false)) (foreign_by c.args.endpoint.now)

@@ -1,17 +1,15 @@
 -- The lemmas that are the law.
-use Rattle.tftp_rules.specs.Rules.{start, run}
+use Rattle.std.proofs.Common.{rules as std_rules}
+use Rattle.tftp_rules.specs.Rules.{start}
 use Rattle.tftp_rules.proofs.RecordedKept.{recorded_run, recorded_start}
 use Rattle.tftp_rules.proofs.Runs.{Holds-start, Holds-run, IsSafeMachine-holds}
 use Rattle.tftp_rules.proofs.laws.every_run_is_safe.Goals as goal
 
 pub returns-clause-safe : goal.returns-clause-safe
-returns-clause-safe c =
-    λ network rules legal. IsSafeMachine-holds network (run network rules start)
-    (Holds-run network rules start (Holds-start network) legal)
+returns-clause-safe c = λ network rules legal. IsSafeMachine-holds _ _ (Holds-run _ _ _ (Holds-start network) legal)
 
 pub returns-clause-facts : goal.returns-clause-facts
 returns-clause-facts c = λ network rules legal. Holds-run network rules start (Holds-start network) legal
 
 pub returns-clause-recorded : goal.returns-clause-recorded
-returns-clause-recorded c =
-    λ network rules legal. recorded_run network rules start (Holds-start network) (recorded_start network) legal
+returns-clause-recorded c = search (std_rules, recorded_run, recorded_start)

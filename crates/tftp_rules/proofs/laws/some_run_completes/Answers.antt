@@ -1,5 +1,5 @@
 -- A read with a block size, by the rules.
-use Rattle.std.proofs.Common.{◌≡◌, Bool, true, false, sym, List, [], ◌∷◌, refl, arith}
+use Rattle.std.proofs.Common.{◌≡◌, Bool, true, false, sym, List, [], ◌∷◌, refl, rules}
 use Rattle.tftp_wire.specs.declared.mode.Mode.TheVariants.{Octet}
 use Rattle.std.specs.Prelude.{if◌then◌else◌}
 use Rattle.std.proofs.lemmas.Bool.{true≢false}
@@ -43,27 +43,7 @@ no_duplicate : AreOver (after two_hosts (Asks c false request []) start) c false
 no_duplicate a h = absurd (no_end (is_same a c) h)
 
 legal : IsLegal two_hosts rules_of start
-legal = (
-  (refl, at_client, λ _. refl),
-  tt,
-  (
-    (refl, at_server, (0, omega arith, refl), omega arith, omega arith),
-    no_duplicate,
-    (
-      (((refl, refl, refl), refl, refl, at_server), (1, omega arith, refl), λ e. cc),
-      tt,
-      (
-        (((refl, refl, refl), refl, refl, (2, omega arith, refl)), omega arith),
-        tt,
-        (
-          ((refl, refl, refl), refl, refl, (3, omega arith, refl), omega arith),
-          tt,
-          ((((refl, refl, refl), refl, refl, (4, omega arith, refl)), refl), tt, tt),
-        ),
-      ),
-    ),
-  ),
-)
+legal = search (rules, at_client, at_server, no_duplicate)
 
 pub returns : goal.returns
 returns g = (

@@ -1,11 +1,13 @@
 -- The draft got no name, whether it may replace a file or not.
-use Rattle.std.proofs.Common.{ap, Bool, subst}
+use Rattle.std.proofs.Common.{ℕ, List, ap, Bool, subst}
 use Rattle.std.specs.String.{string_bytes}
 use Rattle.tftp_disk.specs.Changes.{changes}
 use Rattle.tftp_folder.specs.Draft.{NamesNothing}
 use Rattle.tftp_folder.proofs.InsideLemmas.{names_inside}
 use Rattle.tftp_folder.proofs.NamingLemmas.{looks_as}
 use Rattle.tftp_folder.proofs.PlacedLemmas.{same_there}
+use Rattle.tftp_folder.proofs.ReachedLemmas.{looks_reach}
+use Rattle.tftp_folder.specs.Reached.{ReachesNames}
 use Rattle.tftp_folder.proofs.folder_store.FolderStore.name_draft.Goals as goal
 
 pub returns-in-Err-System-clause-not_named : goal.returns-in-Err-System-clause-not_named
@@ -67,3 +69,18 @@ pub returns-in-Err-Rule-clause-there : goal.returns-in-Err-Rule-clause-there
 returns-in-Err-Rule-clause-there g c = λ there.
     c.give_name.ensures.there
     (same_there c.args.draft.now c.finish.new.self (g.D.Looks.log c.args.self.now.disk) c.finish.ensures.names there)
+
+pub returns-in-Ok-clause-reaches : goal.returns-in-Ok-clause-reaches
+returns-in-Ok-clause-reaches g c =
+    subst (λ (r : List ℕ). ReachesNames r (g.D.Looks.log c.args.self.now.disk) (g.D.Looks.log c.give_name.new.disk))
+    c.as_str.ensures.value c.give_name.ensures.reaches
+
+pub returns-in-Err-System-clause-reaches : goal.returns-in-Err-System-clause-reaches
+returns-in-Err-System-clause-reaches g c =
+    subst (λ (r : List ℕ). ReachesNames r (g.D.Looks.log c.args.self.now.disk) (g.D.Looks.log c.give_name.new.disk))
+    c.as_str.ensures.value c.give_name.ensures.reaches
+
+pub returns-in-Err-Rule-clause-reaches : goal.returns-in-Err-Rule-clause-reaches
+returns-in-Err-Rule-clause-reaches g c =
+    subst (λ (r : List ℕ). ReachesNames r (g.D.Looks.log c.args.self.now.disk) (g.D.Looks.log c.give_name.new.disk))
+    c.as_str.ensures.value c.give_name.ensures.reaches

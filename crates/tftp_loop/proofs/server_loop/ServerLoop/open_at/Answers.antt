@@ -1,7 +1,9 @@
-use Rattle.std.proofs.Common.{arith, refl, ap, ◌∙◌, ℕ}
+use Rattle.std.proofs.Common.{arith, refl, ap, subst, sym, ◌∙◌, ℕ}
 use Rattle.tftp_server.specs.State.{ServerState, at}
 use Rattle.std.specs.Prelude.{Some, None}
+use Rattle.tftp_loop.specs.Longest.{IsBoundedFor}
 use Rattle.tftp_loop.specs.LoopStates.{loop_state}
+use Rattle.tftp_loop.proofs.AgreedLongest.{bounded_after, bounded_now}
 use Rattle.tftp_loop.proofs.LoopRuns.{same_state}
 use Rattle.tftp_loop.proofs.RequestRuns.{sets_and_answers, sets_and_loses, is_free, ok-err}
 use Rattle.tftp_loop.proofs.Reserving.{carried_config, lacks_to_open, memory_if_free, room_grown, room_same}
@@ -68,3 +70,20 @@ returns-in-Err-clause-room g c =
 
 pub returns-in-Err-clause-told : goal.returns-in-Err-clause-told
 returns-in-Err-clause-told g c = (_, c.lose_for_memory.ensures.told)
+
+pub returns-in-Ok-clause-bounded : goal.returns-in-Ok-clause-bounded
+returns-in-Ok-clause-bounded g c =
+    let limits = c.args.self.now.server.config.limits in
+    let same = ap (λ (s : ServerState _ _ _). s.store) c.answer_opened.ensures.answers.server in
+    subst (IsBoundedFor g.S.ServedStore.is_bounded limits c.args.admission.ask) (sym same)
+    (bounded_after g.S.Store.meaning g.S.Source.Source.meaning c.set_store.new.server c.args.admission.from
+    c.args.admission.bytes c.port-tid.result g.S.ServedStore.is_bounded limits c.args.admission.ask _
+    c.in-Ok.ensures.carries_out.2 c.set_store.ensures.longest)
+
+pub returns-in-Err-clause-bounded : goal.returns-in-Err-clause-bounded
+returns-in-Err-clause-bounded g c =
+    let limits = c.args.self.now.server.config.limits in
+    let same = ap (λ (s : ServerState _ _ _). s.store) c.in-Err.ensures.err.0 in
+    subst (IsBoundedFor g.S.ServedStore.is_bounded limits c.args.admission.ask) (sym same)
+    (bounded_now g.S.ServedStore.is_bounded limits c.args.admission.ask c.set_store.new.server.store
+    c.set_store.ensures.longest)

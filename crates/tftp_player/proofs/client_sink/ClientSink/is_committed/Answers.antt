@@ -1,7 +1,6 @@
 -- Stated here, since a search over `room`, which is a numeral of twenty digits, takes half a
 -- minute.
-use Rattle.std.proofs.Common.{ap, ◌∙◌}
-use Rattle.tftp_file.specs.Sink.{Holding}
+use Rattle.tftp_player.proofs.Common.{ap, ◌∙◌, Holding}
 use Rattle.tftp_player.proofs.client_sink.ClientSink.is_committed.Goals as goal
 
 pub returns : goal.returns

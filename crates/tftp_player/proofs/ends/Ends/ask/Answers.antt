@@ -1,14 +1,7 @@
 -- What the request port answers is what it does in the world, and an end that opens is recorded.
-use Rattle.std.proofs.Common.{◌∙◌, [], ◌∷◌, ◌++◌, List, Option, None, ap, sym, subst}
-use Rattle.tftp_wire.specs.declared.packet.Packet.{Packet}
-use Rattle.tftp_ends.specs.Action.{Decodes}
-use Rattle.tftp_rules.specs.Hosts.{request_port}
-use Rattle.tftp_rules.specs.Machine.{Endpoint}
-use Rattle.tftp_player.specs.Arriving.{EndsAsk}
-use Rattle.tftp_player.specs.Played.{served_end}
-use Rattle.tftp_player.specs.Requests.{IsRepeated, open_transfers}
-use Rattle.tftp_player.specs.ServerEnd.{PlayedServer}
-use Rattle.tftp_player.specs.World.{WorldEnd, end_address}
+use Rattle.tftp_player.proofs.Common.{◌∙◌, [], ◌∷◌, ◌++◌, List, Option, None, ap, sym, subst, Packet, Decodes}
+use Rattle.tftp_player.proofs.Common.{request_port, Endpoint, EndsAsk, served_end, IsRepeated, open_transfers}
+use Rattle.tftp_player.proofs.Common.{PlayedServer, WorldEnd, end_address}
 use Rattle.tftp_player.proofs.AskingLemmas.{not_opened_asks, opened_kept, opened_asks}
 use Rattle.tftp_player.proofs.HostEnds.{pushed_so}
 use Rattle.tftp_player.proofs.Standing.{standing_address}

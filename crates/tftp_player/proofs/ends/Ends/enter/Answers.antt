@@ -1,8 +1,5 @@
 -- The ends with another client are consistent.
-use Rattle.std.proofs.Common.{refl, ap, ◌∙◌}
-use Rattle.tftp_rules.specs.Machine.{Endpoint}
-use Rattle.tftp_player.specs.Played.{client_end}
-use Rattle.tftp_player.specs.World.{WorldEnd, end_address}
+use Rattle.tftp_player.proofs.Common.{refl, ap, ◌∙◌, Endpoint, client_end, WorldEnd, end_address}
 use Rattle.tftp_player.proofs.HostEnds.{pushed_so}
 use Rattle.tftp_player.proofs.Standing.{standing_address}
 use Rattle.tftp_player.proofs.ends.Ends.enter.Goals as goal

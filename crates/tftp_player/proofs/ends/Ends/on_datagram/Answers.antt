@@ -1,8 +1,6 @@
 -- A datagram is a step of the end at its index, if that is its destination.
-use Rattle.std.proofs.Common.{◌<◌, ◌∙◌, length, refl, rules, subst, sym, ap, inl, inr}
-use Rattle.std.specs.Prelude.{ℕ, slice_set}
-use Rattle.tftp_player.specs.ServerEnd.{PlayedServer}
-use Rattle.tftp_player.specs.Simulation.{ArePartsConsistent}
+use Rattle.tftp_player.proofs.Common.{◌<◌, length, rules, subst, sym, ap, ℕ, slice_set, PlayedServer}
+use Rattle.tftp_player.proofs.Common.{ArePartsConsistent}
 use Rattle.tftp_player.proofs.HostEnds.{list_get, moved_consistent, records_within, same_set, takes_at}
 use Rattle.tftp_player.proofs.ends.Ends.on_datagram.Goals as goal
 
@@ -14,36 +12,10 @@ index_mut-requires c =
     search rules
 
 pub returns-then-differs-clause-steps : goal.returns-then-differs-clause-steps
-returns-then-differs-clause-steps c =
-    let there =
-    list_get c.args.self.now.players.items c.args.index c.index_mut-player.result.now c.requires.index.0
-    c.index_mut-player.ensures.value in
-    record {
-      end = c.index_mut-player.result.now;
-      found = there;
-      comes = inl (
-        (λ same. c.differs.ensures.differs c.if-differs.true (c.address.ensures ∙ same)),
-        record {
-          effects = c.no_effect.ensures;
-          next = same_set c.args.self.now.players.items c.args.index c.index_mut-player.result.now there;
-          stays = refl;
-        },
-      );
-      config = refl;
-    }
+returns-then-differs-clause-steps c = search (rules, list_get, same_set)
 
 pub returns-in-Ok-clause-steps : goal.returns-in-Ok-clause-steps
-returns-in-Ok-clause-steps c = record {
-  end = c.index_mut-player.result.now;
-  found =
-      list_get c.args.self.now.players.items c.args.index c.index_mut-player.result.now c.requires.index.0
-      c.index_mut-player.ensures.value;
-  comes = inr (
-    sym c.address.ensures ∙ c.differs.ensures.same c.if-differs.false,
-    record { next = c.on_datagram.new.self; takes = c.in-Ok.ensures.takes; is = refl },
-  );
-  config = ap (λ (s : PlayedServer). s.config) c.on_datagram.ensures.rest;
-}
+returns-in-Ok-clause-steps c = search (rules, list_get)
 
 pub returns-in-Ok-clause-consistent : goal.returns-in-Ok-clause-consistent
 returns-in-Ok-clause-consistent c =

@@ -1,7 +1,5 @@
 -- A timeout is a step of the end at its index.
-use Rattle.std.proofs.Common.{◌<◌, length, refl, rules, subst, sym}
-use Rattle.std.specs.Prelude.{ℕ, slice_set}
-use Rattle.tftp_player.specs.Simulation.{ArePartsConsistent}
+use Rattle.tftp_player.proofs.Common.{◌<◌, length, refl, rules, subst, sym, ℕ, slice_set, ArePartsConsistent}
 use Rattle.tftp_player.proofs.HostEnds.{list_get, moved_consistent, records_within, stays_at}
 use Rattle.tftp_player.proofs.ends.Ends.on_timeout.Goals as goal
 
@@ -13,15 +11,7 @@ index_mut-requires c =
     search rules
 
 pub returns-in-Ok-clause-times_out : goal.returns-in-Ok-clause-times_out
-returns-in-Ok-clause-times_out c = record {
-  end = c.index_mut-player.result.now;
-  next = c.on_timeout.new.self;
-  found =
-      list_get c.args.self.now.players.items c.args.index c.index_mut-player.result.now c.requires.index.0
-      c.index_mut-player.ensures.value;
-  times_out = c.in-Ok.ensures.turns;
-  is = refl;
-}
+returns-in-Ok-clause-times_out c = search (rules, list_get)
 
 pub returns-in-Ok-clause-consistent : goal.returns-in-Ok-clause-consistent
 returns-in-Ok-clause-consistent c =

@@ -1,16 +1,11 @@
 -- A datagram arrives at the request port, at an end, or nowhere.
-use Rattle.std.proofs.Common.{refl}
+use Rattle.tftp_player.proofs.Common.{refl, rules}
 use Rattle.std.proofs.lemmas.Result.{IfOk-weaker}
-use Rattle.tftp_player.proofs.ArrivalLemmas.{step_arrives, nobody_arrives, asks_arrive}
+use Rattle.tftp_player.proofs.ArrivalLemmas.{step_arrives, nobody_arrives}
 use Rattle.tftp_player.proofs.ends.Ends.take.Goals as goal
 
 pub returns-then-not-differs-clause-arrives : goal.returns-then-not-differs-clause-arrives
-returns-then-not-differs-clause-arrives c =
-    IfOk-weaker c.ask.result _ _
-    (λ effect a.
-    asks_arrive c.args.from c.args.to c.args.bytes.now c.args.self.now.server c.ask.new.self.server
-    c.args.self.now.players.items c.ask.new.self.players.items effect (c.differs.ensures.same c.if-not-differs.true) a)
-    c.ask.ensures.asks
+returns-then-not-differs-clause-arrives c = search rules
 
 pub returns-in-Some-clause-arrives : goal.returns-in-Some-clause-arrives
 returns-in-Some-clause-arrives c =

@@ -1,9 +1,6 @@
 -- No end before this one repeats the request.
-use Rattle.std.proofs.Common.{◌≡◌, ℕ, ◌<◌, Some}
-use Rattle.std.specs.Prelude.{slice_get}
+use Rattle.tftp_player.proofs.Common.{◌≡◌, ℕ, ◌<◌, Some, slice_get, Repeats, WorldEnd}
 use Rattle.tftp_wire.specs.Borrowed.{owned}
-use Rattle.tftp_player.specs.Requests.{Repeats}
-use Rattle.tftp_player.specs.World.{WorldEnd}
 use Rattle.tftp_player.proofs.ends.asking.any_repeats.Given as goal
 
 abbrev pub invariant-loop-player : goal.invariant-loop-player

@@ -1,8 +1,7 @@
 -- The server carries its decision out, and the end that opens is taken from it.
-use Rattle.std.proofs.Common.{◌∙◌, Option, Some, refl, sym, ap}
-use Rattle.tftp_store.specs.Store.{Stored}
+use Rattle.tftp_player.proofs.Common.{◌∙◌, Option, Some, refl, sym, ap, Stored, PlayedServer}
 use Rattle.tftp_player.specs.Answer.{released_end}
-use Rattle.tftp_player.specs.ServerEnd.{PlayedServer, ServerTransfer}
+use Rattle.tftp_player.specs.ServerEnd.{ServerTransfer}
 use Rattle.tftp_player.proofs.AskingLemmas.{server_answers, server_returns}
 use Rattle.tftp_player.proofs.ServerLemmas.{released}
 use Rattle.tftp_player.proofs.ends.asking.ask_server.Goals as goal

@@ -1,7 +1,5 @@
 -- A step of the transfer is one of the end; its answer fits the room that was reserved for it.
-use Rattle.std.proofs.Common.{length, ap, ◌∙◌, arith}
-use Rattle.tftp_negotiate.specs.declared.limits.TheConstants.{DEFAULT_BLOCK}
-use Rattle.tftp_player.specs.Room.{answer_room}
+use Rattle.tftp_player.proofs.Common.{length, ap, ◌∙◌, arith, DEFAULT_BLOCK, answer_room}
 use Rattle.tftp_player.proofs.ServedLemmas.{served_short}
 use Rattle.tftp_player.proofs.server_end.ServerEnd.on_datagram.Goals as goal
 

@@ -1,6 +1,6 @@
 -- What is sent is recorded, and the event adds just that.
-use Rattle.tftp_player.specs.declared.fault.WorldFault.TheVariants.{NoPort, Memory}
-use Rattle.tftp_player.proofs.ArrivalLemmas.{arrives_reported, arrival_refused}
+use Rattle.tftp_player.proofs.Common.{rules}
+use Rattle.tftp_player.proofs.ArrivalLemmas.{arrives_reported}
 use Rattle.tftp_player.proofs.simulation.Simulation.arrive.Goals as goal
 
 pub returns-in-Ok-take-clause-arrives : goal.returns-in-Ok-take-clause-arrives
@@ -12,18 +12,10 @@ returns-in-Ok-take-clause-arrives c =
     c.in-Ok-take.ensures.arrives c.in-Ok.ensures.items c.write_down.ensures.sent c.write_down.ensures.report
 
 pub returns-in-Err-clause-refused : goal.returns-in-Err-clause-refused
-returns-in-Err-clause-refused c =
-    arrival_refused c.self.inside.config c.self.inside.sent.items c.args.to c.self.inside.ends.server
-    c.self.inside.ends.players.items c.args.self.now c.in-Err.fault c.self.view_is c.in-Err.ensures.refused
+returns-in-Err-clause-refused c = search rules
 
 pub returns-then-lacks_port-clause-refused : goal.returns-then-lacks_port-clause-refused
-returns-then-lacks_port-clause-refused c =
-    arrival_refused c.self.inside.config c.self.inside.sent.items c.args.to c.self.inside.ends.server
-    c.self.inside.ends.players.items c.args.self.now NoPort c.self.view_is
-    (c.lacks_port.ensures.lacks c.if-lacks_port.true)
+returns-then-lacks_port-clause-refused c = search rules
 
 pub returns-in_default-clause-refused : goal.returns-in_default-clause-refused
-returns-in_default-clause-refused c =
-    arrival_refused c.self.inside.config c.self.inside.sent.items c.args.to c.self.inside.ends.server
-    c.self.inside.ends.players.items c.args.self.now Memory c.self.view_is
-    (c.lacks_port.ensures.has c.if-lacks_port.false)
+returns-in_default-clause-refused c = search rules

@@ -1,5 +1,5 @@
 -- Whether the end at the port has committed, if there is one.
-use Rattle.std.proofs.Common.{◌∙◌}
+use Rattle.tftp_player.proofs.Common.{rules}
 use Rattle.tftp_player.proofs.HostEnds.{list_get}
 use Rattle.tftp_player.proofs.PlayLemmas.{committed_here, committed_nowhere}
 use Rattle.tftp_player.proofs.simulation.Simulation.committed.Goals as goal
@@ -10,10 +10,4 @@ returns-in-None c =
     c.self.inside.ends.players.items c.args.self.now c.self.view_is c.args.port c.in-None.ensures.none
 
 pub returns-in-Some : goal.returns-in-Some
-returns-in-Some c =
-    c.committed.ensures
-    ∙ committed_here c.self.inside.config c.self.inside.sent.items c.self.inside.ends.server
-    c.self.inside.ends.players.items c.args.self.now c.self.view_is c.args.port c.in-Some.index c.index.result.now
-    c.in-Some.ensures.some.0
-    (list_get c.self.inside.ends.players.items c.in-Some.index c.index.result.now c.in-Some.ensures.some.1
-    c.index.ensures)
+returns-in-Some c = search (rules, committed_here, list_get)

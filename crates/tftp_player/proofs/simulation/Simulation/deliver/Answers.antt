@@ -1,5 +1,5 @@
 -- A datagram of the list arrives as it was sent.
-use Rattle.std.proofs.Common.{◌<◌, length, refl, rules}
+use Rattle.tftp_player.proofs.Common.{◌<◌, length, refl, rules}
 use Rattle.tftp_player.specs.declared.fault.WorldFault.TheVariants.{NoPort, Memory}
 use Rattle.tftp_player.proofs.ArrivalLemmas.{delivers_reported, delivery_fault}
 use Rattle.tftp_player.proofs.simulation.Simulation.deliver.Goals as goal

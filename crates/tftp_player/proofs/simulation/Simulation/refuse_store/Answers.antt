@@ -1,17 +1,12 @@
 -- The end at the port is set to refuse, if there is one.
-use Rattle.std.proofs.Common.{sym, subst}
-use Rattle.std.specs.Prelude.{slice_set}
-use Rattle.tftp_player.specs.Simulation.{ArePartsConsistent, world_of}
-use Rattle.tftp_player.specs.declared.event.Event.TheVariants.{RefuseStore}
-use Rattle.tftp_player.specs.World.{WorldEnd, WorldState, no_report}
-use Rattle.tftp_player.specs.WorldSteps.{NoneAt, WorldStep}
+use Rattle.tftp_player.proofs.Common.{sym, subst, rules, slice_set, ArePartsConsistent, world_of, RefuseStore, WorldEnd}
+use Rattle.tftp_player.proofs.Common.{no_report, WorldStep}
 use Rattle.tftp_player.proofs.HostEnds.{list_get}
 use Rattle.tftp_player.proofs.PlayLemmas.{armed_step, armed_consistent}
 use Rattle.tftp_player.proofs.simulation.Simulation.refuse_store.Goals as goal
 
 pub returns-in_default-clause-refused : goal.returns-in_default-clause-refused
-returns-in_default-clause-refused c =
-    subst (λ (w : WorldState). NoneAt w c.args.port) c.self.view_is c.in_default.ensures.none
+returns-in_default-clause-refused c = search rules
 
 pub invariant_of-self : goal.invariant_of-self
 invariant_of-self c = (

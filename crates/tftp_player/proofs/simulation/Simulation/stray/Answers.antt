@@ -1,7 +1,6 @@
 -- A stray arrives like a datagram, and is not added to the list.
-use Rattle.std.proofs.Common.{List, ℕ, subst}
+use Rattle.tftp_player.proofs.Common.{List, ℕ, subst, Delivery}
 use Rattle.std.proofs.lemmas.Result.{IfOk-weaker}
-use Rattle.tftp_player.specs.WorldSteps.{Delivery}
 use Rattle.tftp_player.proofs.simulation.Simulation.stray.Goals as goal
 
 pub returns-clause-steps : goal.returns-clause-steps

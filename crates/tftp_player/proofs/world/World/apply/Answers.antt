@@ -1,20 +1,13 @@
 -- A world keeps its invariant after an event, and so it is safe.
-use Rattle.std.proofs.Common.{Bool, ◌||◌, subst, sym}
-use Rattle.tftp_player.specs.World.{WorldState}
-use Rattle.tftp_player.specs.WorldKept.{Refines}
+use Rattle.tftp_player.proofs.Common.{subst, sym, rules, WorldState, Refines}
+use Rattle.std.proofs.Common.{◌||◌}
 use Rattle.tftp_player.proofs.SentLemmas.{sends_each}
 use Rattle.tftp_player.proofs.PlayedKeeps.{home_of, played_keeps}
 use Rattle.tftp_player.proofs.WorldSafe.{kept_is_safe}
 use Rattle.tftp_player.proofs.world.World.apply.Goals as goal
 
 pub invariant_of-self : goal.invariant_of-self
-invariant_of-self c = (
-  subst (λ (stray : Bool). Refines (c.self.inside.strayed || stray) c.step.new.self) (sym c.is_stray-stray.ensures)
-      (played_keeps c.self.inside.strayed c.self.inside.simulation c.step.new.self c.args.event c.in-Ok.report
-      c.self.invariant.0 c.in-Ok.ensures.steps),
-  sends_each c.self.inside.simulation c.step.new.self c.args.event c.in-Ok.report c.in-Ok.ensures.steps
-      c.self.invariant.1,
-)
+invariant_of-self c = search (rules, played_keeps, sends_each)
 
 pub returns-in-Ok-clause-safe : goal.returns-in-Ok-clause-safe
 returns-in-Ok-clause-safe c =
@@ -38,5 +31,4 @@ pub returns-in-Ok-clause-played : goal.returns-in-Ok-clause-played
 returns-in-Ok-clause-played c = (invariant_of-self c).0
 
 pub returns-in-Err-clause-played : goal.returns-in-Err-clause-played
-returns-in-Err-clause-played c =
-    subst (λ (w : WorldState). Refines c.self.inside.strayed w) (sym c.in-Err.ensures.err) c.self.invariant.0
+returns-in-Err-clause-played c = search rules

@@ -1,8 +1,7 @@
 -- A settling is one delivery after another, each of which leaves the world safe.
-use Rattle.std.proofs.Common.{◌∙◌, refl, rules, subst}
+use Rattle.tftp_player.proofs.Common.{◌∙◌, refl, rules, subst, IsHome, WasPlayed, IsSafe}
 use Rattle.std.proofs.Math.Bool.{or-false}
-use Rattle.tftp_player.specs.PlayedWorld.{PlayedWorld, IsHome, WasPlayed}
-use Rattle.tftp_player.specs.WorldSafety.{IsSafe}
+use Rattle.tftp_player.specs.PlayedWorld.{PlayedWorld}
 use Rattle.tftp_player.proofs.PlayedKeeps.{delivers_on, home_of}
 use Rattle.tftp_player.proofs.WorldSafe.{kept_is_safe}
 use Rattle.tftp_player.proofs.world.World.settle.Goals as goal

@@ -1,9 +1,5 @@
 -- `count` deliveries were made, and the world is safe after each.
-use Rattle.std.proofs.Common.{◌≡◌, ◌-◌, ◌≤◌, List, length}
-use Rattle.tftp_player.specs.PlayedWorld.{IsHome, WasPlayed}
-use Rattle.tftp_player.specs.WorldSafety.{IsSafe}
-use Rattle.tftp_player.specs.WorldSteps.{Settles}
-use Rattle.tftp_player.specs.declared.report.Report.{Report}
+use Rattle.tftp_player.proofs.Common.{◌≡◌, ◌-◌, ◌≤◌, List, length, IsHome, WasPlayed, IsSafe, Settles, Report}
 use Rattle.tftp_player.proofs.world.World.settle.Given as goal
 
 abbrev pub invariant-loop-count : goal.invariant-loop-count

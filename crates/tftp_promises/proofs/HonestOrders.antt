@@ -1,0 +1,191 @@
+-- What a program received in an order of an honest network was sent to it by one of the programs, or may come though none
+-- sent it. For the law a_client_ends_for_a_reason.
+use Rattle.std.proofs.Common.{◌≡◌, ℕ, Bool, true, false, List, [], ◌∷◌, Some, refl, sym, ap}
+use Rattle.std.proofs.Common.{◌∙◌, subst, zero, suc, arith, inl, inr}
+use Rattle.std.specs.Prelude.{◌⊎◌, ◌==◌, if◌then◌else◌, slice_get, option_map}
+use Rattle.std.specs.List.{Contains}
+use Rattle.std.proofs.lemmas.Bool.{eqb-true}
+use Rattle.std.proofs.lemmas.List.Elements.{All-contains, All-from_recursion, Contains-append_cases}
+use Rattle.std.proofs.lemmas.Option.{same_Some, slice_get-map}
+use Rattle.tftp_file.specs.Sink.{SinkMeaning}
+use Rattle.tftp_file.specs.Source.{SourceMeaning}
+use Rattle.tftp_store.specs.Store.{StoreMeaning}
+use Rattle.tftp_lives.specs.Lives.{Has}
+use Rattle.tftp_rules.specs.Machine.{Endpoint}
+use Rattle.tftp_sockets.specs.Trace.{SocketEvent}
+use Rattle.tftp_sockets.specs.Trace.SocketEvent.{Received, Sent}
+use Rattle.tftp_promises.specs.ClientRuns.{moved_in}
+use Rattle.tftp_promises.specs.Joint.{WasSentBefore}
+use Rattle.tftp_promises.specs.Order.{Noted, Programs, CanCome, ClientOf, IsAt, IsHonest, IsOrder, MayCome, events_of}
+use Rattle.tftp_promises.specs.Order.{requests_at}
+use Rattle.tftp_promises.specs.Programs.{client_at, endpoint}
+use Rattle.tftp_promises.specs.Snapshots.{ClientStage, Has_asked, all_of}
+use Rattle.tftp_promises.specs.Traces.{IsOfPort}
+use Rattle.tftp_promises.proofs.ClientTraces.{asks_first}
+use Rattle.tftp_promises.proofs.Orders.{later_in, mapped, noted_in, one_in}
+
+-- one of them is among them
+pub has_in : {X : Type 0} (x : X) (xs : List X) → Contains xs x → Has x xs
+has_in x [] i = absurd (let l = i.1 in omega (arith, l))
+has_in x (y ∷ xs) i = elim (Contains-append_cases (y ∷ []) xs x i) [
+  | inl here ↦ inl (one_in x y here)
+  | inr later ↦ inr (has_in x xs later)
+]
+
+module _ {S F D G K : Type 0} {stores : StoreMeaning S D} {sources : SourceMeaning F} {inputs : SourceMeaning G}
+    {outputs : SinkMeaning K} (programs : Programs stores sources inputs outputs) where
+  abbrev Client : Type 0
+  Client = ClientOf programs
+
+  -- what a program noted could come to it, by what was noted before
+  record ComesAt (order : List Noted) (program : ℕ) (e : SocketEvent) : Type 0 where
+    earlier : List Noted
+    comes : CanCome programs program e earlier
+    before : (n : Noted) → Contains earlier n → Contains order n
+
+  comes_later : (x : Noted) (order : List Noted) (program : ℕ) (e : SocketEvent) → ComesAt order program e →
+      ComesAt (x ∷ order) program e
+  comes_later x order program e h = record {
+    earlier = h.earlier;
+    comes = h.comes;
+    before = λ n i. later_in x order n (h.before n i);
+  }
+
+  comes_head : (x : Noted) (order : List Noted) (program : ℕ) (e : SocketEvent) → CanCome programs x.0 x.1 order →
+      (Has e (events_of program order) → ComesAt order program e) → (b : Bool) → (x.0 == program) ≡ b →
+      Has e (if b then x.1 ∷ events_of program order else events_of program order) → ComesAt (x ∷ order) program e
+  comes_head x order program e comes rest true is (inl here) = record {
+    earlier = order;
+    comes =
+        subst (λ (z : SocketEvent). CanCome programs program z order) here
+        (subst (λ (p : ℕ). CanCome programs p x.1 order) (eqb-true x.0 program is) comes);
+    before = λ n i. later_in x order n i;
+  }
+  comes_head x order program e comes rest true is (inr later) = comes_later x order program e (rest later)
+  comes_head x order program e comes rest false is later = comes_later x order program e (rest later)
+
+  comes_at : (order : List Noted) → IsHonest programs order → (program : ℕ) (e : SocketEvent) →
+      Has e (events_of program order) → ComesAt order program e
+  comes_at [] honest program e there = absurd there
+  comes_at (x ∷ order) honest program e there =
+      comes_head x order program e honest.0 (comes_at order honest.1 program e) (x.0 == program) refl there
+
+  -- the server sent this there, or a client at that endpoint did
+  abbrev pub IsOfOne : Endpoint → Endpoint → List ℕ → Type 0
+  IsOfOne from to bytes =
+      ((port : ℕ) × Has (Sent port to bytes) programs.server.noted)
+      ⊎ ((k : ℕ) × (client : Client) × (slice_get programs.clients k ≡ Some client) × (from ≡ client_at client))
+
+  -- a client sends from its own port
+  same_port : (a b : ℕ) (to goes : Endpoint) (x y : List ℕ) → Sent a to x ≡ Sent b goes y → b ≡ a
+  same_port a b to goes x y e = cc
+
+  own_port : (client : Client) (port : ℕ) (to : Endpoint) (bytes : List ℕ) → Contains client.noted (Sent port to bytes) →
+      port ≡ client.port
+  own_port client port to bytes i =
+      let asks = asks_first (requests_at programs) client in
+      let request = Sent client.port (requests_at programs) client.first.position.last_sent in
+      elim (Contains-append_cases asks.more (request ∷ []) (Sent port to bytes)
+      (subst (λ (es : List SocketEvent). Contains es (Sent port to bytes)) asks.is i)) [
+        | inl more ↦
+            All-contains (IsOfPort client.port) asks.more (Sent port to bytes)
+            (All-from_recursion (IsOfPort client.port) asks.more asks.own) more
+        | inr first ↦
+            same_port client.port port (requests_at programs) to client.first.position.last_sent bytes
+            (one_in (Sent port to bytes) request first)
+      ]
+
+  abbrev stage_of : Client → ClientStage G K
+  stage_of c = Has_asked c.last c.files c.noted (moved_in c.runs)
+
+  -- what any of them sent
+  pub record SentBy (from to : Endpoint) (bytes : List ℕ) : Type 0 where
+    pub before : WasSentBefore (all_of programs) from to bytes
+    pub by : IsOfOne from to bytes
+
+  -- what a program received at this endpoint
+  abbrev pub ComesTo : Endpoint → Endpoint → List ℕ → Type 0
+  ComesTo from to bytes = SentBy from to bytes ⊎ MayCome programs from bytes
+
+  module _ (order : List Noted) (is_order : IsOrder programs order) (honest : IsHonest programs order) where
+    sent_by : (program port : ℕ) (from to : Endpoint) (bytes : List ℕ) → IsAt programs program port from →
+        Contains order (program, Sent port to bytes) → SentBy from to bytes
+    sent_by zero port from to bytes at i =
+        let there =
+        subst (λ (es : List SocketEvent). Contains es (Sent port to bytes)) is_order.server
+        (noted_in 0 (Sent port to bytes) order i) in
+        let same = same_Some programs.ip at.0 at.1 in
+        record {
+          before =
+              inl (record {
+                port = port;
+                at = at.2 ∙ ap (λ (ip : List ℕ). endpoint ip port) (sym same);
+                sent = there;
+              });
+          by = inl (port, has_in (Sent port to bytes) programs.server.noted there);
+        }
+    sent_by (suc k) port from to bytes at i =
+        let m =
+        mapped (λ (c : Client). c.ip) (slice_get programs.clients k) at.0
+        (sym (slice_get-map (λ (c : Client). c.ip) programs.clients k) ∙ at.1) in
+        let there =
+        subst (λ (es : List SocketEvent). Contains es (Sent port to bytes)) (is_order.clients k m.0 m.1)
+        (noted_in (suc k) (Sent port to bytes) order i) in
+        let from_is : from ≡ endpoint m.0.ip port = at.2 ∙ ap (λ (ip : List ℕ). endpoint ip port) (sym m.2) in
+        record {
+          before =
+              inr (record {
+                k = k;
+                client = m.0;
+                is_client = m.1;
+                stage = stage_of m.0;
+                is_stage =
+                    slice_get-map stage_of programs.clients k ∙ ap (option_map stage_of) m.1;
+                port = port;
+                at = from_is;
+                sent = there;
+              });
+          by =
+              inr (
+                k,
+                m.0,
+                m.1,
+                from_is ∙ ap (λ (p : ℕ). endpoint m.0.ip p) (own_port m.0 port to bytes there),
+              );
+        }
+
+    came_to : (program port : ℕ) (a from : Endpoint) (bytes : List ℕ) →
+        ((to : Endpoint) → IsAt programs program port to → to ≡ a) →
+        ComesAt order program (Received port from bytes) → ComesTo from a bytes
+    came_to program port a from bytes is_at h =
+        let to_is = is_at h.comes.0 h.comes.1 in
+        elim h.comes.2 [
+          | inl sent ↦
+              inl (subst (λ (to : Endpoint). SentBy from to bytes) to_is
+              (sent_by sent.program sent.port from h.comes.0 bytes sent.is_at (h.before (sent.program, Sent sent.port h.comes.0 bytes) sent.sent)))
+          | inr may ↦ inr may
+        ]
+
+    -- a client
+    pub came_to_client : (k : ℕ) (client : Client) → slice_get programs.clients k ≡ Some client → (from : Endpoint)
+        (bytes : List ℕ) → Has (Received client.port from bytes) client.noted → ComesTo from (client_at client) bytes
+    came_to_client k client found from bytes there =
+        came_to (suc k) client.port (client_at client) from bytes
+        (λ to at.
+        let ip_is : Some client.ip ≡ Some at.0 =
+        sym (slice_get-map (λ (c : Client). c.ip) programs.clients k
+        ∙ ap (option_map (λ (c : Client). c.ip)) found)
+        ∙ at.1 in
+        at.2 ∙ ap (λ (ip : List ℕ). endpoint ip client.port) (sym (same_Some client.ip at.0 ip_is)))
+        (comes_at order honest (suc k) (Received client.port from bytes)
+        (subst (λ (es : List SocketEvent). Has (Received client.port from bytes) es) (sym (is_order.clients k client found))
+        there))
+
+    -- the server, at its request port
+    pub came_to_server : (from : Endpoint) (bytes : List ℕ) →
+        Has (Received programs.port from bytes) programs.server.noted → ComesTo from (requests_at programs) bytes
+    came_to_server from bytes there =
+        came_to 0 programs.port (requests_at programs) from bytes
+        (λ to at. at.2 ∙ ap (λ (ip : List ℕ). endpoint ip programs.port) (sym (same_Some programs.ip at.0 at.1)))
+        (comes_at order honest 0 (Received programs.port from bytes)
+        (subst (λ (es : List SocketEvent). Has (Received programs.port from bytes) es) (sym is_order.server) there))

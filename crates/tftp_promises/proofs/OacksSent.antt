@@ -1,0 +1,431 @@
+-- Each OACK that a server sent opened a transfer: it is the first datagram of one, and was sent to where its request
+-- came from. For the law a_client_ends_for_a_reason.
+use Rattle.std.proofs.Common.{◌≡◌, ℕ, true, List, [], ◌∷◌, ◌++◌, append_assoc, Option, Some, None, refl, sym, ap}
+use Rattle.std.proofs.Common.{◌∙◌, subst, inl, inr}
+use Rattle.std.specs.Prelude.{◌⊎◌}
+use Rattle.std.proofs.lemmas.Bool.{true≢false}
+use Rattle.std.proofs.lemmas.List.{append_cancel_right}
+use Rattle.tftp_wire.specs.declared.mode.Mode.{Mode}
+use Rattle.tftp_negotiate.specs.Ranges.{IsBlockSize}
+use Rattle.tftp_file.specs.Source.{SourceMeaning}
+use Rattle.tftp_ends.specs.declared.endpoint.Endpoint.{Endpoint}
+use Rattle.tftp_ends.specs.Run.{has_opcode}
+use Rattle.tftp_ends.specs.Step.{Reply, error_bytes, timeout_turn}
+use Rattle.tftp_store.specs.Store.{StoreMeaning}
+use Rattle.tftp_store.specs.declared.store.Opening.{Opening}
+use Rattle.tftp_server.specs.Draft.{drafting_sink}
+use Rattle.tftp_server.specs.Request.{Came, Nothing, Error_reply, A_transfer, Left, left_by}
+use Rattle.tftp_server.specs.State.{ServerState, TransferState, at}
+use Rattle.tftp_lives.specs.Lives.{Act, Said, Has}
+use Rattle.tftp_lives.proofs.NewestSaid.{IsPlain, datagram_plain, newest_said, timeout_plain}
+use Rattle.tftp_sockets.specs.Trace.{SocketEvent, answered}
+use Rattle.tftp_sockets.specs.Trace.SocketEvent.{Received, Sent, Watched, Elapsed, Printed, Quiet}
+use Rattle.tftp_loop.specs.Run.{Run}
+use Rattle.tftp_loop.specs.Run.Run.{Start, Then}
+use Rattle.tftp_loop.specs.Steps.{AnswersRequest, PortState, LoopState, PortStep, LoopStep, after_request, port_state}
+use Rattle.tftp_loop.specs.Steps.PortStep.{A_datagram, A_lost_datagram, A_late_datagram, Nothing_found}
+use Rattle.tftp_loop.specs.Steps.PortStep.{A_failed_receive, A_timeout, A_missed_timeout, Work}
+use Rattle.tftp_loop.specs.Steps.LoopStep.{Waited, At_port, Request_received, No_request_found}
+use Rattle.tftp_loop.specs.Steps.LoopStep.{Request_not_received, Request_noted, Request_answered, Request_lost}
+use Rattle.tftp_loop.specs.Steps.LoopStep.{Clock_read, Store_set, Transfer_closed, Drain_begun}
+use Rattle.tftp_promises.specs.Given.{StoreOpened, StoreOpens}
+use Rattle.tftp_promises.specs.Lived.{acts_at}
+use Rattle.tftp_promises.proofs.SeenLives.{tells_sent}
+use Rattle.tftp_promises.proofs.TraceLives.{step_adds, transfers_noted}
+use Rattle.tftp_promises.proofs.TransferLives.{run_config, transfers_live}
+
+-- nothing is sent
+abbrev IsUnsent : SocketEvent → Type 0
+IsUnsent (Received port from bytes) = Unit {0}
+IsUnsent (Sent port to bytes) = ⊥
+IsUnsent (Watched watch) = Unit {0}
+IsUnsent (Elapsed port time) = Unit {0}
+IsUnsent (Printed line) = Unit {0}
+IsUnsent (Quiet event) = Unit {0}
+
+has_later : {T : Type 0} (x : T) (more ys : List T) → Has x ys → Has x (more ++ ys)
+has_later x [] ys h = h
+has_later x (y ∷ more) ys h = inr (has_later x more ys h)
+
+-- of each OACK that was noted since the trace was so, this holds
+record AreSo (before : List SocketEvent) (Holds : Endpoint → List ℕ → Type 0) (events : List SocketEvent) : Type 0 where
+  noted : List SocketEvent
+  is : events ≡ noted ++ before
+  sent : (port : ℕ) (to : Endpoint) (bytes : List ℕ) → Has (Sent port to bytes) noted → has_opcode 6 bytes ≡ true →
+      Holds to bytes
+
+module _ (before : List SocketEvent) (Holds : Endpoint → List ℕ → Type 0) where
+  so_on : (e : SocketEvent) (events : List SocketEvent) → IsUnsent e → AreSo before Holds events →
+      AreSo before Holds (e ∷ events)
+  so_on e events unsent h = record {
+    noted = e ∷ h.noted;
+    is = ap (λ (es : List SocketEvent). e ∷ es) h.is;
+    sent = λ port to bytes there oack. elim there [
+      | inl same ↦ absurd (subst IsUnsent same unsent)
+      | inr old ↦ h.sent port to bytes old oack
+    ];
+  }
+
+  same_to : (a b : ℕ) (to goes : Endpoint) (x y : List ℕ) → Sent a goes x ≡ Sent b to y → (goes ≡ to) × (x ≡ y)
+  same_to a b to goes x y e = (cc, cc)
+
+  so_says : (at : ℕ) (goes : Endpoint) (content : List ℕ) (events : List SocketEvent) →
+      (has_opcode 6 content ≡ true → Holds goes content) → AreSo before Holds events →
+      AreSo before Holds (Sent at goes content ∷ events)
+  so_says at goes content events holds h = record {
+    noted = Sent at goes content ∷ h.noted;
+    is = ap (λ (es : List SocketEvent). Sent at goes content ∷ es) h.is;
+    sent = λ port to bytes there oack. elim there [
+      | inl same ↦
+          let parts = same_to at port to goes content bytes same in
+          subst (λ (a : Endpoint). Holds a bytes) parts.0
+          (subst (λ (b : List ℕ). Holds goes b) parts.1
+          (holds (ap (has_opcode 6) parts.1 ∙ oack)))
+      | inr old ↦ h.sent port to bytes old oack
+    ];
+  }
+
+  so_answers : (at : ℕ) (reply : Option Reply) (events : List SocketEvent) →
+      ((r : Reply) → reply ≡ Some r → has_opcode 6 r.bytes ≡ true → Holds r.to r.bytes) → AreSo before Holds events →
+      AreSo before Holds (answered at reply events)
+  so_answers at None events holds h = h
+  so_answers at (Some r) events holds h = so_says at r.to r.bytes events (holds r refl) h
+
+  so_same : (events other : List SocketEvent) → other ≡ events → AreSo before Holds events → AreSo before Holds other
+  so_same events other is h = subst (AreSo before Holds) (sym is) h
+
+so_weaker : (before : List SocketEvent) (One Other : Endpoint → List ℕ → Type 0) →
+    ((to : Endpoint) (bytes : List ℕ) → One to bytes → Other to bytes) → (events : List SocketEvent) →
+    AreSo before One events → AreSo before Other events
+so_weaker before One Other weaker events h = record {
+  noted = h.noted;
+  is = h.is;
+  sent = λ port to bytes there oack. weaker to bytes (h.sent port to bytes there oack);
+}
+
+module _ {S F D : Type 0} (stores : StoreMeaning S D) (sources : SourceMeaning F) where
+  -- the request port stays
+  step_requests : {old new : LoopState S F D} → LoopStep stores sources old new → new.requests ≡ old.requests
+  step_requests (Waited d) = ap (λ (s : LoopState S F D). s.requests) d.is
+  step_requests (At_port d) = ap (λ (s : LoopState S F D). s.requests) d.is
+  step_requests (Request_received d) = ap (λ (s : LoopState S F D). s.requests) d.is
+  step_requests (No_request_found d) = ap (λ (s : LoopState S F D). s.requests) d.is
+  step_requests (Request_not_received d) = ap (λ (s : LoopState S F D). s.requests) d.is
+  step_requests (Request_noted d) = ap (λ (s : LoopState S F D). s.requests) d.is
+  step_requests (Request_answered d) = ap (λ (s : LoopState S F D). s.requests) d.is
+  step_requests (Request_lost d) = ap (λ (s : LoopState S F D). s.requests) d.is
+  step_requests (Clock_read d) = ap (λ (s : LoopState S F D). s.requests) d.is
+  step_requests (Store_set d) = ap (λ (s : LoopState S F D). s.requests) d.is
+  step_requests (Transfer_closed d) = ap (λ (s : LoopState S F D). s.requests) d.is
+  step_requests (Drain_begun d) = ap (λ (s : LoopState S F D). s.requests) d.is
+
+  -- what is pending is as it was, or was received now
+  abbrev Pends : LoopState S F D → LoopState S F D → Type 0
+  Pends old new =
+      (from : Endpoint) (bytes : List ℕ) → new.pending ≡ Some (from, bytes) →
+      (old.pending ≡ Some (from, bytes)) ⊎ (new.events ≡ Received old.requests from bytes ∷ old.events)
+
+  pends_still : (old new : LoopState S F D) → new.pending ≡ old.pending → Pends old new
+  pends_still old new same from bytes is = inl (sym same ∙ is)
+
+  pends_none : (old new : LoopState S F D) → new.pending ≡ None → Pends old new
+  pends_none old new none from bytes is =
+      absurd (let f : None ≡ Some (from, bytes) = sym none ∙ is in cc)
+
+  both_parts : (a b : Endpoint) (x y : List ℕ) (o : Option (Endpoint × List ℕ)) → o ≡ Some (a, x) → o ≡ Some (b, y) →
+      (a ≡ b) × (x ≡ y)
+  both_parts a b x y o e f =
+      let g : ◌≡◌ {A = Option (Endpoint × List ℕ)} (Some (a, x)) (Some (b, y)) = sym e ∙ f in
+      let same : ◌≡◌ {A = Endpoint × List ℕ} (a, x) (b, y) = cc in
+      (ap (λ (z : Endpoint × List ℕ). z.0) same, ap (λ (z : Endpoint × List ℕ). z.1) same)
+
+  step_pends : {old new : LoopState S F D} → LoopStep stores sources old new → Pends old new
+  step_pends {old} {new} (Waited d) = pends_still old new (ap (λ (s : LoopState S F D). s.pending) d.is)
+  step_pends {old} {new} (At_port d) = pends_still old new (ap (λ (s : LoopState S F D). s.pending) d.is)
+  step_pends {old} {new} (Request_received d) = λ from bytes is.
+      let parts = both_parts d.from from d.bytes bytes new.pending (ap (λ (s : LoopState S F D). s.pending) d.is) is in
+      inr (ap (λ (s : LoopState S F D). s.events) d.is
+      ∙ (ap (λ (a : Endpoint). Received old.requests a d.bytes ∷ old.events) parts.0
+      ∙ ap (λ (b : List ℕ). Received old.requests from b ∷ old.events) parts.1))
+  step_pends {old} {new} (No_request_found d) = pends_still old new (ap (λ (s : LoopState S F D). s.pending) d.is)
+  step_pends {old} {new} (Request_not_received d) = pends_still old new (ap (λ (s : LoopState S F D). s.pending) d.is)
+  step_pends {old} {new} (Request_noted d) = pends_still old new (ap (λ (s : LoopState S F D). s.pending) d.is)
+  step_pends {old} {new} (Request_answered d) = pends_none old new (ap (λ (s : LoopState S F D). s.pending) d.is)
+  step_pends {old} {new} (Request_lost d) = pends_none old new (ap (λ (s : LoopState S F D). s.pending) d.is)
+  step_pends {old} {new} (Clock_read d) = pends_still old new (ap (λ (s : LoopState S F D). s.pending) d.is)
+  step_pends {old} {new} (Store_set d) = pends_still old new (ap (λ (s : LoopState S F D). s.pending) d.is)
+  step_pends {old} {new} (Transfer_closed d) = pends_still old new (ap (λ (s : LoopState S F D). s.pending) d.is)
+  step_pends {old} {new} (Drain_begun d) = pends_still old new (ap (λ (s : LoopState S F D). s.pending) d.is)
+
+module _ {S F D : Type 0} (stores : StoreMeaning S D) (sources : SourceMeaning F) {start : LoopState S F D} where
+  -- the server opened a transfer for a request from there, which it had received, and sent this first
+  pub record IsOpenedBy {now : LoopState S F D} (run : Run (LoopStep stores sources) start now) (to : Endpoint)
+      (bytes : List ℕ) : Type 0 where
+    pub old : LoopState S F D
+    pub new : LoopState S F D
+    pub answers : AnswersRequest stores sources old new
+    pub from : answers.from ≡ to
+    pub transfer : TransferState F D
+    pub store : S
+    pub came : answers.steps.came ≡ A_transfer transfer store
+    pub first : transfer.end.position.last_sent ≡ bytes
+    pub config : old.server.config ≡ start.server.config
+    -- its store was asked in the run
+    pub stored : (path request : List ℕ) (mode : Mode) (opening : Opening F) →
+        StoreOpens (Request_answered answers) path request mode opening → StoreOpened run path request mode opening
+    -- the request is in the trace
+    pub noted : List SocketEvent
+    pub is : now.events ≡ noted ++ start.events
+    pub received : Has (Received start.requests answers.from answers.bytes) noted
+
+  -- and has after another step
+  opened_still : {old new : LoopState S F D} (run : Run (LoopStep stores sources) start old)
+      (does : LoopStep stores sources old new) (to : Endpoint) (bytes : List ℕ) → IsOpenedBy run to bytes →
+      IsOpenedBy (Then run does) to bytes
+  opened_still run does to bytes h =
+      let adds = step_adds stores sources does in
+      record {
+        old = h.old;
+        new = h.new;
+        answers = h.answers;
+        from = h.from;
+        transfer = h.transfer;
+        store = h.store;
+        came = h.came;
+        first = h.first;
+        config = h.config;
+        stored = λ path request mode opening asked. inr (h.stored path request mode opening asked);
+        noted = adds.0 ++ h.noted;
+        is =
+            adds.1
+            ∙ (ap (λ (es : List SocketEvent). adds.0 ++ es) h.is ∙ sym (append_assoc adds.0 h.noted start.events));
+        received =
+            has_later (Received start.requests h.answers.from h.answers.bytes) adds.0 h.noted h.received;
+      }
+
+  -- what is known at each time of a run
+  record Known {now : LoopState S F D} (run : Run (LoopStep stores sources) start now) : Type 0 where
+    so : AreSo start.events (IsOpenedBy run) now.events
+    requests : now.requests ≡ start.requests
+    pending : (from : Endpoint) (bytes : List ℕ) → now.pending ≡ Some (from, bytes) →
+        Has (Received start.requests from bytes) so.noted
+
+  module _ {old new : LoopState S F D} (run : Run (LoopStep stores sources) start old)
+      (does : LoopStep stores sources old new) (h : Known run) where
+    abbrev Now : Endpoint → List ℕ → Type 0
+    Now = IsOpenedBy (Then run does)
+
+    -- what was noted before
+    so_far : AreSo start.events Now old.events
+    so_far = so_weaker start.events (IsOpenedBy run) Now (opened_still run does) old.events h.so
+
+    abbrev After : List SocketEvent → Type 0
+    After events = AreSo start.events Now events
+
+    on : (e : SocketEvent) (events : List SocketEvent) → IsUnsent e → After events → After (e ∷ events)
+    on e events unsent a = so_on start.events Now e events unsent a
+
+    -- what a transfer sends again was sent before
+    again : (port : ℕ) (transfer : TransferState F D) → start.server.held ≡ [] →
+        IsBlockSize start.server.config.limits.max_block → at port old.server.held ≡ Some transfer →
+        (reply : Option Reply) → IsPlain transfer.end reply → (r : Reply) → reply ≡ Some r →
+        has_opcode 6 r.bytes ≡ true → Now r.to r.bytes
+    again port transfer none max found reply plain r is oack =
+        by_plain (subst (IsPlain transfer.end) is plain)
+      where
+        by_plain : IsPlain transfer.end (Some r) → Now r.to r.bytes
+        by_plain (inl differs) = absurd (true≢false (sym oack ∙ differs))
+        by_plain (inr same) =
+            let living = transfers_live stores sources run none max port transfer found in
+            let told = transfers_noted stores sources start run port in
+            let said : Has (Said r.to r.bytes) (acts_at port run) =
+            subst (λ (act : Act). Has act (acts_at port run)) (sym same)
+            (newest_said sources (drafting_sink stores) living.life) in
+            let there = tells_sent port told.noted (acts_at port run) told.tells r.to r.bytes said in
+            let one : told.noted ≡ h.so.noted =
+            append_cancel_right told.noted h.so.noted start.events (sym told.is ∙ h.so.is) in
+            opened_still run does r.to r.bytes
+            (h.so.sent port r.to r.bytes (subst (λ (es : List SocketEvent). Has (Sent port r.to r.bytes) es) one there)
+            oack)
+
+  -- at the port of a transfer
+  port_so : {old new : LoopState S F D} (run : Run (LoopStep stores sources) start old)
+      (does : LoopStep stores sources old new) → Known run → start.server.held ≡ [] →
+      IsBlockSize start.server.config.limits.max_block → (now : ℕ) (before after : PortState S F D) →
+      before.server ≡ old.server → before.events ≡ old.events →
+      PortStep stores sources now before after →
+      AreSo start.events (IsOpenedBy (Then run does)) after.events
+  port_so {old} run does h none max now before after server events (A_datagram d) =
+      let takes = d.handles.takes in
+      let from_old = so_same start.events (IsOpenedBy (Then run does)) old.events before.events events (so_far run does h) in
+      so_same start.events (IsOpenedBy (Then run does)) _ after.events d.handles.events
+      (so_answers start.events (IsOpenedBy (Then run does)) before.timer.port takes.takes.turn.reply
+      (Received before.timer.port d.from d.bytes ∷ before.events)
+      (again run does h before.timer.port takes.transfer none max
+      (ap (λ (s : ServerState S F D). at before.timer.port s.held) (sym server) ∙ takes.found) takes.takes.turn.reply
+      (datagram_plain sources (drafting_sink stores) d.from d.bytes takes.transfer.end takes.takes.turn _ _
+      takes.takes.steps))
+      (on run does h (Received before.timer.port d.from d.bytes) before.events tt from_old))
+  port_so {old} run does h none max now before after server events (A_lost_datagram d) =
+      so_same start.events (IsOpenedBy (Then run does)) _ after.events d.events
+      (on run does h (Received _ _ _) before.events tt
+      (so_same start.events (IsOpenedBy (Then run does)) old.events before.events events (so_far run does h)))
+  port_so {old} run does h none max now before after server events (A_late_datagram d) =
+      so_same start.events (IsOpenedBy (Then run does)) _ after.events d.events
+      (on run does h (Received _ _ _) before.events tt
+      (so_same start.events (IsOpenedBy (Then run does)) old.events before.events events (so_far run does h)))
+  port_so {old} run does h none max now before after server events (Nothing_found d) =
+      so_same start.events (IsOpenedBy (Then run does)) _ after.events d.events
+      (on run does h (Quiet _) before.events tt
+      (so_same start.events (IsOpenedBy (Then run does)) old.events before.events events (so_far run does h)))
+  port_so {old} run does h none max now before after server events (A_failed_receive d) =
+      so_same start.events (IsOpenedBy (Then run does)) _ after.events d.events
+      (on run does h (Quiet _) before.events tt
+      (so_same start.events (IsOpenedBy (Then run does)) old.events before.events events (so_far run does h)))
+  port_so {old} run does h none max now before after server events (A_timeout d) =
+      let times_out = d.times_out.times_out in
+      let reply = (timeout_turn times_out.transfer.end).reply in
+      so_same start.events (IsOpenedBy (Then run does)) _ after.events d.times_out.events
+      (so_answers start.events (IsOpenedBy (Then run does)) before.timer.port reply
+      (Elapsed before.timer.port now ∷ before.events)
+      (again run does h before.timer.port times_out.transfer none max
+      (ap (λ (s : ServerState S F D). at before.timer.port s.held) (sym server) ∙ times_out.found) reply
+      (timeout_plain times_out.transfer.end))
+      (on run does h (Elapsed before.timer.port now) before.events tt
+      (so_same start.events (IsOpenedBy (Then run does)) old.events before.events events (so_far run does h))))
+  port_so {old} run does h none max now before after server events (A_missed_timeout d) =
+      so_same start.events (IsOpenedBy (Then run does)) _ after.events d.events
+      (on run does h (Elapsed _ _) before.events tt
+      (so_same start.events (IsOpenedBy (Then run does)) old.events before.events events (so_far run does h)))
+  port_so {old} run does h none max now before after server events (Work d) =
+      so_same start.events (IsOpenedBy (Then run does)) old.events after.events (d.events ∙ events) (so_far run does h)
+
+  -- the answer to a request
+  came_so : {old new : LoopState S F D} (run : Run (LoopStep stores sources) start old)
+      (d : AnswersRequest stores sources old new) (h : Known run) (came : Came S F D) → d.steps.came ≡ came →
+      AreSo start.events (IsOpenedBy (Then run (Request_answered d)))
+      (after_request old d.from (left_by came old.server d.from d.tid)).events
+  came_so run d h Nothing is = so_far run (Request_answered d) h
+  came_so {old} run d h (Error_reply reply store) is =
+      so_says start.events (IsOpenedBy (Then run (Request_answered d))) old.requests d.from (error_bytes reply) old.events
+      (λ oack. absurd (true≢false (sym oack))) (so_far run (Request_answered d) h)
+  came_so {old} {new} run d h (A_transfer transfer store) is =
+      let adds = step_adds stores sources (Request_answered d) in
+      let before = h.so in
+      so_says start.events (IsOpenedBy (Then run (Request_answered d))) d.tid d.from transfer.end.position.last_sent
+      old.events
+      (λ oack. record {
+        old = old;
+        new = new;
+        answers = d;
+        from = refl;
+        transfer = transfer;
+        store = store;
+        came = is;
+        first = refl;
+        config = run_config stores sources run;
+        stored = λ path request mode opening asked. inl asked;
+        noted = adds.0 ++ before.noted;
+        is =
+            adds.1
+            ∙ (ap (λ (es : List SocketEvent). adds.0 ++ es) before.is
+            ∙ sym (append_assoc adds.0 before.noted start.events));
+        received =
+            has_later (Received start.requests d.from d.bytes) adds.0 before.noted
+            (h.pending d.from d.bytes d.pending);
+      }) (so_far run (Request_answered d) h)
+
+  -- ---- along a run
+  step_so : {old new : LoopState S F D} (run : Run (LoopStep stores sources) start old)
+      (does : LoopStep stores sources old new) → Known run → start.server.held ≡ [] →
+      IsBlockSize start.server.config.limits.max_block →
+      AreSo start.events (IsOpenedBy (Then run does)) new.events
+  step_so {old} {new} run (Waited d) h none max =
+      so_same start.events _ _ new.events (ap (λ (s : LoopState S F D). s.events) d.is)
+      (on run (Waited d) h (Quiet _) _ tt
+      (on run (Waited d) h (Quiet _) _ tt
+      (on run (Waited d) h (Watched d.watch) old.events tt (so_far run (Waited d) h))))
+  step_so {old} {new} run (At_port d) h none max =
+      so_same start.events _ d.next.events new.events (ap (λ (s : LoopState S F D). s.events) d.is)
+      (port_so run (At_port d) h none max old.now (port_state old d.timer) d.next refl refl d.does)
+  step_so {old} {new} run (Request_received d) h none max =
+      so_same start.events _ _ new.events (ap (λ (s : LoopState S F D). s.events) d.is)
+      (on run (Request_received d) h (Received _ _ _) old.events tt (so_far run (Request_received d) h))
+  step_so {old} {new} run (No_request_found d) h none max =
+      so_same start.events _ _ new.events (ap (λ (s : LoopState S F D). s.events) d.is)
+      (on run (No_request_found d) h (Quiet _) old.events tt (so_far run (No_request_found d) h))
+  step_so {old} {new} run (Request_not_received d) h none max =
+      so_same start.events _ _ new.events (ap (λ (s : LoopState S F D). s.events) d.is)
+      (on run (Request_not_received d) h (Quiet _) old.events tt (so_far run (Request_not_received d) h))
+  step_so {old} {new} run (Request_noted d) h none max =
+      so_same start.events _ _ new.events (ap (λ (s : LoopState S F D). s.events) d.is)
+      (on run (Request_noted d) h (Quiet _) old.events tt (so_far run (Request_noted d) h))
+  step_so {old} {new} run (Request_answered d) h none max =
+      so_same start.events _ _ new.events (ap (λ (s : LoopState S F D). s.events) d.is)
+      (subst
+      (λ (left : Left S F D). AreSo start.events (IsOpenedBy (Then run (Request_answered d)))
+      (after_request old d.from left).events) (sym d.steps.left) (came_so run d h d.steps.came refl))
+  step_so {old} {new} run (Request_lost d) h none max =
+      so_same start.events _ old.events new.events (ap (λ (s : LoopState S F D). s.events) d.is)
+      (so_far run (Request_lost d) h)
+  step_so {old} {new} run (Clock_read d) h none max =
+      so_same start.events _ _ new.events (ap (λ (s : LoopState S F D). s.events) d.is)
+      (on run (Clock_read d) h (Watched _) old.events tt (so_far run (Clock_read d) h))
+  step_so {old} {new} run (Store_set d) h none max =
+      so_same start.events _ old.events new.events (ap (λ (s : LoopState S F D). s.events) d.is)
+      (so_far run (Store_set d) h)
+  step_so {old} {new} run (Transfer_closed d) h none max =
+      so_same start.events _ _ new.events (ap (λ (s : LoopState S F D). s.events) d.is)
+      (on run (Transfer_closed d) h (Printed _) old.events tt (so_far run (Transfer_closed d) h))
+  step_so {old} {new} run (Drain_begun d) h none max =
+      so_same start.events _ _ new.events (ap (λ (s : LoopState S F D). s.events) d.is)
+      (on run (Drain_begun d) h (Quiet _) old.events tt (so_far run (Drain_begun d) h))
+
+  known_still : {old new : LoopState S F D} (run : Run (LoopStep stores sources) start old)
+      (does : LoopStep stores sources old new) → Known run → start.server.held ≡ [] →
+      IsBlockSize start.server.config.limits.max_block → Known (Then run does)
+  known_still {old} {new} run does h none max =
+      let so = step_so run does h none max in
+      let adds = step_adds stores sources does in
+      let noted_is : so.noted ≡ adds.0 ++ h.so.noted =
+      append_cancel_right so.noted (adds.0 ++ h.so.noted) start.events
+      (sym so.is
+      ∙ (adds.1
+      ∙ (ap (λ (es : List SocketEvent). adds.0 ++ es) h.so.is
+      ∙ sym (append_assoc adds.0 h.so.noted start.events)))) in
+      record {
+        so = so;
+        requests = step_requests stores sources does ∙ h.requests;
+        pending = λ from bytes is. elim (step_pends stores sources does from bytes is) [
+          | inl before ↦
+              subst (λ (es : List SocketEvent). Has (Received start.requests from bytes) es) (sym noted_is)
+              (has_later (Received start.requests from bytes) adds.0 h.so.noted (h.pending from bytes before))
+          | inr now ↦
+              let all : so.noted ≡ Received old.requests from bytes ∷ h.so.noted =
+              append_cancel_right so.noted (Received old.requests from bytes ∷ h.so.noted) start.events
+              (sym so.is
+              ∙ (now ∙ ap (λ (es : List SocketEvent). Received old.requests from bytes ∷ es) h.so.is)) in
+              subst (λ (es : List SocketEvent). Has (Received start.requests from bytes) es) (sym all)
+              (inl (ap (λ (p : ℕ). Received p from bytes) h.requests))
+        ];
+      }
+
+  oacks_open : {now : LoopState S F D} (run : Run (LoopStep stores sources) start now) → start.pending ≡ None →
+      start.server.held ≡ [] → IsBlockSize start.server.config.limits.max_block → Known run
+  oacks_open Start idle none max = record {
+    so = record { noted = []; is = refl; sent = λ port to bytes there oack. absurd there };
+    requests = refl;
+    pending = λ from bytes is. absurd (let f : None ≡ Some (from, bytes) = sym idle ∙ is in cc);
+  }
+  oacks_open (Then run does) idle none max = known_still run does (oacks_open run idle none max) none max
+
+  -- so it is of each that it noted
+  pub oack_opens : {now : LoopState S F D} (run : Run (LoopStep stores sources) start now) → start.pending ≡ None →
+      start.server.held ≡ [] → IsBlockSize start.server.config.limits.max_block → (noted : List SocketEvent) →
+      now.events ≡ noted ++ start.events → (port : ℕ) (to : Endpoint) (bytes : List ℕ) →
+      Has (Sent port to bytes) noted → has_opcode 6 bytes ≡ true → IsOpenedBy run to bytes
+  oack_opens run idle none max noted is port to bytes there oack =
+      let known = oacks_open run idle none max in
+      let same : noted ≡ known.so.noted =
+      append_cancel_right noted known.so.noted start.events (sym is ∙ known.so.is) in
+      known.so.sent port to bytes (subst (λ (es : List SocketEvent). Has (Sent port to bytes) es) same there) oack

@@ -1,0 +1,140 @@
+"""Rows of `tftp-show`: what it prints for lines of packets and of captures, and its status.
+
+captures.txt has lines of tshark's fields, recorded on a virtual network between tftpd-hpa 5.2 at 192.0.2.1 and the clients
+atftp 0.8 and curl 7.88. A packet filter of the client dropped what is called lost. What is printed for each is derived from it
+by hand."""
+import os
+import signal
+import socket
+import struct
+from pathlib import Path
+
+import pytest
+
+from lib import programs
+from lib.ends import PATIENCE, expect, wait_until
+from lib.scene import state_of
+from lib.sections import sections, table
+from lib.tool import Tool, has_parts
+
+HERE = Path(__file__).resolve().parent
+CAPTURES, PICTURES = ({row.kind: row for row in sections(HERE / name)} for name in ["captures.txt", "pictures.txt"])
+PACKET, INPUTS = "00040000\n", table(HERE / "inputs.txt")
+UNREADABLE = "tftp-show: input unreadable\n"
+# Command lines of status 2, and how the message begins: a file has to be there, and a transfer is drawn only with `--flow`
+FAULTS = [(["--verbose"], "error: "), (["a.pcap", "b.pcap"], "error: "), (["--svg", "/dev/null"], "error: "),
+          (["--flow", "--transfer", "0"], "error: "), ([b"caf\xe9"], "error: "), (["/missing/packets.hex"], UNREADABLE),
+          (["packets.hex"], UNREADABLE)]
+
+
+@pytest.fixture
+def show(tmp_path) -> Tool:
+    return Tool(programs.program("tftp-show"), tmp_path)
+
+
+def test_help(scene) -> None:
+    scene.has_help("tftp-show")
+
+
+@pytest.mark.parametrize("words, errors", FAULTS, ids=[f"{words}" for words, _ in FAULTS])
+def test_faults(scene, words, errors) -> None:
+    scene.fails("tftp-show", words, errors, begins=True)
+
+
+def test_a_folder_is_no_input(scene) -> None:
+    folder = os.open(scene.folder, os.O_RDONLY)
+    scene.fails("tftp-show", [], UNREADABLE, stdin=folder)
+    os.close(folder)
+
+
+def test_vectors_show(show) -> None:
+    """Twenty lines, each alone and all together."""
+    row, = sections(HERE / "vectors.txt")
+    show.prints(row.given, row.printed, row.status)
+    # (the last but three is the empty datagram)
+    each = list(zip(row.given.split("\n")[:-1], row.printed.splitlines()))
+    expect(len(each), 20, "the vectors")
+    for given, shown in each:
+        show.prints(f"{given}\n", f"{shown}\n", int(shown.startswith(("fault", "not hex"))))
+
+
+@pytest.mark.parametrize("status, given, printed", INPUTS, ids=[f"{row[1][:40]!r}" for row in INPUTS])
+def test_inputs(show, status, given, printed) -> None:
+    show.prints(given, printed, int(status))
+
+
+@pytest.mark.parametrize("letters, fault", [(510, "Unterminated 2"), (511, "TooLong 512")])
+def test_a_request_has_512_bytes_at_most(show, letters, fault) -> None:
+    """A read request that no zero byte ends, with so many letters after its opcode (RFC 2347, "Packet Formats")."""
+    show.prints("0001" + "61" * letters, f"fault {fault}\n", 1)
+
+
+def test_an_output_takes_nothing(show) -> None:
+    show.fails_to_print([], PACKET, "tftp-show: output unwritable\n")
+    show.fails_to_print(["--flow"], CAPTURES["error"].given, "tftp-show: output unwritable\n")
+
+
+@pytest.mark.parametrize("row", CAPTURES.values(), ids=lambda row: row.title)
+def test_captures(show, row) -> None:
+    show.prints(row.given, row.printed, row.status, ["--flow"])
+
+
+def is_drawn(show: Tool, capture: str, kind: str) -> None:
+    """The picture of the first transfer of a capture has the parts of this kind."""
+    expect(show.ran(capture, ["--flow", "--svg", "a.svg"])[0::2], (0, ""), "the status")
+    has_parts((show.folder / "a.svg").read_text(), PICTURES[kind].parts())
+
+
+@pytest.mark.parametrize("kind", ["lost", "put"])
+def test_transfers_are_drawn(show, kind) -> None:
+    is_drawn(show, CAPTURES[kind].given, kind)
+
+
+def test_a_long_transfer_is_drawn_in_part(show) -> None:
+    """A get of blocks of 8 bytes, each seen at the second of its number."""
+    client, server = "192.0.2.2\t1024\t192.0.2.1\t", "192.0.2.1\t2000\t192.0.2.2\t1024\t"
+    seen = [f"0\t{client}69\t000161006f6374657400626c6b73697a65003800", f"0\t{server}0006626c6b73697a65003800",
+            f"0\t{client}2000\t00040000"]
+    for block in range(1, 151):
+        seen += [f"{block}\t{server}0003{block:04x}4142434445464748"] * (1 + (block == 75))
+        seen += [f"{block}\t{client}2000\t0004{block:04x}"]
+    is_drawn(show, "".join(f"{line}\n" for line in seen), "long")
+
+
+@pytest.mark.parametrize("number", ["2", "65535"])
+def test_no_such_transfer(show, number) -> None:
+    status, _, errors = show.ran(CAPTURES["error"].given, ["--flow", "--svg", "a.svg", "--transfer", number])
+    expect((status, errors), (2, "tftp-show: no such transfer\n"), "the status and the message")
+
+
+def test_a_picture_is_not_written(show) -> None:
+    status, _, errors = show.ran(CAPTURES["error"].given, ["--flow", "--svg", "/dev/full"])
+    expect((status, errors.splitlines()[:1]), (2, ["tftp-show: svg unwritable"]), "the status and the message")
+
+
+# The words of a tftp-show, its input in two parts, and what its output begins with
+INTERRUPTED = [
+    ([], [b"0004", b"0000\n"], "ACK 0\n"),
+    (["--flow"], [b"0\t192.0.2.2\t1024\t192.0.2.1\t69\t0001", b"61006f6374657400\n"],
+     "transfer 1: 192.0.2.2:1024 reads from 192.0.2.1:69\n  asked    RRQ a octet\n"),
+]
+
+
+@pytest.mark.parametrize("words, parts, output", INTERRUPTED, ids=["packets", "a capture"])
+def test_interrupted_reads(scene, words, parts, output) -> None:
+    """A read that a signal interrupts is made again. No handler can be had from outside, but a read of a socket with a
+    timeout also fails with EINTR where its process is stopped and goes on, on Linux (signal(7))."""
+    ours, theirs = socket.socketpair()
+    with ours, theirs:
+        theirs.setsockopt(socket.SOL_SOCKET, socket.SO_RCVTIMEO, struct.pack("ll", 300, 0))
+        show = scene.start("tftp-show", words, stdin=theirs)
+        for part in parts:
+            wait_until(lambda: state_of(show.pid) == "S", "a read that waits")
+            os.kill(show.pid, signal.SIGSTOP)
+            wait_until(lambda: state_of(show.pid) == "T", "a program that stops")
+            os.kill(show.pid, signal.SIGCONT)
+            wait_until(lambda: state_of(show.pid) in "SZ", "a read that is made again")
+            ours.sendall(part)
+        ours.shutdown(socket.SHUT_WR)
+        wrote, errors = show.communicate(timeout=PATIENCE)
+    expect((show.returncode, wrote.decode()[:len(output)], errors), (0, output, b""), "what it prints")

@@ -1,0 +1,410 @@
+"""What the examples over the library for C do at servers: each that gets or puts does so at tftpd, at the example that serves,
+and at servers of other projects, through a good network and through one that loses, duplicates and reorders datagrams; each
+file is compared byte for byte, and each example is refused a file that is not there. Trials run side by side, each in a folder
+and at an address of its own."""
+import os
+import random
+import re
+import shutil
+import subprocess
+import tempfile
+import time
+from concurrent.futures import ThreadPoolExecutor
+from functools import partial
+from pathlib import Path
+from typing import Any, Callable, Iterator, Optional
+
+from lib.addresses import own_network
+from lib.ends import ack, expect, free_ports, is_bound
+from lib.examples import run
+from lib.scene import Scene, next_line
+
+PATIENCE = 300
+# How many trials run at a time: they wait more than they compute
+AT_ONCE = 10
+# How often a transfer through a bad network is tried, and how an example says that it was not complete: its peer has not
+# answered six times in a row, or has ended before its last ACK arrived
+TRIES = 8
+TIMED_OUT = re.compile(r"timed out|outcome 2 ")
+# Lengths of files: none, and around blocks of 512 and of 1428 bytes; and those of a bad network or a slow checker
+LENGTHS = [0, 1, 511, 512, 513, 1428, 20_000]
+FEW = [513, 6_000]
+
+
+def content(length) -> bytes:
+    return random.Random(length).randbytes(length)
+
+
+def together(jobs) -> None:
+    """Runs all of these at a time; the first fault counts."""
+    with ThreadPoolExecutor(max(len(jobs), 1)) as pool:
+        for done in [pool.submit(job) for job in jobs]:
+            done.result()
+
+
+# ---- what an example does at a server
+
+# The words of an example that gets f<length> and stores it, or puts it, by its name; and what they are in the environment
+Words = tuple[list[str], dict[str, str]]
+
+
+def of_bare(example, built, way, name, local, _) -> Words:
+    return built.command(example), {"SERVER": way[0], "PORT": way[1], "NAME": name, "LOCAL": local}
+
+
+def of_rust(example, built, way, name, local, blksize, *mode) -> Words:
+    return built.command(example, ":".join(way), *named(example, name, local), blksize, *mode), {}
+
+
+def of_client(example, built, way, name, local, blksize, *mode) -> Words:
+    return built.command(example, *way, *named(example, name, local), blksize, *mode), {}
+
+
+def in_c(example, built, way, name, local, blksize, *mode) -> Words:
+    return built.command(example, *way, name, local, blksize, *mode), {}
+
+
+def named(example, name, local) -> list[str]:
+    """The name at the server, and the file: a put takes the file that a get would ask for, and names it as that is stored."""
+    return [local, name] if example.startswith("put") else [name, local]
+
+
+WORDS: dict[str, Callable[..., Words]] = {
+    "get": partial(in_c, "get"),
+    "put": partial(in_c, "put"),
+    "bare": partial(of_bare, "bare"),
+    **{f"{verb} in Rust": partial(of_rust, f"{verb} in Rust") for verb in ["get", "put"]},
+    **{f"{verb} in {language}": partial(of_client, f"{verb} in {language}") for verb in ["get", "put"]
+       for language in ["C++", "Python", "Go"]},
+}
+
+
+def puts(example) -> bool:
+    return example.startswith("put")
+
+
+class Site:
+    """A server, and the network to it: each transfer through a bad one has a proxy of its own."""
+
+    def __init__(self, name, scene, server, lossy) -> None:
+        self.name, self.scene, self.server, self.lossy = name, scene, server, lossy
+
+    def way(self, seed) -> list[str]:
+        """Its address as two words."""
+        return (self.scene.proxy(self.server, seed) if self.lossy else self.server).word.split(":")
+
+
+def transfers(site, built, example, seed, length, blksize, compare=None) -> None:
+    """An example gets or puts a file of this length, which is compared. Through a bad network it has some tries: one that
+    is not complete has to say so."""
+    scene = site.scene
+    for number in range(TRIES if site.lossy else 1):
+        stored = f"{re.sub('[^a-z0-9]', '', example.lower())}{length}.{number}"
+        words, more = WORDS[example](built, site.way(seed + 100 * number), f"f{length}", stored, blksize)
+        done = subprocess.run(words, cwd=scene.folder, env={**os.environ, **more}, stdin=subprocess.DEVNULL,
+                              capture_output=True, text=True, timeout=PATIENCE)
+        if done.returncode == 0:
+            if site.name == "atftpd" and puts(example):
+                has_written(scene.folder / stored, length)
+            (compare or is_stored)(scene, stored, length, example)
+            return
+        how = f"{example} of {length} bytes: status {done.returncode}: {done.stdout[-2000:]}{done.stderr[-2000:]}"
+        expect((done.returncode, bool(TIMED_OUT.search(done.stdout)), site.lossy), (1, True, True), how)
+    raise AssertionError(f"{example} of {length} bytes was complete in none of {TRIES} tries")
+
+
+def refused(site, built, example) -> None:
+    """A file that the server has not: the example says that it is not complete."""
+    words, more = WORDS[example](built, site.way(0), "none.at.all", "none.got", 0)
+    run(*words, cwd=site.scene.folder, env={**os.environ, **more}, status=1)
+
+
+def has_written(path, length) -> None:
+    """Waits until atftpd has written a file that was put: it acknowledges the last block before that."""
+    end = time.monotonic() + PATIENCE
+    while not (path.is_file() and path.stat().st_size >= length) and time.monotonic() < end:
+        time.sleep(0.05)
+
+
+def is_stored(scene, local, length, what) -> None:
+    expect((scene.folder / local).read_bytes(), content(length), f"what {what} stored of {length} bytes")
+
+
+def at_server(site, built, put=True) -> None:
+    """All that these examples do at a server, at the same time."""
+    examples = [it for it in WORDS if built.has(it) and (put or not puts(it))]
+    jobs: list[Callable[[], None]] = [partial(refused, site, built, it) for it in examples
+                                      if it.startswith("get") and not site.lossy]
+    for number, length in enumerate(lengths(built, site.lossy)):
+        site.scene.make(f"f{length}", content(length))
+        for example in examples:
+            jobs.append(partial(transfers, site, built, example, len(jobs), length, [0, 1428][number % 2]))
+    together(jobs)
+
+
+def lengths(built, lossy) -> list[int]:
+    return FEW if lossy or built.is_slow else LENGTHS
+
+
+# ---- tftpd
+
+def by_tftpd(scene, built, lossy) -> None:
+    each = len([it for it in WORDS if built.has(it)])
+    # a request that is refused is no transfer
+    count = each * len(lengths(built, lossy)) + 3 * len(languages(built))
+    server = scene.serve(*(["--forever"] if lossy else ["--transfers", str(count)]))
+    at_server(Site("tftpd", scene, server, lossy), built)
+    in_netascii(scene, built, server)
+    if not lossy:
+        expect(server.process.wait(PATIENCE), 0, "the status of tftpd")
+
+
+# The languages whose examples take both modes, as the ends of their names
+LANGUAGES = ["", " in C++", " in Rust", " in Go", " in Python"]
+
+
+def languages(built) -> list[str]:
+    return [it for it in LANGUAGES if built.has(f"get{it}") and built.has(f"put{it}")]
+
+
+def in_netascii(scene, built, server) -> None:
+    """A text with every line end is put in netascii and read again, in both modes, and is the same."""
+    text = content(2_000) + b"\n\r\r\n" * 300
+    scene.make("text", text)
+    way = server.word.split(":")
+
+    def moves(verb, language, name, local, blksize, *mode) -> None:
+        words, more = WORDS[f"{verb}{language}"](built, way, name, local, blksize, *mode)
+        run(*words, cwd=scene.folder, env={**os.environ, **more})
+
+    def is_same(language) -> None:
+        lines = f"lines{LANGUAGES.index(language)}"
+        moves("put", language, "text", lines, 512, "netascii")
+        for local, mode in [(f"{lines}.text", ["netascii"]), (f"{lines}.file", [])]:
+            moves("get", language, lines, local, 1428, *mode)
+            expect((scene.folder / local).read_bytes(), text, f"the text that was put{language}, as {local}")
+
+    together([partial(is_same, it) for it in languages(built)])
+
+
+# ---- the example that serves files in memory
+
+def serving_port(scene) -> "At":
+    """A port of the scene's address that nothing is bound to, and that the system chooses for no other socket meanwhile."""
+    return At(scene.address, free_ports(1))
+
+
+def serves(scene, built) -> tuple[Any, Any]:
+    """Starts the server of files in memory, and returns where it is, and the process."""
+    for name, length in [("disk", 3_000), *((f"f{length}", length) for length in FEW)]:
+        scene.make(name, content(length))
+    at = serving_port(scene)
+    words = built.command("serve", *at.address, "memory=disk", *[f"f{length}=f{length}" for length in FEW])
+    process = scene.start(words[0], words[1:])
+    expect(next_line(process.stdout), "serving\n", "the first line of serve")
+    return at, process
+
+
+def ended(process) -> None:
+    """It frees all that it has when it ends, with whatever transfers are open."""
+    process.terminate()
+    expect(process.wait(PATIENCE), 0, "the status of serve")
+
+
+def by_library(scene, built, lossy) -> None:
+    """The server of files in memory against the other examples in C, which put new files, and against tftp."""
+    server, process = serves(scene, built)
+    site, way = Site("serve", scene, server, lossy), server.word.split(":")
+
+    def is_read_by_tftp(_, name, length, what, seed=None) -> None:
+        """What the server has under this name, through a good network or the bad one."""
+        at = ":".join(way if seed is None else site.way(seed))
+        scene.tftp("get", at, name, f"{name}.read", "--blksize", "1000").completes(length)
+        is_stored(scene, f"{name}.read", length, f"tftp, of {what},")
+
+    examples = [it for it in WORDS if built.has(it)]
+    together([partial(transfers, site, built, it, seed, FEW[seed % 2], [0, 1428][seed % 2],
+                      is_read_by_tftp if puts(it) else None) for seed, it in enumerate(examples)]
+             + [partial(is_read_by_tftp, scene, "memory", 3_000, "memory", 10)])
+    run(*built.command("get", *way, "none", "none.got"), cwd=scene.folder, status=1)
+    is_aborted(scene, built, way, process)
+    is_shown(scene, built, way)
+    in_netascii(scene, built, server)
+    ended(process)
+
+
+def is_aborted(scene, built, way, process) -> None:
+    """A get whose file cannot be stored, as on a disk that is full: its server has an ERROR in place of a silent client, and
+    ends the transfer at once. A client that leaves in silence is one that has timed out (outcome 2)."""
+    run(*built.command("get", *way, "memory", "/dev/full"), cwd=scene.folder, status=1)
+    begun = time.monotonic()
+    while "read memory" not in (line := next_line(process.stdout)) or not re.search("outcome [^1]", line):
+        expect(line != "", True, "that serve says how the get of /dev/full has ended")
+    expect(line.split(" outcome ")[1], "3\n", "how a get of /dev/full has ended at its server")
+    expect(time.monotonic() - begun < (60 if built.is_slow else 20), True, "that the server did not wait for it")
+
+
+def is_shown(scene, built, way) -> None:
+    """The example of the manual gets a file to its standard output."""
+    with (scene.folder / "shown").open("wb") as shown:
+        done = subprocess.run(built.command("manual", *way, f"f{FEW[0]}"), stdin=subprocess.DEVNULL,
+                              stdout=shown, stderr=subprocess.PIPE, timeout=PATIENCE)
+    expect((done.returncode, done.stderr), (0, b"complete\n"), "how the manual's example has ended")
+    is_stored(scene, "shown", FEW[0], "the manual's example")
+
+
+# ---- other projects' servers
+
+class At:
+    """A server at this address."""
+
+    def __init__(self, host, number) -> None:
+        self.word, self.address = f"{host}:{number}", (host, number)
+
+
+def in_tftpd(folder, at) -> list[Any]:
+    return ["--foreground", "--address", at.word, "--user", "nobody", "--create", "--secure", folder]
+
+
+def atftpd(folder, at) -> list[Any]:
+    return ["--daemon", "--no-fork", "--bind-address", at.address[0], "--port", str(at.address[1]), "--retry-timeout", "1",
+            "--user", "nobody.nogroup", "--logfile", "/dev/null", "--verbose=0", folder]
+
+
+def dnsmasq(folder, at) -> list[Any]:
+    return ["--no-daemon", "--conf-file=/dev/null", "--user=root", f"--listen-address={at.address[0]}", "--port=0",
+            "--bind-interfaces", "--enable-tftp", f"--tftp-root={folder}", "--quiet-tftp"]
+
+
+# Each by its program: its words; whether it takes puts; and with which more words it acknowledges a last DATA that comes
+# again a second later: an in.tftpd (5.2) does once, for as long as it waits at first, which is a second by itself; an
+# atftpd (0.8) has forgotten the transfer. A dnsmasq (2.90) takes no put.
+PEERS: dict[str, tuple[Callable[..., list[Any]], bool, Optional[list[str]]]] = {
+    "in.tftpd": (in_tftpd, True, ["--retransmit", "2500000"]), os.environ.get("ATFTPD", "atftpd"): (atftpd, True, None),
+    "dnsmasq": (dnsmasq, False, None)}
+PATH = os.environ["PATH"] + ":/usr/sbin:/sbin"
+
+
+def peers() -> list[str]:
+    """The servers of other projects that are here and may be started: only root may."""
+    return [name for name in PEERS if os.geteuid() == 0 and shutil.which(name, path=PATH)]
+
+
+def started(scene, peer, *more) -> At:
+    """Starts it over the folder, with these words, too, and returns where it is."""
+    words = PEERS[peer][0]
+    os.chmod(scene.folder, 0o777)
+    at = At(scene.address, 69) if words is dnsmasq else serving_port(scene)
+    program = str(shutil.which(peer, path=PATH))
+    process = scene.start(program, [*words(scene.folder, at), *more], stdout=subprocess.DEVNULL, stderr=subprocess.DEVNULL)
+    is_bound(at.word, process)
+    return at
+
+
+def by_peer(scene, built, lossy, peer) -> None:
+    """The clients against another project's server over the folder."""
+    at_server(Site(Path(peer).name, scene, started(scene, peer), lossy), built, PEERS[peer][1])
+
+
+class Loses:
+    """A direction in which the first of this datagram is lost, and no other."""
+
+    def __init__(self, datagram=None) -> None:
+        self.datagram = datagram
+
+    def number(self) -> int:
+        return 20
+
+    def sent_for(self, datagram) -> list[bytes]:
+        is_lost, self.datagram = datagram == self.datagram, None if datagram == self.datagram else self.datagram
+        return [] if is_lost else [datagram]
+
+
+def last_ack(scene, built, peer) -> None:
+    """A put whose last ACK is lost. It is complete where the server acknowledges a DATA that comes again; where it does
+    not, the put is not complete, and says so, although the file is stored."""
+    again = PEERS[peer][2]
+    proxy = scene.proxy(started(scene, peer, *(again or [])), 0)
+    proxy.to_server, proxy.to_client = Loses(), Loses(ack(2))
+    scene.make("f513", content(513))
+    printed = run(*built.command("put", *proxy.word.split(":"), "f513", "put"), cwd=scene.folder,
+                  status=0 if again else 1)
+    expect(printed.split(",")[0], "complete" if again else "timed out", "how a put ended whose last ACK was lost")
+    is_stored(scene, "put", 513, peer)
+
+
+# ---- other projects' clients
+
+# The clients whose gets go through a bad network, too, and whose puts do not. A curl (7.88) sends a DATA again after 72
+# seconds, when a server that has stored the last one has ended its dally; it takes an OACK that comes twice for a new one,
+# and begins its numbers again: a get does not end, a put leaves out a block. A busybox that puts may end well without the
+# ACK of its last block, and an atftp that gets gives up after some blocks that come twice.
+THROUGH_LOSS = ["busybox", "tftp"]
+
+
+# how each gets a file of the server, and how it puts one
+CLIENTS: dict[str, Callable[[str, str, str], tuple[list[str], list[str]]]] = {
+    "curl": lambda host, port, name: (["curl", "-s", "-o", "got", f"tftp://{host}:{port}/{name}"],
+                                      ["curl", "-s", "-T", "disk", f"tftp://{host}:{port}/curl"]),
+    "atftp": lambda host, port, name: (["atftp", "-g", "-r", name, "-l", "got", host, port],
+                                       ["atftp", "-p", "-r", "atftp", "-l", "disk", host, port]),
+    "busybox": lambda host, port, name: (["busybox", "tftp", "-g", "-r", name, "-l", "got", host, port],
+                                         ["busybox", "tftp", "-p", "-r", "busybox", "-l", "disk", host, port]),
+    "tftp": lambda host, port, name: (["tftp", "-m", "binary", host, port, "-c", "get", name, "got"],
+                                      ["tftp", "-m", "binary", host, port, "-c", "put", "disk", "tftp"]),
+}
+
+
+def by_others(scene, built, program) -> None:
+    """Another project's client gets from the server of files in memory, puts to it, and gets what it has put."""
+    server, process = serves(scene, built)
+    good = server.word.split(":")
+    bad = [scene.proxy(server, 0).word.split(":")] if program in THROUGH_LOSS else []
+    for way, name in [(good, "memory"), (good, program), *((way, "memory") for way in bad)]:
+        get, put = CLIENTS[program](*way, name)
+        if name == program:
+            run(*put, cwd=scene.folder)
+        run(*get, cwd=scene.folder)
+        is_stored(scene, "got", 3_000, program)
+    ended(process)
+
+
+# ---- all trials
+
+
+def layout(scene, built) -> None:
+    """The header is that of the library, and many transfers go on at once (tests/library/layout.c, examples/c/shards.c)."""
+    run(*built.command("layout"))
+    expect(run(*built.command("shards")), "1000 transfers at once, 1000 complete\n", "what shards prints")
+
+
+def trials_of(built) -> Iterator[tuple[str, Any]]:
+    """Each trial of examples by its name: those that take the longest first."""
+    for lossy, network in [(True, "a bad network"), (False, "a good network")]:
+        tried = [("tftpd", by_tftpd), *[("serve", by_library)] * built.has("serve")]
+        tried += [(Path(peer).name, partial(by_peer, peer=peer)) for peer in peers()]
+        for server, test in tried:
+            yield f"{server}, {network}", partial(test, built=built, lossy=lossy)
+    if built.has("serve"):
+        yield "header and memory", partial(layout, built=built)
+        for peer in [it for it in peers() if PEERS[it][1]]:
+            yield f"{Path(peer).name}, last ACK", partial(last_ack, built=built, peer=peer)
+
+
+def tried(trials, programs, room=None) -> None:
+    """Runs trials some at a time, each in a scene of its own, below a room; all that fail are told together."""
+    network = own_network()
+
+    def fault_of(number, what, test) -> str:
+        try:
+            with Scene(programs, below / f"scene{number}", f"{network}.{number}") as scene:
+                test(scene)
+        except Exception as fault:  # whatever happened, the others are tried
+            return f"{what}: {type(fault).__name__}: {fault}"
+        return ""
+
+    with tempfile.TemporaryDirectory(prefix="trials-") as name, ThreadPoolExecutor(AT_ONCE) as pool:
+        below = room or Path(name)
+        below.chmod(0o755)  # some servers leave root's rights before they look
+        faults = list(pool.map(lambda job: fault_of(job[0], *job[1]), enumerate(trials, 1)))
+    assert not any(faults), "\n".join(filter(None, faults))
