@@ -1,12 +1,11 @@
 -- The transfer that was aborted is the one whose record was read.
-use Rattle.std.specs.Prelude.{ℕ, ◌≡◌, List, Option, Some, None, option_map}
-use Rattle.std.proofs.Common.{refl, subst}
+use Rattle.tftp_c.proofs.Common.{ℕ, Option, Some, None, refl, subst, at, TftpEvent, Table}
+use Rattle.std.specs.Prelude.{◌≡◌, List, option_map}
 use Rattle.tftp_ends.specs.declared.record.Record.{Record}
 use Rattle.tftp_ends.specs.End.{record_of}
-use Rattle.tftp_server.specs.State.{at, without}
-use Rattle.tftp_c.specs.declared.event.TftpEvent.{TftpEvent}
+use Rattle.tftp_server.specs.State.{without}
 use Rattle.tftp_c.specs.Aborted.{AbortsAt, AbortsOpen}
-use Rattle.tftp_c.specs.HeldServer.{CallersTransfer, Table}
+use Rattle.tftp_c.specs.HeldServer.{CallersTransfer}
 
 -- the record that was read is the transfer's
 record_there : (found : Option CallersTransfer) (state : Record) →

@@ -1,18 +1,15 @@
 -- Why an opening failed.
-use Rattle.std.specs.Prelude.{ℕ, ◌≡◌, ◌↔◌, List, Option, None, Err, IsErrOf, IsSome}
-use Rattle.std.proofs.Common.{inr, refl, subst}
-use Rattle.tftp_ends.specs.declared.endpoint.Endpoint.{Endpoint}
+use Rattle.tftp_c.proofs.Common.{ℕ, Option, None, IsSome, inr, refl, subst, Endpoint, at, TftpEndpoint, endpoint_of}
+use Rattle.tftp_c.proofs.Common.{Table}
+use Rattle.std.specs.Prelude.{◌≡◌, ◌↔◌, List, Err, IsErrOf}
 use Rattle.tftp_ends.specs.declared.fault.OpenFault.{OpenFault}
 use Rattle.tftp_server.specs.CallersFiles.{asked_path}
 use Rattle.tftp_server.specs.Port.{Ask}
 use Rattle.tftp_server.specs.Request.{Admits}
-use Rattle.tftp_server.specs.State.{at}
 use Rattle.tftp_server.specs.declared.fault.ServerFault.{ServerFault}
 use Rattle.tftp_server.specs.declared.fault.ServerFault.TheVariants.{TidInUse, NoSuchTid, Memory}
-use Rattle.tftp_c.specs.declared.event.TftpEndpoint.{TftpEndpoint}
 use Rattle.tftp_c.specs.Faults.{AsksFile, Returns, ReturnsHeld, open_fault}
-use Rattle.tftp_c.specs.Reports.{endpoint_of}
-use Rattle.tftp_c.specs.HeldServer.{Table, table_fault}
+use Rattle.tftp_c.specs.HeldServer.{table_fault}
 
 -- the number that a call returns for a fault
 pub returns : (because : OpenFault → Type 0) (fault : OpenFault) (returned : ℕ) →

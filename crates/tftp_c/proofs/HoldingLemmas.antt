@@ -1,19 +1,16 @@
 -- A transfer that opens, and what its end serves.
-use Rattle.std.specs.Prelude.{ℕ, ◌≡◌, ◌↔◌, List, Some, IsErrOf, IsSome, Ok}
-use Rattle.std.proofs.Common.{refl, sym, subst}
+use Rattle.tftp_c.proofs.Common.{ℕ, Some, IsSome, refl, sym, subst, Endpoint, EndState, at, endpoint_of, TftpEndpoint}
+use Rattle.tftp_c.proofs.Common.{Table}
+use Rattle.std.specs.Prelude.{◌≡◌, ◌↔◌, List, IsErrOf, Ok}
 use Rattle.tftp_file.specs.declared.files.Files.{Files}
-use Rattle.tftp_ends.specs.declared.endpoint.Endpoint.{Endpoint}
-use Rattle.tftp_ends.specs.End.{EndState}
 use Rattle.tftp_server.specs.CallersFiles.{asked_path}
 use Rattle.tftp_server.specs.Request.{AdmissionState, Admits}
-use Rattle.tftp_server.specs.State.{at, with_new}
+use Rattle.tftp_server.specs.State.{with_new}
 use Rattle.tftp_server.specs.declared.fault.ServerFault.TheVariants.{TidInUse}
 use Rattle.tftp_c.specs.declared.elsewhere.Absent.{Absent}
 use Rattle.tftp_c.specs.Elsewhere.{stated_in_files}
-use Rattle.tftp_c.specs.Reports.{endpoint_of}
 use Rattle.tftp_c.specs.Stated.{StatedBy}
-use Rattle.tftp_c.specs.declared.event.TftpEndpoint.{TftpEndpoint}
-use Rattle.tftp_c.specs.HeldServer.{OpensAt, Table}
+use Rattle.tftp_c.specs.HeldServer.{OpensAt}
 
 -- the transfer of an admission that is held
 pub opens_at : {T : Type 0} (done : T) (tid : ℕ) (from : TftpEndpoint) (peer : Endpoint) (request : List ℕ)

@@ -1,10 +1,9 @@
 -- An option that was written is one of the packet that the datagram spells.
-use Rattle.std.proofs.Common.{◌≡◌, ℕ, List, Option, Some, sym}
-use Rattle.std.specs.Prelude.{length, take}
+use Rattle.tftp_c.proofs.Common.{◌≡◌, List, sym, length, take, Packet}
+use Rattle.std.proofs.Common.{ℕ, Option, Some}
 use Rattle.tftp_wire.specs.Options.{option_bytes}
 use Rattle.tftp_wire.specs.Spelling.{Spells}
 use Rattle.tftp_wire.specs.declared.options.RawOption.{RawOption}
-use Rattle.tftp_wire.specs.declared.packet.Packet.{Packet}
 use Rattle.tftp_c.specs.Listed.{WritesOption, options_of}
 
 pub writes_option : (find : List RawOption → Option RawOption) (datagram text : List ℕ) (count : ℕ)

@@ -1,29 +1,18 @@
 -- A `Loose` as the machine has it: a pointer, and the bits of its allocator.
-use Rattle.std.proofs.Common.{◌≡◌, ℕ, List, [], ◌∷◌, ◌++◌, refl, subst}
+use Rattle.tftp_c.proofs.Common.{◌≡◌, List, [], ◌∷◌, ◌++◌, refl, subst, T, Ura, impl, tnil, dnil, Val, vptr, vstruct}
+use Rattle.tftp_c.proofs.Common.{vcons, vnil, of_list, Fml, never, fst∗, Logic, sem, Item, Goal, Seq, Step, step, ‵}
+use Rattle.tftp_c.proofs.Common.{◌$◌, move, drop, fsplit, fjoin, fpick, fpack, feq_i, feq_l, RattleType, Valss, RawPtr}
+use Rattle.tftp_c.proofs.Common.{Ptr, block_ptr, null_ptr, ptr_val, in_a_block, nothing, within, shape, Al}
+use Rattle.tftp_c.proofs.Common.{handle_tells, box_owns}
+use Rattle.std.proofs.Common.{ℕ}
 use mathlib.Core.Bool.{true, ◌&&◌}
-use lib.Dec.{T}
-use seplogic.Ra.Ura.{Ura}
-use mir.Syntax.{impl, tnil, dnil}
 use mir.Raw.{raw as bare}
-use mir.Val.{Val, vptr, vstruct, vcons, vnil, of_list, has_ty, WT}
-use base.Fml.{Fml}
-use base.Logic.{never, fst∗}
-use types.Logic.{Logic, sem}
-use types.Kit.{Item, Goal, Seq, Step, step, ‵, ◌$◌, move, drop, fsplit, fjoin, fpick, fpack}
-use types.Kit.{feq_i, feq_l}
-use denote.RattleType.{RattleType, Valss}
-use denote.Builtin.{RawPtr}
+use mir.Val.{has_ty, WT}
 use denote.Memory.{lone}
-use denote.RawPtr.{Ptr, block_ptr, null_ptr, ptr_val, in_a_block}
-use denote.Steps.{nothing}
 use denote.Param.{layout}
 use denote.Param.Laws.{Laws}
-use denote.Struct.Struct.{within}
-use denote.Struct.Owning.{shape}
 use Rattle.core.specs.declared.alloc.Allocator.{Ghosts}
-use Rattle.core.proofs.alloc.Calls.{Al, handle_tells}
 use Rattle.core.proofs.cell.Inside.{Good}
-use Rattle.std_alloc.specs.Box.Ownership.{box_owns}
 use Rattle.std_alloc.proofs.ResultValues.{and_tt}
 use Rattle.tftp_c.specs.contracts.loose.Loose as loose
 

@@ -1,12 +1,10 @@
 -- A step, as an event reports it.
-use Rattle.std.specs.Prelude.{ℕ, ◌≡◌, List, Option, Some, None, option_map}
-use Rattle.std.proofs.Common.{ap, sym, subst, ◌∙◌}
-use Rattle.tftp_ends.specs.declared.endpoint.Endpoint.{Endpoint}
-use Rattle.tftp_ends.specs.declared.outgoing.Outgoing.{Outgoing}
+use Rattle.tftp_c.proofs.Common.{ℕ, Option, Some, None, ap, sym, subst, ◌∙◌, Endpoint, Outgoing, EndState, Lends, Turn}
+use Rattle.tftp_c.proofs.Common.{reported, TftpEvent}
+use Rattle.std.specs.Prelude.{◌≡◌, List, option_map}
 use Rattle.tftp_ends.specs.declared.record.Step.{Step}
-use Rattle.tftp_ends.specs.End.{EndState, is_progress}
-use Rattle.tftp_ends.specs.Step.{Lends, Reply, Turn, lent, reply_bytes, reported, timeout_turn}
-use Rattle.tftp_c.specs.declared.event.TftpEvent.{TftpEvent}
+use Rattle.tftp_ends.specs.End.{is_progress}
+use Rattle.tftp_ends.specs.Step.{Reply, lent, reply_bytes, timeout_turn}
 use Rattle.tftp_c.specs.Handled.{Steps, TimedOut}
 use Rattle.tftp_c.specs.Reports.{Reports, Sends, SendsReply}
 

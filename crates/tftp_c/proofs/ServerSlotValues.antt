@@ -1,19 +1,9 @@
 -- The machine value of a `ServerSlot`.
-use Rattle.std.proofs.Common.{◌≡◌, List, [], ◌∷◌, ◌++◌, refl, subst}
-use mathlib.Core.Bool.{Bool, not}
-use lib.Dec.{T}
-use seplogic.Ra.Ura.{Ura}
-use mir.Val.{Val, vstruct, vcons, vnil, of_list}
-use types.Logic.{Logic}
-use types.Kit.{Item, Goal, Seq, Step, step, ‵, ◌$◌, drop, fsplit, fjoin, fpick, fpack, feq_i, feq_l}
-use denote.RattleType.{Valss}
-use denote.Builtin.{RawPtr}
-use denote.RawPtr.{Ptr, ptr_val}
-use denote.Steps.{nothing}
-use denote.Struct.Struct.{within}
-use denote.Struct.Owning.{shape}
-use Rattle.std.specs.Prelude.{Option, Some, None, IsSome}
-use Rattle.tftp_c.specs.Owned.{owned_at}
+use Rattle.tftp_c.proofs.Common.{◌≡◌, List, [], ◌∷◌, ◌++◌, refl, subst, not, T, Ura, Val, vstruct, vcons, vnil, of_list}
+use Rattle.tftp_c.proofs.Common.{Logic, Item, Goal, Seq, Step, step, ‵, ◌$◌, drop, fsplit, fjoin, fpick, fpack, feq_i}
+use Rattle.tftp_c.proofs.Common.{feq_l, Valss, RawPtr, Ptr, ptr_val, nothing, within, shape, Option, Some, None, IsSome}
+use Rattle.tftp_c.proofs.Common.{owned_at}
+use mathlib.Core.Bool.{Bool}
 use Rattle.tftp_c.specs.contracts.held_server.HeldServer as held_server
 use Rattle.tftp_c.specs.contracts.server_slot.ServerSlot as slot
 

@@ -1,15 +1,13 @@
 -- A receiver's step over a value that contains a sink is its step over that sink.
-use Rattle.std.specs.Prelude.{ℕ, Bool, true, false, List, [], ◌∷◌, Result, Ok, Err}
-use Rattle.std.proofs.Common.{ap}
-use Rattle.tftp_file.specs.Sink.{SinkMeaning, sink_through}
+use Rattle.tftp_c.proofs.Common.{ℕ, false, ap, sink_through, Endpoint, EndState, ReceiverStep, Turn}
+use Rattle.std.specs.Prelude.{Bool, true, List, [], ◌∷◌, Result, Ok, Err}
+use Rattle.tftp_file.specs.Sink.{SinkMeaning}
 use Rattle.tftp_file.specs.declared.fault.StoreFault.{StoreFault}
 use Rattle.tftp_ends.specs.declared.action.Action.{Action}
 use Rattle.tftp_ends.specs.declared.action.Action.TheVariants.{Respond, Send, Store}
-use Rattle.tftp_ends.specs.declared.endpoint.Endpoint.{Endpoint}
 use Rattle.tftp_ends.specs.declared.phase.Terms.{Terms}
-use Rattle.tftp_ends.specs.End.{EndState}
-use Rattle.tftp_ends.specs.OneFile.{ReceiverActs, ReceiverStep}
-use Rattle.tftp_ends.specs.Step.{Done, Turn, Appended, Committed, GoesOn, Stores, holding}
+use Rattle.tftp_ends.specs.OneFile.{ReceiverActs}
+use Rattle.tftp_ends.specs.Step.{Done, Appended, Committed, GoesOn, Stores, holding}
 
 module _ {K L : Type 0} (sinks : SinkMeaning L) (seen : K → L) where
   abbrev outer : SinkMeaning K

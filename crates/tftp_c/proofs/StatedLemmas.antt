@@ -1,8 +1,6 @@
 -- A packet that states no length is the only one that the datagram spells.
-use Rattle.std.specs.Prelude.{◌≡◌, None}
-use Rattle.std.proofs.Common.{ap, sym, subst, ◌∙◌}
-use Rattle.tftp_wire.specs.Borrowed.{owned}
-use Rattle.tftp_wire.specs.declared.packet.Packet.{Packet}
+use Rattle.tftp_c.proofs.Common.{None, ap, sym, subst, ◌∙◌, owned, Packet}
+use Rattle.std.specs.Prelude.{◌≡◌}
 use Rattle.tftp_wire.specs.declared.packet.PacketRef.{PacketRef}
 use Rattle.tftp_c.specs.Listed.{options_of}
 use Rattle.tftp_c.specs.Stated.{stated_in}

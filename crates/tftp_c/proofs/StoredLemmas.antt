@@ -1,14 +1,9 @@
 -- A step over a buffer is a step over an empty sink in memory.
-use Rattle.std.specs.Prelude.{ℕ, ◌≡◌, false, List, length, take}
-use Rattle.std.proofs.Common.{ap, subst, sym}
+use Rattle.tftp_c.proofs.Common.{ℕ, false, length, take, ap, subst, sym, sink_through, Endpoint, Outgoing, EndState}
+use Rattle.tftp_c.proofs.Common.{ReceiverStep, Turn, Lends, reported}
+use Rattle.std.specs.Prelude.{◌≡◌, List}
 use Rattle.tftp_file.specs.Memory.{MemSinkState, memory_sink, new_mem_sink}
-use Rattle.tftp_file.specs.Sink.{sink_through}
-use Rattle.tftp_ends.specs.declared.endpoint.Endpoint.{Endpoint}
-use Rattle.tftp_ends.specs.declared.outgoing.Outgoing.{Outgoing}
 use Rattle.tftp_ends.specs.declared.record.Step.{Step}
-use Rattle.tftp_ends.specs.End.{EndState}
-use Rattle.tftp_ends.specs.OneFile.{ReceiverStep}
-use Rattle.tftp_ends.specs.Step.{Turn, Lends, reported}
 use Rattle.tftp_c.specs.declared.slice_sink.SliceSink.{SliceSink}
 use Rattle.tftp_c.specs.Handled.{Stored}
 use Rattle.tftp_c.specs.Slices.{stored}

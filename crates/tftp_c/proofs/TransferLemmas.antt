@@ -1,28 +1,23 @@
 -- A step of a transfer that a server holds, as an event reports it.
-use Rattle.std.specs.Prelude.{ℕ, ◌≡◌, ◌-◌, Bool, true, false, List, [], ◌∷◌, length, take, Option, Some}
-use Rattle.std.specs.Prelude.{IsSome}
+use Rattle.tftp_c.proofs.Common.{ℕ, false, length, take, Option, Some, IsSome, refl, ap, sym, subst, ◌∙◌, Endpoint}
+use Rattle.tftp_c.proofs.Common.{Outgoing, EndState, ReceiverStep, Lends, reported, sink_through, at, TftpEndpoint}
+use Rattle.tftp_c.proofs.Common.{TftpEvent, endpoint_of, Table}
+use Rattle.std.specs.Prelude.{◌≡◌, ◌-◌, Bool, true, List, [], ◌∷◌}
 use mathlib.Core.Bool.{cond}
 use Rattle.std.specs.Map.{lookup, set_value}
 use Rattle.std.specs.BTreeMap.{is_at}
 use Rattle.std.specs.Ordering.{nat_cmp}
-use Rattle.std.proofs.Common.{refl, ap, sym, subst, ◌∙◌}
-use Rattle.tftp_ends.specs.declared.endpoint.Endpoint.{Endpoint}
-use Rattle.tftp_ends.specs.declared.outgoing.Outgoing.{Outgoing}
 use Rattle.tftp_ends.specs.declared.record.Step.{Step}
-use Rattle.tftp_ends.specs.End.{EndState}
-use Rattle.tftp_ends.specs.OneFile.{ReceiverStep, SenderStep}
-use Rattle.tftp_ends.specs.Step.{Lends, lent, reported, timeout_turn}
+use Rattle.tftp_ends.specs.OneFile.{SenderStep}
+use Rattle.tftp_ends.specs.Step.{lent, timeout_turn}
 use Rattle.tftp_file.specs.Memory.{memory_sink, memory_source, new_mem_sink}
-use Rattle.tftp_file.specs.Sink.{sink_through}
 use Rattle.tftp_server.specs.CallersFiles.{SendsLent, StoresLent}
-use Rattle.tftp_server.specs.State.{at, with_next}
+use Rattle.tftp_server.specs.State.{with_next}
 use Rattle.tftp_server.specs.Steps.{TimesOutLent, with_end}
-use Rattle.tftp_c.specs.declared.event.TftpEndpoint.{TftpEndpoint}
-use Rattle.tftp_c.specs.declared.event.TftpEvent.{TftpEvent}
 use Rattle.tftp_c.specs.declared.slice_sink.SliceSink.{SliceSink}
 use Rattle.tftp_c.specs.Handled.{Received, Sent, Stored, Taken, TimedOut}
-use Rattle.tftp_c.specs.Reports.{Reports, Sends, endpoint_of}
-use Rattle.tftp_c.specs.HeldServer.{CallersTransfer, StepsAt, Table}
+use Rattle.tftp_c.specs.Reports.{Reports, Sends}
+use Rattle.tftp_c.specs.HeldServer.{CallersTransfer, StepsAt}
 use Rattle.tftp_c.proofs.ReplyLemmas.{steps_of, timed_out}
 use Rattle.tftp_c.proofs.StoredLemmas.{seen, stored_made}
 

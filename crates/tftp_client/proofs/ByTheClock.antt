@@ -1,28 +1,12 @@
 -- The time of a client, by the readings of its clock.
-use Rattle.std.proofs.Common.{arith, ◌≡◌, ◌<◌, ◌≤◌, ◌⊎◌, ℕ, List, Some, inl, inr, refl, ap, ◌∙◌}
-use Rattle.std.specs.Prelude.{◌+◌, ◌-◌, ◌*◌, min}
-use Rattle.tftp_negotiate.specs.declared.asked.Asked.{Asked}
-use Rattle.tftp_negotiate.specs.declared.known.Kind.{Kind}
-use Rattle.tftp_file.specs.Sink.{SinkMeaning}
-use Rattle.tftp_file.specs.Source.{SourceMeaning}
-use Rattle.tftp_file.specs.declared.files.Files.{Files}
-use Rattle.tftp_ends.specs.Backoff.{wait_of}
-use Rattle.tftp_ends.specs.End.{EndState, Position, outcome_of}
-use Rattle.tftp_ends.specs.declared.backoff.Backoff.{Backoff}
+use Rattle.tftp_client.proofs.Common.{arith, ◌≡◌, ◌<◌, ◌≤◌, ◌⊎◌, ℕ, List, Some, inl, inr, refl, ap, ◌∙◌, ◌+◌, ◌-◌, ◌*◌}
+use Rattle.tftp_client.proofs.Common.{min, Asked, Kind, SinkMeaning, SourceMeaning, Files, wait_of, EndState, Position}
+use Rattle.tftp_client.proofs.Common.{outcome_of, Backoff, Waiting, last_moment, Watch, SocketEvent, QuietEvent, Job}
+use Rattle.tftp_client.proofs.Common.{Converses, HandlesReceived, IsOpen, IsReadBy, MayElapse, MayWait, State, elapsed}
+use Rattle.tftp_client.proofs.Common.{waited, Begins, Receives, Waits, Times, Rests, Answers, Loses, Stays, Elapses}
+use Rattle.tftp_client.proofs.Common.{begun, opens, seconds_in}
 use Rattle.tftp_ends.specs.declared.outcome.Outcome.TheVariants.{TimedOut}
-use Rattle.tftp_ends.specs.declared.phase.Phase.TheVariants.{Waiting}
-use Rattle.tftp_sockets.specs.Watch.{last_moment}
-use Rattle.tftp_sockets.specs.declared.watch.Watch.{Watch}
-use Rattle.tftp_sockets.specs.Trace.{SocketEvent, QuietEvent}
-use Rattle.tftp_client.specs.declared.transfer.Job.{Job}
-use Rattle.tftp_client.specs.Converses.{Converses, HandlesReceived, IsOpen, IsReadBy, MayElapse, MayWait, State}
-use Rattle.tftp_client.specs.Converses.{elapsed, waited}
-use Rattle.tftp_client.specs.Converses.Converses.{Begins, Receives, Waits, Times, Rests}
-use Rattle.tftp_client.specs.Converses.HandlesReceived.{Answers, Loses}
-use Rattle.tftp_client.specs.Converses.MayElapse.{Stays, Elapses}
-use Rattle.tftp_client.specs.Runs.{begun, opens}
 use Rattle.tftp_client.specs.Seconds.{IsSteady, PassesWithTheClock, ReceivesNone, TimesOutByTheClock}
-use Rattle.tftp_client.specs.Silence.{seconds_in}
 use Rattle.tftp_client.proofs.Growing.{one_more, wait_least}
 use Rattle.tftp_client.proofs.Silent.{before_due, begins_now, closed_not, first_wait, times_out}
 

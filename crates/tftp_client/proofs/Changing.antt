@@ -1,15 +1,13 @@
 -- The calls on a fetched file are of no other.
-use Rattle.std.proofs.Common.{◌≡◌, List, ◌∷◌, Option, Some, None, Result, Ok, Err, OnOk, OnErr, inl, inr, refl, sym, ◌∙◌, subst}
-use Rattle.std.specs.declared.io.Error.{Error}
-use Rattle.std.proofs.Common.{ℕ, Bool, false}
-use Rattle.std.proofs.lemmas.Bool.{true≢false}
-use Rattle.tftp_disk.specs.DiskTrace.{DiskEvent, FileState, folder_at}
-use Rattle.tftp_disk.specs.DiskTrace.DiskEvent.{Folder_synced, Linked, Looked, Removed}
-use Rattle.tftp_disk.specs.NamedFolder.{SyncsFolder}
-use Rattle.tftp_disk.specs.declared.found.Found.{Found}
+use Rattle.tftp_client.proofs.Common.{◌≡◌, List, ◌∷◌, Option, Some, None, Result, Ok, Err, OnOk, inl, inr, refl, sym}
+use Rattle.tftp_client.proofs.Common.{◌∙◌, subst, Error, ℕ, Bool, false, true≢false, DiskEvent, FileState}
+use Rattle.tftp_client.proofs.Common.{Folder_synced, Linked, Looked, Removed, SyncsFolder, Found, Keeps, KeepsPlace}
+use Rattle.tftp_client.proofs.Common.{Paths}
+use Rattle.std.proofs.Common.{OnErr}
+use Rattle.tftp_disk.specs.DiskTrace.{folder_at}
 use Rattle.tftp_disk.specs.declared.disk_file.DiskFolder.{DiskFolder}
-use Rattle.tftp_client.specs.Fetched.{AreOwn, FindsNothing, IsAbsent, IsBarred, IsOwnCall, Keeps, KeepsOne, LosesName}
-use Rattle.tftp_client.specs.Fetched.{KeepsPlace, MayRename, Paths, WasUnlinked}
+use Rattle.tftp_client.specs.Fetched.{AreOwn, FindsNothing, IsAbsent, IsBarred, IsOwnCall, KeepsOne, LosesName}
+use Rattle.tftp_client.specs.Fetched.{MayRename, WasUnlinked}
 
 pub same_changes : (paths : Paths) (before after : List DiskEvent) → after ≡ before → Keeps paths before after
 same_changes paths before after same =

@@ -1,25 +1,24 @@
 -- The command line, subcommand by subcommand, and the job that its matches name.
-use Rattle.std.proofs.Common.{◌≡◌, Bool, true, List, Option, Some, None, refl, sym, ap, subst, ◌∙◌, option_map}
+use Rattle.tftp_client.proofs.Common.{◌≡◌, Bool, true, List, Option, Some, None, refl, sym, ap, subst, ◌∙◌, same_Some}
+use Rattle.tftp_client.proofs.Common.{App, Kind, IsApp, Job, tftp_app}
+use Rattle.std.proofs.Common.{option_map}
 use Rattle.std.specs.Prelude.{◌||◌, Box}
 use Rattle.std.specs.Box.{box_value}
-use Rattle.std.proofs.lemmas.Option.{none-some, same_Some}
+use Rattle.std.proofs.lemmas.Option.{none-some}
 use Rattle.clap.specs.Built.{AddsSubcommand}
 use Rattle.clap.specs.Faults.{is_simple_and_free}
 use Rattle.clap.specs.Matches.{found_of}
-use Rattle.clap.specs.Simple.{App, app_of, is_simple, subcommand_rows, with_subcommand}
+use Rattle.clap.specs.Simple.{app_of, is_simple, subcommand_rows, with_subcommand}
 use Rattle.clap.specs.Walk.{Row, Text, rows_of}
 use Rattle.clap.specs.declared.builder.command.Command.{Command}
 use Rattle.clap.specs.declared.builder.command.Command.TheViews.{out-Command as fields_of}
 use Rattle.clap.specs.declared.parser.matches.ArgMatches.{ArgMatches}
 use Rattle.clap.specs.declared.parser.matches.ArgMatches.TheViews.{out-SubCommand}
 use Rattle.clap.specs.declared.parser.matches.SubCommand.{SubCommand}
-use Rattle.tftp_negotiate.specs.declared.known.Kind.{Kind}
 use Rattle.tftp_arguments.specs.Read.{ReadWords, read_in, read_of}
-use Rattle.tftp_arguments.specs.Rules.{IsApp}
 use Rattle.tftp_arguments.proofs.Commands.{matches_are_rows}
-use Rattle.tftp_client.specs.declared.transfer.Job.{Job}
 use Rattle.tftp_client.specs.CommandLine.{NamesJob, kind_named}
-use Rattle.tftp_client.specs.Words.{NamesBy, tftp_app}
+use Rattle.tftp_client.specs.Words.{NamesBy}
 
 -- the command line is one whose matches are known
 pub simple : is_simple tftp_app ≡ true

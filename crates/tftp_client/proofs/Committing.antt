@@ -1,58 +1,34 @@
 -- A received file is committed once its end is complete.
-use Rattle.std.proofs.Common.{◌≡◌, ℕ, Bool, true, false, List, [], length, Option, Some, None}
-use Rattle.std.proofs.Common.{Result, Ok, Err, refl, sym, ◌∙◌, subst}
-use Rattle.std.specs.Prelude.{◌==◌, ◌&&◌, ◌+◌, ◌*◌, nat_lt, nat_le, is_none, if◌then◌else◌}
-use Rattle.std.proofs.lemmas.Bool.{true≢false}
-use Rattle.tftp_wire.specs.declared.mode.Mode.{Mode}
-use Rattle.tftp_wire.specs.declared.packet.Packet.{Packet}
-use Rattle.tftp_wire.specs.declared.packet.Packet.TheVariants.{Read, Write, Data, Ack, Error, Oack}
+use Rattle.tftp_client.proofs.Common.{◌≡◌, ℕ, Bool, true, false, List, [], length, Option, Some, None, Result, Ok, Err}
+use Rattle.tftp_client.proofs.Common.{refl, sym, ◌∙◌, subst, ◌==◌, ◌&&◌, ◌+◌, ◌*◌, nat_lt, if◌then◌else◌, true≢false}
+use Rattle.tftp_client.proofs.Common.{Mode, Packet, Read, Data, Ack, Oack, Asked, Kind, Known, Refusal, agreement}
+use Rattle.tftp_client.proofs.Common.{Holding, SinkMeaning, CommitsFreely, Commits, UnlessArmed, SourceMeaning}
+use Rattle.tftp_client.proofs.Common.{StaysKnown, StoreFault, Full, Files, Source, Sink, Action, Respond, Send, Store}
+use Rattle.tftp_client.proofs.Common.{Response, Ignore, WrongPeer, ResendReply, Retransmit, Wait, Close, Refuse, Accept}
+use Rattle.tftp_client.proofs.Common.{Complete, Endpoint, FileTooLarge, Fresh, Waited, Phase, Waiting, Sending}
+use Rattle.tftp_client.proofs.Common.{Receiving, Dallying, Closed, Terms, datagram_action, packet_action}
+use Rattle.tftp_client.proofs.Common.{garbled_response, timeout_response, EndState, is_sender, is_client, is_complete}
+use Rattle.tftp_client.proofs.Common.{terms_of, KeepsFiles, KeepsHolding, dally_response, illegal_action, Acts}
+use Rattle.tftp_client.proofs.Common.{DatagramStep, Done, GoesOn, Turn, after_turn, committed_turn, holding}
+use Rattle.tftp_client.proofs.Common.{response_turn, reader_action, writer_action, begin_action, begin_with_action}
+use Rattle.tftp_client.proofs.Common.{refusal_action, default_terms, agreed_terms, no_answer, SocketEvent, Job}
+use Rattle.tftp_client.proofs.Common.{Converses, HandlesReceived, MayElapse, State, WorksOnFile, Begins, Receives}
+use Rattle.tftp_client.proofs.Common.{Waits, Times, Rests, Answers, Loses, Stays, Elapses, RunsAs, opens}
+use Rattle.std.specs.Prelude.{nat_le, is_none}
+use Rattle.tftp_wire.specs.declared.packet.Packet.TheVariants.{Write, Error}
 use Rattle.tftp_wire.specs.Reading.{has_error_opcode}
 use Rattle.tftp_negotiate.specs.declared.limits.TheConstants.{DEFAULT_BLOCK}
-use Rattle.tftp_negotiate.specs.declared.asked.Asked.{Asked}
-use Rattle.tftp_negotiate.specs.declared.known.Kind.{Kind}
 use Rattle.tftp_negotiate.specs.declared.known.Kind.TheVariants as kinds
-use Rattle.tftp_negotiate.specs.declared.known.Known.{Known}
-use Rattle.tftp_negotiate.specs.declared.refusal.Refusal.{Refusal}
 use Rattle.tftp_negotiate.specs.declared.refusal.Refusal.TheVariants as refusals
-use Rattle.tftp_negotiate.specs.Agreement.{agreement}
-use Rattle.tftp_file.specs.Sink.{Holding, SinkMeaning, CommitsFreely, Commits, UnlessArmed, as_committed}
-use Rattle.tftp_file.specs.Source.{SourceMeaning, StaysKnown}
-use Rattle.tftp_file.specs.declared.fault.StoreFault.{StoreFault}
-use Rattle.tftp_file.specs.declared.fault.StoreFault.TheVariants.{Full}
-use Rattle.tftp_file.specs.declared.files.Files.{Files}
-use Rattle.tftp_file.specs.declared.files.Files.TheVariants.{Source, Sink}
-use Rattle.tftp_ends.specs.declared.action.Action.{Action}
-use Rattle.tftp_ends.specs.declared.action.Action.TheVariants.{Respond, Send, Store}
-use Rattle.tftp_ends.specs.declared.action.Response.{Response}
-use Rattle.tftp_ends.specs.declared.action.Response.TheVariants.{Ignore, WrongPeer, ResendReply}
-use Rattle.tftp_ends.specs.declared.action.Response.TheVariants.{Retransmit, Wait, Close, Refuse}
-use Rattle.tftp_ends.specs.declared.action.Response.TheVariants.{Accept, Complete}
-use Rattle.tftp_ends.specs.declared.endpoint.Endpoint.{Endpoint}
-use Rattle.tftp_ends.specs.declared.error_reply.ErrorReply.TheVariants.{FileTooLarge, NotNetascii, DiskFull}
+use Rattle.tftp_file.specs.Sink.{as_committed}
+use Rattle.tftp_ends.specs.declared.error_reply.ErrorReply.TheVariants.{NotNetascii, DiskFull}
 use Rattle.tftp_ends.specs.declared.outcome.Outcome.TheVariants as outcomes
-use Rattle.tftp_ends.specs.declared.phase.Dally.TheVariants.{Fresh, Waited}
-use Rattle.tftp_ends.specs.declared.phase.Phase.{Phase}
-use Rattle.tftp_ends.specs.declared.phase.Phase.TheVariants.{Waiting, Sending, Receiving, Dallying, Closed}
-use Rattle.tftp_ends.specs.declared.phase.Terms.{Terms}
-use Rattle.tftp_ends.specs.Action.{datagram_action, packet_action, garbled_response, is_wrong_peer, timeout_response}
-use Rattle.tftp_ends.specs.End.{EndState, is_sender, is_client, is_complete, terms_of}
-use Rattle.tftp_ends.specs.Files.{KeepsFiles, KeepsHolding}
+use Rattle.tftp_ends.specs.Action.{is_wrong_peer}
 use Rattle.tftp_ends.specs.Phase.{waited}
-use Rattle.tftp_ends.specs.Receiver.{receiver_action, data_action, next_action, dally_response}
-use Rattle.tftp_ends.specs.Sender.{illegal_action}
-use Rattle.tftp_ends.specs.Step.{Acts, DatagramStep, Done, GoesOn, Turn, after_turn, commit_reply}
-use Rattle.tftp_ends.specs.Step.{committed_turn, holding, response_turn}
+use Rattle.tftp_ends.specs.Receiver.{receiver_action, data_action, next_action}
+use Rattle.tftp_ends.specs.Step.{commit_reply}
 use Rattle.tftp_ends.specs.Text.{is_readable}
-use Rattle.tftp_ends.specs.Waiting.{reader_action, writer_action, accept_action, begin_action}
-use Rattle.tftp_ends.specs.Waiting.{begin_with_action, refusal_action, default_terms, agreed_terms}
-use Rattle.tftp_ends.specs.Waiting.{no_answer}
-use Rattle.tftp_sockets.specs.Trace.{SocketEvent}
-use Rattle.tftp_client.specs.declared.transfer.Job.{Job}
-use Rattle.tftp_client.specs.Converses.{Converses, HandlesReceived, MayElapse, State, WorksOnFile}
-use Rattle.tftp_client.specs.Converses.Converses.{Begins, Receives, Waits, Times, Rests}
-use Rattle.tftp_client.specs.Converses.HandlesReceived.{Answers, Loses}
-use Rattle.tftp_client.specs.Converses.MayElapse.{Stays, Elapses}
-use Rattle.tftp_client.specs.Runs.{RunsAs, opens}
+use Rattle.tftp_ends.specs.Waiting.{accept_action}
 
 -- ---- the action of an end that has sent no block completes no transfer
 -- both cases of a test

@@ -1,31 +1,19 @@
 -- A transfer that is complete, from the run of its end.
-use Rattle.std.proofs.Common.{◌≡◌, ℕ, Bool, List, Some, inl, inr, refl, sym, subst, ◌∙◌}
-use Rattle.std.specs.Prelude.{◌+◌}
+use Rattle.tftp_client.proofs.Common.{◌≡◌, ℕ, Bool, List, Some, inl, inr, refl, sym, subst, ◌∙◌, ◌+◌, Octet, Kind}
+use Rattle.tftp_client.proofs.Common.{SinkMeaning, SourceMeaning, Files, Source, Sink, DiskEvent, DiskSource}
+use Rattle.tftp_client.proofs.Common.{SocketEvent, waits, LocalFile, Job, Converses, State, Keeps, KeepsPlace}
+use Rattle.tftp_client.proofs.Common.{nothing_moved, run_moves, IsFor, job_paths, IsFileOf, IsNew, MayOpen, begun}
+use Rattle.tftp_client.proofs.Common.{opens, plain, held_of}
 use Rattle.std.specs.declared.io.traits.Read as read
 use Rattle.std.specs.declared.io.traits.Write as write
 use Rattle.std.specs.declared.io.traits.Seek as seek
-use Rattle.tftp_wire.specs.declared.mode.Mode.TheVariants.{Octet}
-use Rattle.tftp_negotiate.specs.declared.known.Kind.{Kind}
 use Rattle.tftp_negotiate.specs.declared.known.Kind.TheVariants as kinds
-use Rattle.tftp_file.specs.Sink.{SinkMeaning}
-use Rattle.tftp_file.specs.Source.{SourceMeaning}
-use Rattle.tftp_file.specs.declared.files.Files.{Files}
-use Rattle.tftp_file.specs.declared.files.Files.TheVariants.{Source, Sink}
-use Rattle.tftp_disk.specs.DiskTrace.{DiskEvent}
 use Rattle.tftp_disk.specs.declared.disk.Looks as looks
-use Rattle.tftp_disk.specs.declared.disk_source.DiskSource.{DiskSource}
-use Rattle.tftp_sockets.specs.Trace.{SocketEvent}
-use Rattle.tftp_sockets.specs.Quiet.{waits}
-use Rattle.tftp_client.specs.declared.local.LocalFile.{LocalFile}
-use Rattle.tftp_client.specs.declared.transfer.Job.{Job}
-use Rattle.tftp_client.specs.Converses.{Converses, State}
-use Rattle.tftp_client.specs.Fetched.{AreOwn, Keeps, KeepsPlace}
-use Rattle.tftp_client.specs.Moved.{nothing_moved, run_moves}
-use Rattle.tftp_client.specs.OnDisk.{IsFor, IsOnDisk, KeepsDisk, Reaches, job_paths}
-use Rattle.tftp_client.specs.Runs.{IsFileOf, IsNew, MayOpen, Refused, begun, dallied, opens, plain}
+use Rattle.tftp_client.specs.Fetched.{AreOwn}
+use Rattle.tftp_client.specs.OnDisk.{IsOnDisk, KeepsDisk, Reaches}
+use Rattle.tftp_client.specs.Runs.{Refused, dallied}
 use Rattle.tftp_client.specs.Sent.{BeginsAt, Concludes, EndStores, JobStores}
 use Rattle.tftp_client.specs.Stored.{HasDisk, count_of}
-use Rattle.tftp_client.specs.Written.{held_of}
 use Rattle.tftp_client.proofs.Counting.{runs_as}
 use Rattle.tftp_client.proofs.HeldBytes.{run_whole}
 use Rattle.tftp_client.proofs.NamedOnDisk.{kept, log_in, of_file, paths_in, still_for, tried_in}

@@ -1,34 +1,23 @@
 -- What a client does at an event, from the facts of its calls, and runs one after another.
-use Rattle.std.proofs.Common.{arith, ◌≡◌, ◌≤◌, ℕ, Bool, true, false, List, ◌∷◌, Option, Some, None, Result, Ok}
-use Rattle.std.proofs.Common.{Err, IsErrOf, IsSome, ◌↔◌, inl, inr, refl, sym, ap, subst, ◌∙◌}
+use Rattle.tftp_client.proofs.Common.{arith, ◌≡◌, ◌≤◌, ℕ, Bool, true, false, List, ◌∷◌, Option, Some, None, Result, Ok}
+use Rattle.tftp_client.proofs.Common.{Err, IsSome, inl, inr, refl, sym, ap, subst, ◌∙◌, true≢false, Packet, SinkMeaning}
+use Rattle.tftp_client.proofs.Common.{SourceMeaning, Files, Kind, Write, datagram_action, Backoff, EndState, outcome_of}
+use Rattle.tftp_client.proofs.Common.{timeout_turn, Endpoint, Outcome, Watch, Job, AnswersReceived, Converses}
+use Rattle.tftp_client.proofs.Common.{HandlesReceived, IsOpen, MayElapse, IsReadBy, State, deadline_at, Answers, Loses}
+use Rattle.tftp_client.proofs.Common.{Stays, Elapses, Begins, Receives, Waits, Times, Rests, begun, opens, SocketEvent}
+use Rattle.tftp_client.proofs.Common.{waits}
+use Rattle.std.proofs.Common.{IsErrOf, ◌↔◌}
 use Rattle.std.proofs.Common.{option_map}
-use Rattle.std.proofs.lemmas.Bool.{true≢false}
-use Rattle.tftp_wire.specs.declared.packet.Packet.{Packet}
-use Rattle.tftp_file.specs.Sink.{SinkMeaning}
-use Rattle.tftp_file.specs.Source.{SourceMeaning}
-use Rattle.tftp_file.specs.declared.files.Files.{Files}
-use Rattle.tftp_negotiate.specs.declared.known.Kind.{Kind}
-use Rattle.tftp_negotiate.specs.declared.known.Kind.TheVariants.{Read, Write}
-use Rattle.tftp_ends.specs.Action.{Decodes, datagram_action}
-use Rattle.tftp_ends.specs.declared.backoff.Backoff.{Backoff}
-use Rattle.tftp_ends.specs.End.{EndState, outcome_of}
-use Rattle.tftp_ends.specs.Step.{Reply, UsesFile, reply_bytes, timeout_turn}
-use Rattle.tftp_ends.specs.declared.endpoint.Endpoint.{Endpoint}
+use Rattle.tftp_negotiate.specs.declared.known.Kind.TheVariants.{Read}
+use Rattle.tftp_ends.specs.Action.{Decodes}
+use Rattle.tftp_ends.specs.Step.{Reply, UsesFile, reply_bytes}
 use Rattle.tftp_ends.specs.declared.fault.EndFault.{EndFault}
 use Rattle.tftp_ends.specs.declared.fault.EndFault.TheVariants.{Closed, Memory}
-use Rattle.tftp_ends.specs.declared.outcome.Outcome.{Outcome}
 use Rattle.tftp_sockets.specs.Watch.{later_by}
-use Rattle.tftp_sockets.specs.declared.watch.Watch.{Watch}
-use Rattle.tftp_client.specs.declared.transfer.Job.{Job}
-use Rattle.tftp_client.specs.Converses.{AnswersReceived, Converses, HandlesReceived, IsLost, IsOpen, MayElapse}
-use Rattle.tftp_client.specs.Converses.{IsReadBy, State, deadline_at, watch_of}
-use Rattle.tftp_client.specs.Converses.HandlesReceived.{Answers, Loses}
-use Rattle.tftp_client.specs.Converses.MayElapse.{Stays, Elapses}
-use Rattle.tftp_client.specs.Converses.Converses.{Begins, Receives, Waits, Times, Rests}
-use Rattle.tftp_client.specs.Runs.{begun, opens}
-use Rattle.tftp_sockets.specs.Trace.{SocketEvent, answered, replied}
+use Rattle.tftp_client.specs.Converses.{IsLost}
+use Rattle.tftp_client.specs.Converses.{watch_of}
+use Rattle.tftp_sockets.specs.Trace.{answered, replied}
 use Rattle.tftp_sockets.specs.Trace.SocketEvent.{Elapsed, Sent}
-use Rattle.tftp_sockets.specs.Quiet.{waits}
 
 -- the answer that a call lends was sent to its destination
 pub replies : (port : ℕ) (reply : Option Reply) {to : Option Endpoint} {bytes : List ℕ}

@@ -1,23 +1,13 @@
 -- N of a complete transfer, from its file and the length with which its end was opened.
-use Rattle.std.proofs.Common.{◌≡◌, ℕ, List, Some, refl, ◌∙◌}
+use Rattle.tftp_client.proofs.Common.{◌≡◌, ℕ, List, Some, refl, ◌∙◌, Mode, Octet, Netascii, Kind, SinkMeaning}
+use Rattle.tftp_client.proofs.Common.{SourceMeaning, Files, Source, Sink, SocketEvent, LocalFile, Job, State, IsCountOf}
+use Rattle.tftp_client.proofs.Common.{IsFileOf, MayOpen, RunsAs, opens, held_of}
 use Rattle.std.specs.declared.io.traits.Read as read
 use Rattle.std.specs.declared.io.traits.Write as write
 use Rattle.std.specs.declared.io.traits.Seek as seek
-use Rattle.tftp_wire.specs.declared.mode.Mode.{Mode}
-use Rattle.tftp_wire.specs.declared.mode.Mode.TheVariants.{Octet, Netascii}
-use Rattle.tftp_negotiate.specs.declared.known.Kind.{Kind}
-use Rattle.tftp_file.specs.Sink.{SinkMeaning}
-use Rattle.tftp_file.specs.Source.{SourceMeaning}
-use Rattle.tftp_file.specs.declared.files.Files.{Files}
-use Rattle.tftp_file.specs.declared.files.Files.TheVariants.{Source, Sink}
 use Rattle.tftp_disk.specs.declared.disk.Looks as looks
-use Rattle.tftp_sockets.specs.Trace.{SocketEvent}
-use Rattle.tftp_client.specs.declared.local.LocalFile.{LocalFile}
-use Rattle.tftp_client.specs.declared.transfer.Job.{Job}
-use Rattle.tftp_client.specs.Converses.{State}
-use Rattle.tftp_client.specs.Runs.{IsCountOf, IsFileOf, MayOpen, Runs, RunsAs, opens}
+use Rattle.tftp_client.specs.Runs.{Runs}
 use Rattle.tftp_client.specs.Stored.{count_of}
-use Rattle.tftp_client.specs.Written.{held_of}
 
 module _ {S : Type 0} {D F V G : Type 0} {logs : looks.Ghosts D} {writes : write.Ghosts F} {views : looks.Ghosts V}
     {reads : read.Ghosts G} {seeks : seek.Ghosts G} where

@@ -1,27 +1,16 @@
 -- What moved in the run of a sender is what its source gave, unless the end has failed.
-use Rattle.std.proofs.Common.{◌≡◌, ℕ, Bool, true, false, List, [], ◌++◌, append-nil, refl, sym, ap, ◌∙◌, subst}
-use Rattle.std.specs.Prelude.{if◌then◌else◌, not}
-use Rattle.std.proofs.lemmas.Bool.{true≢false}
-use Rattle.tftp_file.specs.Sink.{SinkMeaning}
-use Rattle.tftp_file.specs.Source.{GivesInTurn, SourceMeaning}
+use Rattle.tftp_client.proofs.Common.{◌≡◌, ℕ, Bool, true, false, List, [], ◌++◌, append-nil, refl, sym, ap, ◌∙◌, subst}
+use Rattle.tftp_client.proofs.Common.{if◌then◌else◌, true≢false, SinkMeaning, SourceMeaning, Files, Source, Sink}
+use Rattle.tftp_client.proofs.Common.{Action, Respond, Send, Store, Endpoint, Sending, datagram_action, EndState}
+use Rattle.tftp_client.proofs.Common.{is_complete, KeepsFiles, Acts, Turn, after_turn, block_length, data_bytes}
+use Rattle.tftp_client.proofs.Common.{refused_turn, result_count_is, sent_turn, Converses, HandlesReceived, MayElapse}
+use Rattle.tftp_client.proofs.Common.{State, WorksOnFile, Begins, Receives, Waits, Times, Rests, Answers, Loses, Stays}
+use Rattle.tftp_client.proofs.Common.{Elapses, Moved, acts_move, handling_moves, nothing_moved, run_moves}
+use Rattle.std.specs.Prelude.{not}
+use Rattle.tftp_file.specs.Source.{GivesInTurn}
 use Rattle.tftp_file.specs.Source.GivesInTurn.{Gave_nothing, Gave_more}
-use Rattle.tftp_file.specs.declared.files.Files.{Files}
-use Rattle.tftp_file.specs.declared.files.Files.TheVariants.{Source, Sink}
-use Rattle.tftp_ends.specs.declared.action.Action.{Action}
-use Rattle.tftp_ends.specs.declared.action.Action.TheVariants.{Respond, Send, Store}
-use Rattle.tftp_ends.specs.declared.endpoint.Endpoint.{Endpoint}
 use Rattle.tftp_ends.specs.declared.error_reply.ErrorReply.TheVariants as replies
 use Rattle.tftp_ends.specs.declared.outcome.Outcome.TheVariants as outcomes
-use Rattle.tftp_ends.specs.declared.phase.Phase.TheVariants.{Sending}
-use Rattle.tftp_ends.specs.Action.{datagram_action}
-use Rattle.tftp_ends.specs.End.{EndState, is_complete}
-use Rattle.tftp_ends.specs.Files.{KeepsFiles}
-use Rattle.tftp_ends.specs.Step.{Acts, Turn, after_turn, block_length, data_bytes, refused_turn, result_count_is, sent_turn}
-use Rattle.tftp_client.specs.Converses.{Converses, HandlesReceived, MayElapse, State, WorksOnFile}
-use Rattle.tftp_client.specs.Converses.Converses.{Begins, Receives, Waits, Times, Rests}
-use Rattle.tftp_client.specs.Converses.HandlesReceived.{Answers, Loses}
-use Rattle.tftp_client.specs.Converses.MayElapse.{Stays, Elapses}
-use Rattle.tftp_client.specs.Moved.{Moved, acts_move, handling_moves, nothing_moved, run_moves}
 use Rattle.tftp_client.proofs.HeldBytes.{complete_goes_on, failed, open_goes_on, undone}
 use Rattle.tftp_client.proofs.StaysComplete.{OnlyResponds, at_datagram}
 

@@ -1,16 +1,13 @@
 -- The waits of a client, which may grow.
-use Rattle.std.proofs.Common.{arith, ◌≡◌, ◌<◌, ◌≤◌, ◌⊎◌, ℕ, zero, suc, inl, inr, refl, ap, ◌∙◌}
-use Rattle.std.specs.Prelude.{◌+◌, ◌-◌, ◌*◌, ◌^◌, min}
-use Rattle.tftp_negotiate.specs.declared.asked.Asked.{Asked}
-use Rattle.tftp_ends.specs.Backoff.{timeouts_of, wait_of}
-use Rattle.tftp_ends.specs.End.{EndState, interval_of, terms_of}
-use Rattle.tftp_ends.specs.declared.backoff.Backoff.{Backoff}
+use Rattle.tftp_client.proofs.Common.{arith, ◌≡◌, ◌<◌, ◌≤◌, ◌⊎◌, ℕ, inl, inr, refl, ap, ◌∙◌, ◌+◌, ◌-◌, ◌*◌, min, Asked}
+use Rattle.tftp_client.proofs.Common.{wait_of, EndState, terms_of, Backoff, Phase, Waiting, last_moment, deadline_at}
+use Rattle.tftp_client.proofs.Common.{seconds_in}
+use Rattle.std.proofs.Common.{zero, suc}
+use Rattle.std.specs.Prelude.{◌^◌}
+use Rattle.tftp_ends.specs.Backoff.{timeouts_of}
+use Rattle.tftp_ends.specs.End.{interval_of}
 use Rattle.tftp_ends.specs.declared.backoff.Backoff.TheVariants.{Constant, Doubling}
-use Rattle.tftp_ends.specs.declared.phase.Phase.{Phase}
-use Rattle.tftp_ends.specs.declared.phase.Phase.TheVariants.{Waiting}
-use Rattle.tftp_sockets.specs.Watch.{deadline_of, last_moment}
-use Rattle.tftp_client.specs.Converses.{deadline_at}
-use Rattle.tftp_client.specs.Silence.{seconds_in}
+use Rattle.tftp_sockets.specs.Watch.{deadline_of}
 
 -- a wait is doubled three times at most
 doubles : (n : ℕ) → (min n 3 ≡ 0) ⊎ ((min n 3 ≡ 1) ⊎ ((min n 3 ≡ 2) ⊎ (min n 3 ≡ 3)))

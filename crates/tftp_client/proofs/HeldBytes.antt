@@ -1,36 +1,19 @@
 -- What a received file holds is what moved in the run, unless the end has failed.
-use Rattle.std.proofs.Common.{◌≡◌, ℕ, Bool, true, false, List, [], ◌∷◌, ◌++◌, append-nil, length, Option, Some}
-use Rattle.std.proofs.Common.{Result, Ok, Err, inl, inr, refl, sym, ap, ◌∙◌, subst}
-use Rattle.std.specs.Prelude.{not, nat_lt, IsSome}
-use Rattle.std.proofs.lemmas.Bool.{true≢false}
-use Rattle.std.proofs.lemmas.Option.{same_Some}
-use Rattle.tftp_wire.specs.declared.mode.Mode.{Mode}
-use Rattle.tftp_negotiate.specs.declared.known.Kind.{Kind}
-use Rattle.tftp_file.specs.Sink.{Holding, SinkMeaning, Appends, AppendsFreely, Commits, CommitsFreely, UnlessArmed}
-use Rattle.tftp_file.specs.Sink.{as_committed, disarmed, with_piece}
-use Rattle.tftp_file.specs.Source.{SourceMeaning, StaysKnown}
-use Rattle.tftp_file.specs.declared.fault.StoreFault.{StoreFault}
-use Rattle.tftp_file.specs.declared.fault.StoreFault.TheVariants.{Full}
-use Rattle.tftp_file.specs.declared.files.Files.{Files}
-use Rattle.tftp_file.specs.declared.files.Files.TheVariants.{Source, Sink}
-use Rattle.tftp_ends.specs.declared.action.Action.{Action}
-use Rattle.tftp_ends.specs.declared.action.Action.TheVariants.{Respond, Send, Store}
-use Rattle.tftp_ends.specs.declared.endpoint.Endpoint.{Endpoint}
-use Rattle.tftp_ends.specs.declared.phase.Phase.{Phase}
-use Rattle.tftp_ends.specs.declared.phase.Phase.TheVariants.{Waiting, Sending, Receiving, Dallying, Closed}
-use Rattle.tftp_ends.specs.declared.phase.Terms.{Terms}
-use Rattle.tftp_ends.specs.Action.{datagram_action}
-use Rattle.tftp_ends.specs.End.{EndState, is_complete, outcome_of}
-use Rattle.tftp_ends.specs.Files.{KeepsFiles, KeepsHolding}
-use Rattle.tftp_ends.specs.Step.{Acts, Appended, DatagramStep, Done, GoesOn, Turn, after_turn}
-use Rattle.tftp_sockets.specs.Trace.{SocketEvent}
-use Rattle.tftp_client.specs.declared.transfer.Job.{Job}
-use Rattle.tftp_client.specs.Converses.{Converses, HandlesReceived, MayElapse, State, WorksOnFile}
-use Rattle.tftp_client.specs.Converses.Converses.{Begins, Receives, Waits, Times, Rests}
-use Rattle.tftp_client.specs.Converses.HandlesReceived.{Answers, Loses}
-use Rattle.tftp_client.specs.Converses.MayElapse.{Stays, Elapses}
-use Rattle.tftp_client.specs.Moved.{Moved, acts_move, handling_moves, nothing_moved, run_moves, step_moves}
-use Rattle.tftp_client.specs.Runs.{IsCountOf, IsNew, IsWhole, RunsAs, Transfers, moved_by}
+use Rattle.tftp_client.proofs.Common.{◌≡◌, ℕ, Bool, true, false, List, [], ◌∷◌, ◌++◌, append-nil, length, Option, Some}
+use Rattle.tftp_client.proofs.Common.{Result, Ok, Err, inl, inr, refl, sym, ap, ◌∙◌, subst, nat_lt, true≢false}
+use Rattle.tftp_client.proofs.Common.{same_Some, Mode, Kind, Holding, SinkMeaning, Appends, AppendsFreely, Commits}
+use Rattle.tftp_client.proofs.Common.{CommitsFreely, UnlessArmed, disarmed, SourceMeaning, StaysKnown, StoreFault, Full}
+use Rattle.tftp_client.proofs.Common.{Files, Source, Sink, Action, Respond, Send, Store, Endpoint, Phase, Waiting}
+use Rattle.tftp_client.proofs.Common.{Sending, Receiving, Dallying, Closed, Terms, datagram_action, EndState}
+use Rattle.tftp_client.proofs.Common.{is_complete, outcome_of, KeepsFiles, KeepsHolding, Acts, Appended, DatagramStep}
+use Rattle.tftp_client.proofs.Common.{Done, GoesOn, Turn, after_turn, SocketEvent, Job, Converses, HandlesReceived}
+use Rattle.tftp_client.proofs.Common.{MayElapse, State, WorksOnFile, Begins, Receives, Waits, Times, Rests, Answers}
+use Rattle.tftp_client.proofs.Common.{Loses, Stays, Elapses, Moved, acts_move, handling_moves, nothing_moved, run_moves}
+use Rattle.tftp_client.proofs.Common.{IsCountOf, IsNew, RunsAs, Transfers}
+use Rattle.std.specs.Prelude.{not, IsSome}
+use Rattle.tftp_file.specs.Sink.{as_committed, with_piece}
+use Rattle.tftp_client.specs.Moved.{step_moves}
+use Rattle.tftp_client.specs.Runs.{IsWhole, moved_by}
 use Rattle.tftp_client.specs.Taken.{nothing}
 use Rattle.tftp_client.proofs.Committing.{Kept, StoresNone, datagram_stores_none, is_committed}
 

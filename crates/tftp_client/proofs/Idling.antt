@@ -1,61 +1,39 @@
 -- A client that makes no progress, step by step: it closes in time.
-use Rattle.std.proofs.Common.{arith, ◌≡◌, ◌<◌, ◌≤◌, ◌+◌, ◌-◌, ◌*◌, ◌⊎◌, max, ℕ, Bool, true, false, List, [], length}
-use Rattle.std.proofs.Common.{Option, Some, None, IsSome, Result, Ok, Err, inl, inr, refl, sym, ap, subst, ◌∙◌, mul-add}
-use Rattle.std.specs.Prelude.{◌==◌, ◌&&◌, ◌/◌, nat_lt, nat_le, min, if◌then◌else◌}
-use Rattle.std.proofs.Math.Nat.{lt_of_not-le}
-use Rattle.std.proofs.lemmas.Bool.{true≢false, eqb-true, lt-ltb}
-use Rattle.tftp_wire.specs.declared.mode.Mode.{Mode}
-use Rattle.tftp_wire.specs.declared.packet.Packet.{Packet}
-use Rattle.tftp_wire.specs.declared.packet.Packet.TheVariants.{Read, Write, Data, Ack, Error, Oack}
-use Rattle.tftp_negotiate.specs.declared.asked.Asked.{Asked}
-use Rattle.tftp_negotiate.specs.declared.known.Kind.{Kind}
+use Rattle.tftp_client.proofs.Common.{arith, ◌≡◌, ◌<◌, ◌≤◌, ◌⊎◌, ℕ, Bool, true, false, List, [], length, Option, Some}
+use Rattle.tftp_client.proofs.Common.{None, IsSome, Result, Ok, Err, inl, inr, refl, sym, ap, subst, ◌∙◌, ◌==◌, ◌&&◌}
+use Rattle.tftp_client.proofs.Common.{nat_lt, min, if◌then◌else◌, lt_of_not-le, true≢false, Mode, Packet, Read, Data}
+use Rattle.tftp_client.proofs.Common.{Ack, Oack, Asked, Kind, Known, Refusal, agreement, SinkMeaning, SourceMeaning}
+use Rattle.tftp_client.proofs.Common.{StoreFault, Files, Source, Sink, datagram_action, garbled_response, packet_action}
+use Rattle.tftp_client.proofs.Common.{timeout_response, wait_of, Backoff, EndState, Position, is_client, is_sender}
+use Rattle.tftp_client.proofs.Common.{outcome_of, terms_of, dally_response, illegal_action, Acts, Done, GoesOn, Turn}
+use Rattle.tftp_client.proofs.Common.{after, after_turn, block_length, committed_turn, data_bytes, holding}
+use Rattle.tftp_client.proofs.Common.{refused_turn, response_turn, result_count_is, sent_turn, timeout_turn}
+use Rattle.tftp_client.proofs.Common.{reader_action, writer_action, begin_action, begin_with_action, refusal_action}
+use Rattle.tftp_client.proofs.Common.{default_terms, agreed_terms, no_answer, Action, Respond, Send, Store, Response}
+use Rattle.tftp_client.proofs.Common.{Ignore, WrongPeer, ResendReply, Retransmit, Wait, Close, Refuse, Accept, Complete}
+use Rattle.tftp_client.proofs.Common.{Endpoint, FileTooLarge, Outcome, Fresh, Waited, Phase, Waiting, Sending}
+use Rattle.tftp_client.proofs.Common.{Receiving, Dallying, Closed, Terms, last_moment, Watch, SocketEvent, QuietEvent}
+use Rattle.tftp_client.proofs.Common.{Job, AnswersReceived, Converses, HandlesReceived, IsOpen, IsReadBy, MayElapse}
+use Rattle.tftp_client.proofs.Common.{MayWait, State, deadline_at, elapsed, waited, Begins, Receives, Waits, Times}
+use Rattle.tftp_client.proofs.Common.{Rests, Answers, Loses, Stays, Elapses, begun, opens}
+use Rattle.std.proofs.Common.{◌+◌, ◌-◌, ◌*◌, max}
+use Rattle.std.proofs.Common.{mul-add}
+use Rattle.std.specs.Prelude.{◌/◌, nat_le}
+use Rattle.std.proofs.lemmas.Bool.{eqb-true, lt-ltb}
+use Rattle.tftp_wire.specs.declared.packet.Packet.TheVariants.{Write, Error}
 use Rattle.tftp_negotiate.specs.declared.known.Kind.TheVariants as kinds
-use Rattle.tftp_negotiate.specs.declared.known.Known.{Known}
 use Rattle.tftp_negotiate.specs.declared.limits.TheConstants.{DEFAULT_BLOCK}
-use Rattle.tftp_negotiate.specs.declared.refusal.Refusal.{Refusal}
 use Rattle.tftp_negotiate.specs.declared.refusal.Refusal.TheVariants as refusals
-use Rattle.tftp_negotiate.specs.Agreement.{agreement}
-use Rattle.tftp_file.specs.Sink.{SinkMeaning}
-use Rattle.tftp_file.specs.Source.{SourceMeaning}
-use Rattle.tftp_file.specs.declared.fault.StoreFault.{StoreFault}
-use Rattle.tftp_file.specs.declared.files.Files.{Files}
-use Rattle.tftp_file.specs.declared.files.Files.TheVariants.{Source, Sink}
-use Rattle.tftp_ends.specs.Action.{datagram_action, garbled_response, packet_action, timeout_response}
-use Rattle.tftp_ends.specs.Backoff.{timeouts_of, wait_of}
-use Rattle.tftp_ends.specs.declared.backoff.Backoff.{Backoff}
-use Rattle.tftp_ends.specs.End.{EndState, Position, interval_of, is_client, is_progress, is_sender, outcome_of, terms_of}
-use Rattle.tftp_ends.specs.Receiver.{receiver_action, data_action, next_action, dally_response}
-use Rattle.tftp_ends.specs.Sender.{acked_action, illegal_action, sender_action}
-use Rattle.tftp_ends.specs.Step.{Acts, Done, GoesOn, SendsFrom, StoresIn, Turn, after, after_turn}
-use Rattle.tftp_ends.specs.Step.{block_length, committed_turn, data_bytes, holding, refused_turn}
-use Rattle.tftp_ends.specs.Step.{response_turn, result_count_is, sent_turn, timeout_turn}
+use Rattle.tftp_ends.specs.Backoff.{timeouts_of}
+use Rattle.tftp_ends.specs.End.{interval_of, is_progress}
+use Rattle.tftp_ends.specs.Receiver.{receiver_action, data_action, next_action}
+use Rattle.tftp_ends.specs.Sender.{acked_action, sender_action}
+use Rattle.tftp_ends.specs.Step.{SendsFrom, StoresIn}
 use Rattle.tftp_ends.specs.Text.{is_readable}
-use Rattle.tftp_ends.specs.Waiting.{reader_action, writer_action, accept_action, begin_action, begin_with_action}
-use Rattle.tftp_ends.specs.Waiting.{refusal_action, default_terms, agreed_terms, no_answer}
-use Rattle.tftp_ends.specs.declared.action.Action.{Action}
-use Rattle.tftp_ends.specs.declared.action.Action.TheVariants.{Respond, Send, Store}
-use Rattle.tftp_ends.specs.declared.action.Response.{Response}
-use Rattle.tftp_ends.specs.declared.action.Response.TheVariants.{Ignore, WrongPeer, ResendReply}
-use Rattle.tftp_ends.specs.declared.action.Response.TheVariants.{Retransmit, Wait, Close, Refuse}
-use Rattle.tftp_ends.specs.declared.action.Response.TheVariants.{Accept, Complete}
-use Rattle.tftp_ends.specs.declared.endpoint.Endpoint.{Endpoint}
-use Rattle.tftp_ends.specs.declared.error_reply.ErrorReply.TheVariants.{DiskFull, FileChanged, FileTooLarge, NotNetascii}
-use Rattle.tftp_ends.specs.declared.outcome.Outcome.{Outcome}
+use Rattle.tftp_ends.specs.Waiting.{accept_action}
+use Rattle.tftp_ends.specs.declared.error_reply.ErrorReply.TheVariants.{DiskFull, FileChanged, NotNetascii}
 use Rattle.tftp_ends.specs.declared.outcome.Outcome.TheVariants as outcomes
-use Rattle.tftp_ends.specs.declared.phase.Dally.TheVariants.{Fresh, Waited}
-use Rattle.tftp_ends.specs.declared.phase.Phase.{Phase}
-use Rattle.tftp_ends.specs.declared.phase.Phase.TheVariants.{Waiting, Sending, Receiving, Dallying, Closed}
-use Rattle.tftp_ends.specs.declared.phase.Terms.{Terms}
-use Rattle.tftp_sockets.specs.Watch.{last_moment}
-use Rattle.tftp_sockets.specs.declared.watch.Watch.{Watch}
-use Rattle.tftp_sockets.specs.Trace.{SocketEvent, QuietEvent}
-use Rattle.tftp_client.specs.declared.transfer.Job.{Job}
-use Rattle.tftp_client.specs.Converses.{AnswersReceived, Converses, HandlesReceived, IsOpen, IsReadBy, MayElapse, MayWait}
-use Rattle.tftp_client.specs.Converses.{State, deadline_after, deadline_at, elapsed, progress_of, received, seconds_of, waited}
-use Rattle.tftp_client.specs.Converses.Converses.{Begins, Receives, Waits, Times, Rests}
-use Rattle.tftp_client.specs.Converses.HandlesReceived.{Answers, Loses}
-use Rattle.tftp_client.specs.Converses.MayElapse.{Stays, Elapses}
-use Rattle.tftp_client.specs.Runs.{begun, opens}
+use Rattle.tftp_client.specs.Converses.{deadline_after, progress_of, received, seconds_of}
 use Rattle.tftp_client.specs.Seconds.{ClosesByTheClock, ClosesWithoutProgress, IsIdle, IsSteady, longest_timeout}
 use Rattle.tftp_client.proofs.ByTheClock.{passes_with_the_clock, reads_soon, same_elapses, same_handles}
 use Rattle.tftp_client.proofs.Committing.{by_tests, if_either}

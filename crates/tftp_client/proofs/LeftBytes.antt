@@ -1,51 +1,30 @@
 -- What a run that is not complete leaves of its file: what moved is in it, but for what a failed append refused.
-use Rattle.std.proofs.Common.{◌≡◌, ℕ, Bool, true, false, List, [], ◌∷◌, ◌++◌, append-nil, length, Option, Some, None}
-use Rattle.std.proofs.Common.{Result, Ok, Err, inl, inr, refl, sym, ap, ◌∙◌, subst}
-use Rattle.std.specs.Prelude.{◌⊎◌, ◌+◌, IsSome, nat_lt}
+use Rattle.tftp_client.proofs.Common.{◌≡◌, ℕ, Bool, true, false, List, [], ◌∷◌, ◌++◌, append-nil, length, Option, Some}
+use Rattle.tftp_client.proofs.Common.{None, Result, Ok, Err, inl, inr, refl, sym, ap, ◌∙◌, subst, ◌+◌, nat_lt}
+use Rattle.tftp_client.proofs.Common.{string_bytes, same_Some, Kind, Holding, SinkMeaning, Appends, AppendsFreely}
+use Rattle.tftp_client.proofs.Common.{UnlessArmed, disarmed, SourceMeaning, StaysKnown, StoreFault, Files, Source, Sink}
+use Rattle.tftp_client.proofs.Common.{Action, Respond, Send, Store, Endpoint, Outcome, Phase, Terms, datagram_action}
+use Rattle.tftp_client.proofs.Common.{EndState, outcome_of, KeepsFiles, KeepsHolding, Acts, Appended, Done, GoesOn}
+use Rattle.tftp_client.proofs.Common.{Turn, DiskEvent, SocketEvent, waits, LocalFile, Job, Written, Converses}
+use Rattle.tftp_client.proofs.Common.{HandlesReceived, IsOpen, MayElapse, State, WorksOnFile, Begins, Receives, Waits}
+use Rattle.tftp_client.proofs.Common.{Times, Rests, Answers, Loses, Stays, Elapses, KeepsPlace, Paths, Moved, acts_move}
+use Rattle.tftp_client.proofs.Common.{handling_moves, nothing_moved, run_moves, IsFor, job_paths, IsFileOf, IsNew}
+use Rattle.tftp_client.proofs.Common.{MayOpen, begun, opens, plain, IsLeftIn, bytes_in, held_of}
+use Rattle.std.specs.Prelude.{◌⊎◌, IsSome}
 use Rattle.std.specs.declared.io.traits.Read as read
 use Rattle.std.specs.declared.io.traits.Write as write
 use Rattle.std.specs.declared.io.traits.Seek as seek
-use Rattle.std.specs.String.{string_bytes}
 use Rattle.std.proofs.lemmas.List.{append_assoc}
-use Rattle.std.proofs.lemmas.Option.{same_Some}
-use Rattle.tftp_negotiate.specs.declared.known.Kind.{Kind}
 use Rattle.tftp_file.specs.Block.{IsPrefixOf}
-use Rattle.tftp_file.specs.Sink.{Holding, SinkMeaning, Appends, AppendsFreely, UnlessArmed, disarmed}
-use Rattle.tftp_file.specs.Source.{SourceMeaning, StaysKnown}
-use Rattle.tftp_file.specs.declared.fault.StoreFault.{StoreFault}
 use Rattle.tftp_file.specs.declared.fault.StoreFault.TheVariants as faults
-use Rattle.tftp_file.specs.declared.files.Files.{Files}
-use Rattle.tftp_file.specs.declared.files.Files.TheVariants.{Source, Sink}
-use Rattle.tftp_ends.specs.declared.action.Action.{Action}
-use Rattle.tftp_ends.specs.declared.action.Action.TheVariants.{Respond, Send, Store}
-use Rattle.tftp_ends.specs.declared.endpoint.Endpoint.{Endpoint}
-use Rattle.tftp_ends.specs.declared.outcome.Outcome.{Outcome}
 use Rattle.tftp_ends.specs.declared.outcome.Outcome.TheVariants.{StoreFault as Refuses}
-use Rattle.tftp_ends.specs.declared.phase.Phase.{Phase}
-use Rattle.tftp_ends.specs.declared.phase.Terms.{Terms}
-use Rattle.tftp_ends.specs.Action.{datagram_action}
-use Rattle.tftp_ends.specs.End.{EndState, outcome_of}
-use Rattle.tftp_ends.specs.Files.{KeepsFiles, KeepsHolding}
-use Rattle.tftp_ends.specs.Step.{Acts, Appended, Done, GoesOn, Turn}
-use Rattle.tftp_disk.specs.DiskTrace.{DiskEvent}
 use Rattle.tftp_disk.specs.declared.disk.Looks as looks
 use Rattle.tftp_lines.specs.ClientOutcome.{status_of}
 use Rattle.tftp_lines.specs.declared.client_outcome.ClientOutcome.{ClientOutcome}
 use Rattle.tftp_lines.specs.declared.client_outcome.ClientOutcome.TheVariants as ends
-use Rattle.tftp_sockets.specs.Trace.{SocketEvent}
-use Rattle.tftp_sockets.specs.Quiet.{waits}
-use Rattle.tftp_client.specs.declared.local.LocalFile.{LocalFile}
-use Rattle.tftp_client.specs.declared.transfer.Job.{Job}
-use Rattle.tftp_client.specs.declared.written.Written.{Written}
-use Rattle.tftp_client.specs.Converses.{Converses, HandlesReceived, IsOpen, MayElapse, State, WorksOnFile}
-use Rattle.tftp_client.specs.Converses.Converses.{Begins, Receives, Waits, Times, Rests}
-use Rattle.tftp_client.specs.Converses.HandlesReceived.{Answers, Loses}
-use Rattle.tftp_client.specs.Converses.MayElapse.{Stays, Elapses}
-use Rattle.tftp_client.specs.Fetched.{KeepsPlace, Paths}
-use Rattle.tftp_client.specs.Moved.{Moved, acts_move, handling_moves, nothing_moved, run_moves}
-use Rattle.tftp_client.specs.OnDisk.{IsFor, IsLeft, IsOut, LeavesBy, LeavesEnd, LeavesTransfer, StopsOut, WritesOut, job_paths}
-use Rattle.tftp_client.specs.Runs.{IsFileOf, IsNew, MayFallBack, MayOpen, Refused, StopsBy, begun, opens, plain}
-use Rattle.tftp_client.specs.Written.{HasNoRest, IsLeftIn, IsWrittenAt, bytes_in, held_of, place_in}
+use Rattle.tftp_client.specs.OnDisk.{IsLeft, IsOut, LeavesBy, LeavesEnd, LeavesTransfer, StopsOut, WritesOut}
+use Rattle.tftp_client.specs.Runs.{MayFallBack, Refused, StopsBy}
+use Rattle.tftp_client.specs.Written.{HasNoRest, IsWrittenAt, place_in}
 use Rattle.tftp_client.proofs.HeldBytes.{AllHeld, Holds, appends, begins, goes}
 use Rattle.tftp_client.proofs.NamedOnDisk.{HasCalls, kept, log_in, paths_in, still_for, tried_in}
 use Rattle.tftp_client.proofs.Uncommitted.{NoneCommitted, uncommitted}

@@ -1,15 +1,13 @@
 -- A fetched file got its name, and the folder of that was synced.
-use Rattle.std.proofs.Common.{◌≡◌, ℕ, Bool, true, false, List, ◌∷◌, Option, Some, None, Result, Ok, Err, OnOk}
-use Rattle.std.proofs.Common.{length, arith, inl, inr, sym, ap, ◌∙◌, subst}
-use Rattle.std.proofs.Math.Logic.{∥∥₁_map}
-use Rattle.std.specs.declared.io.Error.{Error}
+use Rattle.tftp_client.proofs.Common.{◌≡◌, ℕ, Bool, true, false, List, ◌∷◌, Option, Some, None, Result, Ok, Err, OnOk}
+use Rattle.tftp_client.proofs.Common.{length, arith, inl, inr, sym, ap, ◌∙◌, subst, ∥∥₁_map, Error, DiskEvent}
+use Rattle.tftp_client.proofs.Common.{FileState, Folder_synced, Linked, SyncsFolder, path_in, IsStillAt, Keeps}
+use Rattle.tftp_client.proofs.Common.{NamesBytes, Paths, WasNamed}
 use Rattle.tftp_disk.specs.Changes.{changes}
-use Rattle.tftp_disk.specs.DiskTrace.{DiskEvent, Done, FileState, folder_at}
-use Rattle.tftp_disk.specs.DiskTrace.DiskEvent.{Folder_synced, Linked}
-use Rattle.tftp_disk.specs.NamedFolder.{SyncsAlone, SyncsFolder, path_in}
-use Rattle.tftp_disk.specs.Still.{IsStillAt}
+use Rattle.tftp_disk.specs.DiskTrace.{Done, folder_at}
+use Rattle.tftp_disk.specs.NamedFolder.{SyncsAlone}
 use Rattle.tftp_disk.specs.declared.disk_file.DiskFolder.{DiskFolder}
-use Rattle.tftp_client.specs.Fetched.{IsWholeAt, Keeps, KeepsOne, NamesBytes, NamesFile, Paths, SyncsIn, WasNamed}
+use Rattle.tftp_client.specs.Fetched.{IsWholeAt, KeepsOne, NamesFile, SyncsIn}
 use Rattle.tftp_client.specs.Written.{IsFolderIn}
 
 -- for a last call whose result is returned as it is

@@ -1,34 +1,23 @@
 -- The file of a complete job has its name, and what moved is in it.
-use Rattle.std.proofs.Common.{◌≡◌, ◌⊎◌, ℕ, Bool, true, List, Some, inl, inr, refl, sym, ap, ◌∙◌, subst}
-use Rattle.std.proofs.Math.Logic.{∥∥₁_map}
-use Rattle.std.proofs.lemmas.Option.{same_Some}
+use Rattle.tftp_client.proofs.Common.{◌≡◌, ◌⊎◌, ℕ, Bool, true, List, Some, inl, inr, refl, sym, ap, ◌∙◌, subst, ∥∥₁_map}
+use Rattle.tftp_client.proofs.Common.{same_Some, Holding, SinkMeaning, SourceMeaning, Files, Source, Sink, DiskEvent}
+use Rattle.tftp_client.proofs.Common.{DiskSource, SocketEvent, LocalFile, Job, Converses, State, Keeps, KeepsPlace}
+use Rattle.tftp_client.proofs.Common.{Paths, WasNamed, IsFor, job_paths, tftp_app, bytes_in, held_of, paths_of}
 use Rattle.std.specs.declared.io.traits.Read as read
 use Rattle.std.specs.declared.io.traits.Write as write
 use Rattle.std.specs.declared.io.traits.Seek as seek
 use Rattle.tftp_negotiate.specs.declared.known.Kind.TheVariants as kinds
-use Rattle.tftp_file.specs.Sink.{Holding, SinkMeaning}
-use Rattle.tftp_file.specs.Source.{SourceMeaning}
-use Rattle.tftp_file.specs.declared.files.Files.{Files}
-use Rattle.tftp_file.specs.declared.files.Files.TheVariants.{Source, Sink}
 use Rattle.tftp_arguments.specs.Fault.{AskForText}
-use Rattle.tftp_disk.specs.DiskTrace.{DiskEvent}
 use Rattle.tftp_disk.specs.declared.disk.Looks as looks
-use Rattle.tftp_disk.specs.declared.disk_source.DiskSource.{DiskSource}
-use Rattle.tftp_sockets.specs.Trace.{SocketEvent}
 use Rattle.tftp_client.specs.declared.command_line.CommandLine.{CommandLine}
 use Rattle.tftp_client.specs.declared.command_line.CommandLine.TheVariants as lines
-use Rattle.tftp_client.specs.declared.local.LocalFile.{LocalFile}
-use Rattle.tftp_client.specs.declared.transfer.Job.{Job}
 use Rattle.tftp_client.specs.CommandLine.{IfExit, IfRun}
-use Rattle.tftp_client.specs.Converses.{Converses, State}
-use Rattle.tftp_client.specs.Fetched.{Keeps, KeepsPlace, Paths, WasNamed}
-use Rattle.tftp_client.specs.OnDisk.{IsFor, IsOnDisk, KeepsFile, job_paths}
+use Rattle.tftp_client.specs.OnDisk.{IsOnDisk, KeepsFile}
 use Rattle.tftp_client.specs.Ordered.{EndsWithoutJob}
 use Rattle.tftp_client.specs.Runs.{IsWhole}
 use Rattle.tftp_client.specs.Sent.{DoesOrder, DoesWords}
 use Rattle.tftp_client.specs.Stored.{HasDisk, IsReceived}
-use Rattle.tftp_client.specs.Words.{WordsName, tftp_app}
-use Rattle.tftp_client.specs.Written.{bytes_in, held_of, paths_of}
+use Rattle.tftp_client.specs.Words.{WordsName}
 use Rattle.tftp_client.proofs.Changing.{then_keeps}
 use Rattle.tftp_client.proofs.SameKind.{converses}
 use Rattle.tftp_client.proofs.SameSink.{run_stays}

@@ -1,20 +1,10 @@
 -- The laws of a complete put.
-use Rattle.std.proofs.Common.{◌≡◌, ℕ, true, List, length, inl, inr, refl, sym, ◌∙◌}
-use Rattle.tftp_wire.specs.declared.mode.Mode.{Mode}
-use Rattle.tftp_wire.specs.declared.mode.Mode.TheVariants.{Octet, Netascii}
-use Rattle.tftp_negotiate.specs.declared.known.Kind.{Kind}
+use Rattle.tftp_client.proofs.Common.{◌≡◌, ℕ, true, List, length, inl, inr, refl, sym, ◌∙◌, Mode, Octet, Netascii, Kind}
+use Rattle.tftp_client.proofs.Common.{SinkMeaning, SourceMeaning, Files, Source, Sink, is_complete, SocketEvent, Job}
+use Rattle.tftp_client.proofs.Common.{Converses, State, nothing_moved, run_moves, IsCountOf, IsFileOf, begun, opens}
+use Rattle.tftp_client.proofs.Common.{plain}
 use Rattle.tftp_negotiate.specs.declared.known.Kind.TheVariants as kinds
-use Rattle.tftp_file.specs.Sink.{SinkMeaning}
-use Rattle.tftp_file.specs.Source.{SourceMeaning}
-use Rattle.tftp_file.specs.declared.files.Files.{Files}
-use Rattle.tftp_file.specs.declared.files.Files.TheVariants.{Source, Sink}
-use Rattle.tftp_ends.specs.End.{is_complete}
-use Rattle.tftp_sockets.specs.Trace.{SocketEvent}
-use Rattle.tftp_client.specs.declared.transfer.Job.{Job}
-use Rattle.tftp_client.specs.Converses.{Converses, State}
-use Rattle.tftp_client.specs.Moved.{nothing_moved, run_moves}
 use Rattle.tftp_client.specs.Given.{CountsWhatItSent, IsGiven, SendsWhatItsFileGave}
-use Rattle.tftp_client.specs.Runs.{IsCountOf, IsFileOf, begun, opens, plain}
 use Rattle.tftp_client.proofs.GivenBytes.{gave_all}
 use Rattle.tftp_client.proofs.SameKind.{converses}
 use Rattle.tftp_client.proofs.SentLength.{sent_all}

@@ -1,28 +1,18 @@
 -- What moved in the run of a complete put was read of its file.
-use Rattle.std.proofs.Common.{◌≡◌, ℕ, true, List, ◌++◌, length, take, inl, inr, refl, sym, ap, ◌∙◌, subst}
+use Rattle.tftp_client.proofs.Common.{◌≡◌, ℕ, true, List, ◌++◌, length, take, inl, inr, refl, sym, ap, ◌∙◌, subst}
+use Rattle.tftp_client.proofs.Common.{same_Some, Mode, Netascii, Kind, SinkMeaning, SourceMeaning, Files, Source, Sink}
+use Rattle.tftp_client.proofs.Common.{is_complete, DiskSource, SocketEvent, Job, Converses, State, nothing_moved}
+use Rattle.tftp_client.proofs.Common.{run_moves, IsFileOf, Transfers, begun, opens, plain}
 use Rattle.std.proofs.Math.Seq.{take-append_seam}
 use Rattle.std.proofs.lemmas.Grind.{flat_map-append}
-use Rattle.std.proofs.lemmas.Option.{same_Some}
-use Rattle.tftp_wire.specs.declared.mode.Mode.{Mode}
-use Rattle.tftp_wire.specs.declared.mode.Mode.TheVariants.{Netascii}
-use Rattle.tftp_negotiate.specs.declared.known.Kind.{Kind}
 use Rattle.tftp_negotiate.specs.declared.known.Kind.TheVariants as kinds
 use Rattle.tftp_file.specs.Netascii.{wire_byte, wire_text}
-use Rattle.tftp_file.specs.Sink.{SinkMeaning}
-use Rattle.tftp_file.specs.Source.{GivesInTurn, SourceMeaning}
-use Rattle.tftp_file.specs.declared.files.Files.{Files}
-use Rattle.tftp_file.specs.declared.files.Files.TheVariants.{Source, Sink}
-use Rattle.tftp_ends.specs.End.{is_complete}
+use Rattle.tftp_file.specs.Source.{GivesInTurn}
 use Rattle.tftp_disk.specs.DiskSource.{source_calls, wire_read}
 use Rattle.tftp_disk.specs.DiskSourceLaws.{GivesInOrder}
 use Rattle.tftp_disk.specs.Given.{given}
-use Rattle.tftp_disk.specs.declared.disk_source.DiskSource.{DiskSource}
-use Rattle.tftp_sockets.specs.Trace.{SocketEvent}
-use Rattle.tftp_client.specs.declared.transfer.Job.{Job}
-use Rattle.tftp_client.specs.Converses.{Converses, State}
-use Rattle.tftp_client.specs.Moved.{nothing_moved, run_moves}
 use Rattle.tftp_client.specs.Outbound.{HasLength, IsPassed}
-use Rattle.tftp_client.specs.Runs.{IsFileOf, Transfers, begun, moved_by, opens, plain}
+use Rattle.tftp_client.specs.Runs.{moved_by}
 use Rattle.tftp_client.specs.Sent.{BeginsAt, BeginsFor, IsSent, IsSentFrom, SendsTheTextWhole}
 use Rattle.tftp_client.specs.Sent.{SendsWhatReadsReturned, StillHas}
 use Rattle.tftp_client.proofs.GivenBytes.{gave_all}

@@ -1,10 +1,7 @@
 -- The result of a job, from the facts of its calls.
-use Rattle.std.proofs.Common.{Result, Ok, Err, IfErr, ◌≡◌, ℕ, Bool, List, subst}
-use Rattle.tftp_file.specs.Sink.{SinkMeaning}
-use Rattle.tftp_file.specs.Source.{SourceMeaning}
-use Rattle.tftp_file.specs.declared.files.Files.{Files}
-use Rattle.tftp_sockets.specs.Trace.{SocketEvent}
-use Rattle.tftp_client.specs.Converses.{State}
+use Rattle.tftp_client.proofs.Common.{Result, Ok, Err, ◌≡◌, ℕ, Bool, List, subst, SinkMeaning, SourceMeaning, Files}
+use Rattle.tftp_client.proofs.Common.{SocketEvent, State}
+use Rattle.std.proofs.Common.{IfErr}
 use Rattle.tftp_client.specs.Runs.{CountsWaits, DalliesTo}
 
 -- for a last call whose result is returned as it is

@@ -1,24 +1,10 @@
 -- The file of a run stays a source, or a sink.
-use Rattle.std.proofs.Common.{ℕ, List, inl, inr, sym, subst}
-use Rattle.tftp_negotiate.specs.declared.known.Kind.{Kind}
+use Rattle.tftp_client.proofs.Common.{ℕ, List, inl, inr, sym, subst, Kind, SinkMeaning, SourceMeaning, Files, Source}
+use Rattle.tftp_client.proofs.Common.{Sink, Action, Respond, Send, Store, Endpoint, datagram_action, EndState}
+use Rattle.tftp_client.proofs.Common.{KeepsFiles, Acts, Turn, SocketEvent, Job, Converses, HandlesReceived, State}
+use Rattle.tftp_client.proofs.Common.{WorksOnFile, Begins, Receives, Waits, Times, Rests, Answers, Loses, IsFileOf}
+use Rattle.tftp_client.proofs.Common.{Transfers}
 use Rattle.tftp_negotiate.specs.declared.known.Kind.TheVariants as kinds
-use Rattle.tftp_file.specs.Sink.{SinkMeaning}
-use Rattle.tftp_file.specs.Source.{SourceMeaning}
-use Rattle.tftp_file.specs.declared.files.Files.{Files}
-use Rattle.tftp_file.specs.declared.files.Files.TheVariants.{Source, Sink}
-use Rattle.tftp_ends.specs.declared.action.Action.{Action}
-use Rattle.tftp_ends.specs.declared.action.Action.TheVariants.{Respond, Send, Store}
-use Rattle.tftp_ends.specs.declared.endpoint.Endpoint.{Endpoint}
-use Rattle.tftp_ends.specs.Action.{datagram_action}
-use Rattle.tftp_ends.specs.End.{EndState}
-use Rattle.tftp_ends.specs.Files.{KeepsFiles}
-use Rattle.tftp_ends.specs.Step.{Acts, Turn}
-use Rattle.tftp_sockets.specs.Trace.{SocketEvent}
-use Rattle.tftp_client.specs.declared.transfer.Job.{Job}
-use Rattle.tftp_client.specs.Converses.{Converses, HandlesReceived, State, WorksOnFile}
-use Rattle.tftp_client.specs.Converses.Converses.{Begins, Receives, Waits, Times, Rests}
-use Rattle.tftp_client.specs.Converses.HandlesReceived.{Answers, Loses}
-use Rattle.tftp_client.specs.Runs.{IsFileOf, Transfers}
 
 module _ {S K : Type 0} (sources : SourceMeaning S) (sinks : SinkMeaning K) where
   abbrev IsOf : Kind → Files S K → Type 0

@@ -1,22 +1,10 @@
 -- What each call on a sink leaves of its state is so after a run.
-use Rattle.std.proofs.Common.{ℕ, Bool, true, false, List, [], ◌∷◌, Result, Ok, Err, sym, subst}
-use Rattle.std.specs.Prelude.{is_ok, nat_lt, length}
-use Rattle.tftp_file.specs.Sink.{SinkMeaning}
-use Rattle.tftp_file.specs.Source.{SourceMeaning}
-use Rattle.tftp_file.specs.declared.fault.StoreFault.{StoreFault}
-use Rattle.tftp_file.specs.declared.files.Files.{Files}
-use Rattle.tftp_file.specs.declared.files.Files.TheVariants.{Source, Sink}
-use Rattle.tftp_ends.specs.declared.action.Action.{Action}
-use Rattle.tftp_ends.specs.declared.action.Action.TheVariants.{Respond, Send, Store}
-use Rattle.tftp_ends.specs.declared.endpoint.Endpoint.{Endpoint}
-use Rattle.tftp_ends.specs.declared.phase.Terms.{Terms}
-use Rattle.tftp_ends.specs.Action.{datagram_action}
-use Rattle.tftp_ends.specs.End.{EndState}
-use Rattle.tftp_ends.specs.Files.{KeepsFiles}
-use Rattle.tftp_ends.specs.Step.{Acts, Appended, Done, GoesOn, Turn}
-use Rattle.tftp_client.specs.Converses.{Converses, HandlesReceived, State, WorksOnFile}
-use Rattle.tftp_client.specs.Converses.Converses.{Begins, Receives, Waits, Times, Rests}
-use Rattle.tftp_client.specs.Converses.HandlesReceived.{Answers, Loses}
+use Rattle.tftp_client.proofs.Common.{ℕ, Bool, true, false, List, [], ◌∷◌, Result, Ok, Err, sym, subst, nat_lt}
+use Rattle.tftp_client.proofs.Common.{SinkMeaning, SourceMeaning, StoreFault, Files, Source, Sink, Action, Respond}
+use Rattle.tftp_client.proofs.Common.{Send, Store, Endpoint, Terms, datagram_action, EndState, KeepsFiles, Acts}
+use Rattle.tftp_client.proofs.Common.{Appended, Done, GoesOn, Turn, Converses, HandlesReceived, State, WorksOnFile}
+use Rattle.tftp_client.proofs.Common.{Begins, Receives, Waits, Times, Rests, Answers, Loses}
+use Rattle.std.specs.Prelude.{is_ok, length}
 
 module _ {S K : Type 0} (sources : SourceMeaning S) (sinks : SinkMeaning K) (P : K → Type 0)
     (stays : (before after : K) (committed : Bool) → sinks.becomes before after committed → P before → P after) where

@@ -1,12 +1,8 @@
 -- The length of a file that is sent, by the calls on it.
-use Rattle.std.proofs.Common.{◌≡◌, ℕ, Bool, true, false, List, [], ◌∷◌, ◌++◌, append-nil, Option, Some, None, Ok, Err, refl, sym, ap, ◌∙◌}
-use Rattle.std.specs.Prelude.{if◌then◌else◌}
-use Rattle.std.proofs.lemmas.Bool.{true≢false}
-use Rattle.std.proofs.lemmas.Option.{same_Some}
+use Rattle.tftp_client.proofs.Common.{◌≡◌, ℕ, Bool, true, false, List, [], ◌∷◌, ◌++◌, append-nil, Option, Some, None}
+use Rattle.tftp_client.proofs.Common.{Ok, Err, refl, sym, ap, ◌∙◌, if◌then◌else◌, true≢false, same_Some, Mode, Octet}
+use Rattle.tftp_client.proofs.Common.{Netascii, DiskEvent}
 use Rattle.std.specs.declared.io.SeekFrom.TheVariants.{Start, End, Current}
-use Rattle.tftp_wire.specs.declared.mode.Mode.{Mode}
-use Rattle.tftp_wire.specs.declared.mode.Mode.TheVariants.{Octet, Netascii}
-use Rattle.tftp_disk.specs.DiskTrace.{DiskEvent}
 use Rattle.tftp_disk.specs.DiskTrace.DiskEvent.{Opened, Given, Sought, Written}
 use Rattle.tftp_disk.specs.Given.{examined, given, is_at_end, is_at_start, passed}
 use Rattle.tftp_disk.specs.Measuring.{CountsPass}

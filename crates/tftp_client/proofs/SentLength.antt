@@ -1,49 +1,33 @@
 -- How many bytes have moved in the run of a sender: those of its blocks so far, and of a complete
 -- one as many as the file had with which it opened.
-use Rattle.std.proofs.Common.{◌≡◌, ℕ, ◌<◌, ◌≤◌, Bool, true, false, List, [], ◌++◌, length, length-append, length-take}
-use Rattle.std.proofs.Common.{Option, Some, None, Result, Ok, Err, refl, sym, ap, ◌∙◌, subst, arith, add-one}
-use Rattle.std.specs.Prelude.{◌==◌, ◌&&◌, ◌+◌, ◌-◌, ◌*◌, ◌/◌, min, nat_lt, if◌then◌else◌}
+use Rattle.tftp_client.proofs.Common.{◌≡◌, ℕ, ◌<◌, ◌≤◌, Bool, true, false, List, [], ◌++◌, length, Option, Some, None}
+use Rattle.tftp_client.proofs.Common.{Result, Ok, Err, refl, sym, ap, ◌∙◌, subst, arith, ◌==◌, ◌&&◌, ◌+◌, ◌-◌, ◌*◌, min}
+use Rattle.tftp_client.proofs.Common.{nat_lt, if◌then◌else◌, true≢false, Mode, Packet, Read, Data, Ack, Oack, Asked}
+use Rattle.tftp_client.proofs.Common.{Known, Refusal, agreement, SinkMeaning, SourceMeaning, Files, Source, Sink}
+use Rattle.tftp_client.proofs.Common.{Action, Respond, Send, Store, Response, Ignore, WrongPeer, ResendReply}
+use Rattle.tftp_client.proofs.Common.{Retransmit, Wait, Close, Refuse, Accept, Complete, Endpoint, FileTooLarge, Phase}
+use Rattle.tftp_client.proofs.Common.{Waiting, Sending, Receiving, Dallying, Closed, Terms, datagram_action}
+use Rattle.tftp_client.proofs.Common.{garbled_response, packet_action, timeout_response, EndState, is_client}
+use Rattle.tftp_client.proofs.Common.{is_complete, is_sender, illegal_action, Acts, Turn, after, after_turn}
+use Rattle.tftp_client.proofs.Common.{block_length, data_bytes, refused_turn, response_turn, result_count_is, sent_turn}
+use Rattle.tftp_client.proofs.Common.{agreed_terms, begin_action, begin_with_action, default_terms, no_answer}
+use Rattle.tftp_client.proofs.Common.{reader_action, refusal_action, writer_action, Converses, HandlesReceived}
+use Rattle.tftp_client.proofs.Common.{MayElapse, State, Begins, Receives, Waits, Times, Rests, Answers, Loses, Stays}
+use Rattle.tftp_client.proofs.Common.{Elapses, Moved, acts_move, handling_moves, nothing_moved, run_moves}
+use Rattle.std.proofs.Common.{length-append, length-take}
+use Rattle.std.proofs.Common.{add-one}
+use Rattle.std.specs.Prelude.{◌/◌}
 use Rattle.std.proofs.Math.Nat.{lt-div-mul-add, mul-le-mul_right, suc-mul}
-use Rattle.std.proofs.lemmas.Bool.{true≢false, ltb-true, ltb-false, eqb-true}
-use Rattle.tftp_wire.specs.declared.mode.Mode.{Mode}
-use Rattle.tftp_wire.specs.declared.packet.Packet.{Packet}
-use Rattle.tftp_wire.specs.declared.packet.Packet.TheVariants.{Read, Write, Data, Ack, Error, Oack}
-use Rattle.tftp_negotiate.specs.declared.asked.Asked.{Asked}
+use Rattle.std.proofs.lemmas.Bool.{ltb-true, ltb-false, eqb-true}
+use Rattle.tftp_wire.specs.declared.packet.Packet.TheVariants.{Write, Error}
 use Rattle.tftp_negotiate.specs.declared.known.Kind.TheVariants as kinds
-use Rattle.tftp_negotiate.specs.declared.known.Known.{Known}
-use Rattle.tftp_negotiate.specs.declared.refusal.Refusal.{Refusal}
 use Rattle.tftp_negotiate.specs.declared.refusal.Refusal.TheVariants as refusals
-use Rattle.tftp_negotiate.specs.Agreement.{agreement}
-use Rattle.tftp_file.specs.Sink.{SinkMeaning}
-use Rattle.tftp_file.specs.Source.{Fills, SourceMeaning}
+use Rattle.tftp_file.specs.Source.{Fills}
 use Rattle.tftp_file.specs.declared.fault.FileFault.{FileFault}
-use Rattle.tftp_file.specs.declared.files.Files.{Files}
-use Rattle.tftp_file.specs.declared.files.Files.TheVariants.{Source, Sink}
-use Rattle.tftp_ends.specs.declared.action.Action.{Action}
-use Rattle.tftp_ends.specs.declared.action.Action.TheVariants.{Respond, Send, Store}
-use Rattle.tftp_ends.specs.declared.action.Response.{Response}
-use Rattle.tftp_ends.specs.declared.action.Response.TheVariants.{Ignore, WrongPeer, ResendReply}
-use Rattle.tftp_ends.specs.declared.action.Response.TheVariants.{Retransmit, Wait, Close, Refuse}
-use Rattle.tftp_ends.specs.declared.action.Response.TheVariants.{Accept, Complete}
-use Rattle.tftp_ends.specs.declared.endpoint.Endpoint.{Endpoint}
-use Rattle.tftp_ends.specs.declared.error_reply.ErrorReply.TheVariants.{FileChanged, FileTooLarge}
+use Rattle.tftp_ends.specs.declared.error_reply.ErrorReply.TheVariants.{FileChanged}
 use Rattle.tftp_ends.specs.declared.outcome.Outcome.TheVariants as outcomes
-use Rattle.tftp_ends.specs.declared.phase.Phase.{Phase}
-use Rattle.tftp_ends.specs.declared.phase.Phase.TheVariants.{Waiting, Sending, Receiving, Dallying, Closed}
-use Rattle.tftp_ends.specs.declared.phase.Terms.{Terms}
-use Rattle.tftp_ends.specs.Action.{datagram_action, garbled_response, packet_action, timeout_response}
-use Rattle.tftp_ends.specs.End.{EndState, is_client, is_complete, is_sender}
 use Rattle.tftp_ends.specs.Phase.{waited}
-use Rattle.tftp_ends.specs.Sender.{acked_action, illegal_action, sender_action}
-use Rattle.tftp_ends.specs.Step.{Acts, Turn, after, after_turn, block_length, data_bytes, refused_turn}
-use Rattle.tftp_ends.specs.Step.{response_turn, result_count_is, sent_turn}
-use Rattle.tftp_ends.specs.Waiting.{agreed_terms, begin_action, begin_with_action, default_terms, no_answer}
-use Rattle.tftp_ends.specs.Waiting.{reader_action, refusal_action, writer_action}
-use Rattle.tftp_client.specs.Converses.{Converses, HandlesReceived, MayElapse, State}
-use Rattle.tftp_client.specs.Converses.Converses.{Begins, Receives, Waits, Times, Rests}
-use Rattle.tftp_client.specs.Converses.HandlesReceived.{Answers, Loses}
-use Rattle.tftp_client.specs.Converses.MayElapse.{Stays, Elapses}
-use Rattle.tftp_client.specs.Moved.{Moved, acts_move, handling_moves, nothing_moved, run_moves}
+use Rattle.tftp_ends.specs.Sender.{acked_action, sender_action}
 use Rattle.tftp_client.proofs.Committing.{by_tests, if_either}
 
 -- ---- numbers

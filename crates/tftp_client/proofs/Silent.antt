@@ -1,40 +1,20 @@
 -- What a client does to whom nothing comes, step by step.
-use Rattle.std.proofs.Common.{◌≡◌, ◌<◌, ◌≤◌, ◌⊎◌, ℕ, Bool, true, false, List, Option, Some, IsSome}
-use Rattle.std.proofs.Common.{inl, inr, refl, sym, ap, subst, ◌∙◌, arith}
-use Rattle.std.specs.Prelude.{◌==◌, ◌+◌, ◌-◌, ◌*◌, max, min, if◌then◌else◌}
-use Rattle.std.proofs.Math.Nat.{lt_of_not-le}
-use Rattle.std.proofs.lemmas.Bool.{true≢false}
-use Rattle.std.proofs.lemmas.Option.{none-some, same_Some}
-use Rattle.tftp_negotiate.specs.declared.asked.Asked.{Asked}
-use Rattle.tftp_negotiate.specs.declared.known.Kind.{Kind}
-use Rattle.tftp_negotiate.specs.declared.known.Kind.TheVariants.{Read, Write}
-use Rattle.tftp_file.specs.Sink.{SinkMeaning}
-use Rattle.tftp_file.specs.Source.{SourceMeaning}
-use Rattle.tftp_file.specs.declared.files.Files.{Files}
-use Rattle.tftp_ends.specs.Action.{timeout_response}
-use Rattle.tftp_ends.specs.Backoff.{wait_of}
-use Rattle.tftp_ends.specs.End.{EndState, Position, outcome_of}
-use Rattle.tftp_ends.specs.declared.backoff.Backoff.{Backoff}
-use Rattle.tftp_ends.specs.Step.{after, after_turn, timeout_turn}
-use Rattle.tftp_ends.specs.declared.action.Response.{Response}
-use Rattle.tftp_ends.specs.declared.action.Response.TheVariants.{Close, Retransmit}
-use Rattle.tftp_ends.specs.declared.endpoint.Endpoint.{Endpoint}
-use Rattle.tftp_ends.specs.declared.outcome.Outcome.{Outcome}
+use Rattle.tftp_client.proofs.Common.{◌≡◌, ◌<◌, ◌≤◌, ◌⊎◌, ℕ, Bool, true, false, List, Option, Some, IsSome, inl, inr}
+use Rattle.tftp_client.proofs.Common.{refl, sym, ap, subst, ◌∙◌, arith, ◌==◌, ◌+◌, ◌-◌, ◌*◌, min, if◌then◌else◌}
+use Rattle.tftp_client.proofs.Common.{lt_of_not-le, true≢false, same_Some, Asked, Kind, Write, SinkMeaning}
+use Rattle.tftp_client.proofs.Common.{SourceMeaning, Files, timeout_response, wait_of, EndState, Position, outcome_of}
+use Rattle.tftp_client.proofs.Common.{Backoff, after, after_turn, timeout_turn, Response, Close, Retransmit, Endpoint}
+use Rattle.tftp_client.proofs.Common.{Outcome, Phase, Waiting, last_moment, Watch, SocketEvent, QuietEvent, waits, Job}
+use Rattle.tftp_client.proofs.Common.{Converses, IsOpen, MayElapse, MayWait, State, deadline_at, elapsed, waited}
+use Rattle.tftp_client.proofs.Common.{Begins, Receives, Waits, Times, Rests, Stays, Elapses, begun, opens, seconds_in}
+use Rattle.std.specs.Prelude.{max}
+use Rattle.std.proofs.lemmas.Option.{none-some}
+use Rattle.tftp_negotiate.specs.declared.known.Kind.TheVariants.{Read}
 use Rattle.tftp_ends.specs.declared.outcome.Outcome.TheVariants.{TimedOut}
-use Rattle.tftp_ends.specs.declared.phase.Phase.{Phase}
-use Rattle.tftp_ends.specs.declared.phase.Phase.TheVariants.{Waiting}
-use Rattle.tftp_sockets.specs.Watch.{last_moment}
-use Rattle.tftp_sockets.specs.declared.watch.Watch.{Watch}
-use Rattle.tftp_sockets.specs.Trace.{SocketEvent, QuietEvent}
 use Rattle.tftp_sockets.specs.Trace.QuietEvent.{Empty, Failed}
-use Rattle.tftp_sockets.specs.Quiet.{waits, waits_in}
-use Rattle.tftp_client.specs.declared.transfer.Job.{Job}
-use Rattle.tftp_client.specs.Converses.{Converses, IsOpen, MayElapse, MayWait, State, deadline_at}
-use Rattle.tftp_client.specs.Converses.{elapsed, wait_at, waited}
-use Rattle.tftp_client.specs.Converses.Converses.{Begins, Receives, Waits, Times, Rests}
-use Rattle.tftp_client.specs.Converses.MayElapse.{Stays, Elapses}
-use Rattle.tftp_client.specs.Runs.{begun, opens}
-use Rattle.tftp_client.specs.Silence.{IsSilent, TimesOut, WaitsForEachSending, seconds_in}
+use Rattle.tftp_sockets.specs.Quiet.{waits_in}
+use Rattle.tftp_client.specs.Converses.{wait_at}
+use Rattle.tftp_client.specs.Silence.{IsSilent, TimesOut, WaitsForEachSending}
 use Rattle.tftp_client.proofs.Conversing.{waits_elapsed}
 use Rattle.tftp_client.proofs.Growing.{one_more, wait_least, waiting_deadline}
 

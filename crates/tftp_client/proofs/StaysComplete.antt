@@ -1,33 +1,15 @@
 -- An end that is complete stays so, and moves nothing.
-use Rattle.std.proofs.Common.{◌≡◌, ℕ, true, List, Option, Some, None, refl, sym, ◌∙◌, subst}
-use Rattle.std.specs.Prelude.{◌==◌}
-use Rattle.std.proofs.lemmas.Bool.{true≢false}
-use Rattle.tftp_wire.specs.declared.packet.Packet.{Packet}
-use Rattle.tftp_wire.specs.declared.packet.Packet.TheVariants.{Read, Write, Data, Ack, Error, Oack}
-use Rattle.tftp_file.specs.Sink.{SinkMeaning}
-use Rattle.tftp_file.specs.Source.{SourceMeaning}
-use Rattle.tftp_file.specs.declared.files.Files.{Files}
-use Rattle.tftp_ends.specs.declared.action.Action.{Action}
-use Rattle.tftp_ends.specs.declared.action.Action.TheVariants.{Respond, Send, Store}
-use Rattle.tftp_ends.specs.declared.action.Response.{Response}
-use Rattle.tftp_ends.specs.declared.action.Response.TheVariants.{Ignore, WrongPeer, ResendReply}
-use Rattle.tftp_ends.specs.declared.action.Response.TheVariants.{Retransmit, Wait, Close, Refuse}
-use Rattle.tftp_ends.specs.declared.action.Response.TheVariants.{Accept, Complete}
-use Rattle.tftp_ends.specs.declared.endpoint.Endpoint.{Endpoint}
+use Rattle.tftp_client.proofs.Common.{◌≡◌, ℕ, true, List, Option, Some, None, refl, sym, ◌∙◌, subst, ◌==◌, true≢false}
+use Rattle.tftp_client.proofs.Common.{Packet, Read, Data, Ack, Oack, SinkMeaning, SourceMeaning, Files, Action, Respond}
+use Rattle.tftp_client.proofs.Common.{Send, Store, Response, Ignore, WrongPeer, ResendReply, Retransmit, Wait, Close}
+use Rattle.tftp_client.proofs.Common.{Refuse, Accept, Complete, Endpoint, Fresh, Waited, Phase, Waiting, Sending}
+use Rattle.tftp_client.proofs.Common.{Receiving, Dallying, Closed, datagram_action, garbled_response, packet_action}
+use Rattle.tftp_client.proofs.Common.{timeout_response, EndState, is_complete, dally_response, Acts, Turn, after_turn}
+use Rattle.tftp_client.proofs.Common.{response_turn, SocketEvent, Converses, HandlesReceived, MayElapse, State, Begins}
+use Rattle.tftp_client.proofs.Common.{Receives, Waits, Times, Rests, Answers, Loses, Stays, Elapses, Moved, acts_move}
+use Rattle.tftp_client.proofs.Common.{handling_moves, nothing_moved, run_moves}
+use Rattle.tftp_wire.specs.declared.packet.Packet.TheVariants.{Write, Error}
 use Rattle.tftp_ends.specs.declared.outcome.Outcome.TheVariants as outcomes
-use Rattle.tftp_ends.specs.declared.phase.Dally.TheVariants.{Fresh, Waited}
-use Rattle.tftp_ends.specs.declared.phase.Phase.{Phase}
-use Rattle.tftp_ends.specs.declared.phase.Phase.TheVariants.{Waiting, Sending, Receiving, Dallying, Closed}
-use Rattle.tftp_ends.specs.Action.{datagram_action, garbled_response, packet_action, timeout_response}
-use Rattle.tftp_ends.specs.End.{EndState, is_complete}
-use Rattle.tftp_ends.specs.Receiver.{dally_response}
-use Rattle.tftp_ends.specs.Step.{Acts, Turn, after_turn, response_turn}
-use Rattle.tftp_sockets.specs.Trace.{SocketEvent}
-use Rattle.tftp_client.specs.Converses.{Converses, HandlesReceived, MayElapse, State}
-use Rattle.tftp_client.specs.Converses.Converses.{Begins, Receives, Waits, Times, Rests}
-use Rattle.tftp_client.specs.Converses.HandlesReceived.{Answers, Loses}
-use Rattle.tftp_client.specs.Converses.MayElapse.{Stays, Elapses}
-use Rattle.tftp_client.specs.Moved.{Moved, acts_move, handling_moves, nothing_moved, run_moves}
 use Rattle.tftp_client.specs.Runs.{Dallies}
 use Rattle.tftp_client.proofs.Committing.{by_tests, if_either, waits_complete}
 

@@ -1,14 +1,14 @@
 -- A file that was made is still what has its path.
-use Rattle.std.proofs.Common.{◌≡◌, ℕ, List, [], ◌∷◌, length, Option, Some, None, Result, Ok, Err, OnErr, inl, inr, refl, sym, ap, ◌∙◌, subst}
-use Rattle.std.proofs.Math.Logic.{∥∥₁_map}
-use Rattle.std.specs.declared.io.Error.{Error}
-use Rattle.tftp_disk.specs.DiskTrace.{DiskEvent, Done, FileState, made_when, state_of}
-use Rattle.tftp_disk.specs.DiskTrace.DiskEvent.{Folder_synced, Linked, Made, Removed, Renamed}
-use Rattle.tftp_disk.specs.DiskWriter.{calls_of, handed}
-use Rattle.tftp_disk.specs.Still.{IsStillAt, LeavesPath}
-use Rattle.tftp_client.specs.declared.written.Written.{Written}
-use Rattle.tftp_client.specs.Fetched.{LosesName, MovesUnsynced, Paths}
-use Rattle.tftp_client.specs.Written.{IsDone, IsLeftAs, IsLeftIn, IsStillIn, SameFile, SameIn}
+use Rattle.tftp_client.proofs.Common.{◌≡◌, ℕ, List, [], ◌∷◌, length, Option, Some, None, Result, Ok, Err, inl, inr}
+use Rattle.tftp_client.proofs.Common.{refl, sym, ap, ◌∙◌, subst, ∥∥₁_map, Error, DiskEvent, FileState, made_when}
+use Rattle.tftp_client.proofs.Common.{Folder_synced, Linked, Made, Removed, calls_of, handed, IsStillAt, Written, Paths}
+use Rattle.tftp_client.proofs.Common.{IsLeftIn}
+use Rattle.std.proofs.Common.{OnErr}
+use Rattle.tftp_disk.specs.DiskTrace.{Done, state_of}
+use Rattle.tftp_disk.specs.DiskTrace.DiskEvent.{Renamed}
+use Rattle.tftp_disk.specs.Still.{LeavesPath}
+use Rattle.tftp_client.specs.Fetched.{LosesName, MovesUnsynced}
+use Rattle.tftp_client.specs.Written.{IsDone, IsLeftAs, IsStillIn, SameFile, SameIn}
 
 -- it was made just now
 pub just_made : (path : List ℕ) (calls : Option ℕ) (before after : List DiskEvent) → after ≡ Made path (Ok tt) ∷ before

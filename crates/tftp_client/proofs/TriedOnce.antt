@@ -1,14 +1,12 @@
 -- The name of a received file is tried once: what was given then stays, and else the file is left where it was.
-use Rattle.std.proofs.Common.{◌≡◌, ℕ, List, Bool, true, false, refl, sym, ap, ◌∙◌, subst}
-use Rattle.std.proofs.Math.Logic.{∥∥₁_map}
+use Rattle.tftp_client.proofs.Common.{◌≡◌, ℕ, List, Bool, true, false, refl, sym, ap, ◌∙◌, subst, ∥∥₁_map, DiskEvent}
+use Rattle.tftp_client.proofs.Common.{Paths, WasNamed, IsLeftIn, bytes_in, paths_of}
 use Rattle.std.specs.declared.io.traits.Read as read
 use Rattle.std.specs.declared.io.traits.Write as write
 use Rattle.std.specs.declared.io.traits.Seek as seek
-use Rattle.tftp_disk.specs.DiskTrace.{DiskEvent}
 use Rattle.tftp_disk.specs.declared.disk.Looks as looks
 use Rattle.tftp_client.specs.declared.part_file.PartFile.{PartFile}
-use Rattle.tftp_client.specs.Fetched.{Paths, WasNamed}
-use Rattle.tftp_client.specs.Written.{IsLeftIn, SameIn, bytes_in, paths_of}
+use Rattle.tftp_client.specs.Written.{SameIn}
 use Rattle.tftp_client.proofs.StillThere.{in_left, still_left}
 
 module _ {D F V G : Type 0} {logs : looks.Ghosts D} {writes : write.Ghosts F} {views : looks.Ghosts V}

@@ -1,26 +1,14 @@
 -- A received file is not committed while its end is not complete.
-use Rattle.std.proofs.Common.{◌≡◌, Bool, true, false, List, [], ◌∷◌, length, ℕ, Option, Some, Result, Ok, Err, refl, sym, ap, ◌∙◌, subst}
-use Rattle.std.specs.Prelude.{nat_lt}
-use Rattle.std.proofs.lemmas.Bool.{true≢false}
-use Rattle.tftp_file.specs.Sink.{Appends, AppendsFreely, Commits, CommitsFreely, Holding, SinkMeaning, UnlessArmed, disarmed, with_piece}
-use Rattle.tftp_file.specs.Source.{SourceMeaning, StaysKnown}
-use Rattle.tftp_file.specs.declared.fault.StoreFault.{StoreFault}
+use Rattle.tftp_client.proofs.Common.{◌≡◌, Bool, true, false, List, [], ◌∷◌, length, ℕ, Option, Some, Result, Ok, Err}
+use Rattle.tftp_client.proofs.Common.{refl, sym, ap, ◌∙◌, subst, nat_lt, true≢false, Appends, AppendsFreely, Commits}
+use Rattle.tftp_client.proofs.Common.{CommitsFreely, Holding, SinkMeaning, UnlessArmed, disarmed, SourceMeaning}
+use Rattle.tftp_client.proofs.Common.{StaysKnown, StoreFault, Files, Source, Sink, Action, Respond, Send, Store}
+use Rattle.tftp_client.proofs.Common.{Endpoint, Terms, datagram_action, EndState, is_complete, KeepsFiles, KeepsHolding}
+use Rattle.tftp_client.proofs.Common.{Acts, Appended, Done, GoesOn, Turn, after_turn, committed_turn, holding}
+use Rattle.tftp_client.proofs.Common.{Converses, HandlesReceived, State, WorksOnFile, Begins, Receives, Waits, Times}
+use Rattle.tftp_client.proofs.Common.{Rests, Answers, Loses, nothing_moved, IsNew}
+use Rattle.tftp_file.specs.Sink.{with_piece}
 use Rattle.tftp_file.specs.declared.fault.StoreFault.TheVariants as faults
-use Rattle.tftp_file.specs.declared.files.Files.{Files}
-use Rattle.tftp_file.specs.declared.files.Files.TheVariants.{Source, Sink}
-use Rattle.tftp_ends.specs.declared.action.Action.{Action}
-use Rattle.tftp_ends.specs.declared.action.Action.TheVariants.{Respond, Send, Store}
-use Rattle.tftp_ends.specs.declared.endpoint.Endpoint.{Endpoint}
-use Rattle.tftp_ends.specs.declared.phase.Terms.{Terms}
-use Rattle.tftp_ends.specs.Action.{datagram_action}
-use Rattle.tftp_ends.specs.End.{EndState, is_complete}
-use Rattle.tftp_ends.specs.Files.{KeepsFiles, KeepsHolding}
-use Rattle.tftp_ends.specs.Step.{Acts, Appended, Done, GoesOn, Turn, after_turn, committed_turn, holding}
-use Rattle.tftp_client.specs.Converses.{Converses, HandlesReceived, State, WorksOnFile}
-use Rattle.tftp_client.specs.Converses.Converses.{Begins, Receives, Waits, Times, Rests}
-use Rattle.tftp_client.specs.Converses.HandlesReceived.{Answers, Loses}
-use Rattle.tftp_client.specs.Moved.{nothing_moved}
-use Rattle.tftp_client.specs.Runs.{IsNew}
 use Rattle.tftp_client.specs.Taken.{nothing}
 use Rattle.tftp_client.proofs.StaysComplete.{IsDone, elapses, handles}
 

@@ -1,57 +1,44 @@
 -- A get and a put that are complete: the law `some_transfers_are_complete` has them.
+use Rattle.tftp_client.proofs.Common.{rules, ◌≡◌, refl, ℕ, [], ◌∷◌, ◌++◌, Some, None, Ok, true, false, arith, inl, inr}
+use Rattle.tftp_client.proofs.Common.{List, length, ap, sym, ◌*◌, same_Some, true≢false, Octet, Ack, Data, Asked, Write}
+use Rattle.tftp_client.proofs.Common.{Files, Sink, Source, Endpoint, EndState, Complete, DatagramStep, Done, Turn}
+use Rattle.tftp_client.proofs.Common.{after_turn, committed_turn, data_bytes, response_turn, default_terms, Made}
+use Rattle.tftp_client.proofs.Common.{Removed, Linked, Folder_synced, calls_of, Refused, Found, Watch, IsStillAt}
+use Rattle.tftp_client.proofs.Common.{KeepsPlace, WasNamed, paths_of, Written, Job, Converses, IsOpen, State, Begins}
+use Rattle.tftp_client.proofs.Common.{Receives, Answers, SocketEvent, begun, printed}
 use denote.RawPtr.{null_ptr}
-use Rattle.std.proofs.Common.{rules, ◌≡◌, refl, ℕ, [], ◌∷◌, ◌++◌, Some, None, Ok, true, false, arith, inl, inr, List, length, ap, sym, zero, suc}
-use Rattle.std.specs.Prelude.{◌<◌, ◌^◌, ◌*◌, pos, codes, get_or, IsUtf8}
+use Rattle.std.proofs.Common.{zero, suc}
+use Rattle.std.specs.Prelude.{◌<◌, ◌^◌, pos, codes, get_or, IsUtf8}
 use Rattle.std.proofs.lemmas.Fmt.{decimal_digit}
-use Rattle.std.proofs.lemmas.Option.{same_Some}
 use Rattle.tftp_arguments.specs.Read.{IsFlag}
-use Rattle.std.proofs.lemmas.Bool.{ltb-true, true≢false}
+use Rattle.std.proofs.lemmas.Bool.{ltb-true}
 use Rattle.std.specs.declared.alloc.Global.{Global}
 use Rattle.std.specs.declared.string.String.{String}
 use Rattle.clap.proofs.OnLiterals.{clap_on_literals}
 use Rattle.tftp_wire.specs.Spelling.{Spells}
-use Rattle.tftp_wire.specs.declared.mode.Mode.TheVariants.{Octet}
-use Rattle.tftp_wire.specs.declared.packet.Packet.TheVariants.{Ack, Data}
-use Rattle.tftp_negotiate.specs.declared.asked.Asked.{Asked}
-use Rattle.tftp_negotiate.specs.declared.known.Kind.TheVariants.{Read, Write}
-use Rattle.tftp_file.specs.declared.files.Files.{Files}
-use Rattle.tftp_file.specs.declared.files.Files.TheVariants.{Sink, Source}
-use Rattle.tftp_ends.specs.declared.endpoint.Endpoint.{Endpoint}
+use Rattle.tftp_negotiate.specs.declared.known.Kind.TheVariants.{Read}
 use Rattle.tftp_ends.specs.declared.backoff.Backoff.TheVariants.{Constant}
-use Rattle.tftp_ends.specs.End.{EndState}
 use Rattle.tftp_ends.specs.Opening.{MayGet, MayPut, getting, putting}
-use Rattle.tftp_ends.specs.declared.action.Response.TheVariants.{Complete}
-use Rattle.tftp_ends.specs.Step.{DatagramStep, Done, Turn, ack_bytes, after_turn, committed_turn, data_bytes, filled_turn}
-use Rattle.tftp_ends.specs.Step.{reported, response_turn}
-use Rattle.tftp_ends.specs.Waiting.{default_terms}
+use Rattle.tftp_ends.specs.Step.{ack_bytes, filled_turn}
+use Rattle.tftp_ends.specs.Step.{reported}
 use Rattle.tftp_file.specs.declared.length.TheConstants.{MAX_WIRE}
 use Rattle.std.specs.List.{AllByRecursion}
 use Rattle.tftp_disk.specs.DiskTrace.{modes_asked, state_of, sync_failed}
-use Rattle.tftp_disk.specs.DiskTrace.DiskEvent.{Written as Written_bytes, Created, Examined, Given, Opened, Synced, Made, Removed, Linked, Folder_opened, Folder_synced}
-use Rattle.tftp_disk.specs.DiskWriter.{calls_of}
+use Rattle.tftp_disk.specs.DiskTrace.DiskEvent.{Written as Written_bytes, Created, Examined, Given, Opened, Synced}
+use Rattle.tftp_disk.specs.DiskTrace.DiskEvent.{Folder_opened}
 use Rattle.tftp_disk.specs.Folder.IsFolderOf.{Here}
 use Rattle.tftp_disk.specs.Folder.{HasNoSlash}
-use Rattle.tftp_disk.specs.declared.existing.Existing.TheVariants.{Refused}
-use Rattle.tftp_disk.specs.declared.found.Found.{Found}
 use Rattle.tftp_disk.specs.declared.found.Kind.TheVariants.{Regular}
-use Rattle.tftp_sockets.specs.declared.watch.Watch.{Watch}
-use Rattle.tftp_disk.specs.Still.{IsStillAt}
-use Rattle.tftp_client.specs.Fetched.{ArePermissions, KeepsPlace, WasNamed}
-use Rattle.tftp_client.specs.Written.{paths_for, paths_of}
+use Rattle.tftp_client.specs.Fetched.{ArePermissions}
+use Rattle.tftp_client.specs.Written.{paths_for}
 use Rattle.tftp_client.specs.declared.local_names.LocalNames.{LocalNames}
-use Rattle.tftp_client.specs.declared.written.Written.{Written}
-use Rattle.tftp_client.specs.declared.transfer.Job.{Job}
 use Rattle.tftp_client.specs.declared.transfer.conversation.Progress.TheVariants.{Hidden}
-use Rattle.tftp_client.specs.Converses.{Converses, IsOpen, State, received, turned, renewed}
-use Rattle.tftp_client.specs.Converses.Converses.{Begins, Receives}
-use Rattle.tftp_client.specs.Converses.HandlesReceived.{Answers}
+use Rattle.tftp_client.specs.Converses.{received, turned, renewed}
 use Rattle.tftp_client.specs.OnDisk.{KeepsDisk, StoresWords}
 use Rattle.tftp_client.specs.Sent.{SendsWords}
 use Rattle.tftp_lines.specs.ClientOutcome.{end_text}
 use Rattle.tftp_lines.specs.declared.client_outcome.ClientOutcome.TheVariants as ends
 use Rattle.tftp_sockets.specs.Address.{Names}
-use Rattle.tftp_sockets.specs.Trace.{SocketEvent}
-use Rattle.tftp_client.specs.Runs.{begun, printed}
 use Rattle.tftp_client.specs.Words.{WordsName}
 use Rattle.tftp_client.specs.Witness.{Calls, Local, LocalSource, SomeAreSent, SomeAreStored, get_words}
 use Rattle.tftp_client.specs.Witness.{local_sink, local_source, put_words}

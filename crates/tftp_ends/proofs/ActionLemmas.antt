@@ -1,40 +1,27 @@
 -- What holds of the action of an end for a packet. For `End::datagram_action` and RowLemmas.
-use Rattle.std.proofs.Common.{◌≡◌, ◌<◌, ◌∙◌, ℕ, Bool, true, false, List, [], length, drop, Option, Some, None, Result}
-use Rattle.std.proofs.Common.{Ok, Err, refl, sym, ap, subst, ◌≤◌, arith}
-use Rattle.std.proofs.lemmas.Bool.{lt-ltb, eqb-true}
-use Rattle.std.specs.Prelude.{◌==◌, ◌&&◌, ◌+◌, ◌*◌, ◌/◌, ◌||◌, not, nat_lt, nat_le, if◌then◌else◌}
-use Rattle.tftp_wire.specs.declared.packet.Packet.{Packet}
-use Rattle.tftp_wire.specs.declared.packet.Packet.TheVariants.{Read, Write, Data, Ack, Error, Oack}
-use Rattle.tftp_wire.specs.Spelling.{Spells}
+use Rattle.tftp_ends.proofs.Common.{◌≡◌, ◌<◌, ◌∙◌, ℕ, Bool, true, false, List, [], length, Option, Some, None, Result}
+use Rattle.tftp_ends.proofs.Common.{Ok, Err, refl, sym, ap, subst, ◌≤◌, arith, lt-ltb, eqb-true, ◌==◌, ◌&&◌, ◌+◌, ◌||◌}
+use Rattle.tftp_ends.proofs.Common.{not, nat_lt, nat_le, if◌then◌else◌, Packet, Read, Write, Data, Ack, Error, Oack}
+use Rattle.tftp_ends.proofs.Common.{Spells, DEFAULT_BLOCK, Asked, Known, Refusal, agreement, Action, Respond, Send}
+use Rattle.tftp_ends.proofs.Common.{Store, Response, Ignore, ResendReply, Refuse, Complete, WrongPeer, Endpoint}
+use Rattle.tftp_ends.proofs.Common.{FileTooLarge, NotNetascii, Phase, Waiting, Sending, Receiving, Dallying, Closed}
+use Rattle.tftp_ends.proofs.Common.{Terms, has_error_opcode, Decodes, packet_action, is_wrong_peer, garbled_response}
+use Rattle.tftp_ends.proofs.Common.{EndState, is_sender, terms_of, number_of, receiver_action, next_action}
+use Rattle.tftp_ends.proofs.Common.{illegal_action, BytesFit, ack_bytes, is_readable, reader_action, writer_action}
+use Rattle.tftp_ends.proofs.Common.{accept_action, begin_action, begin_with_action, refusal_action, default_terms}
+use Rattle.tftp_ends.proofs.Common.{agreed_terms, no_answer}
+use Rattle.std.proofs.Common.{drop}
+use Rattle.std.specs.Prelude.{◌*◌, ◌/◌}
 use Rattle.tftp_wire.specs.declared.limits.TheConstants.{MAX_REQUEST}
-use Rattle.tftp_negotiate.specs.declared.limits.TheConstants.{DEFAULT_BLOCK}
-use Rattle.tftp_negotiate.specs.declared.asked.Asked.{Asked}
 use Rattle.tftp_negotiate.specs.declared.known.Kind.TheVariants as kinds
-use Rattle.tftp_negotiate.specs.declared.known.Known.{Known}
-use Rattle.tftp_negotiate.specs.declared.refusal.Refusal.{Refusal}
 use Rattle.tftp_negotiate.specs.declared.refusal.Refusal.TheVariants as refusals
-use Rattle.tftp_negotiate.specs.Agreement.{agreement}
-use Rattle.tftp_ends.specs.declared.action.Action.{Action}
-use Rattle.tftp_ends.specs.declared.action.Action.TheVariants.{Respond, Send, Store}
-use Rattle.tftp_ends.specs.declared.action.Response.{Response}
-use Rattle.tftp_ends.specs.declared.action.Response.TheVariants.{Ignore, ResendReply, Refuse, Complete, WrongPeer}
-use Rattle.tftp_ends.specs.declared.endpoint.Endpoint.{Endpoint}
-use Rattle.tftp_ends.specs.declared.error_reply.ErrorReply.TheVariants.{FileTooLarge, NotNetascii}
 use Rattle.tftp_ends.specs.declared.outcome.Outcome.TheVariants as outcomes
-use Rattle.tftp_ends.specs.declared.phase.Phase.{Phase}
-use Rattle.tftp_ends.specs.declared.phase.Phase.TheVariants.{Waiting, Sending, Receiving, Dallying, Closed}
-use Rattle.tftp_ends.specs.declared.phase.Terms.{Terms}
-use Rattle.tftp_wire.specs.Reading.{has_error_opcode}
-use Rattle.tftp_ends.specs.Action.{Decodes, packet_action, datagram_action, is_wrong_peer, garbled_response}
-use Rattle.tftp_ends.specs.End.{EndState, is_sender, is_client, terms_of, number_of}
-use Rattle.tftp_ends.specs.Receiver.{receiver_action, data_action, next_action, dally_response}
-use Rattle.tftp_ends.specs.Sender.{sender_action, acked_action, illegal_action}
+use Rattle.tftp_ends.specs.Action.{datagram_action}
+use Rattle.tftp_ends.specs.End.{is_client}
+use Rattle.tftp_ends.specs.Receiver.{data_action, dally_response}
+use Rattle.tftp_ends.specs.Sender.{sender_action, acked_action}
 use Rattle.tftp_ends.specs.Sound.{IsSound, PhaseFits, ResendsAck, HasAcknowledged}
-use Rattle.tftp_ends.specs.Fits.{BytesFit, SentFits}
-use Rattle.tftp_ends.specs.Step.{ack_bytes}
-use Rattle.tftp_ends.specs.Text.{is_readable}
-use Rattle.tftp_ends.specs.Waiting.{reader_action, writer_action, accept_action, begin_action, begin_with_action}
-use Rattle.tftp_ends.specs.Waiting.{refusal_action, default_terms, agreed_terms, no_answer}
+use Rattle.tftp_ends.specs.Fits.{SentFits}
 
 -- both cases of a test
 if_either : {A : Type 0} (P : A → Type 0) (b : Bool) (r s : A) → (b ≡ true → P r) → (b ≡ false → P s) →

@@ -1,10 +1,7 @@
 -- The datagram that a call lends or appends is that of its step. For `End::handle_timeout` and `End::on_timeout`.
-use Rattle.std.proofs.Common.{◌≡◌, ℕ, List, ◌++◌, Option, refl, ap, ◌∙◌}
-use Rattle.tftp_ends.specs.declared.endpoint.Endpoint.{Endpoint}
-use Rattle.tftp_ends.specs.declared.outgoing.Outgoing.{Outgoing}
-use Rattle.tftp_ends.specs.declared.record.Step.{Step}
-use Rattle.tftp_ends.specs.End.{EndState, step_of}
-use Rattle.tftp_ends.specs.Step.{Turn, Lends, Carries, lent, reported}
+use Rattle.tftp_ends.proofs.Common.{◌≡◌, ℕ, List, ◌++◌, Option, refl, ap, ◌∙◌, Endpoint, Outgoing, Step, EndState}
+use Rattle.tftp_ends.proofs.Common.{step_of, Turn, Lends, reported}
+use Rattle.tftp_ends.specs.Step.{Carries, lent}
 
 -- the lent bytes were appended, and the step has their destination
 pub carries_lent : (before e : EndState) (turn : Turn) (to : Option Endpoint) (outgoing : Outgoing) (old new : List ℕ)

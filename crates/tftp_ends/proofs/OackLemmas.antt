@@ -1,9 +1,8 @@
 -- An OACK is no longer than a request may be. For `oack`.
-use Rattle.std.proofs.Common.{◌≡◌, ◌*◌, ◌≤◌, ℕ, List, length, ap, arith, suc}
+use Rattle.tftp_ends.proofs.Common.{◌≡◌, ◌*◌, ◌≤◌, ℕ, List, length, ap, arith, options_bytes, Known, agreed_options}
+use Rattle.std.proofs.Common.{suc}
 use Rattle.tftp_wire.specs.declared.limits.TheConstants.{MAX_REQUEST}
-use Rattle.tftp_wire.specs.Options.{options_bytes}
-use Rattle.tftp_negotiate.specs.declared.known.Known.{Known}
-use Rattle.tftp_negotiate.specs.Agreed.{IsAgreement, agreed_options}
+use Rattle.tftp_negotiate.specs.Agreed.{IsAgreement}
 use Rattle.tftp_negotiate.specs.Laws.{AgreementsAreShort}
 use Rattle.tftp_ends.specs.Opening.{oack_bytes}
 

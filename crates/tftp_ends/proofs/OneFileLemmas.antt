@@ -1,14 +1,10 @@
 -- What a call over the one file of an end ensures, as a call over its files has it. For `End::handle_datagram` and
 -- `End::on_datagram`.
-use Rattle.std.proofs.Common.{◌≡◌, ℕ, List, Result, Ok, Err, IfOk}
-use Rattle.tftp_file.specs.Source.{SourceMeaning}
-use Rattle.tftp_file.specs.Sink.{SinkMeaning}
-use Rattle.tftp_file.specs.declared.files.Files.{Files}
-use Rattle.tftp_ends.specs.declared.endpoint.Endpoint.{Endpoint}
+use Rattle.tftp_ends.proofs.Common.{◌≡◌, ℕ, List, Result, Ok, Err, SourceMeaning, SinkMeaning, Files, Endpoint, Step}
+use Rattle.tftp_ends.proofs.Common.{EndState, Turn, reported}
+use Rattle.std.proofs.Common.{IfOk}
 use Rattle.tftp_ends.specs.declared.fault.EndFault.{EndFault}
-use Rattle.tftp_ends.specs.declared.record.Step.{Step}
-use Rattle.tftp_ends.specs.End.{EndState}
-use Rattle.tftp_ends.specs.Step.{Turn, DatagramStep, reported}
+use Rattle.tftp_ends.specs.Step.{DatagramStep}
 
 module _ {S K : Type 0} (sources : SourceMeaning S) (sinks : SinkMeaning K) (from : Endpoint) (bytes : List ℕ)
     (e : EndState) where

@@ -1,8 +1,8 @@
 -- The result of a fill, without the bytes that were in the buffer before it. For `read_data`.
-use Rattle.std.proofs.Common.{◌≡◌, ◌≢◌, ℕ, false, List, [], ◌++◌, length, take, drop, Option, Some, None, Result, Ok, Err}
-use Rattle.std.proofs.Common.{refl, sym, ap, subst, ◌∙◌}
+use Rattle.tftp_ends.proofs.Common.{◌≡◌, ◌≢◌, ℕ, false, List, [], ◌++◌, length, take, Option, Some, None, Result, Ok}
+use Rattle.tftp_ends.proofs.Common.{Err, refl, sym, ap, subst, ◌∙◌, ne_eqb}
+use Rattle.std.proofs.Common.{drop}
 use Rattle.std.proofs.Math.Seq.{drop-append_seam}
-use Rattle.std.proofs.lemmas.Bool.{ne_eqb}
 use Rattle.tftp_file.specs.Source.{Fills, added_to}
 use Rattle.tftp_file.specs.declared.fault.FileFault.{FileFault}
 use Rattle.tftp_file.specs.declared.fault.FileFault.TheVariants.{Read}

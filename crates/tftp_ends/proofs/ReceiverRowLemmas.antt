@@ -1,33 +1,20 @@
 -- The receiver's table. For `receiver_rows` and WaitingRowLemmas.
-use Rattle.std.proofs.Common.{◌≡◌, ◌≢◌, ◌<◌, ℕ, Bool, true, false, List, length, Some, refl, ap, arith}
-use Rattle.std.proofs.lemmas.Bool.{eq-eqb, ne_eqb, eqb-true, lt-ltb, le-ltb}
-use Rattle.std.specs.Prelude.{◌+◌, ◌==◌, ◌&&◌, ◌||◌, nat_lt, codes, if◌then◌else◌}
-use Rattle.tftp_wire.specs.Spelling.{Spells}
+use Rattle.tftp_ends.proofs.Common.{◌≡◌, ◌≢◌, ◌<◌, ℕ, Bool, true, false, List, length, Some, refl, ap, arith, eq-eqb}
+use Rattle.tftp_ends.proofs.Common.{ne_eqb, eqb-true, lt-ltb, le-ltb, ◌+◌, ◌==◌, ◌&&◌, ◌||◌, nat_lt, codes}
+use Rattle.tftp_ends.proofs.Common.{if◌then◌else◌, Spells, Packet, Read, Write, Data, Ack, Error, Oack, SourceMeaning}
+use Rattle.tftp_ends.proofs.Common.{SinkMeaning, Action, Respond, Store, Response, Ignore, ResendReply, Refuse}
+use Rattle.tftp_ends.proofs.Common.{IllegalOperation, FileTooLarge, NotNetascii, Receiving, Dallying, Terms}
+use Rattle.tftp_ends.proofs.Common.{packet_action, next_action, Handled, RefusesBy, illegal_action, is_readable}
 use Rattle.tftp_wire.specs.declared.options.RawOption.{RawOption}
-use Rattle.tftp_wire.specs.declared.packet.Packet.{Packet}
-use Rattle.tftp_wire.specs.declared.packet.Packet.TheVariants.{Read, Write, Data, Ack, Error, Oack}
-use Rattle.tftp_file.specs.Source.{SourceMeaning}
-use Rattle.tftp_file.specs.Sink.{SinkMeaning}
-use Rattle.tftp_ends.specs.declared.action.Action.{Action}
-use Rattle.tftp_ends.specs.declared.action.Action.TheVariants.{Respond, Store}
-use Rattle.tftp_ends.specs.declared.action.Response.{Response}
-use Rattle.tftp_ends.specs.declared.action.Response.TheVariants.{Ignore, ResendReply, Refuse}
-use Rattle.tftp_ends.specs.declared.error_reply.ErrorReply.TheVariants.{IllegalOperation, FileTooLarge, NotNetascii}
 use Rattle.tftp_ends.specs.declared.outcome.Outcome.TheVariants as outcomes
 use Rattle.tftp_ends.specs.declared.phase.Dally.{Dally}
-use Rattle.tftp_ends.specs.declared.phase.Phase.TheVariants.{Receiving, Dallying}
-use Rattle.tftp_ends.specs.declared.phase.Terms.{Terms}
-use Rattle.tftp_ends.specs.Action.{packet_action}
-use Rattle.tftp_ends.specs.Receiver.{next_action}
-use Rattle.tftp_ends.specs.Rows.{Handled, FromPeer, RefusesBy}
-use Rattle.tftp_ends.specs.Sender.{illegal_action}
+use Rattle.tftp_ends.specs.Rows.{FromPeer}
 use Rattle.tftp_ends.specs.SenderRows.{took_oack}
 use Rattle.tftp_ends.specs.ReceiverRows.{LastDataIsAckedAgain, DallyIgnoresOthers, DallyIgnoresMalformed}
 use Rattle.tftp_ends.specs.ReceiverRows.{NewestDataIsAckedAgain, OldDataIsNothing, EarlyDataIsIllegal}
 use Rattle.tftp_ends.specs.ReceiverRows.{LongDataIsIllegal, BlocksRunOut, NextDataIsStored, ErrorClosesReceiver}
 use Rattle.tftp_ends.specs.ReceiverRows.{OackIsAckedAgain, LateOackIsNothing, ReceiverRefusesOthers}
 use Rattle.tftp_ends.specs.ReceiverRows.{ReceiverRefusesMalformed}
-use Rattle.tftp_ends.specs.Text.{is_readable}
 use Rattle.tftp_ends.proofs.RowLemmas.{DidSo, own_peer, if_yes, if_no, at_packet, at_malformed, at_nothing}
 use Rattle.tftp_ends.proofs.RowLemmas.{does_nothing, closes, refuses, acks_again, next_row}
 

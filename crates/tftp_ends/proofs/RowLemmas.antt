@@ -1,48 +1,32 @@
 -- An end's step for a datagram, in the vocabulary of the tables. For four other files.
-use Rattle.std.proofs.Common.{◌≡◌, ◌≤◌, ℕ, Bool, true, false, List, [], ◌∷◌, length, Option, Some, None, Result, Ok}
-use Rattle.std.proofs.Common.{Err, refl, sym, ap, subst, ◌∙◌}
-use Rattle.std.proofs.lemmas.Bool.{true≢false, eq-eqb, le-ltb}
-use Rattle.std.specs.Prelude.{◌+◌, ◌==◌, ◌&&◌, not, nat_eq, nat_lt, is_none, if◌then◌else◌}
+use Rattle.tftp_ends.proofs.Common.{◌≡◌, ◌≤◌, ℕ, Bool, true, false, List, [], ◌∷◌, length, Option, Some, None, Result}
+use Rattle.tftp_ends.proofs.Common.{Ok, Err, refl, sym, ap, subst, ◌∙◌, true≢false, eq-eqb, le-ltb, ◌+◌, ◌==◌, ◌&&◌}
+use Rattle.tftp_ends.proofs.Common.{not, nat_lt, is_none, if◌then◌else◌, has_error_opcode, Spells, Packet, Data, Ack}
+use Rattle.tftp_ends.proofs.Common.{SourceMeaning, SinkMeaning, StoreFault, Files, Action, Respond, Send, Store, Ignore}
+use Rattle.tftp_ends.proofs.Common.{WrongPeer, ResendReply, Close, Refuse, Complete, Endpoint, ErrorReply, FileTooLarge}
+use Rattle.tftp_ends.proofs.Common.{DiskFull, NotNetascii, Outcome, Fresh, Phase, Sending, Receiving, Dallying, Closed}
+use Rattle.tftp_ends.proofs.Common.{Terms, Decodes, packet_action, garbled_response, is_wrong_peer, EndState, terms_of}
+use Rattle.tftp_ends.proofs.Common.{number_of, is_progress, next_action, Handled, RefusesBy, illegal_action, Done, Turn}
+use Rattle.tftp_ends.proofs.Common.{GoesOn, response_turn, sent_turn, refused_turn, committed_turn, holding, ack_bytes}
+use Rattle.tftp_ends.proofs.Common.{data_bytes, block_length, is_readable}
+use Rattle.std.specs.Prelude.{nat_eq}
 use Rattle.std.specs.Cmp.Lexicographic.{pointwise}
-use Rattle.tftp_wire.specs.Reading.{has_error_opcode}
-use Rattle.tftp_wire.specs.Spelling.{Spells, canonical}
-use Rattle.tftp_wire.specs.declared.packet.Packet.{Packet}
-use Rattle.tftp_wire.specs.declared.packet.Packet.TheVariants.{Data, Ack}
+use Rattle.tftp_wire.specs.Spelling.{canonical}
 use Rattle.tftp_wire.proofs.SpellingLemmas.{one_meaning, spelled_has_no_fault}
-use Rattle.tftp_file.specs.Source.{SourceMeaning}
-use Rattle.tftp_file.specs.Sink.{SinkMeaning}
-use Rattle.tftp_file.specs.declared.fault.StoreFault.{StoreFault}
 use Rattle.tftp_file.specs.declared.fault.StoreFault.TheVariants as faults
-use Rattle.tftp_file.specs.declared.files.Files.{Files}
 use Rattle.tftp_file.specs.declared.files.Files.TheVariants.{Source, Sink}
-use Rattle.tftp_ends.specs.declared.action.Action.{Action}
-use Rattle.tftp_ends.specs.declared.action.Action.TheVariants.{Respond, Send, Store}
-use Rattle.tftp_ends.specs.declared.action.Response.TheVariants.{Ignore, WrongPeer, ResendReply, Close, Refuse}
-use Rattle.tftp_ends.specs.declared.action.Response.TheVariants.{Complete}
-use Rattle.tftp_ends.specs.declared.endpoint.Endpoint.{Endpoint}
-use Rattle.tftp_ends.specs.declared.error_reply.ErrorReply.{ErrorReply}
-use Rattle.tftp_ends.specs.declared.error_reply.ErrorReply.TheVariants.{FileChanged, FileTooLarge, DiskFull, FileExists}
-use Rattle.tftp_ends.specs.declared.error_reply.ErrorReply.TheVariants.{NotNetascii}
-use Rattle.tftp_ends.specs.declared.outcome.Outcome.{Outcome}
+use Rattle.tftp_ends.specs.declared.error_reply.ErrorReply.TheVariants.{FileChanged, FileExists}
 use Rattle.tftp_ends.specs.declared.outcome.Outcome.TheVariants as outcomes
-use Rattle.tftp_ends.specs.declared.phase.Dally.TheVariants.{Fresh}
-use Rattle.tftp_ends.specs.declared.phase.Phase.{Phase}
-use Rattle.tftp_ends.specs.declared.phase.Phase.TheVariants.{Sending, Receiving, Dallying, Closed}
-use Rattle.tftp_ends.specs.declared.phase.Terms.{Terms}
-use Rattle.tftp_ends.specs.Action.{Decodes, packet_action, garbled_response, is_wrong_peer, same_address, same_endpoint}
-use Rattle.tftp_ends.specs.End.{EndState, terms_of, number_of, is_complete, is_progress}
+use Rattle.tftp_ends.specs.Action.{same_address, same_endpoint}
+use Rattle.tftp_ends.specs.End.{is_complete}
 use Rattle.tftp_ends.specs.ErrorReply.{code_of, text_of}
 use Rattle.tftp_ends.specs.Phase.{closed, completed}
 use Rattle.tftp_ends.specs.ReceiverRows.{CommitRow, AppendRow, HandsToSink, NextRow}
-use Rattle.tftp_ends.specs.Receiver.{next_action}
-use Rattle.tftp_ends.specs.Rows.{Handled, IsMalformed, DoesNothing, ClosesInSilence, GivesUp, RefusesBy, AnswersBy}
+use Rattle.tftp_ends.specs.Rows.{IsMalformed, DoesNothing, ClosesInSilence, GivesUp, AnswersBy}
 use Rattle.tftp_ends.specs.Rows.{AnswersAgain}
-use Rattle.tftp_ends.specs.Sender.{illegal_action}
 use Rattle.tftp_ends.specs.SenderRows.{SendsBlock, SendsFromSource}
-use Rattle.tftp_ends.specs.Step.{Done, Turn, Reply, Acts, AcksAgain, IsAck, SendsFrom, StoresIn, GoesOn, response_turn}
-use Rattle.tftp_ends.specs.Step.{sent_turn, refused_turn, committed_turn, holding, ack_bytes, data_bytes, block_length}
+use Rattle.tftp_ends.specs.Step.{Reply, Acts, AcksAgain, IsAck, SendsFrom, StoresIn}
 use Rattle.tftp_ends.specs.Step.{result_count_is}
-use Rattle.tftp_ends.specs.Text.{is_readable}
 use Rattle.tftp_ends.proofs.ActionLemmas.{data_after_header}
 
 -- ---- the packet of a datagram

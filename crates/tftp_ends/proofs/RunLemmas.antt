@@ -1,28 +1,24 @@
 -- The bounds of a run of an end. For `run_bounds`.
-use Rattle.std.proofs.Common.{◌≡◌, ℕ, ◌+◌, ◌*◌, ◌<◌, ◌≤◌, Bool, true, false, List, [], ◌∷◌, length, refl, sym, ap, ◌∙◌}
-use Rattle.std.proofs.Common.{subst, arith, inl, inr, mul-add}
-use Rattle.std.specs.Prelude.{◌==◌, ◌||◌, if◌then◌else◌, is_some}
-use Rattle.std.proofs.lemmas.Bool.{true≢false, cases_eq, eq-eqb, ne_eqb}
+use Rattle.tftp_ends.proofs.Common.{◌≡◌, ℕ, ◌*◌, ◌<◌, ◌≤◌, Bool, true, false, List, [], ◌∷◌, length, refl, sym, ap, ◌∙◌}
+use Rattle.tftp_ends.proofs.Common.{subst, arith, ◌==◌, ◌||◌, if◌then◌else◌, is_some, true≢false, eq-eqb, ne_eqb, Known}
+use Rattle.tftp_ends.proofs.Common.{SourceMeaning, SinkMeaning, Close, Endpoint, Outcome, Fresh, Phase, Waiting}
+use Rattle.tftp_ends.proofs.Common.{Sending, Receiving, Dallying, Closed, EndState, is_sender, is_progress, outcome_of}
+use Rattle.tftp_ends.proofs.Common.{terms_of, IsOpen, Turn, response_turn, timeout_turn, with_position}
+use Rattle.std.proofs.Common.{◌+◌}
+use Rattle.std.proofs.Common.{inl, inr, mul-add}
+use Rattle.std.proofs.lemmas.Bool.{cases_eq}
 use Rattle.tftp_negotiate.specs.Agreed.{size}
-use Rattle.tftp_negotiate.specs.declared.known.Known.{Known}
 use Rattle.tftp_wire.specs.declared.mode.Mode.{Mode}
-use Rattle.tftp_file.specs.Source.{SourceMeaning}
-use Rattle.tftp_file.specs.Sink.{SinkMeaning}
-use Rattle.tftp_ends.specs.declared.action.Response.TheVariants.{Retransmit, Close}
-use Rattle.tftp_ends.specs.declared.endpoint.Endpoint.{Endpoint}
-use Rattle.tftp_ends.specs.declared.outcome.Outcome.{Outcome}
+use Rattle.tftp_ends.specs.declared.action.Response.TheVariants.{Retransmit}
 use Rattle.tftp_ends.specs.declared.outcome.Outcome.TheVariants as outcomes
-use Rattle.tftp_ends.specs.declared.phase.Dally.TheVariants.{Fresh, Waited}
-use Rattle.tftp_ends.specs.declared.phase.Phase.{Phase}
-use Rattle.tftp_ends.specs.declared.phase.Phase.TheVariants.{Waiting, Sending, Receiving, Dallying, Closed}
+use Rattle.tftp_ends.specs.declared.phase.Dally.TheVariants.{Waited}
 use Rattle.tftp_ends.specs.declared.side.Side.{Side}
-use Rattle.tftp_ends.specs.End.{EndState, is_sender, is_progress, outcome_of, terms_of}
 use Rattle.tftp_ends.specs.Opening.{serving_read, serving_write}
 use Rattle.tftp_ends.specs.Phase.{closed}
 use Rattle.tftp_ends.specs.Run.{IsOpening, Gets, Puts, Serves_read, Serves_write, EndEvent, Datagram, Timeout, Taken}
-use Rattle.tftp_ends.specs.Run.{IsOpen, Takes, IsRun, AnswersByProgress, end_after_run, count_if, is_timeout, is_data}
+use Rattle.tftp_ends.specs.Run.{Takes, IsRun, AnswersByProgress, end_after_run, count_if, is_timeout, is_data}
 use Rattle.tftp_ends.specs.Run.{is_oack, progress_count, timeout_count, data_count, datagram_count, opened_by_data}
-use Rattle.tftp_ends.specs.Step.{Turn, after_turn, response_turn, timeout_turn, with_position}
+use Rattle.tftp_ends.specs.Step.{after_turn}
 use Rattle.tftp_ends.proofs.RunMoves.{Kept, rank, waits, one_at_most, not_below_itself, no_progress}
 use Rattle.tftp_ends.proofs.RunMoves.{waits_at_most, number_kept, refused_rises}
 use Rattle.tftp_ends.proofs.RunSteps.{datagram_moves}

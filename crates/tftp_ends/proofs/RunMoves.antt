@@ -1,20 +1,14 @@
 -- What every step of a run preserves, and the steps that change nothing, enter a phase or close the end. For
 -- RunLemmas and RunSteps.
-use Rattle.std.proofs.Common.{◌≡◌, ℕ, ◌+◌, ◌*◌, ◌<◌, ◌≤◌, Bool, true, false, List, length, Option, Some, None}
-use Rattle.std.proofs.Common.{refl, sym, ap, ◌∙◌, arith}
-use Rattle.std.specs.Prelude.{nat_lt, if◌then◌else◌, is_some}
-use Rattle.std.proofs.lemmas.Bool.{true≢false, le-ltb}
-use Rattle.tftp_ends.specs.declared.endpoint.Endpoint.{Endpoint}
-use Rattle.tftp_ends.specs.declared.outcome.Outcome.{Outcome}
-use Rattle.tftp_ends.specs.declared.phase.Dally.TheVariants.{Fresh, Waited}
-use Rattle.tftp_ends.specs.declared.phase.Phase.{Phase}
-use Rattle.tftp_ends.specs.declared.phase.Phase.TheVariants.{Waiting, Sending, Receiving, Dallying, Closed}
-use Rattle.tftp_ends.specs.declared.phase.Terms.{Terms}
+use Rattle.tftp_ends.proofs.Common.{◌≡◌, ℕ, ◌*◌, ◌<◌, ◌≤◌, Bool, true, false, List, length, Option, Some, None, refl}
+use Rattle.tftp_ends.proofs.Common.{sym, ap, ◌∙◌, arith, nat_lt, if◌then◌else◌, is_some, true≢false, le-ltb, Endpoint}
+use Rattle.tftp_ends.proofs.Common.{Outcome, Fresh, Phase, Waiting, Sending, Receiving, Dallying, Closed, Terms}
+use Rattle.tftp_ends.proofs.Common.{EndState, is_sender, is_progress, number_of, outcome_of, refused, IsOpen, Turn}
+use Rattle.std.proofs.Common.{◌+◌}
+use Rattle.tftp_ends.specs.declared.phase.Dally.TheVariants.{Waited}
 use Rattle.tftp_ends.specs.declared.side.Side.{Side}
-use Rattle.tftp_ends.specs.End.{EndState, is_sender, is_progress, number_of, outcome_of}
-use Rattle.tftp_ends.specs.Phase.{refused}
-use Rattle.tftp_ends.specs.Run.{IsOpen, count_if, is_data, is_oack}
-use Rattle.tftp_ends.specs.Step.{Reply, Turn}
+use Rattle.tftp_ends.specs.Run.{count_if, is_data, is_oack}
+use Rattle.tftp_ends.specs.Step.{Reply}
 
 -- ---- what every step of a run preserves
 -- senders send blocks that can be numbered, receivers receive, and numbers stay below 65,536

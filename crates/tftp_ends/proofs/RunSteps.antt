@@ -1,51 +1,35 @@
 -- The end after one step. For RunLemmas.
-use Rattle.std.proofs.Common.{◌≡◌, ℕ, ◌+◌, ◌*◌, ◌/◌, ◌<◌, ◌≤◌, Bool, true, false, List, [], length, Option, Some, None}
-use Rattle.std.proofs.Common.{Result, Ok, Err, refl, sym, ◌∙◌, subst, arith}
-use Rattle.std.specs.Prelude.{◌==◌, ◌&&◌, nat_lt, nat_le, if◌then◌else◌, is_some, is_none}
-use Rattle.std.proofs.lemmas.Bool.{true≢false, ltb-true, lt-ltb, eqb-true}
+use Rattle.tftp_ends.proofs.Common.{◌≡◌, ℕ, ◌*◌, ◌<◌, ◌≤◌, Bool, true, false, List, [], length, Option, Some, None}
+use Rattle.tftp_ends.proofs.Common.{Result, Ok, Err, refl, sym, ◌∙◌, subst, arith, ◌==◌, ◌&&◌, nat_lt, nat_le}
+use Rattle.tftp_ends.proofs.Common.{if◌then◌else◌, is_some, is_none, true≢false, lt-ltb, eqb-true, Packet, Read, Write}
+use Rattle.tftp_ends.proofs.Common.{Data, Ack, Error, Oack, has_error_opcode, DEFAULT_BLOCK, Asked, Known, Refusal}
+use Rattle.tftp_ends.proofs.Common.{agreement, SourceMeaning, SinkMeaning, StoreFault, Files, Action, Respond, Send}
+use Rattle.tftp_ends.proofs.Common.{Store, Response, Ignore, WrongPeer, ResendReply, Close, Refuse, Complete, Endpoint}
+use Rattle.tftp_ends.proofs.Common.{ErrorReply, Outcome, Fresh, Phase, Waiting, Sending, Receiving, Dallying, Closed}
+use Rattle.tftp_ends.proofs.Common.{Terms, Decodes, is_wrong_peer, garbled_response, packet_action, EndState, is_sender}
+use Rattle.tftp_ends.proofs.Common.{is_progress, terms_of, outcome_of, receiver_action, next_action, IsOpen}
+use Rattle.tftp_ends.proofs.Common.{illegal_action, Done, Turn, GoesOn, with_position, response_turn, refused_turn}
+use Rattle.tftp_ends.proofs.Common.{sent_turn, committed_turn, holding, ack_bytes, data_bytes, block_length}
+use Rattle.tftp_ends.proofs.Common.{is_readable, reader_action, writer_action, accept_action, begin_action}
+use Rattle.tftp_ends.proofs.Common.{begin_with_action, refusal_action, default_terms, agreed_terms, no_answer}
+use Rattle.std.proofs.Common.{◌+◌, ◌/◌}
+use Rattle.std.proofs.lemmas.Bool.{ltb-true}
 use Rattle.std.proofs.Math.Nat.{div-lt_iff_lt-mul}
-use Rattle.tftp_wire.specs.declared.packet.Packet.{Packet}
-use Rattle.tftp_wire.specs.declared.packet.Packet.TheVariants.{Read, Write, Data, Ack, Error, Oack}
-use Rattle.tftp_wire.specs.Reading.{has_error_opcode}
-use Rattle.tftp_negotiate.specs.declared.limits.TheConstants.{DEFAULT_BLOCK}
-use Rattle.tftp_negotiate.specs.declared.asked.Asked.{Asked}
 use Rattle.tftp_negotiate.specs.declared.known.Kind.TheVariants as kinds
-use Rattle.tftp_negotiate.specs.declared.known.Known.{Known}
-use Rattle.tftp_negotiate.specs.declared.refusal.Refusal.{Refusal}
 use Rattle.tftp_negotiate.specs.declared.refusal.Refusal.TheVariants as refusals
-use Rattle.tftp_negotiate.specs.Agreement.{agreement}
-use Rattle.tftp_file.specs.Source.{SourceMeaning}
-use Rattle.tftp_file.specs.Sink.{SinkMeaning}
-use Rattle.tftp_file.specs.declared.fault.StoreFault.{StoreFault}
-use Rattle.tftp_file.specs.declared.files.Files.{Files}
 use Rattle.tftp_file.specs.declared.files.Files.TheVariants.{Source, Sink}
-use Rattle.tftp_ends.specs.declared.action.Action.{Action}
-use Rattle.tftp_ends.specs.declared.action.Action.TheVariants.{Respond, Send, Store}
-use Rattle.tftp_ends.specs.declared.action.Response.{Response}
-use Rattle.tftp_ends.specs.declared.action.Response.TheVariants.{Ignore, WrongPeer, ResendReply, Close, Refuse, Accept}
-use Rattle.tftp_ends.specs.declared.action.Response.TheVariants.{Complete}
-use Rattle.tftp_ends.specs.declared.endpoint.Endpoint.{Endpoint}
-use Rattle.tftp_ends.specs.declared.error_reply.ErrorReply.{ErrorReply}
+use Rattle.tftp_ends.specs.declared.action.Response.TheVariants.{Accept}
 use Rattle.tftp_ends.specs.declared.error_reply.ErrorReply.TheVariants as replies
-use Rattle.tftp_ends.specs.declared.outcome.Outcome.{Outcome}
 use Rattle.tftp_ends.specs.declared.outcome.Outcome.TheVariants as outcomes
 use Rattle.tftp_ends.specs.declared.phase.Dally.{Dally}
-use Rattle.tftp_ends.specs.declared.phase.Dally.TheVariants.{Fresh}
-use Rattle.tftp_ends.specs.declared.phase.Phase.{Phase}
-use Rattle.tftp_ends.specs.declared.phase.Phase.TheVariants.{Waiting, Sending, Receiving, Dallying, Closed}
-use Rattle.tftp_ends.specs.declared.phase.Terms.{Terms}
-use Rattle.tftp_ends.specs.Action.{Decodes, is_wrong_peer, garbled_response, packet_action, datagram_action}
-use Rattle.tftp_ends.specs.End.{EndState, is_sender, is_client, is_progress, terms_of, outcome_of}
+use Rattle.tftp_ends.specs.Action.{datagram_action}
+use Rattle.tftp_ends.specs.End.{is_client}
 use Rattle.tftp_ends.specs.Phase.{completed}
-use Rattle.tftp_ends.specs.Receiver.{receiver_action, data_action, next_action, dally_response}
-use Rattle.tftp_ends.specs.Run.{IsOpen}
-use Rattle.tftp_ends.specs.Sender.{sender_action, acked_action, illegal_action}
-use Rattle.tftp_ends.specs.Step.{Done, Turn, Acts, DatagramStep, GoesOn, with_position, response_turn}
-use Rattle.tftp_ends.specs.Step.{refused_turn, sent_turn, committed_turn, commit_reply, holding, ack_bytes, data_bytes}
-use Rattle.tftp_ends.specs.Step.{error_bytes, block_length, result_count_is}
-use Rattle.tftp_ends.specs.Text.{is_readable}
-use Rattle.tftp_ends.specs.Waiting.{reader_action, writer_action, accept_action, begin_action, begin_with_action}
-use Rattle.tftp_ends.specs.Waiting.{refusal_action, default_terms, agreed_terms, no_answer}
+use Rattle.tftp_ends.specs.Receiver.{data_action, dally_response}
+use Rattle.tftp_ends.specs.Sender.{sender_action, acked_action}
+use Rattle.tftp_ends.specs.Step.{Acts, DatagramStep}
+use Rattle.tftp_ends.specs.Step.{commit_reply}
+use Rattle.tftp_ends.specs.Step.{error_bytes, result_count_is}
 use Rattle.tftp_ends.proofs.RunMoves.{Kept, rank, waits, Moves, if_either, one_at_most, stays, goes_into, closes}
 
 -- ---- after a datagram

@@ -1,22 +1,10 @@
 -- The sender's table. For `sender_rows`.
-use Rattle.std.proofs.Common.{◌≡◌, ℕ, Bool, false, Some, refl, ap, arith}
-use Rattle.std.proofs.lemmas.Bool.{eq-eqb, ne_eqb, lt-ltb, le-ltb}
-use Rattle.std.specs.Prelude.{◌+◌, ◌==◌, ◌||◌, nat_lt, codes, if◌then◌else◌}
-use Rattle.tftp_wire.specs.Spelling.{Spells}
-use Rattle.tftp_wire.specs.declared.packet.Packet.{Packet}
-use Rattle.tftp_wire.specs.declared.packet.Packet.TheVariants.{Read, Write, Data, Ack, Error, Oack}
-use Rattle.tftp_file.specs.Source.{SourceMeaning}
-use Rattle.tftp_file.specs.Sink.{SinkMeaning}
-use Rattle.tftp_ends.specs.declared.action.Action.{Action}
-use Rattle.tftp_ends.specs.declared.action.Action.TheVariants.{Respond, Send}
-use Rattle.tftp_ends.specs.declared.action.Response.TheVariants.{Ignore, Complete}
-use Rattle.tftp_ends.specs.declared.error_reply.ErrorReply.TheVariants.{IllegalOperation}
+use Rattle.tftp_ends.proofs.Common.{◌≡◌, ℕ, Bool, false, Some, refl, ap, arith, eq-eqb, ne_eqb, lt-ltb, le-ltb, ◌+◌}
+use Rattle.tftp_ends.proofs.Common.{◌==◌, ◌||◌, nat_lt, codes, if◌then◌else◌, Spells, Packet, Read, Write, Data, Ack}
+use Rattle.tftp_ends.proofs.Common.{Error, Oack, SourceMeaning, SinkMeaning, Action, Respond, Send, Ignore, Complete}
+use Rattle.tftp_ends.proofs.Common.{IllegalOperation, Sending, Terms, packet_action, Handled, RefusesBy, illegal_action}
 use Rattle.tftp_ends.specs.declared.outcome.Outcome.TheVariants as outcomes
-use Rattle.tftp_ends.specs.declared.phase.Phase.TheVariants.{Sending}
-use Rattle.tftp_ends.specs.declared.phase.Terms.{Terms}
-use Rattle.tftp_ends.specs.Action.{packet_action}
-use Rattle.tftp_ends.specs.Rows.{Handled, FromPeer, RefusesBy}
-use Rattle.tftp_ends.specs.Sender.{illegal_action}
+use Rattle.tftp_ends.specs.Rows.{FromPeer}
 use Rattle.tftp_ends.specs.SenderRows.{blocks_of, took_oack, NewestAckSends, LastAckCompletes, OldAckIsNothing}
 use Rattle.tftp_ends.specs.SenderRows.{EarlyAckIsIllegal, ErrorClosesSender, OackAgainIsNothing, SenderRefusesOthers}
 use Rattle.tftp_ends.specs.SenderRows.{SenderRefusesMalformed}

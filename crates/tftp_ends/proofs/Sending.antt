@@ -1,23 +1,16 @@
 -- A sender's step, from the result of its read. For `End::send` and `End::send_first`.
-use Rattle.std.proofs.Common.{◌≡◌, ℕ, Bool, true, false, List, Some, refl, sym, ap, subst, ◌∙◌}
-use Rattle.tftp_negotiate.specs.declared.limits.TheConstants.{DEFAULT_BLOCK}
-use Rattle.tftp_file.specs.Source.{SourceMeaning}
-use Rattle.tftp_ends.specs.declared.action.Action.TheVariants.{Send}
-use Rattle.tftp_ends.specs.declared.endpoint.Endpoint.{Endpoint}
+use Rattle.tftp_ends.proofs.Common.{◌≡◌, ℕ, Bool, true, false, List, Some, refl, sym, ap, subst, ◌∙◌, DEFAULT_BLOCK}
+use Rattle.tftp_ends.proofs.Common.{SourceMeaning, Send, Endpoint, Outgoing, Sending, Terms, Step, EndState, step_of}
+use Rattle.tftp_ends.proofs.Common.{refused, Turn, Lends, with_position, data_bytes, sent_turn, refused_turn}
+use Rattle.tftp_ends.proofs.Common.{block_length, reported}
 use Rattle.tftp_ends.specs.declared.error_reply.ErrorReply.TheVariants.{FileChanged}
 use Rattle.tftp_ends.specs.declared.outcome.Outcome.TheVariants.{SourceFault}
-use Rattle.tftp_ends.specs.declared.outgoing.Outgoing.{Outgoing}
 use Rattle.tftp_ends.specs.declared.outgoing.Outgoing.TheVariants.{LastSent, Error}
-use Rattle.tftp_ends.specs.declared.phase.Phase.TheVariants.{Sending}
-use Rattle.tftp_ends.specs.declared.phase.Terms.{Terms}
-use Rattle.tftp_ends.specs.declared.record.Step.{Step}
-use Rattle.tftp_ends.specs.End.{EndState, step_of}
 use Rattle.tftp_ends.specs.OneFile.{SenderActs}
 use Rattle.tftp_ends.specs.Opening.{FailsToStart}
-use Rattle.tftp_ends.specs.Phase.{refused}
 use Rattle.tftp_ends.specs.Room.{ReadsData}
-use Rattle.tftp_ends.specs.Step.{Turn, Sends, AcksAgain, Lends, in_phase, having_sent, with_position, data_bytes}
-use Rattle.tftp_ends.specs.Step.{sent_turn, refused_turn, filled_turn, block_length, reported}
+use Rattle.tftp_ends.specs.Step.{Sends, AcksAgain, in_phase, having_sent}
+use Rattle.tftp_ends.specs.Step.{filled_turn}
 use Rattle.tftp_ends.proofs.Lending.{reports_lent}
 
 -- without DATA 1 a read cannot be served, and the source has the bytes left that the fill left

@@ -1,30 +1,22 @@
 -- The rows that the tables of all ends share. For `shared_rows`.
-use Rattle.std.proofs.Common.{◌≡◌, ℕ, Bool, true, false, List, Option, Some, None, refl, sym, ap, ◌∙◌, arith}
-use Rattle.std.proofs.lemmas.Bool.{true≢false, eqb-true, eq-eqb, ne_eqb}
-use Rattle.std.specs.Prelude.{◌==◌, ◌&&◌, not, is_none, codes, if◌then◌else◌}
+use Rattle.tftp_ends.proofs.Common.{◌≡◌, ℕ, Bool, true, false, List, Option, Some, None, refl, sym, ap, ◌∙◌, arith}
+use Rattle.tftp_ends.proofs.Common.{true≢false, eqb-true, eq-eqb, ne_eqb, ◌==◌, ◌&&◌, not, is_none, codes}
+use Rattle.tftp_ends.proofs.Common.{if◌then◌else◌, has_error_opcode, Error, SourceMeaning, SinkMeaning, Respond}
+use Rattle.tftp_ends.proofs.Common.{Response, Ignore, WrongPeer, Close, Endpoint, Phase, Waiting, Sending, Receiving}
+use Rattle.tftp_ends.proofs.Common.{Dallying, Closed, Terms, is_wrong_peer, garbled_response, packet_action, EndState}
+use Rattle.tftp_ends.proofs.Common.{terms_of, number_of, Handled, Turn, response_turn}
 use Rattle.std.specs.Cmp.Lexicographic.{same_text}
-use Rattle.tftp_wire.specs.Reading.{has_error_opcode}
-use Rattle.tftp_wire.specs.declared.packet.Packet.TheVariants.{Error}
-use Rattle.tftp_file.specs.Source.{SourceMeaning}
-use Rattle.tftp_file.specs.Sink.{SinkMeaning}
-use Rattle.tftp_ends.specs.declared.action.Action.TheVariants.{Respond}
-use Rattle.tftp_ends.specs.declared.action.Response.{Response}
-use Rattle.tftp_ends.specs.declared.action.Response.TheVariants.{Ignore, WrongPeer, Retransmit, Wait, Close}
-use Rattle.tftp_ends.specs.declared.endpoint.Endpoint.{Endpoint}
+use Rattle.tftp_ends.specs.declared.action.Response.TheVariants.{Retransmit, Wait}
 use Rattle.tftp_ends.specs.declared.outcome.Outcome.TheVariants as outcomes
-use Rattle.tftp_ends.specs.declared.phase.Phase.{Phase}
-use Rattle.tftp_ends.specs.declared.phase.Phase.TheVariants.{Waiting, Sending, Receiving, Dallying, Closed}
-use Rattle.tftp_ends.specs.declared.phase.Terms.{Terms}
-use Rattle.tftp_ends.specs.Action.{is_wrong_peer, same_address, same_endpoint, garbled_response, packet_action}
+use Rattle.tftp_ends.specs.Action.{same_address, same_endpoint}
 use Rattle.tftp_ends.specs.Action.{timeout_response}
-use Rattle.tftp_ends.specs.End.{EndState, Position, terms_of, number_of, is_complete}
+use Rattle.tftp_ends.specs.End.{Position, is_complete}
 use Rattle.tftp_ends.specs.Phase.{waited}
-use Rattle.tftp_ends.specs.Rows.{Handled, AnswersAgain}
+use Rattle.tftp_ends.specs.Rows.{AnswersAgain}
 use Rattle.tftp_ends.specs.SharedRows.{IsForeign, FromWrongPeer, IsMalformedError, WrongPeerIsRefused}
 use Rattle.tftp_ends.specs.SharedRows.{ErrorOfWrongPeerIsNothing, MalformedErrorClosesSender}
 use Rattle.tftp_ends.specs.SharedRows.{MalformedErrorClosesReceiver, MalformedErrorClosesWaiting, TimeoutRetransmits}
 use Rattle.tftp_ends.specs.SharedRows.{LastTimeoutCloses, FirstDallyTimeoutIsCounted, SecondDallyTimeoutCompletes}
-use Rattle.tftp_ends.specs.Step.{Turn, response_turn}
 use Rattle.tftp_ends.proofs.RowLemmas.{DidSo, own_address, own_peer, if_yes, if_no, nothing_at, does_nothing, closes}
 
 -- ---- a wrong transfer identifier

@@ -1,23 +1,15 @@
 -- A receiver's step, from the result of storing a block. For `End::store`.
-use Rattle.std.proofs.Common.{◌≡◌, ℕ, Bool, true, false, ltb, List, length, Some, Result, Ok, Err, refl, sym, ap, ◌∙◌}
-use Rattle.tftp_file.specs.Sink.{SinkMeaning}
-use Rattle.tftp_file.specs.declared.fault.StoreFault.{StoreFault}
+use Rattle.tftp_ends.proofs.Common.{◌≡◌, ℕ, Bool, true, false, List, length, Some, Result, Ok, Err, refl, sym, ap, ◌∙◌}
+use Rattle.tftp_ends.proofs.Common.{SinkMeaning, StoreFault, Endpoint, ErrorReply, DiskFull, Outgoing, Fresh, Receiving}
+use Rattle.tftp_ends.proofs.Common.{Dallying, Terms, Step, EndState, step_of, refused, Done, Turn, GoesOn, Lends}
+use Rattle.tftp_ends.proofs.Common.{with_position, holding, ack_bytes, sent_turn, refused_turn, committed_turn}
+use Rattle.tftp_ends.proofs.Common.{reported}
+use Rattle.std.proofs.Common.{ltb}
 use Rattle.tftp_ends.specs.declared.end.storing.BlockStored.{BlockStored}
 use Rattle.tftp_ends.specs.declared.end.storing.BlockStored.TheVariants.{More, All, Refused, Uncommitted}
-use Rattle.tftp_ends.specs.declared.endpoint.Endpoint.{Endpoint}
-use Rattle.tftp_ends.specs.declared.error_reply.ErrorReply.{ErrorReply}
-use Rattle.tftp_ends.specs.declared.error_reply.ErrorReply.TheVariants.{DiskFull}
 use Rattle.tftp_ends.specs.declared.outcome.Outcome.TheVariants as outcomes
-use Rattle.tftp_ends.specs.declared.outgoing.Outgoing.{Outgoing}
 use Rattle.tftp_ends.specs.declared.outgoing.Outgoing.TheVariants.{LastSent, Error}
-use Rattle.tftp_ends.specs.declared.phase.Dally.TheVariants.{Fresh}
-use Rattle.tftp_ends.specs.declared.phase.Phase.TheVariants.{Receiving, Dallying}
-use Rattle.tftp_ends.specs.declared.phase.Terms.{Terms}
-use Rattle.tftp_ends.specs.declared.record.Step.{Step}
-use Rattle.tftp_ends.specs.End.{EndState, step_of}
-use Rattle.tftp_ends.specs.Phase.{refused}
-use Rattle.tftp_ends.specs.Step.{Done, Turn, Stores, GoesOn, Lends, in_phase, having_sent, with_position, holding}
-use Rattle.tftp_ends.specs.Step.{ack_bytes, sent_turn, refused_turn, committed_turn, reported}
+use Rattle.tftp_ends.specs.Step.{Stores, in_phase, having_sent}
 use Rattle.tftp_ends.proofs.Lending.{reports_lent}
 use Rattle.tftp_ends.specs.BlockStored.{StoresPiece, StoresOn, committed_as}
 

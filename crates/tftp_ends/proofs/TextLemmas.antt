@@ -1,9 +1,12 @@
 -- A piece of netascii, by its first wrong byte and by the host bytes that it stands for. For five functions and the
 -- crate tftp_rules.
-use Rattle.std.proofs.Common.{◌≡◌, ◌≢◌, ℕ, Bool, true, false, List, [], ◌∷◌, ◌++◌, Result, Ok, Err, length, ltb, ◌<◌}
-use Rattle.std.proofs.Common.{◌≤◌, sym, refl, ap, ◌∙◌, inl, inr, append_assoc}
-use Rattle.std.specs.Prelude.{◌==◌, ◌↔◌, ◌&&◌, not}
-use Rattle.std.proofs.lemmas.Bool.{cases_eq, ne_eqb, true≢false, lt-ltb, le-ltb}
+use Rattle.tftp_ends.proofs.Common.{◌≡◌, ◌≢◌, ℕ, Bool, true, false, List, [], ◌∷◌, ◌++◌, Result, Ok, Err, length, ◌<◌}
+use Rattle.tftp_ends.proofs.Common.{◌≤◌, sym, refl, ap, ◌∙◌, ◌==◌, ◌&&◌, not, ne_eqb, true≢false, lt-ltb, le-ltb}
+use Rattle.tftp_ends.proofs.Common.{is_readable, Done}
+use Rattle.std.proofs.Common.{ltb}
+use Rattle.std.proofs.Common.{inl, inr, append_assoc}
+use Rattle.std.specs.Prelude.{◌↔◌}
+use Rattle.std.proofs.lemmas.Bool.{cases_eq}
 use Rattle.std.specs.Result.{IsOk, is_ok}
 use Rattle.tftp_wire.specs.declared.mode.Mode.{Mode}
 use Rattle.tftp_wire.specs.declared.mode.Mode.TheVariants.{Octet, Netascii}
@@ -12,9 +15,8 @@ use Rattle.tftp_file.specs.Decoding.{IsHeldBack, DecodesPiece, IsWrong, Refuses}
 use Rattle.tftp_file.specs.declared.netascii.NetFault.{NetFault}
 use Rattle.tftp_file.specs.declared.netascii.NetFault.TheVariants.{LoneCr, LoneLf, EndsInCr, Memory}
 use Rattle.tftp_ends.specs.Laws.{DecodedBegins, DecodedEnds}
-use Rattle.tftp_ends.specs.Text.{begins_netascii, ends_in_cr, is_readable}
+use Rattle.tftp_ends.specs.Text.{begins_netascii, ends_in_cr}
 use Rattle.tftp_ends.specs.Sound.{HeldBackFits}
-use Rattle.tftp_ends.specs.Step.{Done}
 
 -- a byte that is encoded as itself
 plain_begins : (b : ℕ) (rest : List ℕ) → (b == 10) ≡ false → (b == 13) ≡ false

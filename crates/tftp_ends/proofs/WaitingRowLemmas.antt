@@ -1,31 +1,18 @@
 -- The table of a client that waits. For `waiting_rows`.
-use Rattle.std.proofs.Common.{ℕ, Bool, true, false, List, [], length, Option, Some, None, Result, Ok, Err, refl, subst}
-use Rattle.std.proofs.lemmas.Bool.{ne_eqb, eqb-true, le-leb, lt-leb}
-use Rattle.std.specs.Prelude.{◌==◌, ◌&&◌, ◌*◌, nat_lt, nat_le, codes, if◌then◌else◌}
-use Rattle.tftp_wire.specs.Spelling.{Spells}
-use Rattle.tftp_wire.specs.declared.packet.Packet.{Packet}
-use Rattle.tftp_wire.specs.declared.packet.Packet.TheVariants.{Read, Write, Data, Ack, Error, Oack}
-use Rattle.tftp_negotiate.specs.Agreement.{agreement}
-use Rattle.tftp_negotiate.specs.declared.asked.Asked.{Asked}
+use Rattle.tftp_ends.proofs.Common.{ℕ, Bool, true, false, List, [], length, Option, Some, None, Result, Ok, Err, refl}
+use Rattle.tftp_ends.proofs.Common.{subst, ne_eqb, eqb-true, ◌==◌, ◌&&◌, nat_lt, nat_le, codes, if◌then◌else◌, Spells}
+use Rattle.tftp_ends.proofs.Common.{Packet, Read, Write, Data, Ack, Error, Oack, agreement, Asked, Known, DEFAULT_BLOCK}
+use Rattle.tftp_ends.proofs.Common.{Refusal, SourceMeaning, SinkMeaning, Action, Respond, Send, Refuse, FileTooLarge}
+use Rattle.tftp_ends.proofs.Common.{DiskFull, IllegalOperation, Waiting, Receiving, Terms, receiver_action, Handled}
+use Rattle.tftp_ends.proofs.Common.{RefusesBy, default_terms, agreed_terms, no_answer, refusal_action, accept_action}
+use Rattle.tftp_ends.proofs.Common.{begin_action, begin_with_action, reader_action, writer_action}
+use Rattle.std.proofs.lemmas.Bool.{le-leb, lt-leb}
+use Rattle.std.specs.Prelude.{◌*◌}
 use Rattle.tftp_negotiate.specs.declared.known.Kind.TheVariants as kinds
-use Rattle.tftp_negotiate.specs.declared.known.Known.{Known}
-use Rattle.tftp_negotiate.specs.declared.limits.TheConstants.{DEFAULT_BLOCK}
-use Rattle.tftp_negotiate.specs.declared.refusal.Refusal.{Refusal}
 use Rattle.tftp_negotiate.specs.declared.refusal.Refusal.TheVariants as refusals
-use Rattle.tftp_file.specs.Source.{SourceMeaning}
-use Rattle.tftp_file.specs.Sink.{SinkMeaning}
-use Rattle.tftp_ends.specs.declared.action.Action.{Action}
-use Rattle.tftp_ends.specs.declared.action.Action.TheVariants.{Respond, Send}
-use Rattle.tftp_ends.specs.declared.action.Response.TheVariants.{Refuse}
-use Rattle.tftp_ends.specs.declared.error_reply.ErrorReply.TheVariants.{FileTooLarge, DiskFull, IllegalOperation}
 use Rattle.tftp_ends.specs.declared.error_reply.ErrorReply.TheVariants.{OptionRefused}
 use Rattle.tftp_ends.specs.declared.outcome.Outcome.TheVariants as outcomes
-use Rattle.tftp_ends.specs.declared.phase.Phase.TheVariants.{Waiting, Receiving}
-use Rattle.tftp_ends.specs.declared.phase.Terms.{Terms}
-use Rattle.tftp_ends.specs.Receiver.{receiver_action}
-use Rattle.tftp_ends.specs.Rows.{Handled, IsMalformed, RefusesBy}
-use Rattle.tftp_ends.specs.Waiting.{default_terms, agreed_terms, no_answer, refusal_action, accept_action, begin_action}
-use Rattle.tftp_ends.specs.Waiting.{begin_with_action, reader_action, writer_action}
+use Rattle.tftp_ends.specs.Rows.{IsMalformed}
 use Rattle.tftp_ends.specs.WaitingRows.{FromServer, RefusesOack, ReaderTakes, WriterBegins, WriterTakes}
 use Rattle.tftp_ends.specs.WaitingRows.{FirstDataIsStored, OackOpensReader, ReaderTakesNoOther, FirstAckBegins}
 use Rattle.tftp_ends.specs.WaitingRows.{OackOpensWriter, WriterTakesNoOther, ErrorClosesWaiting, MalformedClosesWaiting}

@@ -1,10 +1,10 @@
 -- The blocks of a text. For `blocks` and the crate tftp_rules.
+use Rattle.std.proofs.lemmas.Grind.{common_steps}
 use Rattle.std.proofs.Common.{◌≡◌, ℕ, zero, suc, ◌+◌, ◌-◌, ◌*◌, ◌<◌, ◌≤◌, List, [], ◌++◌, sym, ap, ◌∙◌, arith, length}
-use Rattle.std.proofs.Common.{take, drop}
-use Rattle.std.specs.Prelude.{◌/◌, ◌%◌}
-use Rattle.std.proofs.lemmas.List.{length-take, length-drop, take-append-drop, take-take, drop-take, take_all}
-use Rattle.std.proofs.lemmas.List.{nil_from_length}
-use Rattle.std.proofs.lemmas.Nat.{row_fits, div-add-mod', mod_below, mod-mul-add}
+use Rattle.std.proofs.Common.{take, drop, rules}
+use Rattle.std.specs.Prelude.{◌%◌}
+use Rattle.std.proofs.lemmas.List.{take-append-drop, take-take, drop-take, take_all}
+use Rattle.std.proofs.lemmas.Nat.{div-add-mod', mod_below}
 use Rattle.tftp_file.specs.Block.{block, block_count, first_blocks}
 
 -- the first elements of a list are some and then some of the rest
@@ -20,8 +20,7 @@ pub take_block : (text : List ℕ) (size n : ℕ)
 take_block text size n =
     let e : (suc n - 1) * size ≡ n * size = ap (λ (k : ℕ). k * size) (let f : suc n - 1 ≡ n = omega arith in f) in
     let s : n * size + size ≡ suc n * size = omega arith in
-    ap (λ (k : ℕ). take (n * size) text ++ take size (drop k text)) e
-    ∙ (sym (take-add (n * size) size text) ∙ ap (λ (k : ℕ). take k text) s)
+    search (rules, take-add)
 
 -- the first n blocks are the first n times the size bytes
 pub first_blocks_is : (text : List ℕ) (size n : ℕ) → first_blocks text size n ≡ take (n * size) text
@@ -35,23 +34,11 @@ module _ (text : List ℕ) (size : ℕ) (some : 0 < size) where
 
   -- all blocks together are the text
   pub blocks_join : first_blocks text size (block_count text size) ≡ text
-  blocks_join =
-      first_blocks_is text size (block_count text size) ∙ take_all (block_count text size * size) text count_covers
-
-  last_offset : (block_count text size - 1) * size ≡ length text / size * size
-  last_offset = ap (λ (k : ℕ). k * size) (let e : block_count text size - 1 ≡ length text / size = omega arith in e)
+  blocks_join = search (rules, first_blocks_is, take_all, count_covers)
 
   -- the last block has the remaining bytes
   pub length-last : length (block text size (block_count text size)) ≡ length text % size
-  length-last =
-      length-take size (drop ((block_count text size - 1) * size) text)
-      ∙ omega (
-        arith,
-        last_offset,
-        length-drop ((block_count text size - 1) * size) text,
-        div-add-mod' (length text) size,
-        mod_below (length text) size some,
-      )
+  length-last = grind (arith, common_steps)
 
   -- the last is shorter than the block size
   pub last_short : length (block text size (block_count text size)) < size
@@ -59,19 +46,8 @@ module _ (text : List ℕ) (size : ℕ) (some : 0 < size) where
 
   -- every other has the block size
   pub others_full : (n : ℕ) → 1 ≤ n → n < block_count text size → length (block text size n) ≡ size
-  others_full n low high =
-      length-take size (drop ((n - 1) * size) text)
-      ∙ omega (
-        arith,
-        length-drop ((n - 1) * size) text,
-        row_fits (n - 1) size (length text / size) size (omega arith) (omega arith),
-        div-add-mod' (length text) size,
-      )
+  others_full n low high = grind (arith, common_steps)
 
   -- the last is empty where the others have all of the text
   pub last_empty : (n : ℕ) → length text ≡ n * size → block text size (block_count text size) ≡ []
-  last_empty n e =
-      nil_from_length (block text size (block_count text size))
-      (length-last
-      ∙ (ap (λ (k : ℕ). k % size) (let f : length text ≡ n * size + 0 = omega (arith, e) in f)
-      ∙ mod-mul-add n size 0 some))
+  last_empty n e = grind (arith, common_steps)

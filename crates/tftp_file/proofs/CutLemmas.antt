@@ -1,45 +1,34 @@
 -- A text is decoded in the same way wherever it is cut. For `any_cut`, `one_reading` and the crate tftp_rules.
+use Rattle.std.proofs.lemmas.Grind.{common_steps}
 use Rattle.std.proofs.Common.{◌≡◌, ℕ, ◌+◌, ◌<◌, ◌≤◌, List, [], ◌∷◌, ◌++◌, sym, refl, ap, ◌∙◌, subst, arith, inl, inr}
-use Rattle.std.proofs.Common.{append_assoc, length}
+use Rattle.std.proofs.Common.{append_assoc, length, rules}
 use Rattle.std.specs.Prelude.{◌⊎◌}
 use Rattle.std.specs.List.{concat}
 use Rattle.std.proofs.lemmas.List.{append-nil, length-append}
-use Rattle.tftp_file.specs.Netascii.{wire_byte, netascii_text}
+use Rattle.tftp_file.specs.Netascii.{netascii_text}
 use Rattle.tftp_file.specs.Decoding.{IsHeldBack, DecodesPiece, IsWrong, FirstWrong, BeginsWireText, TakesAll, RefusesAt}
 use Rattle.tftp_file.specs.declared.netascii.NetFault.{NetFault}
-use Rattle.tftp_file.specs.declared.netascii.NetFault.TheVariants.{LoneCr, LoneLf, EndsInCr, Memory}
-use Rattle.tftp_file.proofs.NetasciiLemmas.{Line, Return, Itself, byte_form}
 use Rattle.tftp_file.proofs.DecodingLemmas.{stop_held, stop_lone_cr, stop_lf, one_way, begins_or_wrong, Begins, Wrong}
-use Rattle.tftp_file.proofs.DecodingLemmas.{read, front_joins, first_wrong_after, first_wrong_before, wrong_after}
+use Rattle.tftp_file.proofs.DecodingLemmas.{read, first_wrong_after, first_wrong_before, wrong_after}
 
 -- two pieces, one after the other
 joins : (held piece between bytes next : List ℕ) → held ++ piece ≡ netascii_text bytes ++ between
     → held ++ (piece ++ next) ≡ netascii_text bytes ++ (between ++ next)
-joins held piece between bytes next e =
-    sym (append_assoc held piece next)
-    ∙ (ap (λ (t : List ℕ). t ++ next) e ∙ append_assoc (netascii_text bytes) between next)
+joins held piece between bytes next e = grind (arith, common_steps)
 
 decodes_joined : (held piece between next after first rest : List ℕ) → DecodesPiece held piece first between
     → DecodesPiece between next rest after → DecodesPiece held (piece ++ next) (first ++ rest) after
-decodes_joined held piece between next after first rest d k = (
-  k.0,
-  joins held piece between first next d.1
-      ∙ (ap (λ (t : List ℕ). netascii_text first ++ t) k.1 ∙ front_joins first rest after),
-)
+decodes_joined held piece between next after first rest d k = grind (arith, common_steps)
 
 -- a text has one list of bytes, and one rest
 pub once : (held text bytes after others left : List ℕ) → DecodesPiece held text bytes after
     → DecodesPiece held text others left → (bytes ≡ others) × (after ≡ left)
-once held text bytes after others left d k =
-    one_way bytes others after left (stop_held after d.0) (stop_held left k.0) (sym d.1 ∙ k.1)
+once held text bytes after others left d k = search (rules, one_way, stop_held)
 
 -- pieces that are decoded one after another are decoded as a whole
 pub pieces_join : (held : List ℕ) (pieces : List (List ℕ)) (bytes after : List ℕ) → IsHeldBack held
     → TakesAll held pieces bytes after → DecodesPiece held (concat pieces) bytes after
-pieces_join held [] bytes after h t = (
-  subst (λ (l : List ℕ). IsHeldBack l) (sym t.1) h,
-  append-nil held ∙ (sym t.1 ∙ ap (λ (l : List ℕ). netascii_text l ++ after) (sym t.0)),
-)
+pieces_join held [] bytes after h t = search rules
 pieces_join held (piece ∷ pieces) bytes after h t =
     subst (λ (l : List ℕ). DecodesPiece held (piece ++ concat pieces) l after) (sym t.5)
     (decodes_joined held piece t.1 (concat pieces) after t.0 t.2 t.3 (pieces_join t.1 pieces t.2 after t.3.0 t.4))
@@ -84,73 +73,18 @@ whole_taken held (piece ∷ pieces) bytes after h d = elim (read (held ++ piece)
 
 -- the first wrong byte is within the text
 pub wrong_within : (text : List ℕ) (at : ℕ) (fault : NetFault) → FirstWrong text at fault → at < length text
-wrong_within text at LoneCr h =
-    omega (arith, h.offset, ap length h.split, length-append (netascii_text h.bytes) (13 ∷ h.byte ∷ h.rest))
-wrong_within text at LoneLf h =
-    omega (arith, h.offset, ap length h.split, length-append (netascii_text h.bytes) (10 ∷ h.rest))
-wrong_within text at EndsInCr h = absurd h
-wrong_within text at Memory h = absurd h
-
-some_wire : (x : ℕ) (xs : List ℕ) → 1 ≤ length (netascii_text (x ∷ xs))
-some_wire x xs = elim (byte_form x) [
-  | Line _ w _ ↦ omega (arith, ap length w, length-append (wire_byte x) (netascii_text xs))
-  | Return _ w _ ↦ omega (arith, ap length w, length-append (wire_byte x) (netascii_text xs))
-  | Itself _ _ w _ ↦ omega (arith, ap length w, length-append (wire_byte x) (netascii_text xs))
-]
-
-lf_after : (bytes piece rest : List ℕ) → 13 ∷ piece ≡ netascii_text bytes ++ (10 ∷ rest)
-    → 1 ≤ length (netascii_text bytes)
-lf_after [] piece rest e = absurd (let g : ◌≡◌ {A = ℕ} 13 10 = cc in omega arith)
-lf_after (x ∷ xs) piece rest e = some_wire x xs
+wrong_within text at fault h = grind (arith, common_steps)
 
 -- the first wrong byte is not a byte held back
 wrong_after_held : (held piece : List ℕ) (at : ℕ) (fault : NetFault) → IsHeldBack held
     → FirstWrong (held ++ piece) at fault
     → length held ≤ at
-wrong_after_held held piece at LoneCr h w =
-    elim h [ inl e ↦ omega (arith, ap length e) | inr e ↦ omega (arith, ap length e, w.offset) ]
-wrong_after_held held piece at LoneLf h w = elim h [
-  | inl e ↦ omega (arith, ap length e)
-  | inr e ↦
-      omega (
-        arith,
-        ap length e,
-        w.offset,
-        lf_after w.bytes piece w.rest (ap (λ (t : List ℕ). t ++ piece) (sym e) ∙ w.split),
-      )
-]
-wrong_after_held held piece at EndsInCr h w = absurd w
-wrong_after_held held piece at Memory h w = absurd w
+wrong_after_held held piece at fault h w = grind (arith, common_steps)
 
 -- a text has one first wrong byte, with one fault
 pub wrong_once : (text : List ℕ) (at other : ℕ) (fault wrong : NetFault) → FirstWrong text at fault
     → FirstWrong text other wrong → (at ≡ other) × (fault ≡ wrong)
-wrong_once text at other LoneCr LoneCr h k =
-    let o =
-    one_way h.bytes k.bytes (13 ∷ h.byte ∷ h.rest) (13 ∷ k.byte ∷ k.rest)
-    (stop_lone_cr h.byte h.rest h.no_lf h.no_nul) (stop_lone_cr k.byte k.rest k.no_lf k.no_nul)
-    (sym h.split ∙ k.split) in
-    (omega (arith, h.offset, k.offset, ap (λ (t : List ℕ). length (netascii_text t)) o.0), refl)
-wrong_once text at other LoneLf LoneLf h k =
-    let o =
-    one_way h.bytes k.bytes (10 ∷ h.rest) (10 ∷ k.rest) (stop_lf h.rest) (stop_lf k.rest) (sym h.split ∙ k.split) in
-    (omega (arith, h.offset, k.offset, ap (λ (t : List ℕ). length (netascii_text t)) o.0), refl)
-wrong_once text at other LoneCr LoneLf h k =
-    let o =
-    one_way h.bytes k.bytes (13 ∷ h.byte ∷ h.rest) (10 ∷ k.rest) (stop_lone_cr h.byte h.rest h.no_lf h.no_nul)
-    (stop_lf k.rest) (sym h.split ∙ k.split) in
-    absurd (let e : 13 ∷ h.byte ∷ h.rest ≡ 10 ∷ k.rest = o.1 in let g : ◌≡◌ {A = ℕ} 13 10 = cc in omega arith)
-wrong_once text at other LoneLf LoneCr h k =
-    let o =
-    one_way h.bytes k.bytes (10 ∷ h.rest) (13 ∷ k.byte ∷ k.rest) (stop_lf h.rest)
-    (stop_lone_cr k.byte k.rest k.no_lf k.no_nul) (sym h.split ∙ k.split) in
-    absurd (let e : 10 ∷ h.rest ≡ 13 ∷ k.byte ∷ k.rest = o.1 in let g : ◌≡◌ {A = ℕ} 10 13 = cc in omega arith)
-wrong_once text at other EndsInCr wrong h k = absurd h
-wrong_once text at other Memory wrong h k = absurd h
-wrong_once text at other LoneCr EndsInCr h k = absurd k
-wrong_once text at other LoneCr Memory h k = absurd k
-wrong_once text at other LoneLf EndsInCr h k = absurd k
-wrong_once text at other LoneLf Memory h k = absurd k
+wrong_once text at other fault wrong h k = search (rules, one_way, stop_lone_cr, stop_lf)
 
 -- a text begins a wire text, or it has a first wrong byte
 pub either : (text : List ℕ) → BeginsWireText text ⊎ ((at : ℕ) × (fault : NetFault) × FirstWrong text at fault)
@@ -166,12 +100,11 @@ begins_front text rest b = elim (read text) [
 -- the first wrong byte is refused in whichever piece it is
 pub refused_at : (held : List ℕ) (pieces : List (List ℕ)) (at : ℕ) (fault : NetFault) → IsHeldBack held
     → FirstWrong (held ++ concat pieces) at fault → RefusesAt held pieces at fault
-refused_at held [] at fault h w = absurd (begins_or_wrong (held ++ []) fault ([], held, (h, append-nil held)) (at, w))
+refused_at held [] at fault h w = absurd (begins_or_wrong _ _ ([], held, (h, append-nil held)) (at, w))
 refused_at held (piece ∷ pieces) at fault h w = elim (read (held ++ piece)) [
   | Wrong wrong v ↦
       let o =
-      wrong_once (held ++ (piece ++ concat pieces)) at v.0 fault wrong w
-      (subst (λ (t : List ℕ). FirstWrong t v.0 wrong) (append_assoc held piece (concat pieces))
+      wrong_once (held ++ (piece ++ concat pieces)) at v.0 fault wrong w (rw (← append_assoc held piece (concat pieces))
       (first_wrong_before (held ++ piece) (concat pieces) v.0 wrong v.1)) in
       record {
         before = [];
@@ -181,25 +114,19 @@ refused_at held (piece ∷ pieces) at fault h w = elim (read (held ++ piece)) [
         between = held;
         cut = refl;
         taken = (refl, refl);
-        wrong = subst (λ (f : NetFault). IsWrong (held ++ piece) f) (sym o.1) v;
+        wrong = rw (o.1) v;
         begins = omega (arith, o.0, wrong_after_held held piece v.0 wrong h v.1);
         ends = omega (arith, o.0, wrong_within (held ++ piece) v.0 wrong v.1, length-append held piece);
       }
   | Begins b ↦ elim (read (b.1 ++ concat pieces)) [
-    | Begins r ↦ absurd (begins_or_wrong (held ++ (piece ++ concat pieces)) fault
-        (begins_cut held (piece ++ concat pieces) (b.0 ++ r.0) r.1
-        (decodes_joined held piece b.1 (concat pieces) r.1 b.0 r.0 b.2 r.2))
-        (at, w))
+    | Begins r ↦ absurd (begins_or_wrong (held ++ (piece ++ concat pieces)) fault (begins_cut held (piece ++ concat
+        pieces) (b.0 ++ r.0) r.1 (decodes_joined held piece b.1 (concat pieces) r.1 b.0 r.0 b.2 r.2)) (at, w))
     | Wrong wrong v ↦
         let o = wrong_once (held ++ (piece ++ concat pieces)) at (length (netascii_text b.0) + v.0) fault wrong w
-        (subst (λ (t : List ℕ). FirstWrong t (length (netascii_text b.0) + v.0) wrong)
-        (sym (joins held piece b.1 b.0 (concat pieces) b.2.1))
-        (first_wrong_after b.0 (b.1 ++ concat pieces) v.0 wrong v.1)) in
-        let i =
-        refused_at b.1 pieces v.0 fault b.2.0
-        (subst (λ (f : NetFault). FirstWrong (b.1 ++ concat pieces) v.0 f) (sym o.1) v.1) in
-        let l : length held + length piece ≡ length (netascii_text b.0) + length b.1 =
-        sym (length-append held piece) ∙ (ap length b.2.1 ∙ length-append (netascii_text b.0) b.1) in
+        (rw ((joins held piece b.1 b.0 (concat pieces) b.2.1)) (first_wrong_after b.0 (b.1 ++ concat pieces) v.0 wrong
+        v.1)) in
+        let i = refused_at b.1 pieces v.0 fault b.2.0 (rw (o.1) v.1) in
+        let l = sym (length-append held piece) ∙ (ap length b.2.1 ∙ length-append (netascii_text b.0) b.1) in
         record {
           before = piece ∷ i.before;
           piece = i.piece;

@@ -1,12 +1,12 @@
 -- Bytes and their wire text in netascii. For `lines.rt`, four functions and five other files.
-use Rattle.std.proofs.Common.{◌≡◌, ◌≢◌, ℕ, ◌+◌, List, [], ◌∷◌, ◌++◌, true, false, cond, refl, ap, ◌∙◌, arith, inl, inr}
-use Rattle.std.proofs.Common.{length, take, drop}
-use Rattle.std.specs.Prelude.{◌==◌, count_by, ltb, not, Option, Some, None, unwrap_or}
+use Rattle.std.proofs.Common.{◌≡◌, ◌≢◌, ℕ, ◌+◌, List, [], ◌∷◌, ◌++◌, true, false, cond, refl, ap, arith, inl, inr}
+use Rattle.std.proofs.Common.{length, take, drop, rules}
+use Rattle.std.specs.Prelude.{count_by, ltb, Option, Some, None, unwrap_or}
 use Rattle.std.specs.List.{position_or_len}
 use Rattle.std.proofs.lemmas.List.{length-append}
 use Rattle.std.proofs.lemmas.List.Concat.{flat_map-append}
 use Rattle.std.proofs.Math.Numerals.{one-add}
-use Rattle.std.proofs.lemmas.Bool.{cases_eq, cases_lt, lt-ltb, le-ltb, ne_eqb, cond-true, cond-false}
+use Rattle.std.proofs.lemmas.Bool.{cases_lt, lt-ltb, le-ltb, cond-true, cond-false}
 use Rattle.std.proofs.lemmas.List.Sums.{prefix_len-le-length, sum_by-cons}
 use Rattle.tftp_file.specs.Netascii.{wire_byte, netascii_text}
 use Rattle.tftp_file.specs.Lines.{is_line_byte, EndsAtLine}
@@ -19,15 +19,7 @@ pub data ByteForm (x : ℕ) : Type 0 where
 
 -- a byte is LF, CR or another
 pub byte_form : (x : ℕ) → ByteForm x
-byte_form x = elim (cases_eq x 10) [
-  | inl e ↦ Line e (rw e) (rw e)
-  | inr n ↦
-      let p : (x == 10) ≡ false = ne_eqb x 10 n in
-      elim (cases_eq x 13) [
-        | inl e ↦ Return e (rw e) (rw e)
-        | inr m ↦ let q : (x == 13) ≡ false = ne_eqb x 13 m in Itself n m (rw (p, q)) (rw (p, q))
-      ]
-]
+byte_form x = search rules
 
 -- the text of two parts is that of the first and then that of the second
 pub netascii-append : (xs ys : List ℕ) → netascii_text (xs ++ ys) ≡ netascii_text xs ++ netascii_text ys
@@ -56,25 +48,10 @@ run_ends (x ∷ xs) = elim (byte_form x) [
 pub first_index : (xs : List ℕ) (r : Option ℕ)
     → r ≡ cond (ltb (position_or_len is_line_byte xs) (length xs)) (Some (position_or_len is_line_byte xs)) None
     → unwrap_or r (length xs) ≡ position_or_len is_line_byte xs
-first_index xs r e =
-    let p = position_or_len is_line_byte xs in
-    elim (cases_lt p (length xs)) [
-      | inl l ↦
-          ap (λ (o : Option ℕ). unwrap_or o (length xs))
-          (e ∙ cond-true (ltb p (length xs)) (Some p) None (lt-ltb p (length xs) l))
-      | inr n ↦
-          let m : length xs ≡ p = omega (arith, n, prefix_len-le-length (λ (x : ℕ). not (is_line_byte x)) xs) in
-          ap (λ (o : Option ℕ). unwrap_or o (length xs))
-          (e ∙ cond-false (ltb p (length xs)) (Some p) None (le-ltb p (length xs) n))
-          ∙ m
-    ]
+first_index xs r e = search (rules, cases_lt, cond-true, lt-ltb, prefix_len-le-length, cond-false, le-ltb)
 
 length-wire_byte : (x : ℕ) → length (wire_byte x) ≡ cond (is_line_byte x) 1 0 + 1
-length-wire_byte x = elim (byte_form x) [
-  | Line _ w t ↦ rw (w, t)
-  | Return _ w t ↦ rw (w, t)
-  | Itself _ _ w t ↦ rw (w, t)
-]
+length-wire_byte x = search rules
 
 -- each CR and LF has one more byte
 pub length-netascii : (xs : List ℕ) → length (netascii_text xs) ≡ length xs + count_by is_line_byte xs

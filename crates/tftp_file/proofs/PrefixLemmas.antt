@@ -28,5 +28,4 @@ host_begins Netascii xs ys h = netascii_begins xs ys h.0 h.1
 -- the wire text of a prefix is a prefix
 pub wire_begins : (mode : Mode) (xs ys : List ℕ) → IsPrefixOf xs ys
     → IsPrefixOf (wire_text mode xs) (wire_text mode ys)
-wire_begins mode xs ys h =
-    (wire_text mode h.0, sym (wire-append mode xs h.0) ∙ ap (λ (t : List ℕ). wire_text mode t) h.1)
+wire_begins mode xs ys h = (wire_text mode h.0, sym (wire-append mode xs h.0) ∙ ap (λ t. wire_text mode t) h.1)

@@ -1,5 +1,6 @@
 -- A read after earlier reads. For `read_from`.
 use Rattle.std.proofs.Common.{◌≡◌, ℕ, ◌+◌, ◌-◌, ◌≤◌, List, ◌++◌, length, take, drop, Option, sym, ap, ◌∙◌, subst, arith}
+use Rattle.std.proofs.Common.{rules}
 use Rattle.std.specs.Io.KnownBytes.{Consumes}
 use Rattle.std.proofs.KnownBytes.{Consumes-trans}
 use Rattle.std.proofs.lemmas.List.{take-take, drop-take, drop-drop}
@@ -28,11 +29,10 @@ pub read_more : (a b c : Option (List ℕ)) (start at n : ℕ) (old new : List �
 read_more a b c start at n old new after within fits same before read =
     let both : (at + n) - start ≡ (at - start) + n = omega arith in
     let offset : start + (at - start) ≡ at = omega arith in
-    let rest : take n (drop (at - start) (drop start new)) ≡ take n (drop at new) =
-    ap (take n) (drop-drop (at - start) start new ∙ ap (λ k. drop k new) offset) in
-    let joined = ap (λ k. take k (drop start new)) both ∙ take-add (at - start) n (drop start new)
-    ∙ ap (λ l. l ++ take n (drop (at - start) (drop start new))) (between_stays start at old new after same)
-    ∙ ap (λ l. take (at - start) (drop start old) ++ l) rest in
+    let rest = ap (take n) (drop-drop (at - start) start new ∙ ap (λ k. drop k new) offset) in
+    let joined = ap (λ k. take k (drop start new)) both ∙ take-add (at - start) n (drop start new) ∙ ap (λ l. l ++ take
+    n (drop (at - start) (drop start new))) (between_stays start at old new after same) ∙ ap (λ l. take (at - start)
+    (drop start old) ++ l) rest in
     subst (Consumes a c) (sym joined) (Consumes-trans a b c _ _ before read)
 
 -- a read of no bytes adds nothing
@@ -40,7 +40,4 @@ pub read_none : (a b c : Option (List ℕ)) (start at n : ℕ) (old new : List �
     → at ≤ length old → at + n ≤ length new → take at new ≡ take at old
     → Consumes a b (take (at - start) (drop start old)) → Consumes b c (take n (drop at new))
     → Consumes a c (take (at - start) (drop start new))
-read_none a b c start at n old new none after within fits same before read =
-    let offset : (at + n) - start ≡ at - start = omega arith in
-    subst (λ (k : ℕ). Consumes a c (take k (drop start new))) offset
-    (read_more a b c start at n old new after within fits same before read)
+read_none a b c start at n old new none after within fits same before read = search (rules, read_more)

@@ -1,26 +1,18 @@
 -- An end has answered what it handled of its peer. For the law an_end_gives_up_unanswered.
-use Rattle.std.proofs.Common.{◌≡◌, ℕ, ◌+◌, ◌≤◌, zero, suc, Bool, true, false, not, List, [], ◌∷◌, Option, Some, None}
-use Rattle.std.proofs.Common.{◌++◌, refl, sym, ap, ◌∙◌, subst, arith, inl, inr}
-use Rattle.std.specs.Prelude.{◌⊎◌, option_map}
-use Rattle.std.proofs.lemmas.Bool.{true≢false}
+use Rattle.tftp_lives.proofs.Common.{◌≡◌, ℕ, ◌+◌, ◌≤◌, suc, Bool, true, false, not, List, [], ◌∷◌, Option, Some, None}
+use Rattle.tftp_lives.proofs.Common.{◌++◌, refl, sym, ap, ◌∙◌, subst, arith, inl, inr, ◌⊎◌, true≢false, Spells}
+use Rattle.tftp_lives.proofs.Common.{canonical, Packet, Read, Write, Data, Ack, Error, Oack, Asked, SourceMeaning}
+use Rattle.tftp_lives.proofs.Common.{SinkMeaning, Endpoint, Phase, Waiting, Sending, Receiving, Terms, EndState}
+use Rattle.tftp_lives.proofs.Common.{is_sender, outcome_of, terms_of, Act, Took, Said, Has, newest, IsNext, next_of}
+use Rattle.tftp_lives.proofs.Common.{AreOpposite, Awaits, HasSaid, IsOver}
+use Rattle.std.proofs.Common.{zero}
+use Rattle.std.specs.Prelude.{option_map}
 use Rattle.std.proofs.lemmas.Option.{same_Some}
-use Rattle.tftp_wire.specs.Spelling.{Spells, canonical}
-use Rattle.tftp_wire.specs.declared.packet.Packet.{Packet}
-use Rattle.tftp_wire.specs.declared.packet.Packet.TheVariants.{Read, Write, Data, Ack, Error, Oack}
-use Rattle.tftp_negotiate.specs.declared.asked.Asked.{Asked}
-use Rattle.tftp_file.specs.Source.{SourceMeaning}
-use Rattle.tftp_file.specs.Sink.{SinkMeaning}
-use Rattle.tftp_ends.specs.declared.endpoint.Endpoint.{Endpoint}
 use Rattle.tftp_ends.specs.declared.outcome.Outcome.TheVariants as outcomes
-use Rattle.tftp_ends.specs.declared.phase.Phase.{Phase}
-use Rattle.tftp_ends.specs.declared.phase.Phase.TheVariants.{Waiting, Sending, Receiving}
-use Rattle.tftp_ends.specs.declared.phase.Terms.{Terms}
-use Rattle.tftp_ends.specs.End.{EndState, is_sender, number_of, outcome_of}
-use Rattle.tftp_ends.specs.End.{terms_of}
-use Rattle.tftp_lives.specs.Lives.{Act, Took, Said, Has, HasCopies, newest}
-use Rattle.tftp_lives.specs.Lives.{IsNext, next_of}
-use Rattle.tftp_lives.specs.Unanswered.{AreOpposite, Awaits, EndsAnswer}
-use Rattle.tftp_lives.specs.Unanswered.{HasAnswered, HasSaid, HasTried, IsOver}
+use Rattle.tftp_ends.specs.End.{number_of}
+use Rattle.tftp_lives.specs.Lives.{HasCopies}
+use Rattle.tftp_lives.specs.Unanswered.{EndsAnswer}
+use Rattle.tftp_lives.specs.Unanswered.{HasAnswered, HasTried}
 use Rattle.tftp_lives.specs.Unanswered.{AnswersAtOnce, AnswersWhatItHandled}
 use Rattle.tftp_lives.proofs.Stands.{AckBelow, AckDue, AllDue, BlockDue, BlockUpTo, GivesSo, HasBlock, IsCopied, IsIn}
 use Rattle.tftp_lives.proofs.Stands.{OackAtClient, OackOpened, SentBy, Stands, Asks, Gives, Takes, Over, TakesSo}

@@ -1,22 +1,10 @@
 -- Every end stands so by what it has heard and sent.
-use Rattle.std.proofs.Common.{◌≡◌, ℕ, true, false, List, ◌∷◌, Option}
-use Rattle.std.proofs.Common.{sym, ap, ◌∙◌, subst, inl, inr}
-use Rattle.std.specs.Prelude.{is_some}
-use Rattle.std.proofs.lemmas.Bool.{true≢false}
-use Rattle.tftp_file.specs.Source.{SourceMeaning}
-use Rattle.tftp_file.specs.Sink.{SinkMeaning}
-use Rattle.tftp_file.specs.declared.files.Files.{Files}
-use Rattle.tftp_ends.specs.declared.endpoint.Endpoint.{Endpoint}
-use Rattle.tftp_ends.specs.declared.outcome.Outcome.{Outcome}
-use Rattle.tftp_ends.specs.declared.phase.Phase.{Phase}
-use Rattle.tftp_ends.specs.declared.phase.Phase.TheVariants.{Waiting, Sending, Receiving, Dallying, Closed}
-use Rattle.tftp_ends.specs.Action.{datagram_action}
-use Rattle.tftp_ends.specs.End.{EndState, is_complete, outcome_of}
-use Rattle.tftp_ends.specs.Run.{IsOpen}
-use Rattle.tftp_ends.specs.Step.{Turn, Acts, DatagramStep, after_turn, with_position}
-use Rattle.tftp_lives.specs.Lives.{Act, Took, Life, Opens, Hears, Loses, Times}
-use Rattle.tftp_lives.specs.Lives.{with_reply}
-use Rattle.tftp_lives.specs.Unanswered.{Begins}
+use Rattle.tftp_lives.proofs.Common.{◌≡◌, ℕ, true, false, List, ◌∷◌, Option, sym, ap, ◌∙◌, subst, inl, inr, is_some}
+use Rattle.tftp_lives.proofs.Common.{true≢false, SourceMeaning, SinkMeaning, Files, Endpoint, Outcome, Phase, Waiting}
+use Rattle.tftp_lives.proofs.Common.{Sending, Receiving, Dallying, Closed, datagram_action, EndState, is_complete}
+use Rattle.tftp_lives.proofs.Common.{outcome_of, IsOpen, Turn, Acts, after_turn, with_position, Act, Took, Life, Opens}
+use Rattle.tftp_lives.proofs.Common.{Hears, Loses, Times, with_reply, Begins}
+use Rattle.tftp_ends.specs.Step.{DatagramStep}
 use Rattle.tftp_lives.proofs.Stands.{Stands, Asks, Gives, Takes, Over}
 use Rattle.tftp_lives.proofs.StandsMore.{stands_lost}
 use Rattle.tftp_lives.proofs.OpenEnds.{in_phase_of, still_copied}

@@ -1,32 +1,26 @@
 -- The newest datagram of an end is one that it sent, and what it answers is that one or no OACK. For the law on why a
 -- client ends (tftp_promises).
-use Rattle.std.proofs.Common.{◌≡◌, ℕ, Bool, true, false, List, ◌∷◌, Option, Some, None, Result, Ok, Err, refl, sym, ap}
-use Rattle.std.proofs.Common.{subst, inl, inr}
-use Rattle.std.specs.Prelude.{◌⊎◌, ◌==◌, if◌then◌else◌, length, nat_lt}
+use Rattle.tftp_lives.proofs.Common.{◌≡◌, ℕ, Bool, true, false, List, ◌∷◌, Option, Some, None, Result, Ok, Err, refl}
+use Rattle.tftp_lives.proofs.Common.{sym, ap, subst, inl, inr, ◌⊎◌, ◌==◌, if◌then◌else◌, nat_lt, SinkMeaning}
+use Rattle.tftp_lives.proofs.Common.{SourceMeaning, Files, Respond, Send, Response, Ignore, WrongPeer, ResendReply}
+use Rattle.tftp_lives.proofs.Common.{Close, Refuse, Endpoint, Phase, Waiting, Sending, Receiving, Dallying, Closed}
+use Rattle.tftp_lives.proofs.Common.{Terms, datagram_action, EndState, Acts, Reply, Turn, after_turn, data_bytes}
+use Rattle.tftp_lives.proofs.Common.{response_turn, timeout_turn, Act, Took, Said, Timed, Has, Life, Opens, Hears}
+use Rattle.tftp_lives.proofs.Common.{Loses, Times, newest, with_reply}
+use Rattle.std.specs.Prelude.{length}
 use Rattle.tftp_file.specs.declared.fault.StoreFault.{StoreFault}
-use Rattle.tftp_file.specs.Sink.{SinkMeaning}
-use Rattle.tftp_file.specs.Source.{SourceMeaning}
-use Rattle.tftp_file.specs.declared.files.Files.{Files}
 use Rattle.tftp_file.specs.declared.files.Files.TheVariants.{Source, Sink}
 use Rattle.tftp_ends.specs.declared.action.Action.{Action}
-use Rattle.tftp_ends.specs.declared.action.Action.TheVariants.{Respond, Send, Store}
-use Rattle.tftp_ends.specs.declared.action.Response.{Response}
-use Rattle.tftp_ends.specs.declared.action.Response.TheVariants.{Ignore, WrongPeer, ResendReply, Retransmit, Wait, Close}
-use Rattle.tftp_ends.specs.declared.action.Response.TheVariants.{Refuse, Accept, Complete}
-use Rattle.tftp_ends.specs.declared.endpoint.Endpoint.{Endpoint}
+use Rattle.tftp_ends.specs.declared.action.Action.TheVariants.{Store}
+use Rattle.tftp_ends.specs.declared.action.Response.TheVariants.{Retransmit, Wait}
+use Rattle.tftp_ends.specs.declared.action.Response.TheVariants.{Accept, Complete}
 use Rattle.tftp_ends.specs.declared.error_reply.ErrorReply.TheVariants as replies
 use Rattle.tftp_ends.specs.declared.outcome.Outcome.TheVariants as outcomes
 use Rattle.tftp_ends.specs.declared.phase.Dally.TheVariants.{Fresh, Waited}
-use Rattle.tftp_ends.specs.declared.phase.Phase.{Phase}
-use Rattle.tftp_ends.specs.declared.phase.Phase.TheVariants.{Waiting, Sending, Receiving, Dallying, Closed}
-use Rattle.tftp_ends.specs.declared.phase.Terms.{Terms}
-use Rattle.tftp_ends.specs.Action.{datagram_action, timeout_response}
-use Rattle.tftp_ends.specs.End.{EndState}
+use Rattle.tftp_ends.specs.Action.{timeout_response}
 use Rattle.tftp_ends.specs.Run.{has_opcode}
-use Rattle.tftp_ends.specs.Step.{Acts, AcksAgain, DatagramStep, Done, GoesOn, Reply, Turn, after_turn, block_length}
-use Rattle.tftp_ends.specs.Step.{committed_turn, data_bytes, holding, refused_turn, response_turn, result_count_is, sent_turn}
-use Rattle.tftp_ends.specs.Step.{timeout_turn}
-use Rattle.tftp_lives.specs.Lives.{Act, Took, Said, Timed, Has, Life, Opens, Hears, Loses, Times, newest, with_reply}
+use Rattle.tftp_ends.specs.Step.{AcksAgain, DatagramStep, Done, GoesOn, block_length}
+use Rattle.tftp_ends.specs.Step.{committed_turn, holding, refused_turn, result_count_is, sent_turn}
 use Rattle.tftp_lives.proofs.Stands.{has_more}
 
 -- an answer that is no OACK, or the newest datagram of the end

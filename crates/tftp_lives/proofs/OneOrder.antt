@@ -1,9 +1,8 @@
 -- The acts of two ends in one order: where each stands, and how many timeouts there are.
-use Rattle.std.proofs.Common.{◌≡◌, ℕ, ◌+◌, ◌≤◌, suc, Bool, true, false, List, [], ◌∷◌, ◌++◌, length, Some, None}
-use Rattle.std.proofs.Common.{refl, sym, ap, ◌∙◌, subst, arith, inl, inr}
-use Rattle.tftp_ends.specs.declared.endpoint.Endpoint.{Endpoint}
-use Rattle.tftp_lives.specs.Lives.{Act, Took, Lost, Said, Timed, HandlesAll, Has, IsNext, IsNoLoss, IsReceipt}
-use Rattle.tftp_lives.specs.Lives.{next_of, timed}
+use Rattle.tftp_lives.proofs.Common.{◌≡◌, ℕ, ◌+◌, ◌≤◌, suc, Bool, true, false, List, [], ◌∷◌, ◌++◌, length, Some, None}
+use Rattle.tftp_lives.proofs.Common.{refl, sym, ap, ◌∙◌, subst, arith, inl, inr, Endpoint, Act, Took, Lost, Said, Timed}
+use Rattle.tftp_lives.proofs.Common.{Has, IsNext, next_of, timed}
+use Rattle.tftp_lives.specs.Lives.{HandlesAll, IsNoLoss, IsReceipt}
 use Rattle.tftp_lives.specs.Outlasting.{OneAct, acts_of, timeouts}
 use Rattle.tftp_lives.proofs.Stands.{all_has}
 

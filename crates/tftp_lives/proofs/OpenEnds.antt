@@ -1,18 +1,9 @@
 -- What is known of an end that is open, and how an end is.
-use Rattle.std.proofs.Common.{◌≡◌, Bool, true, false, not, List, Option, Some, None}
-use Rattle.std.proofs.Common.{refl, sym, ap, ◌∙◌, subst, inl, inr}
-use Rattle.std.specs.Prelude.{◌⊎◌, is_some}
-use Rattle.std.proofs.lemmas.Bool.{true≢false}
-use Rattle.tftp_ends.specs.declared.outcome.Outcome.{Outcome}
+use Rattle.tftp_lives.proofs.Common.{◌≡◌, Bool, true, false, not, List, Option, Some, None, refl, sym, ap, ◌∙◌, subst}
+use Rattle.tftp_lives.proofs.Common.{inl, inr, ◌⊎◌, is_some, true≢false, Outcome, Phase, Waiting, Sending, Receiving}
+use Rattle.tftp_lives.proofs.Common.{EndState, is_complete, outcome_of, closed, IsOpen, Act, newest, IsOther, IsOver}
 use Rattle.tftp_ends.specs.declared.outcome.Outcome.TheVariants as outcomes
-use Rattle.tftp_ends.specs.declared.phase.Phase.{Phase}
-use Rattle.tftp_ends.specs.declared.phase.Phase.TheVariants.{Waiting, Sending, Receiving}
-use Rattle.tftp_ends.specs.End.{EndState, is_complete, outcome_of}
-use Rattle.tftp_ends.specs.Phase.{closed}
-use Rattle.tftp_ends.specs.Run.{IsOpen}
-use Rattle.tftp_lives.specs.Lives.{Act, newest}
 use Rattle.tftp_lives.specs.Outlasting.{GaveUp}
-use Rattle.tftp_lives.specs.Unanswered.{IsOther, IsOver}
 use Rattle.tftp_lives.proofs.Stands.{Asks, Gives, IsCopied, IsIn, Over, Stands, Takes, more_of}
 
 -- ---- an open end

@@ -1,22 +1,15 @@
 -- An end outlasts a loss that is bounded. For the law an_end_outlasts_loss.
-use Rattle.std.proofs.Common.{◌≡◌, ℕ, ◌+◌, ◌*◌, ◌<◌, ◌≤◌, Bool, true, false, List, [], ◌∷◌, ◌++◌, Option, Some, None}
-use Rattle.std.proofs.Common.{append_assoc, refl, sym, ap, ◌∙◌, subst, arith, inl, inr}
-use Rattle.std.specs.Prelude.{◌⊎◌, is_some}
-use Rattle.std.proofs.lemmas.Bool.{true≢false}
-use Rattle.tftp_wire.specs.Spelling.{Spells, canonical}
-use Rattle.tftp_wire.specs.declared.packet.Packet.{Packet}
-use Rattle.tftp_file.specs.Sink.{SinkMeaning}
-use Rattle.tftp_file.specs.Source.{SourceMeaning}
-use Rattle.tftp_ends.specs.declared.endpoint.Endpoint.{Endpoint}
-use Rattle.tftp_ends.specs.End.{EndState, is_sender}
-use Rattle.tftp_ends.specs.Run.{IsOpen}
-use Rattle.tftp_ends.specs.Step.{Reply, timeout_turn}
-use Rattle.tftp_lives.specs.Lives.{Act, Took, Lost, Said, Timed, HandlesAll, Has, IsNext, Life, Opens, Hears}
-use Rattle.tftp_lives.specs.Lives.{Loses, Times, newest, next_of, timed}
-use Rattle.tftp_lives.specs.Lives.{with_reply}
+use Rattle.tftp_lives.proofs.Common.{◌≡◌, ℕ, ◌+◌, ◌*◌, ◌<◌, ◌≤◌, Bool, true, false, List, [], ◌∷◌, ◌++◌, Option, Some}
+use Rattle.tftp_lives.proofs.Common.{None, refl, sym, ap, ◌∙◌, subst, arith, inl, inr, ◌⊎◌, is_some, true≢false, Spells}
+use Rattle.tftp_lives.proofs.Common.{canonical, Packet, SinkMeaning, SourceMeaning, Endpoint, EndState, is_sender}
+use Rattle.tftp_lives.proofs.Common.{IsOpen, Reply, timeout_turn, Act, Took, Lost, Said, Timed, Has, IsNext, Life}
+use Rattle.tftp_lives.proofs.Common.{Opens, Hears, Loses, Times, newest, next_of, timed, with_reply, AreOpposite}
+use Rattle.tftp_lives.proofs.Common.{Awaits, Begins, HasSaid, IsOver}
+use Rattle.std.proofs.Common.{append_assoc}
+use Rattle.tftp_lives.specs.Lives.{HandlesAll}
 use Rattle.tftp_lives.specs.Outlasting.{OneAct, acts_of, timeouts, AnswersPromptly, ArriveInTime}
 use Rattle.tftp_lives.specs.Outlasting.{EndsOutlastLoss, GaveUp}
-use Rattle.tftp_lives.specs.Unanswered.{AreOpposite, Awaits, Begins, HasSaid, IsOver, IsUnanswered}
+use Rattle.tftp_lives.specs.Unanswered.{IsUnanswered}
 use Rattle.tftp_lives.proofs.Answering.{ends_answer}
 use Rattle.tftp_lives.proofs.Unanswered.{give_up_unanswered}
 use Rattle.tftp_lives.proofs.LivesStand.{life_stands}

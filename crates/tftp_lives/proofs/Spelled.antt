@@ -1,29 +1,17 @@
 -- What bytes spell: which endpoint they are of, one packet at most, and a valid packet itself.
-use Rattle.std.proofs.Common.{◌≡◌, ℕ, ◌≤◌, Bool, true, false, not, List, [], length, Option, Some, None}
-use Rattle.std.proofs.Common.{Result, Ok, Err, refl, sym, ap, ◌∙◌, arith}
-use Rattle.std.specs.Prelude.{◌==◌, ◌&&◌}
+use Rattle.tftp_lives.proofs.Common.{◌≡◌, ℕ, ◌≤◌, Bool, true, false, not, List, [], length, Option, Some, None, Result}
+use Rattle.tftp_lives.proofs.Common.{Ok, Err, refl, sym, ap, ◌∙◌, arith, ◌==◌, ◌&&◌, true≢false, eqb-true, IsValid}
+use Rattle.tftp_lives.proofs.Common.{Spells, MAX_BLOCK, Packet, Data, Ack, Oack, Endpoint, Terms, is_wrong_peer}
+use Rattle.tftp_lives.proofs.Common.{same_address, canonical}
 use Rattle.std.specs.Cmp.Lexicographic.{same_text}
-use Rattle.std.proofs.lemmas.Bool.{true≢false, eqb-true}
 use Rattle.std.proofs.lemmas.List.{length-take}
-use Rattle.tftp_wire.specs.Spelling.{IsValid, Spells}
-use Rattle.tftp_wire.specs.declared.limits.TheConstants.{MAX_BLOCK}
 use Rattle.tftp_wire.specs.declared.options.RawOption.{RawOption}
-use Rattle.tftp_wire.specs.declared.packet.Packet.{Packet}
-use Rattle.tftp_wire.specs.declared.packet.Packet.TheVariants.{Data, Ack, Oack}
 use Rattle.tftp_wire.proofs.SpellingLemmas.{one_meaning}
 use Rattle.tftp_file.specs.Source.{Fills}
 use Rattle.tftp_file.specs.declared.fault.FileFault.{FileFault}
 use Rattle.tftp_file.specs.declared.fault.FileFault.TheVariants as file_faults
-use Rattle.tftp_ends.specs.declared.endpoint.Endpoint.{Endpoint}
-use Rattle.tftp_ends.specs.declared.phase.Terms.{Terms}
-use Rattle.tftp_ends.specs.Action.{is_wrong_peer}
-use Rattle.tftp_ends.specs.Action.{same_address, same_endpoint}
+use Rattle.tftp_ends.specs.Action.{same_endpoint}
 use Rattle.tftp_ends.proofs.RowLemmas.{own_peer}
-use Rattle.std.proofs.Common.{◌≡◌, ℕ, ◌≤◌, Bool, true, false, not, List, [], Option, Some, None}
-use Rattle.std.proofs.Common.{refl, sym, ap, ◌∙◌, arith}
-use Rattle.std.specs.Prelude.{◌==◌}
-use Rattle.std.proofs.lemmas.Bool.{true≢false}
-use Rattle.tftp_wire.specs.Spelling.{IsValid, Spells, canonical}
 
 -- ---- tests
 pub both : (a b : Bool) → (a && b) ≡ true → (a ≡ true) × (b ≡ true)

@@ -1,40 +1,27 @@
 -- How an end stands once it carried out an action on a datagram that it handled.
-use Rattle.std.proofs.Common.{◌≡◌, ℕ, ◌+◌, ◌<◌, ◌≤◌, Bool, true, false, List, [], ◌∷◌, length, Option, Some, None}
-use Rattle.std.proofs.Common.{Result, Ok, Err, refl, sym, ap, ◌∙◌, subst, arith, inl, inr}
-use Rattle.std.specs.Prelude.{◌==◌, ◌&&◌, nat_lt, if◌then◌else◌}
-use Rattle.std.specs.List.{AllByRecursion}
+use Rattle.tftp_lives.proofs.Common.{◌≡◌, ℕ, ◌+◌, ◌<◌, ◌≤◌, Bool, true, false, List, [], ◌∷◌, length, Option, Some}
+use Rattle.tftp_lives.proofs.Common.{None, Result, Ok, Err, refl, sym, ap, ◌∙◌, subst, arith, inl, inr, ◌==◌, ◌&&◌}
+use Rattle.tftp_lives.proofs.Common.{nat_lt, if◌then◌else◌, AllByRecursion, IsValid, MAX_BLOCK, Ack, SourceMeaning}
+use Rattle.tftp_lives.proofs.Common.{SinkMeaning, Files, Respond, Send, Response, Ignore, WrongPeer, ResendReply, Close}
+use Rattle.tftp_lives.proofs.Common.{Refuse, Endpoint, Outcome, Phase, Sending, Receiving, Terms, EndState, is_sender}
+use Rattle.tftp_lives.proofs.Common.{is_client, Turn, Acts, after_turn, with_position, response_turn, ack_bytes}
+use Rattle.tftp_lives.proofs.Common.{data_bytes, if_either, Act, Took, Said, with_reply, IsOther}
 use Rattle.std.proofs.lemmas.Bool.{cases_eq}
-use Rattle.tftp_wire.specs.Spelling.{IsValid}
-use Rattle.tftp_wire.specs.declared.limits.TheConstants.{MAX_BLOCK}
 use Rattle.tftp_wire.specs.declared.mode.Mode.{Mode}
-use Rattle.tftp_wire.specs.declared.packet.Packet.TheVariants.{Ack}
-use Rattle.tftp_file.specs.Source.{SourceMeaning}
-use Rattle.tftp_file.specs.Sink.{SinkMeaning}
 use Rattle.tftp_file.specs.declared.fault.StoreFault.{StoreFault}
-use Rattle.tftp_file.specs.declared.files.Files.{Files}
 use Rattle.tftp_file.specs.declared.files.Files.TheVariants.{Source, Sink}
 use Rattle.tftp_ends.specs.declared.action.Action.{Action}
-use Rattle.tftp_ends.specs.declared.action.Action.TheVariants.{Respond, Send, Store}
-use Rattle.tftp_ends.specs.declared.action.Response.{Response}
-use Rattle.tftp_ends.specs.declared.action.Response.TheVariants.{Ignore, WrongPeer, ResendReply, Close, Refuse}
-use Rattle.tftp_ends.specs.declared.endpoint.Endpoint.{Endpoint}
+use Rattle.tftp_ends.specs.declared.action.Action.TheVariants.{Store}
 use Rattle.tftp_ends.specs.declared.error_reply.ErrorReply.{ErrorReply}
 use Rattle.tftp_ends.specs.declared.error_reply.ErrorReply.TheVariants as replies
-use Rattle.tftp_ends.specs.declared.outcome.Outcome.{Outcome}
 use Rattle.tftp_ends.specs.declared.outcome.Outcome.TheVariants as outcomes
-use Rattle.tftp_ends.specs.declared.phase.Phase.{Phase}
-use Rattle.tftp_ends.specs.declared.phase.Phase.TheVariants.{Sending, Receiving}
-use Rattle.tftp_ends.specs.declared.phase.Terms.{Terms}
-use Rattle.tftp_ends.specs.End.{EndState, is_sender, is_client, is_progress}
+use Rattle.tftp_ends.specs.End.{is_progress}
 use Rattle.tftp_ends.specs.Receiver.{next_action}
 use Rattle.tftp_ends.specs.Sender.{illegal_action}
-use Rattle.tftp_ends.specs.Step.{Done, Turn, Acts, GoesOn, Sends, after_turn, with_position, response_turn}
-use Rattle.tftp_ends.specs.Step.{refused_turn, sent_turn, committed_turn, holding, ack_bytes, data_bytes}
+use Rattle.tftp_ends.specs.Step.{Done, GoesOn, Sends}
+use Rattle.tftp_ends.specs.Step.{refused_turn, sent_turn, committed_turn, holding}
 use Rattle.tftp_ends.specs.Step.{block_length, result_count_is}
 use Rattle.tftp_ends.specs.Text.{is_readable}
-use Rattle.tftp_ends.proofs.RunMoves.{if_either}
-use Rattle.tftp_lives.specs.Lives.{Act, Took, Said, with_reply}
-use Rattle.tftp_lives.specs.Unanswered.{IsOther}
 use Rattle.tftp_lives.proofs.Spelled.{gives_few}
 use Rattle.tftp_lives.proofs.Spelled.{valid_block}
 use Rattle.tftp_lives.proofs.Stands.{AckBelow, AckDue, AllDue, BlockDue, BlockUpTo, CanNumber, HasAck, HasBlock, HasNext, IsCopied}

@@ -1,14 +1,13 @@
 -- How a client stands after the first answer to its request.
-use Rattle.std.proofs.Common.{◌≡◌, ℕ, ◌*◌, ◌<◌, ◌≤◌, true, false, List, [], ◌∷◌, length, Option, Some, None}
-use Rattle.std.proofs.Common.{Result, Ok, Err, refl, sym, ap, ◌∙◌, subst, arith, inl, inr}
-use Rattle.std.specs.Prelude.{◌==◌, ◌&&◌, nat_lt, nat_le}
-use Rattle.std.specs.List.{AllByRecursion}
-use Rattle.std.proofs.lemmas.Bool.{true≢false, ltb-true, eqb-true}
-use Rattle.tftp_wire.specs.Spelling.{Spells}
-use Rattle.tftp_wire.specs.declared.limits.TheConstants.{MAX_BLOCK}
-use Rattle.tftp_wire.specs.declared.packet.Packet.{Packet}
-use Rattle.tftp_wire.specs.declared.packet.Packet.TheVariants.{Read, Write, Data, Ack, Error, Oack}
-use Rattle.tftp_negotiate.specs.declared.asked.Asked.{Asked}
+use Rattle.tftp_lives.proofs.Common.{◌≡◌, ℕ, ◌*◌, ◌<◌, ◌≤◌, true, false, List, [], ◌∷◌, length, Option, Some, None}
+use Rattle.tftp_lives.proofs.Common.{Result, Ok, Err, refl, sym, ap, ◌∙◌, subst, arith, inl, inr, ◌==◌, ◌&&◌, nat_lt}
+use Rattle.tftp_lives.proofs.Common.{AllByRecursion, true≢false, eqb-true, Spells, MAX_BLOCK, Packet, Read, Write, Data}
+use Rattle.tftp_lives.proofs.Common.{Ack, Error, Oack, Asked, IsAskable, SourceMeaning, SinkMeaning, Respond, Send}
+use Rattle.tftp_lives.proofs.Common.{Refuse, Endpoint, Phase, Waiting, Receiving, Terms, Decodes, is_wrong_peer}
+use Rattle.tftp_lives.proofs.Common.{same_address, EndState, is_sender, is_client, ack_bytes, if_either, Act, Took}
+use Rattle.tftp_lives.proofs.Common.{Lost, Said, Timed, newest}
+use Rattle.std.specs.Prelude.{nat_le}
+use Rattle.std.proofs.lemmas.Bool.{ltb-true}
 use Rattle.tftp_negotiate.specs.declared.known.Kind.TheVariants as kinds
 use Rattle.tftp_negotiate.specs.declared.known.Known.{Known}
 use Rattle.tftp_negotiate.specs.declared.limits.TheConstants.{DEFAULT_BLOCK}
@@ -16,27 +15,14 @@ use Rattle.tftp_negotiate.specs.declared.refusal.Refusal.{Refusal}
 use Rattle.tftp_negotiate.specs.declared.refusal.Refusal.TheVariants as refusals
 use Rattle.tftp_negotiate.specs.Agreed.{size}
 use Rattle.tftp_negotiate.specs.Agreement.{agreement}
-use Rattle.tftp_negotiate.specs.Asked.{IsAskable}
 use Rattle.tftp_negotiate.proofs.LawsLemmas.{agreements_have_block_sizes, taken_may_be_agreed}
-use Rattle.tftp_file.specs.Source.{SourceMeaning}
-use Rattle.tftp_file.specs.Sink.{SinkMeaning}
-use Rattle.tftp_ends.specs.declared.action.Action.TheVariants.{Respond, Send}
-use Rattle.tftp_ends.specs.declared.action.Response.TheVariants.{Refuse, Accept}
-use Rattle.tftp_ends.specs.declared.endpoint.Endpoint.{Endpoint}
+use Rattle.tftp_ends.specs.declared.action.Response.TheVariants.{Accept}
 use Rattle.tftp_ends.specs.declared.error_reply.ErrorReply.TheVariants as replies
 use Rattle.tftp_ends.specs.declared.outcome.Outcome.TheVariants as outcomes
-use Rattle.tftp_ends.specs.declared.phase.Phase.{Phase}
-use Rattle.tftp_ends.specs.declared.phase.Phase.TheVariants.{Waiting, Receiving}
-use Rattle.tftp_ends.specs.declared.phase.Terms.{Terms}
-use Rattle.tftp_ends.specs.Action.{Decodes, is_wrong_peer, packet_action}
-use Rattle.tftp_ends.specs.Action.{same_address}
-use Rattle.tftp_ends.specs.End.{EndState, is_sender, is_client}
+use Rattle.tftp_ends.specs.Action.{packet_action}
 use Rattle.tftp_ends.specs.Receiver.{receiver_action}
-use Rattle.tftp_ends.specs.Step.{ack_bytes}
 use Rattle.tftp_ends.specs.Waiting.{reader_action, writer_action, accept_action, begin_action, begin_with_action}
 use Rattle.tftp_ends.specs.Waiting.{refusal_action, default_terms, agreed_terms, no_answer}
-use Rattle.tftp_ends.proofs.RunMoves.{if_either}
-use Rattle.tftp_lives.specs.Lives.{Act, Took, Lost, Said, Timed, newest}
 use Rattle.tftp_lives.proofs.Spelled.{both, data_not_oack, not_true, oack_not_ack, oack_not_data}
 use Rattle.tftp_lives.proofs.Spelled.{other_than_ack, other_than_data, other_than_oack, same_ack, same_data}
 use Rattle.tftp_lives.proofs.Stands.{AckBelow, AckDue, AllDue, BlockDue, BlockUpTo, IsCopied}

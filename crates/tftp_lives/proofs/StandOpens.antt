@@ -1,21 +1,14 @@
 -- How an end stands as it opens.
-use Rattle.std.proofs.Common.{◌≡◌, ℕ, ◌≤◌, List, [], ◌∷◌}
-use Rattle.std.proofs.Common.{refl, sym, subst, arith, inl, inr}
+use Rattle.tftp_lives.proofs.Common.{◌≡◌, ℕ, ◌≤◌, List, [], ◌∷◌, refl, sym, subst, arith, inl, inr, true≢false, IsValid}
+use Rattle.tftp_lives.proofs.Common.{MAX_BLOCK, Data, Endpoint, EndState, newest, Begins}
 use Rattle.std.specs.Prelude.{◌*◌, ◌<◌, ◌≢◌, length as list_length}
-use Rattle.std.proofs.lemmas.Bool.{true≢false}
-use Rattle.tftp_wire.specs.Spelling.{IsValid}
-use Rattle.tftp_wire.specs.declared.limits.TheConstants.{MAX_BLOCK}
 use Rattle.tftp_wire.specs.declared.mode.Mode.{Mode}
-use Rattle.tftp_wire.specs.declared.packet.Packet.TheVariants.{Data}
 use Rattle.tftp_negotiate.specs.declared.known.Known.{Known}
 use Rattle.tftp_negotiate.specs.Agreed.{agreed_options, size}
-use Rattle.tftp_ends.specs.declared.endpoint.Endpoint.{Endpoint}
-use Rattle.tftp_ends.specs.End.{EndState}
 use Rattle.tftp_ends.specs.Opening.{serving_read, serving_write}
 use Rattle.tftp_ends.specs.Opening.{getting, putting}
 use Rattle.tftp_ends.specs.Waiting.{agreed_terms, default_terms}
-use Rattle.tftp_lives.specs.Lives.{newest}
-use Rattle.tftp_lives.specs.Unanswered.{Begins, MayAgree, To_get, To_put, To_serve_read, To_serve_write}
+use Rattle.tftp_lives.specs.Unanswered.{MayAgree, To_get, To_put, To_serve_read, To_serve_write}
 use Rattle.tftp_lives.proofs.Stands.{HasBlock, IsCopied}
 use Rattle.tftp_lives.proofs.Stands.{Stands, Asks, Gives, Takes}
 

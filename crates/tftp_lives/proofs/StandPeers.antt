@@ -1,28 +1,16 @@
 -- How a sender, or a receiver, stands after a datagram of its peer.
-use Rattle.std.proofs.Common.{◌≡◌, ℕ, ◌+◌, ◌/◌, ◌<◌, ◌≤◌, true, List, ◌∷◌, Option, Some, None}
-use Rattle.std.proofs.Common.{refl, arith, inl}
-use Rattle.std.specs.Prelude.{◌==◌, ◌&&◌, nat_lt, if◌then◌else◌}
-use Rattle.std.proofs.lemmas.Bool.{ltb-true, lt-ltb, eqb-true}
+use Rattle.tftp_lives.proofs.Common.{◌≡◌, ℕ, ◌+◌, ◌<◌, ◌≤◌, true, List, ◌∷◌, Option, Some, None, refl, arith, inl, ◌==◌}
+use Rattle.tftp_lives.proofs.Common.{◌&&◌, nat_lt, if◌then◌else◌, eqb-true, Spells, Packet, Read, Write, Data, Ack}
+use Rattle.tftp_lives.proofs.Common.{Error, Oack, SourceMeaning, SinkMeaning, Respond, Send, Ignore, ResendReply}
+use Rattle.tftp_lives.proofs.Common.{Endpoint, Phase, Sending, Receiving, Terms, Decodes, is_wrong_peer, EndState}
+use Rattle.tftp_lives.proofs.Common.{is_client, if_either, Act, Took, Lost, Said, Timed, newest}
+use Rattle.std.proofs.Common.{◌/◌}
+use Rattle.std.proofs.lemmas.Bool.{ltb-true, lt-ltb}
 use Rattle.std.proofs.Math.Nat.{div-lt_iff_lt-mul}
-use Rattle.tftp_wire.specs.Spelling.{Spells}
-use Rattle.tftp_wire.specs.declared.packet.Packet.{Packet}
-use Rattle.tftp_wire.specs.declared.packet.Packet.TheVariants.{Read, Write, Data, Ack, Error, Oack}
-use Rattle.tftp_file.specs.Source.{SourceMeaning}
-use Rattle.tftp_file.specs.Sink.{SinkMeaning}
-use Rattle.tftp_ends.specs.declared.action.Action.TheVariants.{Respond, Send}
-use Rattle.tftp_ends.specs.declared.action.Response.TheVariants.{Ignore, ResendReply}
 use Rattle.tftp_ends.specs.declared.action.Response.TheVariants.{Complete}
-use Rattle.tftp_ends.specs.declared.endpoint.Endpoint.{Endpoint}
 use Rattle.tftp_ends.specs.declared.outcome.Outcome.TheVariants as outcomes
-use Rattle.tftp_ends.specs.declared.phase.Phase.{Phase}
-use Rattle.tftp_ends.specs.declared.phase.Phase.TheVariants.{Sending, Receiving}
-use Rattle.tftp_ends.specs.declared.phase.Terms.{Terms}
-use Rattle.tftp_ends.specs.Action.{Decodes, is_wrong_peer}
-use Rattle.tftp_ends.specs.End.{EndState, is_client}
 use Rattle.tftp_ends.specs.Receiver.{receiver_action, data_action, next_action}
 use Rattle.tftp_ends.specs.Sender.{sender_action, acked_action, illegal_action}
-use Rattle.tftp_ends.proofs.RunMoves.{if_either}
-use Rattle.tftp_lives.specs.Lives.{Act, Took, Lost, Said, Timed, newest}
 use Rattle.tftp_lives.proofs.Spelled.{ack_not_oack, both, data_not_oack, oack_not_ack, oack_not_data, of_other}
 use Rattle.tftp_lives.proofs.Spelled.{other_than_ack, other_than_data, other_than_oack, same_ack, same_data}
 use Rattle.tftp_lives.proofs.Stands.{AckBelow, BlockUpTo, CanNumber, GivesSo, IsCopied}

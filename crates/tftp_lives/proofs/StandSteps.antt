@@ -1,29 +1,16 @@
 -- How an open end stands after it handled a datagram.
-use Rattle.std.proofs.Common.{◌≡◌, ℕ, true, false, List, ◌∷◌, Option, Some, None}
-use Rattle.std.proofs.Common.{refl, inl}
-use Rattle.std.specs.Prelude.{◌==◌, ◌&&◌, if◌then◌else◌, is_none}
-use Rattle.std.specs.List.{AllByRecursion}
+use Rattle.tftp_lives.proofs.Common.{◌≡◌, ℕ, true, false, List, ◌∷◌, Option, Some, None, refl, inl, ◌==◌, ◌&&◌}
+use Rattle.tftp_lives.proofs.Common.{if◌then◌else◌, AllByRecursion, Packet, Read, Write, Data, Ack, Error, Oack, Asked}
+use Rattle.tftp_lives.proofs.Common.{IsAskable, SourceMeaning, SinkMeaning, Respond, Response, Ignore, WrongPeer}
+use Rattle.tftp_lives.proofs.Common.{ResendReply, Endpoint, Phase, Waiting, Sending, Receiving, Dallying, Terms}
+use Rattle.tftp_lives.proofs.Common.{Decodes, is_wrong_peer, datagram_action, EndState, is_client, terms_of, if_either}
+use Rattle.tftp_lives.proofs.Common.{Act, Took, newest}
+use Rattle.std.specs.Prelude.{is_none}
 use Rattle.tftp_wire.specs.Reading.{has_error_opcode}
-use Rattle.tftp_wire.specs.declared.packet.Packet.{Packet}
-use Rattle.tftp_wire.specs.declared.packet.Packet.TheVariants.{Read, Write, Data, Ack, Error, Oack}
-use Rattle.tftp_negotiate.specs.declared.asked.Asked.{Asked}
-use Rattle.tftp_negotiate.specs.Asked.{IsAskable}
-use Rattle.tftp_file.specs.Source.{SourceMeaning}
-use Rattle.tftp_file.specs.Sink.{SinkMeaning}
-use Rattle.tftp_ends.specs.declared.action.Action.TheVariants.{Respond}
-use Rattle.tftp_ends.specs.declared.action.Response.{Response}
-use Rattle.tftp_ends.specs.declared.action.Response.TheVariants.{Ignore, WrongPeer, ResendReply}
-use Rattle.tftp_ends.specs.declared.endpoint.Endpoint.{Endpoint}
 use Rattle.tftp_ends.specs.declared.outcome.Outcome.TheVariants as outcomes
 use Rattle.tftp_ends.specs.declared.phase.Dally.{Dally}
-use Rattle.tftp_ends.specs.declared.phase.Phase.{Phase}
-use Rattle.tftp_ends.specs.declared.phase.Phase.TheVariants.{Waiting, Sending, Receiving, Dallying}
-use Rattle.tftp_ends.specs.declared.phase.Terms.{Terms}
-use Rattle.tftp_ends.specs.Action.{Decodes, is_wrong_peer, garbled_response, packet_action, datagram_action}
-use Rattle.tftp_ends.specs.End.{EndState, is_client, terms_of}
+use Rattle.tftp_ends.specs.Action.{garbled_response, packet_action}
 use Rattle.tftp_ends.specs.Receiver.{dally_response}
-use Rattle.tftp_ends.proofs.RunMoves.{if_either}
-use Rattle.tftp_lives.specs.Lives.{Act, Took, newest}
 use Rattle.tftp_lives.proofs.Spelled.{near}
 use Rattle.tftp_lives.proofs.Spelled.{of_peer}
 use Rattle.tftp_lives.proofs.Stands.{CanNumber, GivesSo, IsCopied}

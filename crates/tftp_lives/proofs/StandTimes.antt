@@ -1,26 +1,17 @@
 -- How an open end stands after a timeout.
-use Rattle.std.proofs.Common.{◌≡◌, ℕ, suc, Bool, true, false, List, ◌∷◌, Option, Some, None}
-use Rattle.std.proofs.Common.{refl, sym, ap, ◌∙◌, subst, arith, inl, inr}
-use Rattle.std.specs.Prelude.{◌==◌, if◌then◌else◌, is_some}
-use Rattle.std.specs.List.{AllByRecursion}
-use Rattle.std.proofs.lemmas.Bool.{true≢false, cases_eq, eq-eqb, ne_eqb}
-use Rattle.tftp_ends.specs.declared.action.Response.TheVariants.{Retransmit, Close}
-use Rattle.tftp_ends.specs.declared.endpoint.Endpoint.{Endpoint}
-use Rattle.tftp_ends.specs.declared.outcome.Outcome.{Outcome}
+use Rattle.tftp_lives.proofs.Common.{◌≡◌, ℕ, suc, Bool, true, false, List, ◌∷◌, Option, Some, None, refl, sym, ap, ◌∙◌}
+use Rattle.tftp_lives.proofs.Common.{subst, arith, inl, inr, ◌==◌, if◌then◌else◌, is_some, AllByRecursion, true≢false}
+use Rattle.tftp_lives.proofs.Common.{Close, Endpoint, Outcome, Phase, Waiting, Sending, Receiving, Dallying, Closed}
+use Rattle.tftp_lives.proofs.Common.{Terms, Side, EndState, is_client, is_complete, outcome_of, closed, IsOpen, Reply}
+use Rattle.tftp_lives.proofs.Common.{Turn, after_turn, response_turn, timeout_turn, with_position, Act, Said, Timed}
+use Rattle.tftp_lives.proofs.Common.{newest, with_reply}
+use Rattle.std.proofs.lemmas.Bool.{cases_eq, eq-eqb, ne_eqb}
+use Rattle.tftp_ends.specs.declared.action.Response.TheVariants.{Retransmit}
 use Rattle.tftp_ends.specs.declared.outcome.Outcome.TheVariants as outcomes
 use Rattle.tftp_ends.specs.declared.phase.Dally.TheVariants.{Fresh, Waited}
-use Rattle.tftp_ends.specs.declared.phase.Phase.{Phase}
-use Rattle.tftp_ends.specs.declared.phase.Phase.TheVariants.{Waiting, Sending, Receiving, Dallying, Closed}
-use Rattle.tftp_ends.specs.declared.phase.Terms.{Terms}
 use Rattle.tftp_ends.specs.declared.role.Role.{Role}
-use Rattle.tftp_ends.specs.declared.side.Side.{Side}
-use Rattle.tftp_ends.specs.End.{EndState, is_client, is_complete, is_progress, outcome_of}
-use Rattle.tftp_ends.specs.Phase.{closed}
-use Rattle.tftp_ends.specs.Run.{IsOpen}
-use Rattle.tftp_ends.specs.Step.{Reply, Turn, after_turn, response_turn, timeout_turn, with_position}
+use Rattle.tftp_ends.specs.End.{is_progress}
 use Rattle.tftp_ends.proofs.RunMoves.{not_below_itself}
-use Rattle.tftp_lives.specs.Lives.{Act, Said, Timed, newest}
-use Rattle.tftp_lives.specs.Lives.{with_reply}
 use Rattle.tftp_lives.proofs.Stands.{CanNumber, GivesSo, IsCopied, IsIn}
 use Rattle.tftp_lives.proofs.Stands.{NotFrom, Stands, Asks, Gives, Takes, Over, TakesSo}
 use Rattle.tftp_lives.proofs.Stands.{copies_on, more_of}

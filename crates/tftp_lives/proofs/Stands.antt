@@ -1,26 +1,14 @@
 -- How an end stands between two steps, by what it has heard and sent.
-use Rattle.std.proofs.Common.{◌≡◌, ℕ, ◌+◌, ◌*◌, ◌<◌, ◌≤◌, zero, suc, true, false, List, [], ◌∷◌, Option, Some, None}
-use Rattle.std.proofs.Common.{◌++◌, subst, arith, inl, inr}
-use Rattle.std.specs.Prelude.{◌⊎◌}
-use Rattle.std.specs.List.{AllByRecursion}
-use Rattle.tftp_wire.specs.Spelling.{IsValid, Spells, canonical}
-use Rattle.tftp_wire.specs.declared.limits.TheConstants.{MAX_BLOCK}
+use Rattle.tftp_lives.proofs.Common.{◌≡◌, ℕ, ◌+◌, ◌*◌, ◌<◌, ◌≤◌, suc, true, false, List, [], ◌∷◌, Option, Some, None}
+use Rattle.tftp_lives.proofs.Common.{◌++◌, subst, arith, inl, inr, ◌⊎◌, AllByRecursion, IsValid, Spells, canonical}
+use Rattle.tftp_lives.proofs.Common.{MAX_BLOCK, Data, Ack, Oack, IsAskable, Asked, Endpoint, Phase, Waiting, Sending}
+use Rattle.tftp_lives.proofs.Common.{Receiving, Terms, Side, same_address, EndState, is_client, is_sender, closed}
+use Rattle.tftp_lives.proofs.Common.{Reply, ack_bytes, data_bytes, Act, Took, Lost, Said, Timed, Has, IsNext, newest}
+use Rattle.tftp_lives.proofs.Common.{next_of, timed, with_reply, IsOver}
+use Rattle.std.proofs.Common.{zero}
 use Rattle.tftp_wire.specs.declared.options.RawOption.{RawOption}
-use Rattle.tftp_wire.specs.declared.packet.Packet.TheVariants.{Data, Ack, Oack}
-use Rattle.tftp_negotiate.specs.Asked.{IsAskable}
-use Rattle.tftp_negotiate.specs.declared.asked.Asked.{Asked}
-use Rattle.tftp_ends.specs.declared.endpoint.Endpoint.{Endpoint}
 use Rattle.tftp_ends.specs.declared.outcome.Outcome.TheVariants as outcomes
-use Rattle.tftp_ends.specs.declared.phase.Phase.{Phase}
-use Rattle.tftp_ends.specs.declared.phase.Phase.TheVariants.{Waiting, Sending, Receiving}
-use Rattle.tftp_ends.specs.declared.phase.Terms.{Terms}
-use Rattle.tftp_ends.specs.declared.side.Side.{Side}
-use Rattle.tftp_ends.specs.Action.{same_address}
-use Rattle.tftp_ends.specs.End.{EndState, is_client, is_sender}
-use Rattle.tftp_ends.specs.Phase.{closed}
-use Rattle.tftp_ends.specs.Step.{Reply, ack_bytes, data_bytes}
-use Rattle.tftp_lives.specs.Lives.{Act, Took, Lost, Said, Timed, Has, HasCopies, IsNext, newest, next_of, timed, with_reply}
-use Rattle.tftp_lives.specs.Unanswered.{IsOver}
+use Rattle.tftp_lives.specs.Lives.{HasCopies}
 
 -- ---- lists
 module _ {T : Type 0} where

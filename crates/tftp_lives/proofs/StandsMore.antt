@@ -1,13 +1,6 @@
 -- An end stands as it did once more was done that is nothing new to it.
-use Rattle.std.proofs.Common.{ℕ, List, ◌∷◌, Option, Some, None, ap}
-use Rattle.std.proofs.Common.{arith, inr}
-use Rattle.tftp_ends.specs.declared.endpoint.Endpoint.{Endpoint}
-use Rattle.tftp_ends.specs.declared.phase.Phase.TheVariants.{Waiting, Sending, Receiving}
-use Rattle.tftp_ends.specs.declared.phase.Terms.{Terms}
-use Rattle.tftp_ends.specs.declared.side.Side.{Side}
-use Rattle.tftp_ends.specs.End.{EndState}
-use Rattle.tftp_ends.specs.Step.{Reply}
-use Rattle.tftp_lives.specs.Lives.{Act, Lost, Said, newest, with_reply}
+use Rattle.tftp_lives.proofs.Common.{ℕ, List, ◌∷◌, Option, Some, None, ap, arith, inr, Endpoint, Waiting, Sending}
+use Rattle.tftp_lives.proofs.Common.{Receiving, Terms, Side, EndState, Reply, Act, Lost, Said, newest, with_reply}
 use Rattle.tftp_lives.proofs.Stands.{AckBelow, AckDue, BlockDue, BlockUpTo, GivesSo, IsCopied, NotFrom}
 use Rattle.tftp_lives.proofs.Stands.{OackAtClient, OackOpened, Stands, Asks, Gives, Takes, Over, TakesSo, ack_due_any, all_more}
 use Rattle.tftp_lives.proofs.Stands.{block_due_any, copies_on, due_any, more_of, timed_on}

@@ -1,25 +1,15 @@
 -- An end that timed out was not answered. For the law an_end_gives_up_unanswered.
-use Rattle.std.proofs.Common.{◌≡◌, ℕ, true, false, List, Some, None}
-use Rattle.std.proofs.Common.{refl, sym, ap, ◌∙◌, subst, arith, inl, inr}
+use Rattle.tftp_lives.proofs.Common.{◌≡◌, ℕ, true, false, List, Some, None, refl, sym, ap, ◌∙◌, subst, arith, inl, inr}
+use Rattle.tftp_lives.proofs.Common.{AllByRecursion, true≢false, Spells, canonical, Packet, Read, Write, Data, Ack}
+use Rattle.tftp_lives.proofs.Common.{Error, Oack, SourceMeaning, SinkMeaning, Endpoint, Phase, Waiting, Sending}
+use Rattle.tftp_lives.proofs.Common.{Receiving, Terms, EndState, is_complete, is_sender, outcome_of, terms_of, Act}
+use Rattle.tftp_lives.proofs.Common.{Took, Has, AreOpposite, Awaits, HasSaid, IsOther}
 use Rattle.std.specs.Prelude.{option_map}
-use Rattle.std.specs.List.{AllByRecursion}
-use Rattle.std.proofs.lemmas.Bool.{true≢false}
 use Rattle.std.proofs.lemmas.Option.{same_Some}
-use Rattle.tftp_wire.specs.Spelling.{Spells, canonical}
-use Rattle.tftp_wire.specs.declared.packet.Packet.{Packet}
-use Rattle.tftp_wire.specs.declared.packet.Packet.TheVariants.{Read, Write, Data, Ack, Error, Oack}
-use Rattle.tftp_file.specs.Source.{SourceMeaning}
-use Rattle.tftp_file.specs.Sink.{SinkMeaning}
-use Rattle.tftp_ends.specs.declared.endpoint.Endpoint.{Endpoint}
 use Rattle.tftp_ends.specs.declared.outcome.Outcome.TheVariants as outcomes
-use Rattle.tftp_ends.specs.declared.phase.Phase.{Phase}
-use Rattle.tftp_ends.specs.declared.phase.Phase.TheVariants.{Waiting, Sending, Receiving}
-use Rattle.tftp_ends.specs.declared.phase.Terms.{Terms}
-use Rattle.tftp_ends.specs.End.{EndState, is_complete, is_sender, number_of, outcome_of}
-use Rattle.tftp_ends.specs.End.{record_of, terms_of}
-use Rattle.tftp_lives.specs.Lives.{Act, Took, Has}
-use Rattle.tftp_lives.specs.Unanswered.{AreOpposite, Awaits, EndsGiveUpUnanswered, EndsGiveUpUnheard}
-use Rattle.tftp_lives.specs.Unanswered.{HasSaid, IsOther}
+use Rattle.tftp_ends.specs.End.{number_of}
+use Rattle.tftp_ends.specs.End.{record_of}
+use Rattle.tftp_lives.specs.Unanswered.{EndsGiveUpUnanswered, EndsGiveUpUnheard}
 use Rattle.tftp_lives.specs.Unanswered.{AnswersWhatItHandled, IsUnanswered, IsUnheard}
 use Rattle.tftp_lives.proofs.Stands.{AckBelow, BlockUpTo, IsIn}
 use Rattle.tftp_lives.proofs.Stands.{IsOack, NotFrom, Stands, Asks, Gives, Takes, Over}

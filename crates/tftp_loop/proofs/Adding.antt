@@ -1,19 +1,12 @@
 -- Each step notes events after those before, and the clock never goes back. For Expiring.
-use Rattle.std.proofs.Common.{arith, ◌≡◌, ◌≤◌, ℕ, List, [], ◌∷◌, ◌++◌, Option, Some, None, refl, sym, ap, subst, ◌∙◌}
-use Rattle.std.proofs.lemmas.List.{append_assoc}
-use Rattle.tftp_file.specs.Source.{SourceMeaning}
-use Rattle.tftp_ends.specs.declared.endpoint.Endpoint.{Endpoint}
-use Rattle.tftp_ends.specs.Step.{Reply}
-use Rattle.tftp_store.specs.Store.{StoreMeaning}
-use Rattle.tftp_sockets.specs.Trace.{SocketEvent, answered, replied}
-use Rattle.tftp_sockets.specs.Trace.SocketEvent.{Received, Sent, Watched, Elapsed}
-use Rattle.tftp_loop.specs.Steps.{PortState, LoopState, PortStep, LoopStep, port_state}
-use Rattle.tftp_loop.specs.Steps.PortStep.{A_datagram, A_lost_datagram, A_late_datagram, Nothing_found}
-use Rattle.tftp_loop.specs.Steps.PortStep.{A_failed_receive, A_timeout, A_missed_timeout, Work}
-use Rattle.tftp_loop.specs.Steps.LoopStep.{Waited, At_port, Request_received, No_request_found, Request_not_received}
-use Rattle.tftp_loop.specs.Steps.LoopStep.{Request_noted}
-use Rattle.tftp_loop.specs.Steps.LoopStep.{Request_answered, Request_lost, Clock_read, Store_set, Transfer_closed}
-use Rattle.tftp_loop.specs.Steps.LoopStep.{Drain_begun}
+use Rattle.tftp_loop.proofs.Common.{arith, ◌≡◌, ◌≤◌, ℕ, List, [], ◌∷◌, ◌++◌, Option, Some, None, refl, sym, ap, subst}
+use Rattle.tftp_loop.proofs.Common.{◌∙◌, append_assoc, SourceMeaning, Endpoint, Reply, StoreMeaning, SocketEvent}
+use Rattle.tftp_loop.proofs.Common.{answered, replied, Received, Watched, Elapsed, PortState, LoopState, PortStep}
+use Rattle.tftp_loop.proofs.Common.{LoopStep, port_state, A_datagram, A_lost_datagram, A_late_datagram, Nothing_found}
+use Rattle.tftp_loop.proofs.Common.{A_failed_receive, A_timeout, A_missed_timeout, Work, Waited, At_port}
+use Rattle.tftp_loop.proofs.Common.{Request_received, No_request_found, Request_not_received, Request_noted}
+use Rattle.tftp_loop.proofs.Common.{Request_answered, Request_lost, Clock_read, Store_set, Transfer_closed, Drain_begun}
+use Rattle.tftp_sockets.specs.Trace.SocketEvent.{Sent}
 
 -- the later events are some more before the earlier ones
 pub record Adds (before after : List SocketEvent) : Type 0 where

@@ -1,14 +1,10 @@
 -- A store that was set for a read is so when it is asked for the file, and stays so. For open_at.
-use Rattle.std.proofs.Common.{◌≡◌, ◌∙◌, ℕ, List, Result, Ok, Err, ap, inl, inr, subst, sym}
-use Rattle.tftp_negotiate.specs.declared.limits.Limits.{Limits}
-use Rattle.tftp_file.specs.Source.{SourceMeaning}
-use Rattle.tftp_file.specs.declared.fault.StoreFault.{StoreFault}
-use Rattle.tftp_ends.specs.declared.endpoint.Endpoint.{Endpoint}
-use Rattle.tftp_store.specs.Store.{StoreMeaning}
-use Rattle.tftp_store.specs.declared.store.Opening.{Opening}
-use Rattle.tftp_server.specs.State.{ServerState}
-use Rattle.tftp_server.specs.Port.{Ask, Ignores, Refuses, Reads, Writes, Service, Refused, Sends, Silent, Takes, granted_size}
-use Rattle.tftp_server.specs.Request.{AsksToRead, CarriesOut, Came, Left, Sent, left_by}
+use Rattle.tftp_loop.proofs.Common.{◌≡◌, ◌∙◌, ℕ, List, ap, inl, inr, subst, sym, Limits, SourceMeaning, StoreFault}
+use Rattle.tftp_loop.proofs.Common.{Endpoint, StoreMeaning, Opening, ServerState, Ask, Ignores, Refuses, Reads, Writes}
+use Rattle.tftp_loop.proofs.Common.{Service, Refused, Sends, Silent, Takes, CarriesOut, Came, Left, Sent, left_by}
+use Rattle.std.proofs.Common.{Result, Ok, Err}
+use Rattle.tftp_server.specs.Port.{granted_size}
+use Rattle.tftp_server.specs.Request.{AsksToRead}
 use Rattle.tftp_loop.specs.Longest.{IsBoundedFor, longest_in}
 
 -- what holds of a store that is bounded so

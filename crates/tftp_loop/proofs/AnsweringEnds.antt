@@ -1,45 +1,37 @@
 -- What a step of a server's end sends, and to whom.
 -- For Reflecting and Leaving.
-use Rattle.std.proofs.Common.{arith, ◌≡◌, ◌≤◌, ◌+◌, ◌&&◌, not, ◌⊎◌, ℕ, Bool, true, false, List, [], Option}
-use Rattle.std.proofs.Common.{Some, None, refl, sym, ap, subst, ◌∙◌, inl, inr, eqb-true}
-use Rattle.std.specs.Prelude.{◌==◌, ◌/◌, if◌then◌else◌, is_none, nat_lt, length, Result, Ok, Err, ⊤}
+use Rattle.tftp_loop.proofs.Common.{arith, ◌≡◌, ◌≤◌, ◌+◌, ◌&&◌, not, ◌⊎◌, ℕ, Bool, true, false, List, [], Option, Some}
+use Rattle.tftp_loop.proofs.Common.{None, refl, sym, ap, subst, ◌∙◌, inl, inr, if◌then◌else◌, nat_lt, Result, Ok, Err}
+use Rattle.tftp_loop.proofs.Common.{⊤, true≢false, has_error_opcode, Mode, Packet, SourceMeaning, SinkMeaning}
+use Rattle.tftp_loop.proofs.Common.{StoreFault, Files, Source, Sink, datagram_action, EndState, Position, Acts}
+use Rattle.tftp_loop.proofs.Common.{DatagramStep, Reply, Turn, block_length, response_turn, timeout_turn, Action}
+use Rattle.tftp_loop.proofs.Common.{Respond, Send, Store, Response, Retransmit, Close, Endpoint, Fresh, Phase, Waiting}
+use Rattle.tftp_loop.proofs.Common.{Sending, Receiving, Dallying, Closed, Terms, An_ack, A_block}
+use Rattle.std.proofs.Common.{eqb-true}
+use Rattle.std.specs.Prelude.{◌==◌, ◌/◌, is_none, length}
 use Rattle.std.specs.Cmp.Lexicographic.{same_text}
 use Rattle.std.proofs.lemmas.List.{length-take}
-use Rattle.std.proofs.lemmas.Bool.{not-false, true≢false}
-use Rattle.tftp_wire.specs.Reading.{has_error_opcode}
-use Rattle.tftp_wire.specs.declared.mode.Mode.{Mode}
-use Rattle.tftp_wire.specs.declared.packet.Packet.{Packet}
+use Rattle.std.proofs.lemmas.Bool.{not-false}
 use Rattle.tftp_wire.specs.declared.packet.Packet.TheVariants as packets
-use Rattle.tftp_file.specs.Source.{SourceMeaning, Fills}
-use Rattle.tftp_file.specs.Sink.{SinkMeaning}
+use Rattle.tftp_file.specs.Source.{Fills}
 use Rattle.tftp_file.specs.declared.fault.FileFault.{FileFault}
 use Rattle.tftp_file.specs.declared.fault.FileFault.TheVariants as file_faults
-use Rattle.tftp_file.specs.declared.fault.StoreFault.{StoreFault}
-use Rattle.tftp_file.specs.declared.files.Files.{Files}
-use Rattle.tftp_file.specs.declared.files.Files.TheVariants.{Source, Sink}
-use Rattle.tftp_ends.specs.Action.{datagram_action, garbled_response, is_wrong_peer, packet_action, same_address}
+use Rattle.tftp_ends.specs.Action.{garbled_response, is_wrong_peer, packet_action, same_address}
 use Rattle.tftp_ends.specs.Action.{same_endpoint, timeout_response}
-use Rattle.tftp_ends.specs.End.{EndState, Position, is_client, terms_of}
+use Rattle.tftp_ends.specs.End.{is_client, terms_of}
 use Rattle.tftp_ends.specs.Phase.{waited}
 use Rattle.tftp_ends.specs.Receiver.{dally_response, next_action, receiver_action}
 use Rattle.tftp_ends.specs.Sender.{sender_action}
-use Rattle.tftp_ends.specs.Step.{Acts, DatagramStep, Done, GoesOn, Reply, SendsFrom, StoresIn, Turn, after}
-use Rattle.tftp_ends.specs.Step.{ack_bytes, block_length, commit_reply, committed_turn, data_bytes, filled_turn, holding}
-use Rattle.tftp_ends.specs.Step.{refused_turn, reply_at, response_turn, result_count_is, sent_turn, timeout_turn}
+use Rattle.tftp_ends.specs.Step.{Done, GoesOn, SendsFrom, StoresIn, after}
+use Rattle.tftp_ends.specs.Step.{ack_bytes, commit_reply, committed_turn, data_bytes, filled_turn, holding}
+use Rattle.tftp_ends.specs.Step.{refused_turn, reply_at, result_count_is, sent_turn}
 use Rattle.tftp_ends.specs.Text.{is_readable}
-use Rattle.tftp_ends.specs.declared.action.Action.{Action}
-use Rattle.tftp_ends.specs.declared.action.Action.TheVariants.{Respond, Send, Store}
-use Rattle.tftp_ends.specs.declared.action.Response.{Response}
-use Rattle.tftp_ends.specs.declared.action.Response.TheVariants.{Ignore, WrongPeer, ResendReply, Retransmit, Wait}
-use Rattle.tftp_ends.specs.declared.action.Response.TheVariants.{Close, Refuse, Accept, Complete as Completes}
-use Rattle.tftp_ends.specs.declared.endpoint.Endpoint.{Endpoint}
+use Rattle.tftp_ends.specs.declared.action.Response.TheVariants.{Ignore, WrongPeer, ResendReply, Wait}
+use Rattle.tftp_ends.specs.declared.action.Response.TheVariants.{Refuse, Accept, Complete as Completes}
 use Rattle.tftp_ends.specs.declared.error_reply.ErrorReply.TheVariants as replies
 use Rattle.tftp_ends.specs.declared.outcome.Outcome.TheVariants as outcomes
-use Rattle.tftp_ends.specs.declared.phase.Dally.TheVariants.{Fresh, Waited}
-use Rattle.tftp_ends.specs.declared.phase.Phase.{Phase}
-use Rattle.tftp_ends.specs.declared.phase.Phase.TheVariants.{Waiting, Sending, Receiving, Dallying, Closed}
-use Rattle.tftp_ends.specs.declared.phase.Terms.{Terms}
-use Rattle.tftp_loop.specs.Leaving.{IsSaid, An_error, An_ack, A_block}
+use Rattle.tftp_ends.specs.declared.phase.Dally.TheVariants.{Waited}
+use Rattle.tftp_loop.specs.Leaving.{IsSaid, An_error}
 
 -- ---- endpoints that are equal by the test
 both : (a b : Bool) → (a && b) ≡ true → (a ≡ true) × (b ≡ true)

@@ -1,22 +1,17 @@
 -- The store is asked to read only what a request names.
 -- For Leaving.
-use Rattle.std.proofs.Common.{◌≡◌, ℕ, Bool, true, false, List, Option, Some, None, Result, Ok, Err, refl, subst}
-use Rattle.std.specs.Prelude.{if◌then◌else◌, nat_le, ⊤}
-use Rattle.tftp_wire.specs.Reading.{has_error_opcode}
-use Rattle.tftp_wire.specs.declared.mode.Mode.{Mode}
-use Rattle.tftp_wire.specs.declared.options.RawOption.{RawOption}
-use Rattle.tftp_wire.specs.declared.packet.Packet.{Packet}
-use Rattle.tftp_wire.specs.declared.packet.Packet.TheVariants.{Read, Write, Data, Ack, Error, Oack}
-use Rattle.tftp_wire.specs.declared.packet.Request.{Request}
+use Rattle.tftp_loop.proofs.Common.{◌≡◌, ℕ, Bool, true, false, List, Option, Some, None, refl, subst, if◌then◌else◌, ⊤}
+use Rattle.tftp_loop.proofs.Common.{has_error_opcode, Mode, RawOption, Packet, Read, Write, Request, Known, Limits}
+use Rattle.tftp_loop.proofs.Common.{path_of_name, Ask, Ignores, Refuses, Reads, Writes}
+use Rattle.std.proofs.Common.{Result, Ok, Err}
+use Rattle.std.specs.Prelude.{nat_le}
+use Rattle.tftp_wire.specs.declared.packet.Packet.TheVariants.{Data, Ack, Error, Oack}
 use Rattle.tftp_negotiate.specs.Answer.{answer}
 use Rattle.tftp_negotiate.specs.declared.known.Kind.TheVariants as kinds
-use Rattle.tftp_negotiate.specs.declared.known.Known.{Known}
-use Rattle.tftp_negotiate.specs.declared.limits.Limits.{Limits}
 use Rattle.tftp_negotiate.specs.declared.refusal.Refusal.{Refusal}
-use Rattle.tftp_file.specs.Path.{path_of_name}
 use Rattle.tftp_file.specs.declared.path.PathFault.{PathFault}
 use Rattle.tftp_ends.specs.declared.error_reply.ErrorReply.TheVariants.{ServerBusy}
-use Rattle.tftp_server.specs.Port.{Ask, Ignores, Refuses, Reads, Writes, asks, by_kind, by_name, by_options, by_packet}
+use Rattle.tftp_server.specs.Port.{asks, by_kind, by_name, by_options, by_packet}
 
 -- the packet is a request to read the file at this path, in this mode
 pub record AsksToReadAt (decoded : Option Packet) (path : List ℕ) (mode : Mode) : Type 0 where

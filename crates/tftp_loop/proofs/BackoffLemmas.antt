@@ -1,12 +1,11 @@
 -- How long a transfer waits after timeouts, and how long it takes to close. For Looking, InTime and
 -- `a_server_closes_what_makes_no_progress`.
-use Rattle.std.proofs.Common.{arith, ◌≡◌, ◌≤◌, ◌<◌, ◌+◌, ◌*◌, ◌^◌, ℕ, min, max, zero, suc, ap, refl}
+use Rattle.tftp_loop.proofs.Common.{arith, ◌≡◌, ◌≤◌, ◌<◌, ◌+◌, ◌*◌, ℕ, min, max, zero, suc, ap, refl, wait_of, Backoff}
+use Rattle.tftp_loop.proofs.Common.{LONGEST_WAIT, in_millis, waits_of}
+use Rattle.std.proofs.Common.{◌^◌}
 use Rattle.std.proofs.Math.Nat.{mul-le-mul_left, mul-suc, pow-le-pow_right}
-use Rattle.tftp_ends.specs.Backoff.{wait_of}
-use Rattle.tftp_ends.specs.declared.backoff.Backoff.{Backoff}
 use Rattle.tftp_ends.specs.declared.backoff.Backoff.TheVariants.{Constant, Doubling}
-use Rattle.tftp_sockets.specs.declared.watch.TheConstants.{LONGEST_WAIT}
-use Rattle.tftp_loop.specs.Expiry.{ClosesAfterDoubling, ClosesAfterIntervals, in_millis, waits_of}
+use Rattle.tftp_loop.specs.Expiry.{ClosesAfterDoubling, ClosesAfterIntervals}
 
 power_more : (n m : ℕ) → n ≤ m → 2 ^ n ≤ 2 ^ m
 power_more n m h = let some : 0 < 2 = omega arith in pow-le-pow_right some h

@@ -1,35 +1,17 @@
 -- In each state of a run a deadline is a wait away at most, and no end has more than its retries. For Expiring
 -- and PortCounts.
-use Rattle.std.proofs.Common.{arith, ◌≡◌, ◌<◌, ◌≤◌, ℕ, true, false, List, [], ◌∷◌, length, map}
-use Rattle.std.proofs.Common.{Option, Some, None, IsSome, refl, sym, ap, subst, ◌∙◌, inl, inr}
-use Rattle.std.specs.Prelude.{All, slice_index_or, slice_set, Result, Ok, Err, ⊤}
-use Rattle.std.specs.List.{swap_remove}
-use Rattle.std.proofs.lemmas.List.{length-map}
-use Rattle.std.proofs.lemmas.Option.{same_Some}
-use Rattle.tftp_wire.specs.declared.mode.Mode.{Mode}
-use Rattle.tftp_negotiate.specs.declared.known.Known.{Known}
-use Rattle.tftp_file.specs.Source.{SourceMeaning}
-use Rattle.tftp_file.specs.declared.fault.StoreFault.{StoreFault}
-use Rattle.tftp_ends.specs.declared.backoff.Backoff.{Backoff}
-use Rattle.tftp_ends.specs.End.{EndState}
-use Rattle.tftp_ends.specs.Opening.{ServesRead, serving_read, serving_write}
-use Rattle.tftp_ends.specs.declared.endpoint.Endpoint.{Endpoint}
-use Rattle.tftp_store.specs.Store.{StoreMeaning}
-use Rattle.tftp_store.specs.declared.store.Opening.{Opening}
-use Rattle.tftp_server.specs.Port.{Ask, Ignores, Refuses, Reads, Writes, Service, Silent, Refused, Sends, Takes}
-use Rattle.tftp_server.specs.Request.{Came, Goes, Left, Nothing, Error_reply, A_transfer, Sent, Taken, left_by}
-use Rattle.tftp_server.specs.State.{TransferState, ServerState, at, with_new, without}
-use Rattle.tftp_server.specs.declared.config.Config.{Config}
-use Rattle.tftp_loop.specs.Run.{Run}
-use Rattle.tftp_loop.specs.Run.Run.{Start, Then}
-use Rattle.tftp_loop.specs.Steps.{Timer, PortState, LoopState, PortStep, LoopStep, interval_at, marked_by}
-use Rattle.tftp_loop.specs.Steps.{port_state, set_by, started, with_timer}
-use Rattle.tftp_loop.specs.Steps.LoopStep.{Waited, At_port, Request_received, No_request_found, Request_not_received}
-use Rattle.tftp_loop.specs.Steps.LoopStep.{Request_noted}
-use Rattle.tftp_loop.specs.Steps.LoopStep.{Request_answered, Request_lost, Clock_read, Store_set, Transfer_closed}
-use Rattle.tftp_loop.specs.Steps.LoopStep.{Drain_begun}
-use Rattle.tftp_loop.specs.Expiry.{IsIdleAt, ReceivesNoneAt}
-use Rattle.tftp_loop.specs.MayWait.{AreKept}
+use Rattle.tftp_loop.proofs.Common.{arith, ◌≡◌, ◌<◌, ◌≤◌, ℕ, true, false, List, [], ◌∷◌, length, map, Option, Some}
+use Rattle.tftp_loop.proofs.Common.{None, IsSome, refl, sym, ap, subst, ◌∙◌, inl, inr, All, slice_index_or, slice_set}
+use Rattle.tftp_loop.proofs.Common.{Result, Ok, Err, ⊤, swap_remove, length-map, same_Some, Mode, Known, SourceMeaning}
+use Rattle.tftp_loop.proofs.Common.{StoreFault, Backoff, EndState, ServesRead, serving_write, Endpoint, StoreMeaning}
+use Rattle.tftp_loop.proofs.Common.{Opening, Ask, Ignores, Refuses, Reads, Writes, Service, Silent, Refused, Sends}
+use Rattle.tftp_loop.proofs.Common.{Takes, Came, Goes, Left, Nothing, Error_reply, A_transfer, Sent, Taken, left_by}
+use Rattle.tftp_loop.proofs.Common.{TransferState, ServerState, at, with_new, without, Config, Run, Start, Then, Timer}
+use Rattle.tftp_loop.proofs.Common.{PortState, LoopState, PortStep, LoopStep, interval_at, marked_by, port_state}
+use Rattle.tftp_loop.proofs.Common.{set_by, started, with_timer, Waited, At_port, Request_received, No_request_found}
+use Rattle.tftp_loop.proofs.Common.{Request_not_received, Request_noted, Request_answered, Request_lost, Clock_read}
+use Rattle.tftp_loop.proofs.Common.{Store_set, Transfer_closed, Drain_begun, IsIdleAt, ReceivesNoneAt, AreKept}
+use Rattle.tftp_ends.specs.Opening.{serving_read}
 use Rattle.tftp_loop.proofs.LoopStays.{all_appended, all_removed, all_set, other_port, some_none}
 use Rattle.tftp_loop.proofs.PortEnds.{HasLimit, HasSpent, IsNear, at_transfer, changes_limit, changes_near, changes_spent}
 use Rattle.tftp_loop.proofs.PortEnds.{expiring_near, same_config, same_timer, set_near}

@@ -1,19 +1,13 @@
 -- The time of a server, by the readings of its clock. For `a_server_closes_by_the_clock`.
-use Rattle.std.proofs.Common.{arith, ◌≡◌, ◌≤◌, ◌<◌, ◌+◌, ◌-◌, min, max, ℕ, Bool, true, false, refl, ap}
-use Rattle.std.specs.Prelude.{◌*◌, if◌then◌else◌}
-use Rattle.tftp_file.specs.Source.{SourceMeaning}
-use Rattle.tftp_ends.specs.Backoff.{wait_of}
-use Rattle.tftp_store.specs.Store.{StoreMeaning}
-use Rattle.tftp_sockets.specs.Watch.{last_moment}
-use Rattle.tftp_sockets.specs.declared.watch.Watch.{Watch}
-use Rattle.tftp_sockets.specs.declared.watch.TheConstants.{LONGEST_WAIT}
-use Rattle.tftp_loop.specs.Run.{Run}
-use Rattle.tftp_loop.specs.Run.Run.{Start, Then}
-use Rattle.tftp_loop.specs.Steps.{LoopState, LoopStep, IsReadBy, round_end}
-use Rattle.tftp_loop.specs.Steps.LoopStep.{Waited, At_port, Request_received, No_request_found, Request_not_received}
-use Rattle.tftp_loop.specs.Steps.LoopStep.{Request_noted, Request_answered, Request_lost, Clock_read, Store_set}
-use Rattle.tftp_loop.specs.Steps.LoopStep.{Transfer_closed, Drain_begun}
-use Rattle.tftp_loop.specs.Expiry.{Idles, in_millis, waits_of}
+use Rattle.tftp_loop.proofs.Common.{arith, ◌≡◌, ◌≤◌, ◌<◌, ◌+◌, ◌-◌, min, max, ℕ, Bool, true, false, refl, ap}
+use Rattle.tftp_loop.proofs.Common.{if◌then◌else◌, SourceMeaning, wait_of, StoreMeaning, last_moment, Watch}
+use Rattle.tftp_loop.proofs.Common.{LONGEST_WAIT, Run, Start, Then, LoopState, LoopStep, round_end, Waited, At_port}
+use Rattle.tftp_loop.proofs.Common.{Request_received, No_request_found, Request_not_received, Request_noted}
+use Rattle.tftp_loop.proofs.Common.{Request_answered, Request_lost, Clock_read, Store_set, Transfer_closed, Drain_begun}
+use Rattle.tftp_loop.proofs.Common.{in_millis, waits_of}
+use Rattle.std.specs.Prelude.{◌*◌}
+use Rattle.tftp_loop.specs.Steps.{IsReadBy}
+use Rattle.tftp_loop.specs.Expiry.{Idles}
 use Rattle.tftp_loop.specs.Expiry.Idles.{At_first, After}
 use Rattle.tftp_loop.specs.Seconds.{ClosesByTheClock, ClosesOverAgeByTheClock, PassesWithTheClock, TimesOutByTheClock}
 use Rattle.tftp_loop.specs.Seconds.{cut_along, cut_by, cut_in, cut_of}

@@ -1,27 +1,14 @@
 -- How many datagrams are received at a port. For `a_server_receives_few_between_waits`, PortCounts and Visits.
-use Rattle.std.proofs.Common.{arith, ◌≡◌, ◌≤◌, ◌<◌, ◌+◌, ℕ, Bool, false, List, [], ◌∷◌, map, Option, Some, None}
-use Rattle.std.proofs.Common.{refl, sym, ap, subst, ◌∙◌}
-use Rattle.std.specs.Prelude.{All}
-use Rattle.std.proofs.lemmas.List.{length-map}
-use Rattle.tftp_file.specs.Source.{SourceMeaning}
-use Rattle.tftp_ends.specs.declared.backoff.Backoff.{Backoff}
-use Rattle.tftp_ends.specs.declared.endpoint.Endpoint.{Endpoint}
-use Rattle.tftp_ends.specs.Step.{Reply}
-use Rattle.tftp_server.specs.State.{TransferState, at}
-use Rattle.tftp_store.specs.Store.{StoreMeaning}
-use Rattle.tftp_sockets.specs.Trace.{SocketEvent, answered}
-use Rattle.tftp_sockets.specs.Trace.SocketEvent.{Elapsed}
+use Rattle.tftp_loop.proofs.Common.{arith, ◌≡◌, ◌≤◌, ◌<◌, ◌+◌, ℕ, Bool, false, List, [], ◌∷◌, map, Option, Some, None}
+use Rattle.tftp_loop.proofs.Common.{refl, sym, ap, subst, ◌∙◌, All, length-map, SourceMeaning, Backoff, Endpoint, Reply}
+use Rattle.tftp_loop.proofs.Common.{TransferState, at, StoreMeaning, SocketEvent, answered, Elapsed, Run, Start, Then}
+use Rattle.tftp_loop.proofs.Common.{Timer, PortState, LoopState, PortStep, LoopStep, interval_at, marked_by}
+use Rattle.tftp_loop.proofs.Common.{most_in_round, port_state, set_by, started, timer_after, with_timer, Waited}
+use Rattle.tftp_loop.proofs.Common.{At_port, Request_received, No_request_found, Request_not_received, Request_noted}
+use Rattle.tftp_loop.proofs.Common.{Request_answered, Request_lost, Clock_read, Store_set, Transfer_closed, Drain_begun}
+use Rattle.tftp_loop.proofs.Common.{A_datagram, A_lost_datagram, A_late_datagram, Nothing_found, A_failed_receive}
+use Rattle.tftp_loop.proofs.Common.{A_timeout, A_missed_timeout, Work}
 use Rattle.tftp_loop.specs.Fair.{received_in}
-use Rattle.tftp_loop.specs.Run.{Run}
-use Rattle.tftp_loop.specs.Run.Run.{Start, Then}
-use Rattle.tftp_loop.specs.Steps.{Timer, PortState, LoopState, PortStep, LoopStep, interval_at, marked_by, most_in_round}
-use Rattle.tftp_loop.specs.Steps.{port_state, set_by, started, timer_after, with_timer}
-use Rattle.tftp_loop.specs.Steps.LoopStep.{Waited, At_port, Request_received, No_request_found, Request_not_received}
-use Rattle.tftp_loop.specs.Steps.LoopStep.{Request_noted, Request_answered, Request_lost, Clock_read, Store_set}
-use Rattle.tftp_loop.specs.Steps.LoopStep.{Transfer_closed}
-use Rattle.tftp_loop.specs.Steps.LoopStep.{Drain_begun}
-use Rattle.tftp_loop.specs.Steps.PortStep.{A_datagram, A_lost_datagram, A_late_datagram, Nothing_found}
-use Rattle.tftp_loop.specs.Steps.PortStep.{A_failed_receive, A_timeout, A_missed_timeout, Work}
 use Rattle.tftp_loop.proofs.LoopStays.{all_appended, all_removed, all_set}
 use Rattle.tftp_loop.proofs.PortStays.{after_received}
 use Rattle.tftp_loop.proofs.Waits.{waited_at}

@@ -1,17 +1,9 @@
 -- What a port that was drained says after a step at another. For Looking and Sleeping.
-use Rattle.std.proofs.Common.{◌≡◌, ◌==◌, ◌||◌, ◌&&◌, not, ℕ, Bool, true, false, List, ◌∷◌, Option, Some, None, refl}
-use Rattle.std.proofs.Common.{sym, ap, subst, ◌∙◌}
-use Rattle.std.proofs.lemmas.Bool.{ne_eqb}
-use Rattle.tftp_file.specs.Source.{SourceMeaning}
-use Rattle.tftp_ends.specs.declared.endpoint.Endpoint.{Endpoint}
-use Rattle.tftp_ends.specs.Step.{Reply}
-use Rattle.tftp_store.specs.Store.{StoreMeaning}
-use Rattle.tftp_sockets.specs.Trace.{SocketEvent, answered, replied}
-use Rattle.tftp_sockets.specs.Trace.SocketEvent.{Received, Elapsed}
-use Rattle.tftp_sockets.specs.Quiet.{is_drained}
-use Rattle.tftp_loop.specs.Steps.{PortState, PortStep}
-use Rattle.tftp_loop.specs.Steps.PortStep.{A_datagram, A_lost_datagram, A_late_datagram, Nothing_found}
-use Rattle.tftp_loop.specs.Steps.PortStep.{A_failed_receive, A_timeout, A_missed_timeout, Work}
+use Rattle.tftp_loop.proofs.Common.{◌≡◌, ◌==◌, ◌||◌, ◌&&◌, not, ℕ, Bool, true, false, List, ◌∷◌, Option, Some, None}
+use Rattle.tftp_loop.proofs.Common.{refl, sym, ap, subst, ◌∙◌, ne_eqb, SourceMeaning, Endpoint, Reply, StoreMeaning}
+use Rattle.tftp_loop.proofs.Common.{SocketEvent, answered, replied, Received, Elapsed, is_drained, PortState, PortStep}
+use Rattle.tftp_loop.proofs.Common.{A_datagram, A_lost_datagram, A_late_datagram, Nothing_found, A_failed_receive}
+use Rattle.tftp_loop.proofs.Common.{A_timeout, A_missed_timeout, Work}
 
 -- an answer receives nothing
 pub answered_drained : (r port : ℕ) (reply : Option Reply) (es : List SocketEvent) → is_drained r es ≡ true

@@ -1,20 +1,13 @@
 -- A server that drains receives nothing at its request port. For `a_server_that_drains_only_finishes`.
-use Rattle.std.proofs.Common.{◌≡◌, ◌∙◌, ℕ, false, List, sym, ap}
-use Rattle.std.proofs.lemmas.Bool.{true≢false}
-use Rattle.tftp_file.specs.Source.{SourceMeaning}
-use Rattle.tftp_store.specs.Store.{StoreMeaning}
-use Rattle.tftp_server.specs.State.{ServerState}
-use Rattle.tftp_sockets.specs.Trace.{SocketEvent}
+use Rattle.tftp_loop.proofs.Common.{◌≡◌, ◌∙◌, ℕ, false, List, sym, ap, true≢false, SourceMeaning, StoreMeaning}
+use Rattle.tftp_loop.proofs.Common.{ServerState, SocketEvent, LoopConfig, Run, Start, Then, LoopState, LoopStep}
+use Rattle.tftp_loop.proofs.Common.{at_start, is_draining, Waited, At_port, Request_received, No_request_found}
+use Rattle.tftp_loop.proofs.Common.{Request_not_received, Request_noted, Request_answered, Request_lost, Clock_read}
+use Rattle.tftp_loop.proofs.Common.{Store_set, Transfer_closed, Drain_begun}
 use Rattle.tftp_loop.specs.declared.drain.Drain.{Drain}
 use Rattle.tftp_loop.specs.declared.drain.Drain.TheVariants.{Awaited, Begun, Never}
-use Rattle.tftp_loop.specs.declared.serving.LoopConfig.{LoopConfig}
 use Rattle.tftp_loop.specs.Draining.{FinishesWork, Finishes_by, IsFinishing}
-use Rattle.tftp_loop.specs.Run.{Run}
-use Rattle.tftp_loop.specs.Run.Run.{Start, Then}
-use Rattle.tftp_loop.specs.Steps.{LoopState, LoopStep, BeginsDrain, at_start, drain_of, is_draining}
-use Rattle.tftp_loop.specs.Steps.LoopStep.{Waited, At_port, Request_received, No_request_found, Request_not_received}
-use Rattle.tftp_loop.specs.Steps.LoopStep.{Request_noted, Request_answered, Request_lost, Clock_read, Store_set}
-use Rattle.tftp_loop.specs.Steps.LoopStep.{Transfer_closed, Drain_begun}
+use Rattle.tftp_loop.specs.Steps.{BeginsDrain, drain_of}
 
 -- a server that drains does not go on
 no_longer : {P : Type 0} (drain : Drain) → drain ≡ Begun → is_draining drain ≡ false → P

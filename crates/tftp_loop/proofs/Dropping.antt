@@ -1,25 +1,16 @@
 -- What a server drops at its request port begins as no request, and only with `--requests-only`. For
 -- `a_server_drops_no_request`.
-use Rattle.std.proofs.Common.{◌≡◌, ◌∙◌, ◌⊎◌, ℕ, true, false, List, inl, inr, refl, sym, ap}
-use Rattle.std.proofs.lemmas.Bool.{true≢false}
+use Rattle.tftp_loop.proofs.Common.{◌≡◌, ◌∙◌, ◌⊎◌, ℕ, true, false, List, inl, inr, refl, sym, ap, true≢false, Read}
+use Rattle.tftp_loop.proofs.Common.{Write, Request, SourceMeaning, Endpoint, StoreMeaning, ServerState, SocketEvent}
+use Rattle.tftp_loop.proofs.Common.{Run, Start, Then, LoopState, LoopStep, AnswersRequest, LosesRequest, at_start}
+use Rattle.tftp_loop.proofs.Common.{Waited, At_port, Request_received, No_request_found, Request_not_received}
+use Rattle.tftp_loop.proofs.Common.{Request_noted, Request_answered, Request_lost, Clock_read, Store_set}
+use Rattle.tftp_loop.proofs.Common.{Transfer_closed, Drain_begun, LoopConfig}
 use Rattle.tftp_wire.specs.Spelling.{Spells}
-use Rattle.tftp_wire.specs.declared.packet.Packet.TheVariants.{Read, Write}
-use Rattle.tftp_wire.specs.declared.packet.Request.{Request}
-use Rattle.tftp_file.specs.Source.{SourceMeaning}
-use Rattle.tftp_ends.specs.declared.endpoint.Endpoint.{Endpoint}
-use Rattle.tftp_store.specs.Store.{StoreMeaning}
-use Rattle.tftp_server.specs.State.{ServerState}
-use Rattle.tftp_sockets.specs.Trace.{SocketEvent}
 use Rattle.tftp_loop.specs.Dropped.{IsDropped}
 use Rattle.tftp_loop.specs.OnlyRequests.{begins_as_request}
-use Rattle.tftp_loop.specs.Run.{Run}
-use Rattle.tftp_loop.specs.Run.Run.{Start, Then}
-use Rattle.tftp_loop.specs.Steps.{LoopState, LoopStep, AnswersRequest, LosesRequest, RequestLoss, at_start}
+use Rattle.tftp_loop.specs.Steps.{RequestLoss}
 use Rattle.tftp_loop.specs.Steps.{No_answer, No_request, No_memory_to_open, No_port, Same_port, Too_many}
-use Rattle.tftp_loop.specs.Steps.LoopStep.{Waited, At_port, Request_received, No_request_found, Request_not_received}
-use Rattle.tftp_loop.specs.Steps.LoopStep.{Request_noted, Request_answered, Request_lost, Clock_read, Store_set}
-use Rattle.tftp_loop.specs.Steps.LoopStep.{Transfer_closed, Drain_begun}
-use Rattle.tftp_loop.specs.declared.serving.LoopConfig.{LoopConfig}
 
 -- an RRQ and a WRQ begin as requests
 spelled_begins : (request : Request) (bytes : List ℕ)

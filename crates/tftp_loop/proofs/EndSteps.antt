@@ -1,38 +1,26 @@
 -- What a step of an end leaves of its retries, and of the timeouts until it closes. For four other files.
-use Rattle.std.proofs.Common.{arith, ◌≡◌, ◌-◌, ◌≤◌, ◌+◌, ◌||◌, ◌&&◌, ◌⊎◌, not, max, ℕ, Bool, true, false}
-use Rattle.std.proofs.Common.{List, Option, Some, None, refl, sym, ap, subst, ◌∙◌, inl, inr}
-use Rattle.std.specs.Prelude.{◌==◌, if◌then◌else◌, is_some, Result, Ok, Err}
-use Rattle.std.proofs.lemmas.Bool.{cases_eq, eq-eqb, ne_eqb}
-use Rattle.std.proofs.lemmas.Option.{same_Some}
-use Rattle.tftp_wire.specs.declared.packet.Packet.{Packet}
+use Rattle.tftp_loop.proofs.Common.{arith, ◌≡◌, ◌-◌, ◌≤◌, ◌+◌, ◌||◌, ◌&&◌, ◌⊎◌, not, max, ℕ, Bool, true, false, List}
+use Rattle.tftp_loop.proofs.Common.{Option, Some, None, refl, sym, ap, subst, ◌∙◌, inl, inr, if◌then◌else◌, is_some}
+use Rattle.tftp_loop.proofs.Common.{Result, Ok, Err, cases_eq, eq-eqb, ne_eqb, same_Some, Packet, has_error_opcode}
+use Rattle.tftp_loop.proofs.Common.{SourceMeaning, SinkMeaning, StoreFault, Files, Source, Sink, datagram_action}
+use Rattle.tftp_loop.proofs.Common.{EndState, Position, is_complete, is_progress, outcome_of, Acts, DatagramStep, Turn}
+use Rattle.tftp_loop.proofs.Common.{after_turn, response_turn, block_length, timeout_turn, Action, Respond, Send, Store}
+use Rattle.tftp_loop.proofs.Common.{Response, Retransmit, Close, Endpoint, Outcome, Fresh, Phase, Waiting, Sending}
+use Rattle.tftp_loop.proofs.Common.{Receiving, Dallying, Closed, Terms, ClosesInSilence}
+use Rattle.std.specs.Prelude.{◌==◌}
 use Rattle.tftp_wire.specs.declared.packet.Packet.TheVariants as packets
-use Rattle.tftp_wire.specs.Reading.{has_error_opcode}
-use Rattle.tftp_file.specs.Source.{SourceMeaning}
-use Rattle.tftp_file.specs.Sink.{SinkMeaning}
-use Rattle.tftp_file.specs.declared.fault.StoreFault.{StoreFault}
-use Rattle.tftp_file.specs.declared.files.Files.{Files}
-use Rattle.tftp_file.specs.declared.files.Files.TheVariants.{Source, Sink}
-use Rattle.tftp_ends.specs.Action.{datagram_action, garbled_response, is_wrong_peer, packet_action}
-use Rattle.tftp_ends.specs.End.{EndState, Position, is_complete, is_progress, outcome_of, terms_of}
+use Rattle.tftp_ends.specs.Action.{garbled_response, is_wrong_peer, packet_action}
+use Rattle.tftp_ends.specs.End.{terms_of}
 use Rattle.tftp_ends.specs.Phase.{closed, completed, refused, waited}
 use Rattle.tftp_ends.specs.Receiver.{dally_response}
-use Rattle.tftp_ends.specs.Step.{Acts, DatagramStep, Done, GoesOn, SendsFrom, StoresIn, Turn, after, after_turn}
+use Rattle.tftp_ends.specs.Step.{Done, GoesOn, SendsFrom, StoresIn, after}
 use Rattle.tftp_ends.specs.Step.{committed_turn, data_bytes, filled_turn, holding, refused_turn}
-use Rattle.tftp_ends.specs.Step.{response_turn, result_count_is, block_length, sent_turn, timeout_turn}
-use Rattle.tftp_ends.specs.declared.action.Action.{Action}
-use Rattle.tftp_ends.specs.declared.action.Action.TheVariants.{Respond, Send, Store}
-use Rattle.tftp_ends.specs.declared.action.Response.{Response}
-use Rattle.tftp_ends.specs.declared.action.Response.TheVariants.{Ignore, WrongPeer, ResendReply, Retransmit, Wait}
-use Rattle.tftp_ends.specs.declared.action.Response.TheVariants.{Close, Refuse, Accept, Complete as Completes}
-use Rattle.tftp_ends.specs.declared.endpoint.Endpoint.{Endpoint}
+use Rattle.tftp_ends.specs.Step.{result_count_is, sent_turn}
+use Rattle.tftp_ends.specs.declared.action.Response.TheVariants.{Ignore, WrongPeer, ResendReply, Wait}
+use Rattle.tftp_ends.specs.declared.action.Response.TheVariants.{Refuse, Accept, Complete as Completes}
 use Rattle.tftp_ends.specs.declared.error_reply.ErrorReply.TheVariants.{DiskFull, FileChanged}
-use Rattle.tftp_ends.specs.declared.outcome.Outcome.{Outcome}
 use Rattle.tftp_ends.specs.declared.outcome.Outcome.TheVariants as outcomes
-use Rattle.tftp_ends.specs.declared.phase.Dally.TheVariants.{Fresh, Waited}
-use Rattle.tftp_ends.specs.declared.phase.Phase.{Phase}
-use Rattle.tftp_ends.specs.declared.phase.Phase.TheVariants.{Waiting, Sending, Receiving, Dallying, Closed}
-use Rattle.tftp_ends.specs.declared.phase.Terms.{Terms}
-use Rattle.tftp_loop.specs.Expiry.{ClosesInSilence}
+use Rattle.tftp_ends.specs.declared.phase.Dally.TheVariants.{Waited}
 
 -- ---- how many timeouts in sequence close an end
 -- how many timeouts a phase has left until the end closes

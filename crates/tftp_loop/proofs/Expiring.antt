@@ -1,42 +1,23 @@
 -- A transfer that makes no progress is closed in time, and its line is printed. For
 -- `a_server_closes_what_makes_no_progress` and ByTheClock.
-use Rattle.std.proofs.Common.{arith, ◌≡◌, ◌<◌, ◌≤◌, ◌+◌, ◌*◌, ◌⊎◌, max, ℕ, Bool, true, false, List}
-use Rattle.std.proofs.Common.{[], ◌∷◌, ◌++◌, length, map, Option, Some, None, IsSome, refl, sym, ap, subst, ◌∙◌, inl}
-use Rattle.std.proofs.Common.{inr}
-use Rattle.std.specs.Prelude.{slice_index_or, slice_set, if◌then◌else◌}
+use Rattle.tftp_loop.proofs.Common.{arith, ◌≡◌, ◌<◌, ◌≤◌, ◌+◌, ◌*◌, ◌⊎◌, max, ℕ, Bool, true, false, List, [], ◌∷◌, ◌++◌}
+use Rattle.tftp_loop.proofs.Common.{length, map, Option, Some, None, IsSome, refl, sym, ap, subst, ◌∙◌, inl, inr}
+use Rattle.tftp_loop.proofs.Common.{slice_index_or, slice_set, if◌then◌else◌, cases_eq, append_assoc, length-map}
+use Rattle.tftp_loop.proofs.Common.{none-some, SourceMeaning, Endpoint, Outcome, Record, EndState, is_complete}
+use Rattle.tftp_loop.proofs.Common.{outcome_of, record_of, StoreMeaning, TransferState, at, draft_of, is_closed}
+use Rattle.tftp_loop.proofs.Common.{taken_of, with_new, Came, Left, Nothing, Error_reply, A_transfer, left_by}
+use Rattle.tftp_loop.proofs.Common.{deadline_of, last_moment, LONGEST_WAIT, line_text, SocketEvent, replied, Printed}
+use Rattle.tftp_loop.proofs.Common.{Run, Start, Then, Timer, PortState, LoopState, PortStep, LoopStep, Waits}
+use Rattle.tftp_loop.proofs.Common.{answering_port, deadline_by, interval_at, marked_by, port_state, set_by, started}
+use Rattle.tftp_loop.proofs.Common.{wait_in, with_timer, A_datagram, A_lost_datagram, A_late_datagram, Nothing_found}
+use Rattle.tftp_loop.proofs.Common.{A_failed_receive, A_timeout, A_missed_timeout, Work, Waited, At_port}
+use Rattle.tftp_loop.proofs.Common.{Request_received, No_request_found, Request_not_received, Request_noted}
+use Rattle.tftp_loop.proofs.Common.{Request_answered, Request_lost, Clock_read, Store_set, Transfer_closed, Drain_begun}
+use Rattle.tftp_loop.proofs.Common.{IsNoWait, ClosesInSilence, IsIdleAt, ReceivesNoneAt, AreKept}
 use Rattle.std.specs.List.{Contains}
-use Rattle.std.proofs.lemmas.Bool.{cases_eq}
-use Rattle.std.proofs.lemmas.List.{append_assoc, length-map}
-use Rattle.std.proofs.lemmas.Option.{none-some}
-use Rattle.tftp_file.specs.Source.{SourceMeaning}
-use Rattle.tftp_ends.specs.declared.endpoint.Endpoint.{Endpoint}
-use Rattle.tftp_ends.specs.declared.outcome.Outcome.{Outcome}
-use Rattle.tftp_ends.specs.declared.record.Record.{Record}
-use Rattle.tftp_ends.specs.End.{EndState, is_complete, outcome_of, record_of}
-use Rattle.tftp_store.specs.Store.{StoreMeaning}
-use Rattle.tftp_server.specs.State.{TransferState, at, draft_of, is_closed, taken_of, with_new}
-use Rattle.tftp_server.specs.Request.{Came, Left, Nothing, Error_reply, A_transfer, left_by}
-use Rattle.tftp_sockets.specs.Watch.{deadline_of, last_moment}
-use Rattle.tftp_sockets.specs.declared.watch.TheConstants.{LONGEST_WAIT}
-use Rattle.tftp_lines.specs.Printed.{line_text}
 use Rattle.tftp_lines.specs.declared.printed.Printed.TheVariants.{Closed}
-use Rattle.tftp_sockets.specs.Trace.{SocketEvent, replied}
-use Rattle.tftp_sockets.specs.Trace.SocketEvent.{Printed}
-use Rattle.tftp_loop.specs.Run.{Run}
-use Rattle.tftp_loop.specs.Run.Run.{Start, Then}
-use Rattle.tftp_loop.specs.Steps.{Timer, PortState, LoopState, PortStep, LoopStep, Waits, answering_port}
-use Rattle.tftp_loop.specs.Steps.{deadline_by, interval_at, marked_by, port_state, set_by, started}
-use Rattle.tftp_loop.specs.Steps.{wait_in, with_timer}
-use Rattle.tftp_loop.specs.Steps.PortStep.{A_datagram, A_lost_datagram, A_late_datagram, Nothing_found}
-use Rattle.tftp_loop.specs.Steps.PortStep.{A_failed_receive, A_timeout, A_missed_timeout, Work}
-use Rattle.tftp_loop.specs.Steps.LoopStep.{Waited, At_port, Request_received, No_request_found, Request_not_received}
-use Rattle.tftp_loop.specs.Steps.LoopStep.{Request_noted}
-use Rattle.tftp_loop.specs.Steps.LoopStep.{Request_answered, Request_lost, Clock_read, Store_set, Transfer_closed}
-use Rattle.tftp_loop.specs.Steps.LoopStep.{Drain_begun}
-use Rattle.tftp_loop.specs.Reported.{IsNoWait}
-use Rattle.tftp_loop.specs.Expiry.{After, At_first, ClosesInSilence, Idles, IsIdle, IsIdleAt, NoneReceived}
-use Rattle.tftp_loop.specs.Expiry.{PrintsClose, ReceivesNone, ReceivesNoneAt, closing_time, counted_from}
-use Rattle.tftp_loop.specs.MayWait.{AreKept}
+use Rattle.tftp_loop.specs.Expiry.{After, At_first, Idles, IsIdle, NoneReceived}
+use Rattle.tftp_loop.specs.Expiry.{PrintsClose, ReceivesNone, closing_time, counted_from}
 use Rattle.tftp_loop.proofs.Adding.{Adds, adds_more, step_adds, step_forward}
 use Rattle.tftp_loop.proofs.Bounded.{some_at, sound_along}
 use Rattle.tftp_loop.proofs.EndSteps.{open_left, timeouts_left}

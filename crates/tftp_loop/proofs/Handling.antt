@@ -1,31 +1,16 @@
 -- What becomes of a datagram of the request port before a server sleeps. For `a_server_handles_before_it_sleeps`.
-use Rattle.std.proofs.Common.{arith, ◌≡◌, ◌≤◌, ◌==◌, ◌||◌, ◌&&◌, not, ◌⊎◌, ℕ, Bool, true, false, List, ◌∷◌, cond, Option, Some}
-use Rattle.std.proofs.Common.{None, map, refl, sym, ap, subst, ◌∙◌, inl, inr}
-use Rattle.std.specs.Prelude.{is_some, All, ◌≢◌}
-use Rattle.std.specs.List.{list_any}
-use Rattle.std.proofs.lemmas.Bool.{ne_eqb}
-use Rattle.std.proofs.lemmas.Option.{none-some, same_Some}
-use Rattle.tftp_file.specs.Source.{SourceMeaning}
-use Rattle.tftp_ends.specs.declared.endpoint.Endpoint.{Endpoint}
-use Rattle.tftp_ends.specs.Step.{Reply}
-use Rattle.tftp_store.specs.Store.{StoreMeaning}
-use Rattle.tftp_sockets.specs.Trace.{SocketEvent, answered, replied}
-use Rattle.tftp_sockets.specs.Trace.SocketEvent.{Received, Elapsed}
-use Rattle.tftp_sockets.specs.Quiet.{is_among, was_tried}
-use Rattle.tftp_server.specs.State.{ServerState}
-use Rattle.tftp_loop.specs.declared.serving.LoopConfig.{LoopConfig}
-use Rattle.tftp_loop.specs.Run.{Run}
-use Rattle.tftp_loop.specs.Run.Run.{Start, Then}
-use Rattle.tftp_loop.specs.Steps.{Timer, PortState, LoopState, PortStep, LoopStep, Waits, ReceivesRequest, port_state, at_start}
-use Rattle.tftp_loop.specs.Steps.{set_by, until_look}
-use Rattle.tftp_loop.specs.Steps.PortStep.{A_datagram, A_lost_datagram, A_late_datagram, Nothing_found}
-use Rattle.tftp_loop.specs.Steps.PortStep.{A_failed_receive, A_timeout, A_missed_timeout, Work}
-use Rattle.tftp_loop.specs.Steps.LoopStep.{Waited, At_port, Request_received, No_request_found, Request_not_received}
-use Rattle.tftp_loop.specs.Steps.LoopStep.{Request_noted}
-use Rattle.tftp_loop.specs.Steps.LoopStep.{Request_answered, Request_lost, Clock_read, Store_set, Transfer_closed}
-use Rattle.tftp_loop.specs.Steps.LoopStep.{Drain_begun}
-use Rattle.tftp_loop.specs.Steps.{is_draining, reads_requests}
-use Rattle.tftp_loop.specs.Reported.{GoesOn, Goes_by, IsNoWait}
+use Rattle.tftp_loop.proofs.Common.{arith, ◌≡◌, ◌≤◌, ◌==◌, ◌||◌, ◌&&◌, not, ◌⊎◌, ℕ, Bool, true, false, List, ◌∷◌, cond}
+use Rattle.tftp_loop.proofs.Common.{Option, Some, None, map, refl, sym, ap, subst, ◌∙◌, inl, inr, is_some, All, ◌≢◌}
+use Rattle.tftp_loop.proofs.Common.{list_any, ne_eqb, none-some, same_Some, SourceMeaning, Endpoint, Reply}
+use Rattle.tftp_loop.proofs.Common.{StoreMeaning, SocketEvent, answered, replied, Received, Elapsed, is_among}
+use Rattle.tftp_loop.proofs.Common.{was_tried, ServerState, LoopConfig, Run, Start, Then, Timer, PortState, LoopState}
+use Rattle.tftp_loop.proofs.Common.{PortStep, LoopStep, Waits, port_state, at_start, set_by, until_look, A_datagram}
+use Rattle.tftp_loop.proofs.Common.{A_lost_datagram, A_late_datagram, Nothing_found, A_failed_receive, A_timeout}
+use Rattle.tftp_loop.proofs.Common.{A_missed_timeout, Work, Waited, At_port, Request_received, No_request_found}
+use Rattle.tftp_loop.proofs.Common.{Request_not_received, Request_noted, Request_answered, Request_lost, Clock_read}
+use Rattle.tftp_loop.proofs.Common.{Store_set, Transfer_closed, Drain_begun, is_draining, reads_requests, IsNoWait}
+use Rattle.tftp_loop.specs.Steps.{ReceivesRequest}
+use Rattle.tftp_loop.specs.Reported.{GoesOn, Goes_by}
 use Rattle.tftp_loop.specs.Handled.{By_answer, By_loss, IsResolved}
 use Rattle.tftp_loop.proofs.OwnPorts.{HasItsOwnPort, own_from}
 use Rattle.tftp_loop.proofs.NoteLemmas.{note_tried}

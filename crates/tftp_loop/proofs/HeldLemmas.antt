@@ -1,13 +1,10 @@
 -- What holds of each transfer of a table.
 -- For Reflecting and Leaving, and for the runs of tftp_daemon.
-use Rattle.std.proofs.Common.{◌≡◌, ℕ, Bool, true, false, cond, List, [], ◌∷◌, Option, Some, sym, subst}
-use Rattle.std.specs.Prelude.{IfSome, All, Contains}
-use Rattle.std.specs.BTreeMap.{is_at}
-use Rattle.std.specs.Map.{lookup, values_of}
-use Rattle.std.specs.Ordering.{nat_cmp}
+use Rattle.tftp_loop.proofs.Common.{◌≡◌, ℕ, Bool, true, false, cond, List, [], ◌∷◌, Option, Some, sym, subst, IfSome}
+use Rattle.tftp_loop.proofs.Common.{All, is_at, lookup, values_of, nat_cmp, at, with_new, with_next, without}
+use Rattle.std.specs.Prelude.{Contains}
 use Rattle.std.proofs.lemmas.List.Elements.{All-contains_itself, All-head, All-tail, All-weaker}
 use Rattle.std.proofs.lemmas.Map.Views.{All-map-remove_entry, All-values-insert_entry, All-values-set_value}
-use Rattle.tftp_server.specs.State.{at, with_new, with_next, without}
 
 module _ {T : Type 0} (P : T → Type 0) where
   abbrev AllHeld : List (ℕ × T) → Type 0

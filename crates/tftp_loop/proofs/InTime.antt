@@ -1,16 +1,8 @@
 -- The time that is left to a transfer that makes no progress, and what a step at its port leaves of it. For Expiring.
-use Rattle.std.proofs.Common.{arith, ◌≡◌, ◌≤◌, ◌+◌, ◌*◌, max, ℕ, zero, suc, Bool, true, false, Some, refl, sym, ap, ◌∙◌}
-use Rattle.std.proofs.Common.{inl, inr}
-use Rattle.std.proofs.lemmas.Bool.{cases_eq}
-use Rattle.tftp_ends.specs.Backoff.{wait_of}
-use Rattle.tftp_ends.specs.declared.backoff.Backoff.{Backoff}
-use Rattle.tftp_ends.specs.declared.outcome.Outcome.{Outcome}
-use Rattle.tftp_ends.specs.End.{EndState, is_complete, outcome_of}
-use Rattle.tftp_ends.specs.Step.{after_turn, timeout_turn}
-use Rattle.tftp_sockets.specs.Watch.{deadline_of}
-use Rattle.tftp_sockets.specs.declared.watch.TheConstants.{LONGEST_WAIT}
-use Rattle.tftp_loop.specs.Expiry.{ClosesInSilence, in_millis, waits_of}
-use Rattle.tftp_loop.specs.Steps.{Timer, deadline_by, timeouts_after, timer_after, wait_in}
+use Rattle.tftp_loop.proofs.Common.{arith, ◌≡◌, ◌≤◌, ◌+◌, ◌*◌, max, ℕ, zero, suc, Bool, true, false, Some, refl, sym}
+use Rattle.tftp_loop.proofs.Common.{ap, ◌∙◌, inl, inr, cases_eq, wait_of, Backoff, Outcome, EndState, is_complete}
+use Rattle.tftp_loop.proofs.Common.{outcome_of, after_turn, timeout_turn, deadline_of, LONGEST_WAIT, ClosesInSilence}
+use Rattle.tftp_loop.proofs.Common.{in_millis, waits_of, Timer, deadline_by, timeouts_after, timer_after, wait_in}
 use Rattle.tftp_loop.proofs.BackoffLemmas.{wait_more}
 use Rattle.tftp_loop.proofs.EndSteps.{timeout_spends, timeouts_left}
 use Rattle.tftp_loop.proofs.PortEnds.{By_datagram, By_late_timeout, By_nothing, By_timeout, Changes, spent_after}

@@ -1,56 +1,38 @@
 -- A server sends no block but one that a source gave, to who asked for its file.
 -- For the law a_server_sends_only_what_was_asked.
-use Rattle.std.proofs.Common.{arith, ◌≡◌, ◌≤◌, ◌⊎◌, ℕ, suc, Bool, List, [], ◌∷◌, ◌++◌, length, Option, Some, None, refl, sym}
-use Rattle.std.proofs.Common.{ap, subst, ◌∙◌, inl, inr, Ok}
-use Rattle.std.specs.Prelude.{All, max, slice_index_or, ⊤}
-use Rattle.std.specs.List.{AllByRecursion, Contains}
-use Rattle.std.specs.Map.{values_of}
+use Rattle.tftp_loop.proofs.Common.{arith, ◌≡◌, ◌≤◌, ◌⊎◌, ℕ, suc, Bool, List, [], ◌∷◌, ◌++◌, length, Option, Some, None}
+use Rattle.tftp_loop.proofs.Common.{refl, sym, ap, subst, ◌∙◌, inl, inr, All, slice_index_or, ⊤, AllByRecursion}
+use Rattle.tftp_loop.proofs.Common.{values_of, Mode, RawOption, Packet, Read, Request, path_of_name, SinkMeaning}
+use Rattle.tftp_loop.proofs.Common.{SourceMeaning, Files, Source, Sink, datagram_action, EndState, Position, ServesRead}
+use Rattle.tftp_loop.proofs.Common.{Acts, Reply, Turn, after_turn, error_bytes, timeout_turn, Action, Respond, Send}
+use Rattle.tftp_loop.proofs.Common.{Store, Endpoint, Known, Limits, StoreMeaning, drafting_sink, Ask, Came, Nothing}
+use Rattle.tftp_loop.proofs.Common.{Error_reply, A_transfer, Left, left_by, TransferState, ServerState, at, with_new}
+use Rattle.tftp_loop.proofs.Common.{with_next, without, KeepsHeld, with_end, WorksAt, SocketEvent, answered, Received}
+use Rattle.tftp_loop.proofs.Common.{Elapsed, An_ack, A_block, Run, Start, Then, PortState, LoopState, PortStep}
+use Rattle.tftp_loop.proofs.Common.{LoopStep, after_request, port_state, A_datagram, A_lost_datagram, A_late_datagram}
+use Rattle.tftp_loop.proofs.Common.{Nothing_found, A_failed_receive, A_timeout, A_missed_timeout, Work, Waited, At_port}
+use Rattle.tftp_loop.proofs.Common.{Request_received, No_request_found, Request_not_received, Request_noted}
+use Rattle.tftp_loop.proofs.Common.{Request_answered, Request_lost, Clock_read, Store_set, Transfer_closed, Drain_begun}
+use Rattle.std.proofs.Common.{Ok}
+use Rattle.std.specs.Prelude.{max}
+use Rattle.std.specs.List.{Contains}
 use Rattle.tftp_wire.specs.Spelling.{Spells}
-use Rattle.tftp_wire.specs.declared.mode.Mode.{Mode}
-use Rattle.tftp_wire.specs.declared.options.RawOption.{RawOption}
-use Rattle.tftp_wire.specs.declared.packet.Packet.{Packet}
-use Rattle.tftp_wire.specs.declared.packet.Packet.TheVariants.{Read}
-use Rattle.tftp_wire.specs.declared.packet.Request.{Request}
-use Rattle.tftp_file.specs.Path.{path_of_name}
-use Rattle.tftp_file.specs.Sink.{SinkMeaning}
-use Rattle.tftp_file.specs.Source.{SourceMeaning, GivesInTurn, Gave_more, Gave_nothing}
-use Rattle.tftp_file.specs.declared.files.Files.{Files}
-use Rattle.tftp_file.specs.declared.files.Files.TheVariants.{Source, Sink}
-use Rattle.tftp_ends.specs.Action.{Decodes, datagram_action}
-use Rattle.tftp_ends.specs.End.{EndState, Position}
+use Rattle.tftp_file.specs.Source.{GivesInTurn, Gave_more, Gave_nothing}
+use Rattle.tftp_ends.specs.Action.{Decodes}
 use Rattle.tftp_ends.specs.Files.{AreSame, KeepsFiles}
-use Rattle.tftp_ends.specs.Opening.{ServesRead}
-use Rattle.tftp_ends.specs.Step.{Acts, Reply, Turn, after_turn, error_bytes, timeout_turn}
-use Rattle.tftp_ends.specs.declared.action.Action.{Action}
-use Rattle.tftp_ends.specs.declared.action.Action.TheVariants.{Respond, Send, Store}
-use Rattle.tftp_ends.specs.declared.endpoint.Endpoint.{Endpoint}
 use Rattle.tftp_negotiate.specs.Agreed.{size}
 use Rattle.tftp_negotiate.specs.Laws.{AnswersWithinRequest, IsWithinRequest}
 use Rattle.tftp_negotiate.specs.declared.known.Kind.{Kind}
 use Rattle.tftp_negotiate.specs.declared.known.Kind.TheVariants as kinds
-use Rattle.tftp_negotiate.specs.declared.known.Known.{Known}
 use Rattle.tftp_negotiate.specs.declared.known.Known.TheVariants.{Blksize, Timeout, Tsize}
-use Rattle.tftp_negotiate.specs.declared.limits.Limits.{Limits}
 use Rattle.tftp_negotiate.specs.declared.limits.TheConstants.{DEFAULT_BLOCK}
-use Rattle.tftp_store.specs.Store.{StoreMeaning}
-use Rattle.tftp_server.specs.Draft.{Drafting, drafting_sink, files_in}
-use Rattle.tftp_server.specs.Port.{Ask, asks}
-use Rattle.tftp_server.specs.Request.{Came, Nothing, Error_reply, A_transfer, Left, left_by}
-use Rattle.tftp_server.specs.State.{TransferState, ServerState, at, with_new, with_next, without}
-use Rattle.tftp_server.specs.Steps.{KeepsHeld, StepIn, with_end}
-use Rattle.tftp_server.specs.Work.{FilesWork, WorksAt}
-use Rattle.tftp_sockets.specs.Trace.{SocketEvent, answered}
-use Rattle.tftp_sockets.specs.Trace.SocketEvent.{Received, Sent, Elapsed}
+use Rattle.tftp_server.specs.Draft.{Drafting, files_in}
+use Rattle.tftp_server.specs.Port.{asks}
+use Rattle.tftp_server.specs.Steps.{StepIn}
+use Rattle.tftp_server.specs.Work.{FilesWork}
+use Rattle.tftp_sockets.specs.Trace.SocketEvent.{Sent}
 use Rattle.tftp_loop.specs.Leaving.{AskedFor, HasRoot, HasWritten, IsSaid, LeavesOnly, At_first, And_then}
-use Rattle.tftp_loop.specs.Leaving.{An_error, An_ack, An_oack, A_block, MayHappen, MayLeave, largest_block}
-use Rattle.tftp_loop.specs.Run.{Run}
-use Rattle.tftp_loop.specs.Run.Run.{Start, Then}
-use Rattle.tftp_loop.specs.Steps.{PortState, LoopState, PortStep, LoopStep, after_request, port_state}
-use Rattle.tftp_loop.specs.Steps.PortStep.{A_datagram, A_lost_datagram, A_late_datagram, Nothing_found}
-use Rattle.tftp_loop.specs.Steps.PortStep.{A_failed_receive, A_timeout, A_missed_timeout, Work}
-use Rattle.tftp_loop.specs.Steps.LoopStep.{Waited, At_port, Request_received, No_request_found, Request_not_received}
-use Rattle.tftp_loop.specs.Steps.LoopStep.{Request_noted, Request_answered, Request_lost, Clock_read, Store_set}
-use Rattle.tftp_loop.specs.Steps.LoopStep.{Transfer_closed, Drain_begun}
+use Rattle.tftp_loop.specs.Leaving.{An_error, An_oack, MayHappen, MayLeave, largest_block}
 use Rattle.tftp_loop.proofs.AnsweringEnds.{AnswersOne, GivesOnly, IsAt, NoBlock, SendsTo, To_other, To_peer}
 use Rattle.tftp_loop.proofs.AnsweringEnds.{datagram_answers, timeout_answers}
 use Rattle.tftp_loop.proofs.AskedFiles.{reads_by}

@@ -1,9 +1,8 @@
 -- Ports and their timers, index by index. For `ServerLoop::finish`, `ServerLoop::sync`, `ServerLoop::visit` and eight
 -- other files.
-use Rattle.std.proofs.Common.{◌≡◌, ◌<◌, ◌-◌, ℕ, zero, suc, List, [], ◌∷◌, map, length, take, refl, sym, ap, ◌∙◌, arith}
-use Rattle.std.specs.Prelude.{slice_set, slice_index_or}
-use Rattle.std.specs.List.{swap_remove}
-use Rattle.std.proofs.lemmas.List.{map-set, take-map, length-map}
+use Rattle.tftp_loop.proofs.Common.{◌≡◌, ◌<◌, ◌-◌, ℕ, zero, suc, List, [], ◌∷◌, map, length, take, refl, sym, ap, ◌∙◌}
+use Rattle.tftp_loop.proofs.Common.{arith, slice_set, slice_index_or, swap_remove, length-map}
+use Rattle.std.proofs.lemmas.List.{map-set, take-map}
 
 module _ {A B : Type 0} (f : A → B) where
   -- the element at an index, mapped

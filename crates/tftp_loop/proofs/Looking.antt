@@ -1,32 +1,20 @@
 -- A port of a transfer that is not marked is drained, or is left for a while. For Sleeping.
-use Rattle.std.proofs.Common.{arith, ◌≡◌, ◌≤◌, ◌<◌, ◌==◌, ◌||◌, ◌&&◌, ◌+◌, ◌⊎◌, not, ℕ, Bool, true, false, List, ◌∷◌}
-use Rattle.std.proofs.Common.{length, map, Option, Some, None, inl, inr, refl, sym, ap, subst, ◌∙◌}
-use Rattle.std.specs.Prelude.{slice_index_or, All, ◌≢◌, ◌*◌, is_some}
-use Rattle.std.specs.List.{swap_remove}
-use Rattle.std.proofs.lemmas.List.{length-map}
-use Rattle.tftp_file.specs.Source.{SourceMeaning}
-use Rattle.tftp_ends.specs.Backoff.{wait_of}
-use Rattle.tftp_ends.specs.declared.backoff.Backoff.{Backoff}
-use Rattle.tftp_ends.specs.declared.endpoint.Endpoint.{Endpoint}
-use Rattle.tftp_store.specs.Store.{StoreMeaning}
-use Rattle.tftp_server.specs.State.{TransferState, at}
-use Rattle.tftp_sockets.specs.Watch.{deadline_of}
-use Rattle.tftp_sockets.specs.Trace.{SocketEvent}
-use Rattle.tftp_sockets.specs.declared.watch.Watch.{Watch}
-use Rattle.tftp_sockets.specs.Trace.SocketEvent.{Received, Elapsed, Watched, Quiet}
-use Rattle.tftp_sockets.specs.Trace.QuietEvent.{Empty, Failed, Slept, Woke}
-use Rattle.tftp_sockets.specs.Quiet.{is_among, is_drained}
-use Rattle.tftp_loop.specs.Steps.{Timer, PortState, LoopState, PortStep, LoopStep, answering_port, interval_at, look_after}
-use Rattle.tftp_loop.specs.Steps.{deadline_by, marked_by, next_look, port_state, restarted, set_by, started}
-use Rattle.tftp_loop.specs.Steps.{timeouts_after, timer_after, wait_in}
-use Rattle.tftp_loop.specs.Steps.{with_timer}
-use Rattle.tftp_loop.specs.Steps.PortStep.{A_datagram, A_lost_datagram, A_late_datagram, Nothing_found}
-use Rattle.tftp_loop.specs.Steps.PortStep.{A_failed_receive, A_timeout, A_missed_timeout, Work}
-use Rattle.tftp_loop.specs.Steps.LoopStep.{Waited, At_port, Request_received, No_request_found, Request_not_received}
-use Rattle.tftp_loop.specs.Steps.LoopStep.{Request_noted}
-use Rattle.tftp_loop.specs.Steps.LoopStep.{Request_answered, Request_lost, Clock_read, Store_set, Transfer_closed}
-use Rattle.tftp_loop.specs.Steps.LoopStep.{Drain_begun}
-use Rattle.tftp_loop.specs.MayWait.{HavePortsApart}
+use Rattle.tftp_loop.proofs.Common.{arith, ◌≡◌, ◌≤◌, ◌<◌, ◌==◌, ◌||◌, ◌&&◌, ◌+◌, ◌⊎◌, not, ℕ, Bool, true, false, List}
+use Rattle.tftp_loop.proofs.Common.{◌∷◌, length, map, Option, Some, None, inl, inr, refl, sym, ap, subst, ◌∙◌}
+use Rattle.tftp_loop.proofs.Common.{slice_index_or, All, ◌≢◌, is_some, swap_remove, length-map, SourceMeaning, wait_of}
+use Rattle.tftp_loop.proofs.Common.{Backoff, Endpoint, StoreMeaning, TransferState, at, deadline_of, SocketEvent, Watch}
+use Rattle.tftp_loop.proofs.Common.{Received, Elapsed, Watched, Quiet, Empty, Failed, is_among, is_drained, Timer}
+use Rattle.tftp_loop.proofs.Common.{PortState, LoopState, PortStep, LoopStep, answering_port, interval_at, deadline_by}
+use Rattle.tftp_loop.proofs.Common.{marked_by, port_state, restarted, set_by, started, timeouts_after, timer_after}
+use Rattle.tftp_loop.proofs.Common.{wait_in, with_timer, A_datagram, A_lost_datagram, A_late_datagram, Nothing_found}
+use Rattle.tftp_loop.proofs.Common.{A_failed_receive, A_timeout, A_missed_timeout, Work, Waited, At_port}
+use Rattle.tftp_loop.proofs.Common.{Request_received, No_request_found, Request_not_received, Request_noted}
+use Rattle.tftp_loop.proofs.Common.{Request_answered, Request_lost, Clock_read, Store_set, Transfer_closed, Drain_begun}
+use Rattle.tftp_loop.proofs.Common.{HavePortsApart}
+use Rattle.std.specs.Prelude.{◌*◌}
+use Rattle.tftp_sockets.specs.Trace.QuietEvent.{Slept, Woke}
+use Rattle.tftp_loop.specs.Steps.{look_after}
+use Rattle.tftp_loop.specs.Steps.{next_look}
 use Rattle.tftp_loop.proofs.BackoffLemmas.{wait_least, wait_most}
 use Rattle.tftp_loop.proofs.Drained.{answered_drained, either_drained, other_drained, port_drained, replied_drained}
 use Rattle.tftp_loop.proofs.LoopStays.{all_appended, all_removed, all_set, other_port}

@@ -1,25 +1,14 @@
 -- What happens at all ports, call by call. For seven functions and four other files.
-use Rattle.std.proofs.Common.{◌≡◌, ◌≤◌, ◌<◌, ◌-◌, ℕ, false, List, map, length, Option, Some, None, IsSome, refl, sym}
-use Rattle.std.proofs.Common.{ap, subst, ◌∙◌}
-use Rattle.std.specs.Prelude.{slice_set, slice_index_or, option_map, is_some, if◌then◌else◌}
-use Rattle.std.specs.List.{swap_remove}
+use Rattle.tftp_loop.proofs.Common.{◌≡◌, ◌≤◌, ◌<◌, ◌-◌, ℕ, false, List, map, length, Option, Some, None, IsSome, refl}
+use Rattle.tftp_loop.proofs.Common.{sym, ap, subst, ◌∙◌, slice_set, slice_index_or, option_map, is_some, if◌then◌else◌}
+use Rattle.tftp_loop.proofs.Common.{swap_remove, SourceMeaning, Record, StoreMeaning, Outcome, record_of, none-some}
+use Rattle.tftp_loop.proofs.Common.{TransferState, ServerState, at, draft_of, is_closed, taken_of, without, Port}
+use Rattle.tftp_loop.proofs.Common.{SocketEvent, TransferSocket, Run, Start, Then, Timer, PortState, LoopState}
+use Rattle.tftp_loop.proofs.Common.{PortStep, LoopStep, WorksAtPort, port_state, Work, At_port, timer_of, Work_by}
 use Rattle.std.proofs.lemmas.Bool.{false≢true}
-use Rattle.tftp_file.specs.Source.{SourceMeaning}
-use Rattle.tftp_ends.specs.declared.record.Record.{Record}
-use Rattle.tftp_store.specs.Store.{StoreMeaning}
-use Rattle.tftp_ends.specs.declared.outcome.Outcome.{Outcome}
-use Rattle.tftp_ends.specs.End.{record_of}
-use Rattle.std.proofs.lemmas.Option.{none-some, cond_some}
-use Rattle.tftp_server.specs.State.{TransferState, ServerState, at, draft_of, is_closed, taken_of, without}
-use Rattle.tftp_sockets.specs.declared.port.Port.{Port}
-use Rattle.tftp_sockets.specs.Trace.{SocketEvent}
-use Rattle.tftp_loop.specs.declared.transfer_port.TransferSocket.{TransferSocket}
-use Rattle.tftp_loop.specs.Run.{Run}
-use Rattle.tftp_loop.specs.Run.Run.{Start, Then}
-use Rattle.tftp_loop.specs.Steps.{Timer, PortState, LoopState, PortStep, LoopStep, Closes, WorksAtPort, port_state, watch_of}
-use Rattle.tftp_loop.specs.Steps.PortStep.{Work}
-use Rattle.tftp_loop.specs.Steps.LoopStep.{At_port}
-use Rattle.tftp_loop.specs.LoopStates.{timer_of, close_printed, close_reported, Works, Work_by}
+use Rattle.std.proofs.lemmas.Option.{cond_some}
+use Rattle.tftp_loop.specs.Steps.{Closes, watch_of}
+use Rattle.tftp_loop.specs.LoopStates.{close_printed, close_reported, Works}
 use Rattle.tftp_loop.proofs.RunLemmas.{once, idle}
 use Rattle.tftp_loop.proofs.PortRuns.{here}
 use Rattle.tftp_loop.proofs.ListLemmas.{map_is, map_within, map_set, set_itself, set_again, set_is, set_within}

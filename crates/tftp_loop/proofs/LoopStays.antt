@@ -1,32 +1,18 @@
 -- What work keeps: each transfer has its own timer, and what was read stays so. For `ServerLoop::take_round` and ten
 -- other files.
-use Rattle.std.proofs.Common.{arith, ◌≡◌, ◌<◌, ◌≤◌, ◌-◌, ◌==◌, ◌||◌, ◌⊎◌, ℕ, Bool, true, false, List, [], ◌∷◌, ◌++◌}
-use Rattle.std.proofs.Common.{length, Option, None, Some, IsSome, refl, sym, ap, subst, ◌∙◌, inl, inr}
-use Rattle.std.specs.Prelude.{slice_set, slice_index_or, is_some, All}
-use Rattle.std.specs.List.{swap_remove}
-use Rattle.std.proofs.lemmas.Bool.{cases_eq}
-use Rattle.tftp_file.specs.Source.{SourceMeaning}
-use Rattle.tftp_ends.specs.Backoff.{wait_of}
-use Rattle.tftp_ends.specs.declared.backoff.Backoff.{Backoff}
-use Rattle.tftp_ends.specs.declared.endpoint.Endpoint.{Endpoint}
-use Rattle.tftp_store.specs.Store.{StoreMeaning}
-use Rattle.tftp_server.specs.State.{TransferState, ServerState, at, with_new, without}
-use Rattle.tftp_server.specs.Request.{Came, Left, Nothing, Error_reply, A_transfer, left_by}
-use Rattle.tftp_sockets.specs.Trace.{SocketEvent, replied}
-use Rattle.tftp_sockets.specs.Trace.SocketEvent.{Received, Quiet}
-use Rattle.tftp_sockets.specs.Trace.QuietEvent.{Empty, Failed}
-use Rattle.tftp_sockets.specs.Quiet.{was_tried}
-use Rattle.tftp_loop.specs.Run.{Run}
-use Rattle.tftp_loop.specs.Run.Run.{Start, Then}
-use Rattle.tftp_loop.specs.Steps.{Timer, PortState, LoopState, LoopStep, answering_port, interval_at, port_state, started}
-use Rattle.tftp_loop.specs.Steps.{note_event, with_timer}
-use Rattle.tftp_loop.specs.Steps.LoopStep.{Waited, At_port, Request_received, No_request_found, Request_not_received}
-use Rattle.tftp_loop.specs.Steps.LoopStep.{Request_noted, Request_answered, Request_lost, Clock_read, Store_set}
-use Rattle.tftp_loop.specs.Steps.LoopStep.{Transfer_closed}
-use Rattle.tftp_loop.specs.Steps.LoopStep.{Drain_begun}
-use Rattle.tftp_loop.specs.Steps.{reads_requests}
-use Rattle.tftp_loop.specs.LoopStates.{IsWork, Works, Work_by}
-use Rattle.tftp_loop.specs.MayWait.{HavePortsApart, AreKept, AreTried, IsHeld, IsRead, KeepsTries}
+use Rattle.tftp_loop.proofs.Common.{arith, ◌≡◌, ◌<◌, ◌≤◌, ◌-◌, ◌==◌, ◌||◌, ◌⊎◌, ℕ, Bool, true, false, List, [], ◌∷◌}
+use Rattle.tftp_loop.proofs.Common.{◌++◌, length, Option, None, Some, IsSome, refl, sym, ap, subst, ◌∙◌, inl, inr}
+use Rattle.tftp_loop.proofs.Common.{slice_set, slice_index_or, is_some, All, swap_remove, cases_eq, SourceMeaning}
+use Rattle.tftp_loop.proofs.Common.{wait_of, Backoff, Endpoint, StoreMeaning, TransferState, ServerState, at, with_new}
+use Rattle.tftp_loop.proofs.Common.{without, Came, Left, Nothing, Error_reply, A_transfer, left_by, SocketEvent}
+use Rattle.tftp_loop.proofs.Common.{replied, Received, Quiet, Empty, Failed, was_tried, Run, Start, Then, Timer}
+use Rattle.tftp_loop.proofs.Common.{PortState, LoopState, LoopStep, answering_port, interval_at, port_state, started}
+use Rattle.tftp_loop.proofs.Common.{note_event, with_timer, Waited, At_port, Request_received, No_request_found}
+use Rattle.tftp_loop.proofs.Common.{Request_not_received, Request_noted, Request_answered, Request_lost, Clock_read}
+use Rattle.tftp_loop.proofs.Common.{Store_set, Transfer_closed, Drain_begun, reads_requests, Work_by, HavePortsApart}
+use Rattle.tftp_loop.proofs.Common.{AreKept, IsHeld, IsRead, KeepsTries}
+use Rattle.tftp_loop.specs.LoopStates.{IsWork, Works}
+use Rattle.tftp_loop.specs.MayWait.{AreTried}
 use Rattle.tftp_loop.proofs.ListLemmas.{set_long}
 use Rattle.tftp_loop.proofs.NoteLemmas.{note_tried}
 use Rattle.tftp_loop.proofs.PortStays.{StaysAt, or_right, own_receive, looks_first, replied_tries, stays_at}

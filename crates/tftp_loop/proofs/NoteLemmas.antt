@@ -1,10 +1,7 @@
 -- A note of a pending datagram reads no port. For five other files.
-use Rattle.std.proofs.Common.{◌≡◌, ℕ, Bool, List, refl}
-use Rattle.tftp_file.specs.Source.{SourceMeaning}
-use Rattle.tftp_ends.specs.declared.endpoint.Endpoint.{Endpoint}
-use Rattle.tftp_store.specs.Store.{StoreMeaning}
+use Rattle.tftp_loop.proofs.Common.{◌≡◌, ℕ, Bool, List, refl, SourceMeaning, Endpoint, StoreMeaning, LoopState}
+use Rattle.tftp_loop.proofs.Common.{RequestNote, Found_no_port, Found_port, Found_no_memory, note_event}
 use Rattle.tftp_sockets.specs.Quiet.{drained_by, tried_by}
-use Rattle.tftp_loop.specs.Steps.{LoopState, RequestNote, Found_no_port, Found_port, Found_no_memory, note_event}
 
 module _ {S F D : Type 0} {meaning : StoreMeaning S D} {sources : SourceMeaning F} {s : LoopState S F D}
     {from : Endpoint} {bytes : List ℕ} (port : ℕ) (before : Bool) where

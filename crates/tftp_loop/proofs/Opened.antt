@@ -1,26 +1,15 @@
 -- A transfer that opens has not closed. For Receipts.
-use Rattle.std.proofs.Common.{◌≡◌, ◌⊎◌, ℕ, Bool, false, List, [], ◌∷◌, length, Option, Some, None, refl, sym, ap, subst}
-use Rattle.std.proofs.Common.{arith}
-use Rattle.std.proofs.Common.{◌∙◌, inl, inr}
-use Rattle.std.specs.Prelude.{Result, Ok, Err, slice_index_or, is_some, All, if◌then◌else◌}
-use Rattle.tftp_wire.specs.declared.mode.Mode.{Mode}
-use Rattle.tftp_negotiate.specs.declared.known.Known.{Known}
-use Rattle.tftp_file.specs.Source.{SourceMeaning}
-use Rattle.tftp_file.specs.declared.fault.StoreFault.{StoreFault}
-use Rattle.tftp_ends.specs.declared.backoff.Backoff.{Backoff}
-use Rattle.tftp_ends.specs.declared.endpoint.Endpoint.{Endpoint}
-use Rattle.tftp_ends.specs.End.{EndState, outcome_of, record_of}
-use Rattle.tftp_ends.specs.Opening.{ServesRead, serving_write}
-use Rattle.tftp_store.specs.declared.store.Opening.{Opening}
-use Rattle.tftp_store.specs.Store.{StoreMeaning}
-use Rattle.tftp_server.specs.State.{TransferState, ServerState, at, draft_of, is_closed, taken_of, with_new}
-use Rattle.tftp_server.specs.Request.{Came, Left, Nothing, Error_reply, A_transfer, Goes, Sent, Taken, StartsSending, left_by}
-use Rattle.tftp_server.specs.Port.{Ask, Ignores, Refuses, Reads, Writes, Service, Silent, Refused, Sends, Takes}
-use Rattle.tftp_loop.specs.Run.{Run}
-use Rattle.tftp_loop.specs.Run.Run.{Start, Then}
-use Rattle.tftp_loop.specs.Steps.{Timer, LoopState, AnswersRequest, LosesRequest, interval_at}
-use Rattle.tftp_loop.specs.Steps.{started, with_timer}
-use Rattle.tftp_loop.specs.MayWait.{AreKept, AreSettled, Concludes, IsOpen, Notes_it, Prepares, ReceivedFew}
+use Rattle.tftp_loop.proofs.Common.{◌≡◌, ◌⊎◌, ℕ, Bool, false, List, [], ◌∷◌, length, Option, Some, None, refl, sym, ap}
+use Rattle.tftp_loop.proofs.Common.{subst, arith, ◌∙◌, inl, inr, Result, Ok, Err, slice_index_or, is_some, All}
+use Rattle.tftp_loop.proofs.Common.{if◌then◌else◌, Mode, Known, SourceMeaning, StoreFault, Backoff, Endpoint, EndState}
+use Rattle.tftp_loop.proofs.Common.{outcome_of, record_of, ServesRead, serving_write, Opening, StoreMeaning}
+use Rattle.tftp_loop.proofs.Common.{TransferState, ServerState, at, draft_of, is_closed, taken_of, with_new, Came, Left}
+use Rattle.tftp_loop.proofs.Common.{Nothing, Error_reply, A_transfer, Goes, Sent, Taken, left_by, Ask, Ignores, Refuses}
+use Rattle.tftp_loop.proofs.Common.{Reads, Writes, Service, Silent, Refused, Sends, Takes, Run, Start, Then, Timer}
+use Rattle.tftp_loop.proofs.Common.{LoopState, AnswersRequest, LosesRequest, interval_at, started, with_timer, AreKept}
+use Rattle.tftp_loop.proofs.Common.{AreSettled, Concludes, IsOpen, ReceivedFew}
+use Rattle.tftp_server.specs.Request.{StartsSending}
+use Rattle.tftp_loop.specs.MayWait.{Notes_it, Prepares}
 use Rattle.tftp_loop.specs.MayWait.{Sets_store}
 use Rattle.tftp_loop.proofs.LoopStays.{all_appended, some_none, work_keeps}
 use Rattle.tftp_loop.proofs.RequestRuns.{concludes_run}

@@ -1,31 +1,24 @@
 -- How the end of a transfer opens.
 -- For Reflecting and Leaving.
-use Rattle.std.proofs.Common.{arith, ◌≡◌, ◌≤◌, ◌*◌, ℕ, Bool, true, false, List, [], ◌∷◌, refl, sym, subst, inl, inr}
-use Rattle.std.specs.Prelude.{length, Result, Ok, Err, if◌then◌else◌, nat_lt, ⊤}
-use Rattle.tftp_wire.specs.declared.mode.Mode.{Mode}
-use Rattle.tftp_wire.specs.declared.options.RawOption.{RawOption}
+use Rattle.tftp_loop.proofs.Common.{arith, ◌≡◌, ◌≤◌, ◌*◌, ℕ, Bool, true, false, List, [], ◌∷◌, refl, sym, subst, inl}
+use Rattle.tftp_loop.proofs.Common.{inr, Result, Ok, Err, if◌then◌else◌, nat_lt, ⊤, Mode, RawOption, Known}
+use Rattle.tftp_loop.proofs.Common.{SourceMeaning, StoreFault, Source, Sink, EndState, ServesRead, serving_write}
+use Rattle.tftp_loop.proofs.Common.{block_length, Endpoint, ErrorReply, StoreMeaning, Opening, Ask, Ignores, Refuses}
+use Rattle.tftp_loop.proofs.Common.{Reads, Writes, Refused, Sends, Came, Goes, Nothing, Error_reply, A_transfer, Sent}
+use Rattle.tftp_loop.proofs.Common.{Taken, TransferState, ServerState, An_ack, A_block}
+use Rattle.std.specs.Prelude.{length}
 use Rattle.tftp_negotiate.specs.Agreed.{size}
 use Rattle.tftp_negotiate.specs.Answer.{answer}
 use Rattle.tftp_negotiate.specs.declared.known.Kind.TheVariants as kinds
-use Rattle.tftp_negotiate.specs.declared.known.Known.{Known}
 use Rattle.tftp_negotiate.specs.declared.limits.TheConstants.{DEFAULT_BLOCK}
 use Rattle.tftp_negotiate.specs.declared.refusal.Refusal.{Refusal}
-use Rattle.tftp_file.specs.Source.{SourceMeaning}
-use Rattle.tftp_file.specs.declared.fault.StoreFault.{StoreFault}
-use Rattle.tftp_file.specs.declared.files.Files.TheVariants.{Source, Sink}
-use Rattle.tftp_ends.specs.End.{EndState}
-use Rattle.tftp_ends.specs.Opening.{ServesRead, serving_read, serving_write}
-use Rattle.tftp_ends.specs.Step.{block_length}
-use Rattle.tftp_ends.specs.declared.endpoint.Endpoint.{Endpoint}
-use Rattle.tftp_ends.specs.declared.error_reply.ErrorReply.{ErrorReply}
+use Rattle.tftp_ends.specs.Opening.{serving_read}
 use Rattle.tftp_ends.specs.declared.error_reply.ErrorReply.TheVariants.{FileChanged, FileTooLarge}
-use Rattle.tftp_store.specs.Store.{StoreMeaning, OpensAt}
-use Rattle.tftp_store.specs.declared.store.Opening.{Opening}
-use Rattle.tftp_server.specs.Port.{Ask, Ignores, Refuses, Reads, Writes, Refused, Sends, accept_reply, begin_reply}
+use Rattle.tftp_store.specs.Store.{OpensAt}
+use Rattle.tftp_server.specs.Port.{accept_reply, begin_reply}
 use Rattle.tftp_server.specs.Port.{by_draft, by_file, by_length, open_reply}
-use Rattle.tftp_server.specs.Request.{Came, Goes, Nothing, Error_reply, A_transfer, Sent, Starts, Taken, opened_length}
-use Rattle.tftp_server.specs.State.{TransferState, ServerState}
-use Rattle.tftp_loop.specs.Leaving.{An_ack, An_oack, A_block}
+use Rattle.tftp_server.specs.Request.{Starts, opened_length}
+use Rattle.tftp_loop.specs.Leaving.{An_oack}
 use Rattle.tftp_loop.proofs.AnsweringEnds.{IsAt, at_most}
 use Rattle.tftp_loop.proofs.PortEnds.{HasLimit}
 

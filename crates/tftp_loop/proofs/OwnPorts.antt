@@ -1,21 +1,12 @@
 -- No transfer has the request port. For Handling and Sleeping.
-use Rattle.std.proofs.Common.{arith, ◌≡◌, ◌≢◌, ◌<◌, ℕ, List, [], map, length, Option, Some, None, refl, sym, subst}
-use Rattle.std.specs.Prelude.{All, IfSome}
-use Rattle.std.proofs.lemmas.List.{length-map}
-use Rattle.tftp_file.specs.Source.{SourceMeaning}
-use Rattle.tftp_ends.specs.declared.backoff.Backoff.{Backoff}
-use Rattle.tftp_ends.specs.declared.endpoint.Endpoint.{Endpoint}
-use Rattle.tftp_server.specs.State.{TransferState, ServerState, at}
-use Rattle.tftp_store.specs.Store.{StoreMeaning}
-use Rattle.tftp_sockets.specs.Trace.{SocketEvent}
-use Rattle.tftp_loop.specs.Run.{Run}
-use Rattle.tftp_loop.specs.Run.Run.{Start, Then}
-use Rattle.tftp_loop.specs.Steps.{Timer, LoopState, LoopStep, at_start, interval_at, marked_by, port_state, set_by}
-use Rattle.tftp_loop.specs.Steps.{started, with_timer}
-use Rattle.tftp_loop.specs.Steps.LoopStep.{Waited, At_port, Request_received, No_request_found, Request_not_received}
-use Rattle.tftp_loop.specs.Steps.LoopStep.{Request_noted, Request_answered, Request_lost, Clock_read, Store_set}
-use Rattle.tftp_loop.specs.Steps.LoopStep.{Transfer_closed, Drain_begun}
-use Rattle.tftp_loop.specs.declared.serving.LoopConfig.{LoopConfig}
+use Rattle.tftp_loop.proofs.Common.{arith, ◌≡◌, ◌<◌, ℕ, List, [], map, length, Option, Some, None, refl, sym, subst}
+use Rattle.tftp_loop.proofs.Common.{All, IfSome, length-map, SourceMeaning, Backoff, Endpoint, TransferState}
+use Rattle.tftp_loop.proofs.Common.{ServerState, at, StoreMeaning, SocketEvent, Run, Start, Then, Timer, LoopState}
+use Rattle.tftp_loop.proofs.Common.{LoopStep, at_start, interval_at, marked_by, port_state, set_by, started, with_timer}
+use Rattle.tftp_loop.proofs.Common.{Waited, At_port, Request_received, No_request_found, Request_not_received}
+use Rattle.tftp_loop.proofs.Common.{Request_noted, Request_answered, Request_lost, Clock_read, Store_set}
+use Rattle.tftp_loop.proofs.Common.{Transfer_closed, Drain_begun, LoopConfig}
+use Rattle.std.proofs.Common.{◌≢◌}
 use Rattle.tftp_loop.proofs.RunLemmas.{onward}
 use Rattle.tftp_loop.proofs.LoopStays.{all_appended, all_removed, all_set}
 use Rattle.tftp_loop.proofs.PortStays.{stays_at}

@@ -1,22 +1,19 @@
 -- Which ports an order has. For four functions.
-use Rattle.std.proofs.Common.{arith, ◌≡◌, ◌≤◌, ◌<◌, ◌+◌, ◌-◌, ◌==◌, ◌||◌, ℕ, zero, suc, Bool, true, false, List, [], ◌∷◌, ◌++◌}
-use Rattle.std.proofs.Common.{length, eq-eqb, Option, Some, None, ap, refl, sym, subst, ◌∙◌}
-use Rattle.std.specs.Prelude.{All, IfSome, IsPermutation, IsSome, MatchOption}
-use Rattle.std.specs.List.{range_with_len}
+use Rattle.tftp_loop.proofs.Common.{arith, ◌≡◌, ◌≤◌, ◌<◌, ◌+◌, ◌-◌, ◌==◌, ◌||◌, ℕ, zero, suc, Bool, true, false, List}
+use Rattle.tftp_loop.proofs.Common.{[], ◌∷◌, ◌++◌, length, Option, Some, None, ap, refl, sym, subst, ◌∙◌, All, IfSome}
+use Rattle.tftp_loop.proofs.Common.{range_with_len, SocketEvent, Quiet, is_among, Start, Then, IsOneOf, coming}
+use Rattle.tftp_loop.proofs.Common.{drawn_from, TriesPorts, PortRange}
+use Rattle.std.proofs.Common.{eq-eqb}
+use Rattle.std.specs.Prelude.{IsPermutation, IsSome, MatchOption}
 use Rattle.std.proofs.lemmas.List.Elements.{All-nil, All-cons, All-head, All-tail, All-same, All-append, All-push}
 use Rattle.std.proofs.lemmas.List.Sorted.{All-permutation, IsPermutation-append_comm, IsPermutation-sym}
 use Rattle.std.proofs.lemmas.List.Sorted.{IsPermutation-trans, length_permutation}
-use Rattle.tftp_sockets.specs.Trace.{SocketEvent}
-use Rattle.tftp_sockets.specs.Trace.SocketEvent.{Quiet}
 use Rattle.tftp_sockets.specs.Trace.QuietEvent.{New_socket, No_socket}
-use Rattle.tftp_sockets.specs.Quiet.{is_among}
 use Rattle.tftp_sockets.specs.declared.sockets.ServerSocket.{ServerSocket}
-use Rattle.tftp_loop.specs.Run.Run.{Start, Then}
-use Rattle.tftp_loop.specs.PortOrder.{HasPorts, IsOneOf, IsOrderOf, Mixes, UsesNext, coming, drawn_from, ports_of}
-use Rattle.tftp_loop.specs.PortPool.{AreAllMissed, Binds, Tries, TriesInVain, TriesPorts, after_bind, missed_last}
+use Rattle.tftp_loop.specs.PortOrder.{HasPorts, IsOrderOf, Mixes, UsesNext, ports_of}
+use Rattle.tftp_loop.specs.PortPool.{AreAllMissed, Binds, Tries, TriesInVain, after_bind, missed_last}
 use Rattle.tftp_loop.specs.PortsInTurn.{DrawsNext}
 use Rattle.tftp_loop.specs.declared.port_order.PortOrder.{PortOrder}
-use Rattle.tftp_loop.specs.declared.port_order.PortRange.{PortRange}
 use Rattle.tftp_loop.proofs.PortUses.{ComesLast, rest_long}
 
 all_counted : (P : ℕ → Type 0) (a n : ℕ) → ((x : ℕ) → a ≤ x → x < a + n → P x) → All P (range_with_len a n)

@@ -1,27 +1,16 @@
 -- How many datagrams of a port the trace has between two waits. For `a_server_receives_few_between_waits`.
-use Rattle.std.proofs.Common.{arith, ◌≡◌, ◌≤◌, ◌<◌, ◌+◌, ◌*◌, ℕ, Bool, true, false, List, [], ◌∷◌, length, Option, Some, None}
-use Rattle.std.proofs.Common.{refl, sym, ap, subst, ◌∙◌, inl, inr}
-use Rattle.std.specs.Prelude.{All, if◌then◌else◌, is_some, slice_index_or, slice_set}
-use Rattle.std.proofs.lemmas.Bool.{cases_eq, eq-eqb, ne_eqb}
-use Rattle.tftp_file.specs.Source.{SourceMeaning}
-use Rattle.tftp_ends.specs.declared.backoff.Backoff.{Backoff}
-use Rattle.tftp_ends.specs.declared.endpoint.Endpoint.{Endpoint}
-use Rattle.tftp_ends.specs.Step.{Reply}
-use Rattle.tftp_server.specs.State.{TransferState, at}
-use Rattle.tftp_store.specs.Store.{StoreMeaning}
-use Rattle.tftp_sockets.specs.Trace.{SocketEvent, answered, replied}
-use Rattle.tftp_sockets.specs.Trace.SocketEvent.{Received, Elapsed}
+use Rattle.tftp_loop.proofs.Common.{arith, ◌≡◌, ◌≤◌, ◌<◌, ◌+◌, ◌*◌, ℕ, Bool, true, false, List, [], ◌∷◌, length, Option}
+use Rattle.tftp_loop.proofs.Common.{Some, None, refl, sym, ap, subst, ◌∙◌, inl, inr, All, if◌then◌else◌, is_some}
+use Rattle.tftp_loop.proofs.Common.{slice_index_or, slice_set, cases_eq, eq-eqb, ne_eqb, SourceMeaning, Backoff}
+use Rattle.tftp_loop.proofs.Common.{Endpoint, Reply, TransferState, at, StoreMeaning, SocketEvent, answered, replied}
+use Rattle.tftp_loop.proofs.Common.{Received, Elapsed, AreKept, Run, Start, Then, Timer, PortState, LoopState, PortStep}
+use Rattle.tftp_loop.proofs.Common.{LoopStep, RequestNote, Found_no_port, Found_port, Found_no_memory, interval_at}
+use Rattle.tftp_loop.proofs.Common.{most_in_round, note_event, port_state, started, with_timer, Waited, At_port}
+use Rattle.tftp_loop.proofs.Common.{Request_received, No_request_found, Request_not_received, Request_noted}
+use Rattle.tftp_loop.proofs.Common.{Request_answered, Request_lost, Clock_read, Store_set, Drain_begun, Transfer_closed}
+use Rattle.tftp_loop.proofs.Common.{A_datagram, A_lost_datagram, A_late_datagram, Nothing_found, A_failed_receive}
+use Rattle.tftp_loop.proofs.Common.{A_timeout, A_missed_timeout, Work}
 use Rattle.tftp_loop.specs.Fair.{received_since, since_by}
-use Rattle.tftp_loop.specs.MayWait.{AreKept}
-use Rattle.tftp_loop.specs.Run.{Run}
-use Rattle.tftp_loop.specs.Run.Run.{Start, Then}
-use Rattle.tftp_loop.specs.Steps.{Timer, PortState, LoopState, PortStep, LoopStep, RequestNote, Found_no_port, Found_port, Found_no_memory}
-use Rattle.tftp_loop.specs.Steps.{interval_at, most_in_round, note_event, port_state, started, with_timer}
-use Rattle.tftp_loop.specs.Steps.LoopStep.{Waited, At_port, Request_received, No_request_found, Request_not_received}
-use Rattle.tftp_loop.specs.Steps.LoopStep.{Request_noted, Request_answered, Request_lost, Clock_read, Store_set}
-use Rattle.tftp_loop.specs.Steps.LoopStep.{Drain_begun, Transfer_closed}
-use Rattle.tftp_loop.specs.Steps.PortStep.{A_datagram, A_lost_datagram, A_late_datagram, Nothing_found}
-use Rattle.tftp_loop.specs.Steps.PortStep.{A_failed_receive, A_timeout, A_missed_timeout, Work}
 use Rattle.tftp_loop.proofs.Bounded.{sound_along}
 use Rattle.tftp_loop.proofs.Counting.{AreFew, IsFew, few_along, port_few}
 use Rattle.tftp_loop.proofs.LoopStays.{all_appended, all_removed, all_set, other_port}

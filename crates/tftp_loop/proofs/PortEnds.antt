@@ -1,32 +1,17 @@
 -- What a step at a port does to the end of its transfer, and to the timer. For `ServerLoop::visit` and seven other
 -- files.
-use Rattle.std.proofs.Common.{arith, ◌≡◌, ◌≤◌, ◌+◌, ◌*◌, ℕ, Bool, true, false, not, List, Option, Some}
-use Rattle.std.proofs.Common.{refl, sym, ap, subst, ◌∙◌, inl, inr}
-use Rattle.std.specs.Prelude.{⊤, is_some, max}
-use Rattle.std.proofs.lemmas.Bool.{cases_eq}
-use Rattle.std.specs.BTreeMap.{is_at}
-use Rattle.std.specs.Ordering.{nat_cmp}
-use Rattle.std.proofs.lemmas.Option.{same_Some}
-use Rattle.tftp_file.specs.Source.{SourceMeaning}
-use Rattle.tftp_ends.specs.Backoff.{wait_of}
-use Rattle.tftp_ends.specs.End.{EndState, is_progress}
-use Rattle.tftp_ends.specs.Step.{after_turn, timeout_turn}
-use Rattle.tftp_ends.specs.declared.record.Step.{Step}
+use Rattle.tftp_loop.proofs.Common.{arith, ◌≡◌, ◌≤◌, ◌+◌, ◌*◌, ℕ, Bool, true, false, not, List, Option, Some, refl, sym}
+use Rattle.tftp_loop.proofs.Common.{ap, subst, ◌∙◌, inl, inr, ⊤, is_some, cases_eq, is_at, nat_cmp, same_Some}
+use Rattle.tftp_loop.proofs.Common.{SourceMeaning, wait_of, EndState, is_progress, after_turn, timeout_turn, Step}
+use Rattle.tftp_loop.proofs.Common.{StoreMeaning, drafting_sink, TransferState, ServerState, at, is_closed, with_next}
+use Rattle.tftp_loop.proofs.Common.{KeepsHeld, with_end, WorksAt, deadline_of, Run, Start, Then, IsTimed, Timer}
+use Rattle.tftp_loop.proofs.Common.{PortState, PortStep, deadline_by, marked_as, restarted, timeouts_after, timer_after}
+use Rattle.tftp_loop.proofs.Common.{wait_in, A_datagram, A_lost_datagram, A_late_datagram, Nothing_found}
+use Rattle.tftp_loop.proofs.Common.{A_failed_receive, A_timeout, A_missed_timeout, Work, IsIdleAt, ReceivesNoneAt}
+use Rattle.std.specs.Prelude.{max}
 use Rattle.tftp_ends.specs.declared.role.Role.{Role}
-use Rattle.tftp_store.specs.Store.{StoreMeaning}
-use Rattle.tftp_server.specs.Draft.{drafting_sink}
-use Rattle.tftp_server.specs.State.{TransferState, ServerState, at, is_closed, is_open, with_next}
-use Rattle.tftp_server.specs.Steps.{KeepsHeld, with_end}
-use Rattle.tftp_server.specs.Work.{WorksAt}
-use Rattle.tftp_sockets.specs.Watch.{deadline_of}
-use Rattle.tftp_loop.specs.Run.{Run}
-use Rattle.tftp_loop.specs.Run.Run.{Start, Then}
-use Rattle.tftp_loop.specs.MayWait.{IsTimed}
-use Rattle.tftp_loop.specs.Steps.{Timer, PortState, PortStep, deadline_by, expiring, marked_as, restarted, timeouts_after}
-use Rattle.tftp_loop.specs.Steps.{timer_after, wait_in}
-use Rattle.tftp_loop.specs.Steps.PortStep.{A_datagram, A_lost_datagram, A_late_datagram, Nothing_found}
-use Rattle.tftp_loop.specs.Steps.PortStep.{A_failed_receive, A_timeout, A_missed_timeout, Work}
-use Rattle.tftp_loop.specs.Expiry.{IsIdleAt, ReceivesNoneAt}
+use Rattle.tftp_server.specs.State.{is_open}
+use Rattle.tftp_loop.specs.Steps.{expiring}
 use Rattle.tftp_loop.proofs.EndSteps.{Moves, closed_left, datagram_left, datagram_moves, most_left, moves_limit, open_left, timeout_spends}
 use Rattle.tftp_loop.proofs.EndSteps.{timeouts_left}
 use Rattle.tftp_loop.proofs.PortLemmas.{set_found}

@@ -1,28 +1,20 @@
 -- A server's calls and its socket's datagrams, as steps at a port. For `PortVisit::answer`, `time_out`, PortEnds,
 -- Unclosed and Visits.
-use Rattle.std.proofs.Common.{◌≡◌, ℕ, Bool, true, false, List, [], ◌∷◌, cond, Option, Some, None, IsSome, refl, sym, ap}
-use Rattle.std.proofs.Common.{subst, ◌∙◌, Bor}
-use Rattle.std.specs.Prelude.{option_map, is_some, if◌then◌else◌}
+use Rattle.tftp_loop.proofs.Common.{◌≡◌, ℕ, Bool, true, false, List, [], ◌∷◌, cond, Option, Some, None, IsSome, refl}
+use Rattle.tftp_loop.proofs.Common.{sym, ap, subst, ◌∙◌, option_map, is_some, if◌then◌else◌, lookup, set_value, is_at}
+use Rattle.tftp_loop.proofs.Common.{nat_cmp, none-some, same_Some, SourceMeaning, Endpoint, Record, Step, EndState}
+use Rattle.tftp_loop.proofs.Common.{outcome_of, record_of, Reply, lent, timeout_turn, StoreMeaning, TransferState}
+use Rattle.tftp_loop.proofs.Common.{ServerState, at, draft_of, taken_of, KeepsHeld, with_end, SocketEvent, replied}
+use Rattle.tftp_loop.proofs.Common.{answered}
+use Rattle.std.proofs.Common.{Bor}
 use Rattle.std.specs.Option.{UnwrapsOrElse}
-use Rattle.std.specs.Map.{lookup, set_value}
-use Rattle.std.specs.BTreeMap.{is_at}
-use Rattle.std.specs.Ordering.{nat_cmp}
-use Rattle.std.proofs.lemmas.Option.{none-some, same_Some}
-use Rattle.tftp_file.specs.Source.{SourceMeaning}
-use Rattle.tftp_ends.specs.declared.endpoint.Endpoint.{Endpoint}
 use Rattle.tftp_ends.specs.declared.outgoing.Outgoing.{Outgoing}
-use Rattle.tftp_ends.specs.declared.record.Record.{Record}
-use Rattle.tftp_ends.specs.declared.record.Step.{Step}
-use Rattle.tftp_ends.specs.End.{EndState, outcome_of, record_of}
 use Rattle.tftp_ends.specs.Shortage.{AppendsNothing}
-use Rattle.tftp_ends.specs.Step.{Reply, lent, reply_bytes, timeout_turn}
-use Rattle.tftp_store.specs.Store.{StoreMeaning}
-use Rattle.tftp_server.specs.State.{TransferState, ServerState, at, draft_of, taken_of}
-use Rattle.tftp_server.specs.Steps.{TakesDatagramLent, TimesOutLent, DatagramFaultLent, KeepsHeld, with_end}
+use Rattle.tftp_ends.specs.Step.{reply_bytes}
+use Rattle.tftp_server.specs.Steps.{TakesDatagramLent, TimesOutLent, DatagramFaultLent}
 use Rattle.tftp_server.specs.Shortage.{LacksMemoryAt}
 use Rattle.tftp_server.specs.declared.fault.ServerFault.{ServerFault}
 use Rattle.tftp_server.specs.declared.fault.ServerFault.TheVariants.{Memory}
-use Rattle.tftp_sockets.specs.Trace.{SocketEvent, replied, answered}
 use Rattle.tftp_loop.specs.Steps.{AnswersDatagram, LosesDatagram, AnswersTimeout}
 
 -- the answer that an end lends, sent to the endpoint of the step, is the reply of its turn

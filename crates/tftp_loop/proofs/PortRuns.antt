@@ -1,23 +1,15 @@
 -- What happens at the port of a transfer, call by call. For `PortVisit::answer`, `PortVisit::take_datagrams`,
 -- `PortVisit::take_timeout` and LoopRuns.
-use Rattle.std.proofs.Common.{◌≡◌, ◌≤◌, ◌<◌, ◌⊎◌, ℕ, true, false, List, ◌∷◌, Option, Some, None, inl, inr, refl, ap, subst}
-use Rattle.std.proofs.Common.{◌∙◌}
-use Rattle.std.specs.Prelude.{MatchOption, is_some}
-use Rattle.tftp_file.specs.Source.{SourceMeaning}
-use Rattle.tftp_ends.specs.declared.endpoint.Endpoint.{Endpoint}
-use Rattle.tftp_ends.specs.declared.record.Step.{Step}
-use Rattle.tftp_store.specs.Store.{StoreMeaning}
-use Rattle.tftp_server.specs.State.{ServerState, at, is_open}
-use Rattle.tftp_sockets.specs.Trace.{SocketEvent}
-use Rattle.tftp_sockets.specs.Trace.SocketEvent.{Received, Elapsed, Quiet}
-use Rattle.tftp_sockets.specs.Trace.QuietEvent.{Empty, Failed}
-use Rattle.tftp_sockets.specs.Quiet.{was_tried}
-use Rattle.tftp_loop.specs.Run.{Run}
-use Rattle.tftp_loop.specs.Run.Run.{Then}
-use Rattle.tftp_loop.specs.Steps.{Timer, PortState, PortStep, AnswersDatagram, LosesDatagram, WorksAtPort}
-use Rattle.tftp_loop.specs.Steps.{AnswersTimeout, marked_as, most_in_round, restarted, sends_again, timer_after}
-use Rattle.tftp_loop.specs.Steps.PortStep.{A_datagram, A_lost_datagram, A_late_datagram, Nothing_found}
-use Rattle.tftp_loop.specs.Steps.PortStep.{A_failed_receive, A_timeout, A_missed_timeout, Work}
+use Rattle.tftp_loop.proofs.Common.{◌≡◌, ◌≤◌, ◌<◌, ◌⊎◌, ℕ, true, false, List, ◌∷◌, Option, Some, None, inl, inr, refl}
+use Rattle.tftp_loop.proofs.Common.{ap, subst, ◌∙◌, is_some, SourceMeaning, Endpoint, Step, StoreMeaning, ServerState}
+use Rattle.tftp_loop.proofs.Common.{at, SocketEvent, Received, Elapsed, Quiet, Empty, Failed, was_tried, Run, Then}
+use Rattle.tftp_loop.proofs.Common.{Timer, PortState, PortStep, WorksAtPort, marked_as, most_in_round, restarted}
+use Rattle.tftp_loop.proofs.Common.{timer_after, A_datagram, A_lost_datagram, A_late_datagram, Nothing_found}
+use Rattle.tftp_loop.proofs.Common.{A_failed_receive, A_timeout, A_missed_timeout, Work}
+use Rattle.std.specs.Prelude.{MatchOption}
+use Rattle.tftp_server.specs.State.{is_open}
+use Rattle.tftp_loop.specs.Steps.{AnswersDatagram, LosesDatagram}
+use Rattle.tftp_loop.specs.Steps.{AnswersTimeout, sends_again}
 use Rattle.tftp_loop.proofs.RunLemmas.{once, idle, onward}
 
 module _ {S F D : Type 0} (meaning : StoreMeaning S D) (sources : SourceMeaning F) (now : ℕ) where

@@ -1,30 +1,13 @@
 -- What a visit of one port leaves of the others. For `PortVisit::answer` and 13 other files.
-use Rattle.std.proofs.Common.{arith, ◌≡◌, ◌≤◌, ◌==◌, ◌||◌, ℕ, Bool, true, false, List, ◌∷◌, Option, Some, None, IsSome}
-use Rattle.std.proofs.Common.{◌+◌}
-use Rattle.std.proofs.Common.{refl, sym, ap, subst, ◌∙◌}
-use Rattle.std.specs.BTreeMap.{is_at}
-use Rattle.std.specs.Ordering.{nat_cmp}
-use Rattle.std.proofs.lemmas.Bool.{eq-eqb}
-use Rattle.tftp_file.specs.Source.{SourceMeaning}
-use Rattle.tftp_ends.specs.declared.endpoint.Endpoint.{Endpoint}
-use Rattle.std.specs.Prelude.{is_some}
-use Rattle.tftp_ends.specs.Backoff.{wait_of}
-use Rattle.tftp_ends.specs.Step.{Reply}
-use Rattle.tftp_store.specs.Store.{StoreMeaning}
-use Rattle.tftp_server.specs.State.{TransferState, ServerState, at, with_next}
-use Rattle.tftp_server.specs.Steps.{KeepsHeld}
-use Rattle.tftp_server.specs.Work.{WorksAt}
-use Rattle.tftp_sockets.specs.Watch.{deadline_of}
-use Rattle.tftp_sockets.specs.Trace.{SocketEvent, answered, replied}
-use Rattle.tftp_sockets.specs.Trace.SocketEvent.{Received, Elapsed, Quiet}
-use Rattle.tftp_sockets.specs.Trace.QuietEvent.{Empty, Failed}
-use Rattle.tftp_sockets.specs.Quiet.{was_tried}
-use Rattle.tftp_loop.specs.Run.{Run}
-use Rattle.tftp_loop.specs.Run.Run.{Start, Then}
-use Rattle.tftp_loop.specs.Steps.{Timer, PortState, PortStep, marked_as, next_look, restarted, timer_after}
-use Rattle.tftp_loop.specs.Steps.PortStep.{A_datagram, A_lost_datagram, A_late_datagram, Nothing_found}
-use Rattle.tftp_loop.specs.Steps.PortStep.{A_failed_receive, A_timeout, A_missed_timeout, Work}
-use Rattle.tftp_loop.specs.MayWait.{IsRead, KeepsTries}
+use Rattle.tftp_loop.proofs.Common.{arith, ◌≡◌, ◌≤◌, ◌==◌, ◌||◌, ℕ, Bool, true, false, List, ◌∷◌, Option, Some, None}
+use Rattle.tftp_loop.proofs.Common.{IsSome, ◌+◌, refl, sym, ap, subst, ◌∙◌, is_at, nat_cmp, eq-eqb, SourceMeaning}
+use Rattle.tftp_loop.proofs.Common.{Endpoint, is_some, wait_of, Reply, StoreMeaning, TransferState, ServerState, at}
+use Rattle.tftp_loop.proofs.Common.{with_next, KeepsHeld, WorksAt, deadline_of, SocketEvent, answered, replied}
+use Rattle.tftp_loop.proofs.Common.{Received, Elapsed, Quiet, Empty, Failed, was_tried, Run, Start, Then, Timer}
+use Rattle.tftp_loop.proofs.Common.{PortState, PortStep, marked_as, restarted, timer_after, A_datagram, A_lost_datagram}
+use Rattle.tftp_loop.proofs.Common.{A_late_datagram, Nothing_found, A_failed_receive, A_timeout, A_missed_timeout, Work}
+use Rattle.tftp_loop.proofs.Common.{IsRead, KeepsTries}
+use Rattle.tftp_loop.specs.Steps.{next_look}
 use Rattle.tftp_loop.proofs.Tables.{set_apart, set_there}
 
 -- a disjunction is true by its second part

@@ -1,18 +1,19 @@
 -- The ports that are used, one after the other, come last, in their order. For `a_range_gives_no_port_twice`, `bind_next`
 -- and PoolLemmas.
-use Rattle.std.proofs.Common.{arith, ◌≡◌, ◌<◌, ◌≤◌, ◌+◌, ◌-◌, ℕ, zero, suc, false, List, []}
-use Rattle.std.proofs.Common.{◌∷◌, ◌++◌, ◌/◌, length, take, drop, refl, sym, ap, subst, ◌∙◌, inl, inr}
+use Rattle.tftp_loop.proofs.Common.{arith, ◌≡◌, ◌<◌, ◌≤◌, ◌+◌, ◌-◌, ℕ, zero, suc, false, List, [], ◌∷◌, ◌++◌, length}
+use Rattle.tftp_loop.proofs.Common.{take, drop, refl, sym, ap, subst, ◌∙◌, inl, inr, AllByRecursion, range_with_len}
+use Rattle.tftp_loop.proofs.Common.{cases_eq, eq-eqb, ne_eqb, append_assoc, PortRange, coming, drawn_from}
+use Rattle.std.proofs.Common.{◌/◌}
 use Rattle.std.specs.Prelude.{nat_eq, IsPermutation}
-use Rattle.std.specs.List.{AllByRecursion, IsDistinct, range_with_len}
-use Rattle.std.proofs.lemmas.Bool.{cases_eq, cases_lt, eq-eqb, ne_eqb}
+use Rattle.std.specs.List.{IsDistinct}
+use Rattle.std.proofs.lemmas.Bool.{cases_lt}
 use Rattle.std.proofs.Math.Seq.{drop-append_seam}
-use Rattle.std.proofs.lemmas.List.{append_assoc, drop-drop, take-append-drop}
+use Rattle.std.proofs.lemmas.List.{drop-drop, take-append-drop}
 use Rattle.std.proofs.lemmas.List.Sorted.{IsPermutation-append_comm, IsPermutation-refl, IsPermutation-trans}
 use Rattle.std.proofs.lemmas.List.Sorted.{length_permutation}
 use Rattle.std.proofs.lemmas.Map.Keys.{IsDistinct-IsPermutation}
 use Rattle.tftp_loop.specs.declared.port_order.PortOrder.{PortOrder}
-use Rattle.tftp_loop.specs.declared.port_order.PortRange.{PortRange}
-use Rattle.tftp_loop.specs.PortOrder.{IsOrderOf, Mixes, UsesNext, coming, drawn_from, port_count, ports_of}
+use Rattle.tftp_loop.specs.PortOrder.{IsOrderOf, Mixes, UsesNext, port_count, ports_of}
 use Rattle.tftp_loop.specs.PortsInTurn.{Unused, Uses, UsesPorts}
 
 abbrev others_of : List ℕ → List ℕ

@@ -1,25 +1,21 @@
 -- What is received at the request port, and what becomes of it. For six functions.
-use Rattle.std.proofs.Common.{arith, ◌≡◌, ◌||◌, ◌&&◌, not, ℕ, zero, suc, Bool, true, false, List, [], ◌∷◌, length, map, take, min}
-use Rattle.std.proofs.Common.{Option, Some, None, refl, sym, ap, subst, ◌∙◌, ◌⊎◌, inl, inr}
-use Rattle.std.specs.Prelude.{All, Result, Ok, Err, IfErr, IsErrAnd, OnOk}
+use Rattle.tftp_loop.proofs.Common.{arith, ◌≡◌, ◌||◌, ◌&&◌, not, ℕ, zero, suc, Bool, true, false, List, [], ◌∷◌, length}
+use Rattle.tftp_loop.proofs.Common.{map, take, min, Option, Some, None, refl, sym, ap, subst, ◌∙◌, ◌⊎◌, inl, inr, All}
+use Rattle.tftp_loop.proofs.Common.{Result, Ok, Err, SourceMeaning, Endpoint, StoreMeaning, SocketEvent, Received}
+use Rattle.tftp_loop.proofs.Common.{Quiet, Empty, Failed, was_tried, ServerLoop, LoopState, Timer, is_draining}
+use Rattle.tftp_loop.proofs.Common.{No_request_found, Request_not_received, Drain_begun, Work_by, loop_state}
+use Rattle.tftp_loop.proofs.Common.{pending_in, state_of, timer_of, AreSettled, IsSettled, ReceivedFew}
+use Rattle.std.specs.Prelude.{IfErr, IsErrAnd, OnOk}
 use Rattle.std.proofs.lemmas.Result.{err_from_is_err_and}
-use Rattle.tftp_file.specs.Source.{SourceMeaning}
-use Rattle.tftp_ends.specs.declared.endpoint.Endpoint.{Endpoint}
-use Rattle.tftp_store.specs.Store.{StoreMeaning}
-use Rattle.tftp_sockets.specs.Trace.{SocketEvent, QuietEvent, looked}
-use Rattle.tftp_sockets.specs.Trace.SocketEvent.{Received, Quiet}
-use Rattle.tftp_sockets.specs.Trace.QuietEvent.{Empty, Failed, Drain_signalled}
-use Rattle.tftp_sockets.specs.Quiet.{was_tried}
-use Rattle.tftp_loop.specs.declared.server_loop.ServerLoop.{ServerLoop}
+use Rattle.tftp_sockets.specs.Trace.{QuietEvent, looked}
+use Rattle.tftp_sockets.specs.Trace.QuietEvent.{Drain_signalled}
 use Rattle.tftp_loop.specs.declared.serving.LoopFault.{LoopFault}
 use Rattle.tftp_loop.specs.WholeRun.{EndsBy, IsOver}
-use Rattle.tftp_loop.specs.Steps.{LoopState, Timer, is_draining}
-use Rattle.tftp_loop.specs.Steps.LoopStep.{No_request_found, Request_not_received, Drain_begun}
 use Rattle.tftp_loop.specs.declared.drain.Drain.TheVariants.{Awaited, Begun}
 use Rattle.tftp_loop.specs.LoopStates.{FailsToPrint, StopsRunning, noted_at_end}
-use Rattle.tftp_loop.specs.LoopStates.{IsEmptied, WorksRound, Work_by, loop_state, pending_in, state_of, timer_of}
-use Rattle.tftp_loop.specs.MayWait.{AnswersPending, AreSettled, AreTried, HandlesReceived, Concluded, Kept}
-use Rattle.tftp_loop.specs.MayWait.{HasFew, HasTriedRequests, IsSettled, ReceivedFew, reads_of}
+use Rattle.tftp_loop.specs.LoopStates.{IsEmptied, WorksRound}
+use Rattle.tftp_loop.specs.MayWait.{AnswersPending, AreTried, HandlesReceived, Concluded, Kept}
+use Rattle.tftp_loop.specs.MayWait.{HasFew, HasTriedRequests, reads_of}
 use Rattle.tftp_loop.proofs.LoopRuns.{Runs, same_state}
 use Rattle.tftp_loop.proofs.LoopStays.{work_keeps}
 use Rattle.tftp_loop.proofs.Opened.{concludes_asked, concludes_few, concludes_settled}

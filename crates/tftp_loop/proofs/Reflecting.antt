@@ -1,53 +1,35 @@
 -- A server sends to an endpoint at most one datagram more than its retries for each that it received from there.
 -- For the law a_server_reflects_few.
-use Rattle.std.proofs.Common.{arith, ◌≡◌, ◌≤◌, ◌+◌, ◌*◌, ◌-◌, ℕ, Bool, true, false, cond, List, [], ◌∷◌, Option, Some, None}
-use Rattle.std.proofs.Common.{refl, sym, ap, subst, ◌∙◌, inl, inr, le-ltb, zero-add}
+use Rattle.tftp_loop.proofs.Common.{arith, ◌≡◌, ◌≤◌, ◌+◌, ◌*◌, ◌-◌, ℕ, Bool, true, false, cond, List, [], ◌∷◌, Option}
+use Rattle.tftp_loop.proofs.Common.{Some, None, refl, sym, ap, subst, ◌∙◌, inl, inr, if◌then◌else◌, nat_lt, All, ⊤}
+use Rattle.tftp_loop.proofs.Common.{is_at, lookup, set_value, values_of, nat_cmp, cases_eq, eq-eqb, ne_eqb, none-some}
+use Rattle.tftp_loop.proofs.Common.{same_Some, SinkMeaning, SourceMeaning, Files, EndState, is_progress, DatagramStep}
+use Rattle.tftp_loop.proofs.Common.{Reply, Turn, after_turn, error_bytes, response_turn, timeout_turn, Response, Close}
+use Rattle.tftp_loop.proofs.Common.{Retransmit, Endpoint, Outcome, Fresh, Phase, Waiting, Sending, Receiving, Dallying}
+use Rattle.tftp_loop.proofs.Common.{Closed, Terms, line_text, StoreMeaning, drafting_sink, Came, Nothing, Error_reply}
+use Rattle.tftp_loop.proofs.Common.{A_transfer, Left, left_by, TransferState, ServerState, at, with_new, with_next}
+use Rattle.tftp_loop.proofs.Common.{KeepsHeld, with_end, WorksAt, Ask, Config, SocketEvent, answered, Received, Elapsed}
+use Rattle.tftp_loop.proofs.Common.{Printed, Run, Start, Then, PortState, LoopState, PortStep, LoopStep, after_request}
+use Rattle.tftp_loop.proofs.Common.{port_state, A_datagram, A_lost_datagram, A_late_datagram, Nothing_found}
+use Rattle.tftp_loop.proofs.Common.{A_failed_receive, A_timeout, A_missed_timeout, Work, At_port, Request_received}
+use Rattle.tftp_loop.proofs.Common.{No_request_found, Request_not_received, Request_noted, Request_answered}
+use Rattle.tftp_loop.proofs.Common.{Request_lost, Clock_read, Store_set, Transfer_closed, Drain_begun}
+use Rattle.std.proofs.Common.{le-ltb, zero-add}
 use Rattle.std.proofs.Math.Nat.{mul-suc}
-use Rattle.std.specs.Prelude.{◌==◌, if◌then◌else◌, nat_lt, All, ⊤}
-use Rattle.std.specs.BTreeMap.{insert_entry, is_at}
-use Rattle.std.specs.Map.{lookup, remove_entry, set_value, values_of}
-use Rattle.std.specs.Ordering.{nat_cmp, match_ordering}
+use Rattle.std.specs.Prelude.{◌==◌}
+use Rattle.std.specs.BTreeMap.{insert_entry}
+use Rattle.std.specs.Map.{remove_entry}
+use Rattle.std.specs.Ordering.{match_ordering}
 use Rattle.std.specs.declared.cmp.Ordering.{Ordering}
 use Rattle.std.specs.declared.cmp.Ordering.TheVariants.{Less, Equal, Greater}
-use Rattle.std.proofs.lemmas.Bool.{cases_eq, eq-eqb, ne_eqb}
-use Rattle.std.proofs.lemmas.Option.{none-some, same_Some}
-use Rattle.tftp_file.specs.Sink.{SinkMeaning}
-use Rattle.tftp_file.specs.Source.{SourceMeaning}
-use Rattle.tftp_file.specs.declared.files.Files.{Files}
 use Rattle.tftp_ends.specs.Action.{same_endpoint, timeout_response}
-use Rattle.tftp_ends.specs.End.{EndState, is_progress}
 use Rattle.tftp_ends.specs.Phase.{closed}
-use Rattle.tftp_ends.specs.Step.{DatagramStep, Reply, Turn, after_turn, error_bytes, response_turn, timeout_turn}
-use Rattle.tftp_ends.specs.declared.action.Response.{Response}
-use Rattle.tftp_ends.specs.declared.action.Response.TheVariants.{Close, Retransmit}
-use Rattle.tftp_ends.specs.declared.endpoint.Endpoint.{Endpoint}
-use Rattle.tftp_ends.specs.declared.outcome.Outcome.{Outcome}
 use Rattle.tftp_ends.specs.declared.outcome.Outcome.TheVariants as outcomes
-use Rattle.tftp_ends.specs.declared.phase.Dally.TheVariants.{Fresh, Waited}
-use Rattle.tftp_ends.specs.declared.phase.Phase.{Phase}
-use Rattle.tftp_ends.specs.declared.phase.Phase.TheVariants.{Waiting, Sending, Receiving, Dallying, Closed}
-use Rattle.tftp_ends.specs.declared.phase.Terms.{Terms}
-use Rattle.tftp_lines.specs.Printed.{line_text}
+use Rattle.tftp_ends.specs.declared.phase.Dally.TheVariants.{Waited}
 use Rattle.tftp_lines.specs.declared.printed.Printed.TheVariants.{Closed as Closed_line}
-use Rattle.tftp_store.specs.Store.{StoreMeaning}
-use Rattle.tftp_server.specs.Draft.{drafting_sink}
-use Rattle.tftp_server.specs.Request.{Came, Nothing, Error_reply, A_transfer, Left, left_by}
-use Rattle.tftp_server.specs.State.{TransferState, ServerState, at, with_new, with_next}
-use Rattle.tftp_server.specs.Steps.{KeepsHeld, with_end}
-use Rattle.tftp_server.specs.Work.{WorksAt}
-use Rattle.tftp_server.specs.Port.{Ask}
-use Rattle.tftp_server.specs.declared.config.Config.{Config}
-use Rattle.tftp_sockets.specs.Trace.{SocketEvent, answered}
-use Rattle.tftp_sockets.specs.Trace.SocketEvent.{Received, Sent, Elapsed, Printed}
+use Rattle.tftp_sockets.specs.Trace.SocketEvent.{Sent}
 use Rattle.tftp_loop.specs.Reflected.{SendsAtMost, received_from, sent_to}
-use Rattle.tftp_loop.specs.Run.{Run}
-use Rattle.tftp_loop.specs.Run.Run.{Start, Then}
-use Rattle.tftp_loop.specs.Steps.{PortState, LoopState, PortStep, LoopStep, after_request, port_state}
-use Rattle.tftp_loop.specs.Steps.PortStep.{A_datagram, A_lost_datagram, A_late_datagram, Nothing_found}
-use Rattle.tftp_loop.specs.Steps.PortStep.{A_failed_receive, A_timeout, A_missed_timeout, Work}
-use Rattle.tftp_loop.specs.Steps.LoopStep.{Waited as Has_waited, At_port, Request_received, No_request_found}
-use Rattle.tftp_loop.specs.Steps.LoopStep.{Request_not_received, Request_noted, Request_answered, Request_lost}
-use Rattle.tftp_loop.specs.Steps.LoopStep.{Clock_read, Store_set, Transfer_closed, Drain_begun}
+use Rattle.tftp_loop.specs.Steps.LoopStep.{Waited as Has_waited}
 use Rattle.tftp_loop.proofs.AnsweringEnds.{AnswersOne, IsAt, NoBlock, SendsTo, To_other, To_peer, datagram_answers}
 use Rattle.tftp_loop.proofs.AnsweringEnds.{timeout_answers}
 use Rattle.tftp_loop.proofs.EndSteps.{datagram_moves, moves_limit, timeout_spends}

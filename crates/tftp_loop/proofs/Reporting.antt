@@ -1,35 +1,18 @@
 -- A port that a wait reported is read by the next wait. For `a_server_reads_what_is_reported`.
-use Rattle.std.proofs.Common.{arith, ◌≡◌, ◌<◌, ◌==◌, ◌⊎◌, ℕ, true, List, [], ◌∷◌, length, map, Option, None, refl, sym}
-use Rattle.std.proofs.Common.{ap, subst, ◌∙◌, inl, inr}
-use Rattle.std.specs.Prelude.{slice_set, slice_index_or}
-use Rattle.std.proofs.lemmas.Bool.{cases_eq}
-use Rattle.std.proofs.lemmas.Option.{none-some}
-use Rattle.std.proofs.lemmas.List.{length-map}
-use Rattle.tftp_file.specs.Source.{SourceMeaning}
-use Rattle.tftp_ends.specs.declared.backoff.Backoff.{Backoff}
+use Rattle.tftp_loop.proofs.Common.{arith, ◌≡◌, ◌<◌, ◌==◌, ◌⊎◌, ℕ, true, List, [], ◌∷◌, length, map, Option, None, refl}
+use Rattle.tftp_loop.proofs.Common.{sym, ap, subst, ◌∙◌, inl, inr, slice_set, slice_index_or, cases_eq, none-some}
+use Rattle.tftp_loop.proofs.Common.{length-map, SourceMeaning, Backoff, Endpoint, StoreMeaning, TransferState}
+use Rattle.tftp_loop.proofs.Common.{ServerState, at, taken_of, with_new, Came, Left, Nothing, Error_reply, A_transfer}
+use Rattle.tftp_loop.proofs.Common.{left_by, SocketEvent, replied, Received, Quiet, Empty, Failed, is_among, was_tried}
+use Rattle.tftp_loop.proofs.Common.{Run, Start, Then, LoopConfig, Timer, PortState, LoopState, PortStep, LoopStep}
+use Rattle.tftp_loop.proofs.Common.{Waits, answering_port, at_start, interval_at, marked_by, port_state, started}
+use Rattle.tftp_loop.proofs.Common.{with_timer, set_by, A_datagram, A_lost_datagram, A_late_datagram, Nothing_found}
+use Rattle.tftp_loop.proofs.Common.{A_failed_receive, A_timeout, A_missed_timeout, Work, Waited, At_port}
+use Rattle.tftp_loop.proofs.Common.{Request_received, No_request_found, Request_not_received, Request_noted}
+use Rattle.tftp_loop.proofs.Common.{Request_answered, Request_lost, Clock_read, Store_set, Transfer_closed, Drain_begun}
+use Rattle.tftp_loop.proofs.Common.{IsNoWait, HavePortsApart, AreKept, KeepsTries}
 use Rattle.tftp_ends.specs.declared.backoff.Backoff.TheVariants.{Constant}
-use Rattle.tftp_ends.specs.declared.endpoint.Endpoint.{Endpoint}
-use Rattle.tftp_store.specs.Store.{StoreMeaning}
-use Rattle.tftp_server.specs.State.{TransferState, ServerState, at, taken_of, with_new}
-use Rattle.tftp_server.specs.Request.{Came, Left, Nothing, Error_reply, A_transfer, left_by}
-use Rattle.tftp_sockets.specs.Trace.{SocketEvent, replied}
-use Rattle.tftp_sockets.specs.Trace.SocketEvent.{Received, Quiet}
-use Rattle.tftp_sockets.specs.Trace.QuietEvent.{Empty, Failed}
-use Rattle.tftp_sockets.specs.Quiet.{is_among, was_tried}
-use Rattle.tftp_loop.specs.Run.{Run}
-use Rattle.tftp_loop.specs.Run.Run.{Start, Then}
-use Rattle.tftp_loop.specs.declared.serving.LoopConfig.{LoopConfig}
-use Rattle.tftp_loop.specs.Steps.{Timer, PortState, LoopState, PortStep, LoopStep, Waits, answering_port, at_start}
-use Rattle.tftp_loop.specs.Steps.{interval_at, marked_by, port_state, started, with_timer}
-use Rattle.tftp_loop.specs.Steps.{set_by}
-use Rattle.tftp_loop.specs.Steps.PortStep.{A_datagram, A_lost_datagram, A_late_datagram, Nothing_found}
-use Rattle.tftp_loop.specs.Steps.PortStep.{A_failed_receive, A_timeout, A_missed_timeout, Work}
-use Rattle.tftp_loop.specs.Steps.LoopStep.{Waited, At_port, Request_received, No_request_found, Request_not_received}
-use Rattle.tftp_loop.specs.Steps.LoopStep.{Request_noted, Request_answered, Request_lost, Clock_read, Store_set}
-use Rattle.tftp_loop.specs.Steps.LoopStep.{Transfer_closed}
-use Rattle.tftp_loop.specs.Steps.LoopStep.{Drain_begun}
-use Rattle.tftp_loop.specs.Reported.{GoesOn, Goes_by, HasTimer, IsNoWait}
-use Rattle.tftp_loop.specs.MayWait.{HavePortsApart, AreKept, KeepsTries}
+use Rattle.tftp_loop.specs.Reported.{GoesOn, Goes_by, HasTimer}
 use Rattle.tftp_loop.proofs.ListLemmas.{map_at, set_long}
 use Rattle.tftp_loop.proofs.LoopStays.{some_none}
 use Rattle.tftp_loop.proofs.NoteLemmas.{note_tried}

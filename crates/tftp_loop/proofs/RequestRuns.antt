@@ -1,35 +1,28 @@
 -- What happens at the request port. For six functions, Opened, Receipts and Reserving.
-use Rattle.std.proofs.Common.{◌≡◌, ◌≢◌, ◌⊎◌, ℕ, Bool, true, false, List, [], ◌∷◌, ◌++◌, Option, Some, None, IsSome, refl, sym, ap}
-use Rattle.std.proofs.Common.{subst, ◌∙◌, inl, inr}
-use Rattle.std.specs.Prelude.{Ok, Err, is_ok, IfSome, is_some, ◌||◌, ◌&&◌, not}
-use Rattle.std.proofs.lemmas.Bool.{true≢false}
-use Rattle.tftp_file.specs.Source.{SourceMeaning}
-use Rattle.tftp_ends.specs.declared.endpoint.Endpoint.{Endpoint}
-use Rattle.tftp_store.specs.Store.{StoreMeaning}
-use Rattle.tftp_server.specs.State.{ServerState, at}
-use Rattle.tftp_server.specs.Request.{Admits, AdmissionState, CarriesOut, RequestStep, Left, Goes, Came, left_by}
-use Rattle.tftp_server.specs.Request.{Nothing, Error_reply}
-use Rattle.tftp_server.specs.Port.{Ask, Ignores, Refuses, Reads, Writes, asks_store}
+use Rattle.tftp_loop.proofs.Common.{◌≡◌, ◌⊎◌, ℕ, Bool, true, false, List, [], ◌∷◌, ◌++◌, Option, Some, None, IsSome}
+use Rattle.tftp_loop.proofs.Common.{refl, sym, ap, subst, ◌∙◌, inl, inr, Ok, Err, IfSome, is_some, true≢false}
+use Rattle.tftp_loop.proofs.Common.{SourceMeaning, Endpoint, StoreMeaning, ServerState, at, CarriesOut, Left, Goes}
+use Rattle.tftp_loop.proofs.Common.{Came, left_by, Nothing, Error_reply, Ask, Ignores, Refuses, Reads, Writes}
+use Rattle.tftp_loop.proofs.Common.{ErrorReply, error_bytes, SocketEvent, replied, Received, Quiet, IsOneOf, TriesPorts}
+use Rattle.tftp_loop.proofs.Common.{Run, Start, Then, LoopState, AnswersRequest, LosesRequest, RequestNote}
+use Rattle.tftp_loop.proofs.Common.{Found_no_port, Found_port, Found_no_memory, after_request, note_event, with_timer}
+use Rattle.tftp_loop.proofs.Common.{answering_port, is_draining, Request_noted, Request_received, Request_answered}
+use Rattle.tftp_loop.proofs.Common.{Request_lost, Store_set, Work_by, Concludes}
+use Rattle.std.proofs.Common.{◌≢◌}
+use Rattle.std.specs.Prelude.{is_ok, ◌||◌, ◌&&◌, not}
+use Rattle.tftp_server.specs.Request.{Admits, AdmissionState, RequestStep}
+use Rattle.tftp_server.specs.Port.{asks_store}
 use Rattle.tftp_server.specs.CallersFiles.{refusal}
-use Rattle.tftp_ends.specs.declared.error_reply.ErrorReply.{ErrorReply}
-use Rattle.tftp_ends.specs.Step.{error_bytes}
 use Rattle.tftp_server.specs.declared.opened.Opened.{Opened}
-use Rattle.tftp_sockets.specs.Trace.{SocketEvent, replied}
-use Rattle.tftp_sockets.specs.Trace.SocketEvent.{Received, Quiet}
 use Rattle.tftp_sockets.specs.Trace.QuietEvent.{Out_of_memory}
 use Rattle.tftp_loop.specs.OnlyRequests.{IsHandledBy, begins_as_request}
-use Rattle.tftp_loop.specs.PortOrder.{IsOneOf}
-use Rattle.tftp_loop.specs.PortPool.{Binds, TriesInVain, TriesPorts}
-use Rattle.tftp_loop.specs.Run.{Run}
-use Rattle.tftp_loop.specs.Run.Run.{Start, Then}
+use Rattle.tftp_loop.specs.PortPool.{Binds, TriesInVain}
 use Rattle.tftp_loop.specs.MayOpen.{LacksMemoryToOpen, MayOpen}
-use Rattle.tftp_loop.specs.Steps.{LoopState, AnswersRequest, IsSet, LosesRequest, RequestLoss, No_request}
-use Rattle.tftp_loop.specs.Steps.{RequestNote, Found_no_port, Found_port, Found_no_memory, No_memory_to_open, No_port}
-use Rattle.tftp_loop.specs.Steps.{Same_port, SetsStore, Too_many, has_most, after_request, is_taken, note_event, with_timer}
-use Rattle.tftp_loop.specs.Steps.{answering_port, is_draining}
-use Rattle.tftp_loop.specs.Steps.LoopStep.{Request_noted, Request_received, Request_answered, Request_lost, Store_set}
-use Rattle.tftp_loop.specs.LoopStates.{IsAdmission, Work_by}
-use Rattle.tftp_loop.specs.MayWait.{Concludes, Prepares, Notes_it, Sets_store}
+use Rattle.tftp_loop.specs.Steps.{IsSet, RequestLoss, No_request}
+use Rattle.tftp_loop.specs.Steps.{No_memory_to_open, No_port}
+use Rattle.tftp_loop.specs.Steps.{Same_port, SetsStore, Too_many, has_most, is_taken}
+use Rattle.tftp_loop.specs.LoopStates.{IsAdmission}
+use Rattle.tftp_loop.specs.MayWait.{Prepares, Notes_it, Sets_store}
 use Rattle.tftp_loop.proofs.RunLemmas.{once, onward}
 use Rattle.tftp_loop.proofs.LoopRuns.{Runs}
 use Rattle.tftp_loop.proofs.Tables.{free_identifier}

@@ -1,41 +1,31 @@
 -- What is reserved at the start suffices: for the port of each transfer, and for each ERROR. For five functions.
-use Rattle.std.proofs.Common.{arith, ◌≡◌, ◌≤◌, ◌<◌, ◌⊎◌, ◌||◌, ℕ, suc, Bool, true, false, List, [], ◌∷◌, length, map}
-use Rattle.std.proofs.Common.{Option, Some, None, IsSome, refl, sym, ap, subst, ◌∙◌, inl, inr}
-use Rattle.std.specs.Prelude.{Ok, Err, Result, All, nat_le, is_some, if◌then◌else◌, slice_index_or}
-use Rattle.std.specs.List.{IsDistinct, AllByRecursion, list_any}
+use Rattle.tftp_loop.proofs.Common.{arith, ◌≡◌, ◌≤◌, ◌<◌, ◌⊎◌, ◌||◌, ℕ, suc, Bool, true, false, List, [], ◌∷◌, length}
+use Rattle.tftp_loop.proofs.Common.{map, Option, Some, None, IsSome, refl, sym, ap, subst, ◌∙◌, inl, inr, Ok, Err}
+use Rattle.tftp_loop.proofs.Common.{Result, All, is_some, if◌then◌else◌, slice_index_or, AllByRecursion, list_any}
+use Rattle.tftp_loop.proofs.Common.{nat_cmp, true≢false, length-map, has_error_opcode, Packet, Read, Write, Limits}
+use Rattle.tftp_loop.proofs.Common.{path_of_name, SourceMeaning, StoreFault, Endpoint, StoreMeaning, Opening, Ask}
+use Rattle.tftp_loop.proofs.Common.{Ignores, Refuses, Reads, Writes, Service, Silent, Refused, Sends, Takes, Came}
+use Rattle.tftp_loop.proofs.Common.{CarriesOut, Left, left_by, Nothing, Error_reply, A_transfer, ServerState}
+use Rattle.tftp_loop.proofs.Common.{TransferState, at, Config, HavePortsApart, AreKept, IsHeld, Timer}
+use Rattle.std.specs.Prelude.{nat_le}
+use Rattle.std.specs.List.{IsDistinct}
 use Rattle.std.specs.Cmp.{eq_by_cmp_equiv, nat_cmp_total}
-use Rattle.std.specs.Ordering.{eq_by_cmp, nat_cmp}
-use Rattle.std.proofs.lemmas.Bool.{true≢false}
+use Rattle.std.specs.Ordering.{eq_by_cmp}
 use Rattle.std.proofs.lemmas.Bool.Decides.{nat_tests}
-use Rattle.std.proofs.lemmas.List.{length-map}
 use Rattle.std.proofs.lemmas.Map.Steps.{length-le_from_keys}
-use Rattle.tftp_wire.specs.Reading.{has_error_opcode}
-use Rattle.tftp_wire.specs.declared.packet.Packet.{Packet}
-use Rattle.tftp_wire.specs.declared.packet.Packet.TheVariants.{Read, Write, Data, Ack, Error, Oack}
-use Rattle.tftp_negotiate.specs.declared.limits.Limits.{Limits}
-use Rattle.tftp_file.specs.Path.{path_of_name}
-use Rattle.tftp_file.specs.Source.{SourceMeaning}
-use Rattle.tftp_file.specs.declared.fault.StoreFault.{StoreFault}
+use Rattle.tftp_wire.specs.declared.packet.Packet.TheVariants.{Data, Ack, Error, Oack}
 use Rattle.tftp_file.specs.declared.fault.StoreFault.TheVariants as stores
 use Rattle.tftp_file.specs.declared.path.PathFault.{PathFault}
-use Rattle.tftp_ends.specs.declared.endpoint.Endpoint.{Endpoint}
 use Rattle.tftp_ends.specs.declared.error_reply.ErrorReply.TheVariants.{ServerBusy}
-use Rattle.tftp_store.specs.Store.{StoreMeaning}
-use Rattle.tftp_store.specs.declared.store.Opening.{Opening}
-use Rattle.tftp_server.specs.Port.{Ask, Ignores, Refuses, Reads, Writes, Service, Silent, Refused, Sends, Takes, asks_store}
+use Rattle.tftp_server.specs.Port.{asks_store}
 use Rattle.tftp_server.specs.Port.{by_name, by_packet, by_repeat}
-use Rattle.tftp_server.specs.Request.{Admits, AdmissionState, Came, CarriesOut, Left, left_by}
-use Rattle.tftp_server.specs.Request.{Nothing, Error_reply, A_transfer}
+use Rattle.tftp_server.specs.Request.{Admits, AdmissionState}
 use Rattle.tftp_server.specs.Shortage.{AskLacksMemory, FileLacksMemory, ServiceLacksMemory}
-use Rattle.tftp_server.specs.State.{ServerState, TransferState, at}
-use Rattle.tftp_server.specs.declared.config.Config.{Config}
 use Rattle.tftp_server.specs.declared.fault.ServerFault.{ServerFault}
 use Rattle.tftp_server.specs.declared.fault.ServerFault.TheVariants.{TidInUse, Memory}
 use Rattle.tftp_loop.specs.declared.reserved.TheConstants.{LONGEST_ANSWER}
 use Rattle.tftp_loop.specs.LoopStates.{RoomFor, IsAdmission}
 use Rattle.tftp_loop.specs.MayOpen.{LacksMemoryToOpen}
-use Rattle.tftp_loop.specs.MayWait.{HavePortsApart, AreKept, IsHeld}
-use Rattle.tftp_loop.specs.Steps.{Timer}
 use Rattle.tftp_loop.proofs.RequestRuns.{admits_set}
 use Rattle.tftp_loop.proofs.Tables.{compares}
 

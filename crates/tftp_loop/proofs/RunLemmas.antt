@@ -1,7 +1,5 @@
 -- Runs, one after the other. For seven functions and eight other files.
-use Rattle.std.proofs.Common.{◌≡◌, sym, subst}
-use Rattle.tftp_loop.specs.Run.{Run}
-use Rattle.tftp_loop.specs.Run.Run.{Start, Then}
+use Rattle.tftp_loop.proofs.Common.{◌≡◌, sym, subst, Run, Start, Then}
 
 module _ {A : Type 0} {LoopStep : A → A → Type 0} where
   -- one run after another is a run

@@ -1,29 +1,16 @@
 -- A server that may sleep has nothing to do. For `a_server_rests_before_it_sleeps`, Bounded, Expiring and Reporting.
-use Rattle.std.proofs.Common.{arith, ◌≡◌, ◌<◌, ◌≤◌, ◌-◌, ◌||◌, ◌&&◌, not, ℕ, zero, suc, Bool, true, false, List, []}
-use Rattle.std.proofs.Common.{◌∷◌, length, map, cond, Option, Some, None, refl, sym, ap, subst, ◌∙◌}
-use Rattle.std.specs.Prelude.{slice_index_or, is_some, All, ◌≢◌}
-use Rattle.std.specs.List.{list_any}
-use Rattle.tftp_file.specs.Source.{SourceMeaning}
-use Rattle.tftp_store.specs.Store.{StoreMeaning}
-use Rattle.tftp_server.specs.State.{ServerState}
-use Rattle.tftp_sockets.specs.declared.watch.TheConstants.{LONGEST_WAIT}
-use Rattle.tftp_sockets.specs.Trace.{SocketEvent}
-use Rattle.tftp_sockets.specs.Trace.SocketEvent.{Watched}
-use Rattle.tftp_sockets.specs.Quiet.{is_among, is_drained}
-use Rattle.tftp_loop.specs.Run.{Run}
-use Rattle.tftp_loop.specs.Run.Run.{Start, Then}
-use Rattle.tftp_loop.specs.declared.serving.LoopConfig.{LoopConfig}
-use Rattle.tftp_loop.specs.Steps.{Timer, LoopState, LoopStep, Waits, at_start, is_busy, port_state, read_at, set_by}
-use Rattle.tftp_loop.specs.Steps.{until_look}
-use Rattle.tftp_loop.specs.Steps.LoopStep.{Waited, At_port, Request_received, No_request_found, Request_not_received}
-use Rattle.tftp_loop.specs.Steps.LoopStep.{Request_noted, Request_answered, Request_lost, Clock_read, Store_set}
-use Rattle.tftp_loop.specs.Steps.LoopStep.{Transfer_closed}
-use Rattle.tftp_loop.specs.Steps.LoopStep.{Drain_begun}
-use Rattle.tftp_loop.specs.Steps.{is_draining, reads_requests}
-use Rattle.tftp_loop.specs.LoopStates.{Work_by}
+use Rattle.tftp_loop.proofs.Common.{arith, ◌≡◌, ◌<◌, ◌≤◌, ◌-◌, ◌||◌, ◌&&◌, not, ℕ, zero, suc, Bool, true, false, List}
+use Rattle.tftp_loop.proofs.Common.{[], ◌∷◌, length, map, cond, Option, Some, None, refl, sym, ap, subst, ◌∙◌}
+use Rattle.tftp_loop.proofs.Common.{slice_index_or, is_some, All, ◌≢◌, list_any, SourceMeaning, StoreMeaning}
+use Rattle.tftp_loop.proofs.Common.{ServerState, LONGEST_WAIT, SocketEvent, Watched, is_among, is_drained, Run, Start}
+use Rattle.tftp_loop.proofs.Common.{Then, LoopConfig, Timer, LoopState, LoopStep, Waits, at_start, port_state, set_by}
+use Rattle.tftp_loop.proofs.Common.{until_look, Waited, At_port, Request_received, No_request_found}
+use Rattle.tftp_loop.proofs.Common.{Request_not_received, Request_noted, Request_answered, Request_lost, Clock_read}
+use Rattle.tftp_loop.proofs.Common.{Store_set, Transfer_closed, Drain_begun, is_draining, reads_requests, Work_by}
+use Rattle.tftp_loop.proofs.Common.{AreKept}
+use Rattle.tftp_loop.specs.Steps.{is_busy, read_at}
 use Rattle.tftp_loop.specs.Sleeps.{MaySleep}
 use Rattle.tftp_loop.proofs.OwnPorts.{HasItsOwnPort, has_its_own_port}
-use Rattle.tftp_loop.specs.MayWait.{AreKept}
 use Rattle.tftp_loop.proofs.Drained.{port_drained, replied_drained}
 use Rattle.tftp_loop.proofs.Looking.{AreLooked, looked_at_rest, read_looked, step_looked}
 use Rattle.tftp_loop.proofs.LoopStays.{work_keeps}

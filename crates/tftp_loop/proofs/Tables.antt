@@ -1,16 +1,14 @@
 -- Elements and entries that a change leaves as they were. For eleven other files and the crate tftp_daemon.
-use Rattle.std.proofs.Common.{arith, ◌≡◌, ◌<◌, ◌≤◌, ◌+◌, ◌-◌, ◌⊎◌, ℕ, zero, suc, Bool, true, false, List, [], ◌∷◌, ◌++◌}
-use Rattle.std.proofs.Common.{length, take, Option, Some, None, cond, refl, sym, ap, ◌∙◌, inl, inr}
-use Rattle.std.specs.Prelude.{slice_set, slice_index_or, is_some, if◌then◌else◌}
-use Rattle.std.specs.List.{swap_remove}
-use Rattle.std.specs.Map.{lookup, remove_entry, set_value}
-use Rattle.std.specs.BTreeMap.{insert_entry, is_at}
-use Rattle.std.specs.Ordering.{nat_cmp, match_ordering, is_eq}
+use Rattle.tftp_loop.proofs.Common.{arith, ◌≡◌, ◌<◌, ◌≤◌, ◌+◌, ◌-◌, ◌⊎◌, ℕ, zero, suc, Bool, true, false, List, [], ◌∷◌}
+use Rattle.tftp_loop.proofs.Common.{◌++◌, length, take, Option, Some, None, cond, refl, sym, ap, ◌∙◌, inl, inr}
+use Rattle.tftp_loop.proofs.Common.{slice_set, slice_index_or, is_some, if◌then◌else◌, swap_remove, lookup, set_value}
+use Rattle.tftp_loop.proofs.Common.{is_at, nat_cmp, cases_eq, none-some, same_Some}
+use Rattle.std.specs.Map.{remove_entry}
+use Rattle.std.specs.BTreeMap.{insert_entry}
+use Rattle.std.specs.Ordering.{match_ordering, is_eq}
 use Rattle.std.specs.declared.cmp.Ordering.{Ordering}
 use Rattle.std.specs.declared.cmp.Ordering.TheVariants.{Less, Equal, Greater}
-use Rattle.std.proofs.lemmas.Bool.{cases_eq}
 use Rattle.std.proofs.lemmas.Bool.Decides.{nat_tests}
-use Rattle.std.proofs.lemmas.Option.{none-some, same_Some}
 use Rattle.tftp_loop.proofs.ListLemmas.{set_long}
 
 -- ---- elements

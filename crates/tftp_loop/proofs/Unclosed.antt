@@ -1,31 +1,20 @@
 -- A visit that did not close its transfer left it open. For five functions.
-use Rattle.std.proofs.Common.{◌≡◌, ◌⊎◌, ℕ, Bool, true, false, List, Option, Some, None, refl, sym, ap, subst, ◌∙◌}
-use Rattle.std.proofs.Common.{arith, inl, inr, ◌<◌, ◌≤◌, ◌+◌, length, map}
-use Rattle.std.specs.Prelude.{is_some, IfSome, if◌then◌else◌, slice_set, slice_index_or}
-use Rattle.std.specs.BTreeMap.{is_at}
-use Rattle.std.specs.Ordering.{nat_cmp}
-use Rattle.std.proofs.lemmas.Bool.{cases_eq}
-use Rattle.tftp_file.specs.Source.{SourceMeaning}
-use Rattle.tftp_ends.specs.declared.endpoint.Endpoint.{Endpoint}
-use Rattle.tftp_ends.specs.declared.outcome.Outcome.{Outcome}
+use Rattle.tftp_loop.proofs.Common.{◌≡◌, ◌⊎◌, ℕ, Bool, true, false, List, Option, Some, None, refl, sym, ap, subst, ◌∙◌}
+use Rattle.tftp_loop.proofs.Common.{arith, inl, inr, ◌<◌, ◌≤◌, ◌+◌, length, map, is_some, IfSome, if◌then◌else◌}
+use Rattle.tftp_loop.proofs.Common.{slice_set, slice_index_or, is_at, nat_cmp, cases_eq, SourceMeaning, Endpoint}
+use Rattle.tftp_loop.proofs.Common.{Outcome, Step, EndState, outcome_of, record_of, StoreMeaning, TransferState}
+use Rattle.tftp_loop.proofs.Common.{ServerState, at, draft_of, is_closed, taken_of, KeepsHeld, with_end, Port}
+use Rattle.tftp_loop.proofs.Common.{SocketEvent, ServerLoop, TransferSocket, timer_of, AwaitVisit, WereVisited, IsHeld}
+use Rattle.tftp_loop.proofs.Common.{IsOpen, IsSettled, IsUnclosed, ReceivedFew, before_visit, timers_of, Timer}
+use Rattle.tftp_loop.proofs.Common.{WorksAtPort}
 use Rattle.tftp_ends.specs.declared.outgoing.Outgoing.{Outgoing}
-use Rattle.tftp_ends.specs.declared.record.Step.{Step}
-use Rattle.tftp_ends.specs.End.{EndState, outcome_of, record_of}
-use Rattle.tftp_store.specs.Store.{StoreMeaning}
-use Rattle.tftp_server.specs.State.{TransferState, ServerState, at, draft_of, is_closed, taken_of}
-use Rattle.tftp_server.specs.Steps.{KeepsHeld, TakesDatagramLent, TimesOutLent, with_end}
+use Rattle.tftp_server.specs.Steps.{TakesDatagramLent, TimesOutLent}
 use Rattle.tftp_loop.specs.declared.port_visit.PortStatus.{PortStatus}
 use Rattle.tftp_loop.specs.declared.port_visit.PortStatus.TheVariants as statuses
-use Rattle.tftp_sockets.specs.declared.port.Port.{Port}
 use Rattle.tftp_loop.specs.declared.port_visit.Pass.{Pass}
 use Rattle.tftp_loop.specs.declared.port_visit.Pass.TheVariants as passes
-use Rattle.tftp_sockets.specs.Trace.{SocketEvent}
-use Rattle.tftp_loop.specs.declared.server_loop.ServerLoop.{ServerLoop}
-use Rattle.tftp_loop.specs.declared.transfer_port.TransferSocket.{TransferSocket}
-use Rattle.tftp_loop.specs.LoopStates.{timer_of}
-use Rattle.tftp_loop.specs.MayWait.{AwaitVisit, IsNotVisited, WasVisited, WereVisited, IsHeld, IsOpen, IsSettled, IsUnclosed}
-use Rattle.tftp_loop.specs.MayWait.{IsUnclosedBy, ReceivedFew, UnlessClosed, before_visit, timers_of}
-use Rattle.tftp_loop.specs.Steps.{Timer, WorksAtPort}
+use Rattle.tftp_loop.specs.MayWait.{IsNotVisited, WasVisited}
+use Rattle.tftp_loop.specs.MayWait.{IsUnclosedBy, UnlessClosed}
 use Rattle.tftp_loop.proofs.ListLemmas.{map_is, map_set, map_within}
 use Rattle.tftp_loop.proofs.PortLemmas.{found_next, found_timed, set_found}
 use Rattle.tftp_loop.proofs.Tables.{any_default, not_taken, set_own}

@@ -1,17 +1,13 @@
 -- A visit of the port of a transfer, call by call. For four functions.
-use Rattle.std.proofs.Common.{arith, ◌≡◌, ◌≤◌, ◌+◌, ℕ, true, List, ◌∷◌, MutBor, refl, sym, ap, subst, ◌∙◌}
-use Rattle.tftp_file.specs.Source.{SourceMeaning}
-use Rattle.tftp_store.specs.Store.{StoreMeaning}
-use Rattle.tftp_sockets.specs.Trace.{SocketEvent, QuietEvent}
-use Rattle.tftp_sockets.specs.Trace.SocketEvent.{Elapsed, Received, Quiet}
-use Rattle.tftp_sockets.specs.Quiet.{was_tried}
+use Rattle.tftp_loop.proofs.Common.{arith, ◌≡◌, ◌≤◌, ◌+◌, ℕ, true, List, ◌∷◌, refl, sym, ap, subst, ◌∙◌, SourceMeaning}
+use Rattle.tftp_loop.proofs.Common.{StoreMeaning, SocketEvent, Elapsed, Received, Quiet, was_tried, Run, Start}
+use Rattle.tftp_loop.proofs.Common.{PortStep}
+use Rattle.std.proofs.Common.{MutBor}
+use Rattle.tftp_sockets.specs.Trace.{QuietEvent}
 use Rattle.tftp_loop.specs.declared.datagram.Datagram.{Datagram}
 use Rattle.tftp_loop.specs.declared.port_visit.PortVisit.{PortVisit}
 use Rattle.tftp_loop.specs.Fair.{ReceivesAtMost, received_in}
 use Rattle.tftp_loop.specs.PortVisit.{AnswersReceived, IsSameVisit, IsTried, ServesVisit, at_visit}
-use Rattle.tftp_loop.specs.Run.{Run}
-use Rattle.tftp_loop.specs.Run.Run.{Start}
-use Rattle.tftp_loop.specs.Steps.{PortStep}
 use Rattle.tftp_loop.proofs.PortStays.{received_tried, stays_along}
 use Rattle.tftp_loop.proofs.RunLemmas.{onward}
 

@@ -1,33 +1,22 @@
 -- A visit of a port, and what it leaves if its transfer closed and if not. For `ServerLoop::finish`,
 -- `ServerLoop::sync`, `ServerLoop::visit`, Reporting and Unclosed.
-use Rattle.std.proofs.Common.{arith, ◌≡◌, ◌<◌, ◌≤◌, ◌+◌, ◌-◌, ℕ, Bool, true, false, List, [], length, map, Option, Some}
-use Rattle.std.proofs.Common.{None, IsSome, refl, sym, ap, subst, ◌∙◌, inl, inr}
-use Rattle.std.specs.Prelude.{slice_set, slice_index_or, is_some, option_map, if◌then◌else◌}
-use Rattle.std.specs.BTreeMap.{is_at}
-use Rattle.std.specs.Ordering.{nat_cmp}
-use Rattle.std.proofs.lemmas.Bool.{cases_eq}
-use Rattle.std.specs.List.{swap_remove}
-use Rattle.std.proofs.lemmas.Option.{none-some}
-use Rattle.tftp_file.specs.Source.{SourceMeaning}
-use Rattle.tftp_store.specs.Store.{StoreMeaning}
-use Rattle.tftp_ends.specs.declared.record.Record.{Record}
-use Rattle.tftp_ends.specs.End.{record_of}
-use Rattle.tftp_server.specs.State.{TransferState, ServerState, at, draft_of, is_closed, taken_of, without}
-use Rattle.tftp_server.specs.Work.{WorksAt}
-use Rattle.tftp_sockets.specs.Trace.{SocketEvent}
-use Rattle.tftp_sockets.specs.declared.port.Port.{Port}
-use Rattle.tftp_loop.specs.declared.transfer_port.TransferSocket.{TransferSocket}
-use Rattle.tftp_loop.specs.Steps.{Timer, PortState, LoopState, Closes, WorksAtPort}
-use Rattle.tftp_loop.specs.Steps.LoopStep.{Transfer_closed}
-use Rattle.tftp_loop.specs.declared.server_loop.ServerLoop.{ServerLoop}
+use Rattle.tftp_loop.proofs.Common.{arith, ◌≡◌, ◌<◌, ◌≤◌, ◌+◌, ◌-◌, ℕ, Bool, true, false, List, [], length, map, Option}
+use Rattle.tftp_loop.proofs.Common.{Some, None, IsSome, refl, sym, ap, subst, ◌∙◌, inl, inr, slice_set, slice_index_or}
+use Rattle.tftp_loop.proofs.Common.{is_some, option_map, if◌then◌else◌, is_at, nat_cmp, cases_eq, swap_remove}
+use Rattle.tftp_loop.proofs.Common.{none-some, SourceMeaning, StoreMeaning, Record, record_of, TransferState}
+use Rattle.tftp_loop.proofs.Common.{ServerState, at, draft_of, is_closed, taken_of, without, WorksAt, SocketEvent, Port}
+use Rattle.tftp_loop.proofs.Common.{TransferSocket, Timer, PortState, LoopState, WorksAtPort, Transfer_closed}
+use Rattle.tftp_loop.proofs.Common.{ServerLoop, Work_by, state_of, timer_of, MOST_AT_ONCE, AwaitVisit, ReceivedFew}
+use Rattle.tftp_loop.proofs.Common.{before_visit, AreKept, AreSettled, WereVisited, IsOpen, IsRead, IsSettled, IsTimed}
+use Rattle.tftp_loop.proofs.Common.{KeepsTries, timers_of}
+use Rattle.tftp_loop.specs.Steps.{Closes}
 use Rattle.tftp_loop.specs.declared.port_visit.Pass.{Pass}
 use Rattle.tftp_loop.specs.declared.port_visit.Pass.TheVariants as passes
-use Rattle.tftp_loop.specs.LoopStates.{OnlyWorks, Work_by, close_reported, state_of, timer_of}
-use Rattle.tftp_loop.specs.declared.port_visit.TheConstants.{MOST_AT_ONCE}
-use Rattle.tftp_loop.specs.MayWait.{AllBelow, AwaitVisit, ReceivedFew, before_visit}
-use Rattle.tftp_loop.specs.MayWait.{AllFrom, AreKept, AreRead, AreSettled, AreTimed, Finishes, Goes, WereVisited, Stays}
-use Rattle.tftp_loop.specs.MayWait.{IsOpen, IsRead, IsSettled, IsTimed, KeepsTries, VisitsPort, leaves_by, leaves_read}
-use Rattle.tftp_loop.specs.MayWait.{leaves_timed, timers_of}
+use Rattle.tftp_loop.specs.LoopStates.{OnlyWorks, close_reported}
+use Rattle.tftp_loop.specs.MayWait.{AllBelow}
+use Rattle.tftp_loop.specs.MayWait.{AllFrom, AreRead, AreTimed, Finishes, Goes, Stays}
+use Rattle.tftp_loop.specs.MayWait.{VisitsPort, leaves_by, leaves_read}
+use Rattle.tftp_loop.specs.MayWait.{leaves_timed}
 use Rattle.tftp_loop.proofs.ListLemmas.{map_is, map_removed, map_set, map_within, set_long}
 use Rattle.tftp_loop.proofs.LoopRuns.{Runs, at_index, closes, none_taken}
 use Rattle.tftp_loop.proofs.LoopStays.{all_removed, all_set, other_held, other_port, removed_held, set_kept}

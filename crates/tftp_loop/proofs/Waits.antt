@@ -1,40 +1,26 @@
 -- A wait, and when it is allowed. For four functions and eight other files.
-use Rattle.std.proofs.Common.{arith, ◌≡◌, ◌<◌, ◌≤◌, ◌-◌, ◌||◌, ◌&&◌, not, ◌⊎◌, ◌+◌, ◌++◌, ℕ, zero, suc, Bool, List, [], ◌∷◌}
-use Rattle.std.proofs.Common.{length, map, take, drop, get_or, set, min, max, true, false, Option, Some, None, IsSome}
-use Rattle.std.proofs.Common.{refl, sym, ap, subst, ◌∙◌}
-use Rattle.std.proofs.Common.{inl, inr, cond}
-use Rattle.std.specs.Prelude.{slice_index_or, is_some, All, ◌≢◌}
-use Rattle.std.specs.List.{list_any}
-use Rattle.tftp_file.specs.Source.{SourceMeaning}
-use Rattle.tftp_ends.specs.declared.endpoint.Endpoint.{Endpoint}
-use Rattle.tftp_store.specs.Store.{StoreMeaning}
-use Rattle.tftp_server.specs.State.{TransferState, ServerState, at, taken_of}
-use Rattle.tftp_sockets.specs.Watch.{last_moment, later_within, wait_of}
-use Rattle.tftp_sockets.specs.declared.watch.Watch.{Watch}
-use Rattle.tftp_sockets.specs.declared.watch.TheConstants.{LONGEST_WAIT}
-use Rattle.tftp_sockets.specs.declared.port.Port.{Port}
-use Rattle.tftp_sockets.specs.Trace.{SocketEvent}
-use Rattle.tftp_sockets.specs.Trace.SocketEvent.{Watched, Quiet}
+use Rattle.tftp_loop.proofs.Common.{arith, ◌≡◌, ◌<◌, ◌≤◌, ◌-◌, ◌||◌, ◌&&◌, not, ◌⊎◌, ◌+◌, ◌++◌, ℕ, zero, suc, Bool}
+use Rattle.tftp_loop.proofs.Common.{List, [], ◌∷◌, length, map, take, drop, min, max, true, false, Option, Some, None}
+use Rattle.tftp_loop.proofs.Common.{IsSome, refl, sym, ap, subst, ◌∙◌, inl, inr, cond, slice_index_or, is_some, All}
+use Rattle.tftp_loop.proofs.Common.{◌≢◌, list_any, SourceMeaning, Endpoint, StoreMeaning, TransferState, ServerState}
+use Rattle.tftp_loop.proofs.Common.{at, taken_of, last_moment, Watch, LONGEST_WAIT, Port, SocketEvent, Watched, Quiet}
+use Rattle.tftp_loop.proofs.Common.{is_among, TransferSocket, ServerLoop, Run, Start, Then, Timer, LoopState, LoopStep}
+use Rattle.tftp_loop.proofs.Common.{deadline_by, marked_by, is_draining, round_end, set_by, until_look, Waited}
+use Rattle.tftp_loop.proofs.Common.{Clock_read, pending_in, state_of, timer_of, AreSettled, AreKept, HasRead, IsHeld}
+use Rattle.tftp_loop.proofs.Common.{IsSettled, IsTended, ReceivedFew, timers_of, woken_if, length-map}
+use Rattle.std.proofs.Common.{get_or, set}
+use Rattle.tftp_sockets.specs.Watch.{later_within, wait_of}
 use Rattle.tftp_sockets.specs.Trace.QuietEvent.{Slept, Woke}
-use Rattle.tftp_sockets.specs.Quiet.{is_among}
-use Rattle.tftp_loop.specs.declared.transfer_port.TransferSocket.{TransferSocket}
-use Rattle.tftp_loop.specs.declared.server_loop.ServerLoop.{ServerLoop}
-use Rattle.tftp_loop.specs.Run.{Run}
-use Rattle.tftp_loop.specs.Run.Run.{Start, Then}
-use Rattle.tftp_loop.specs.Steps.{Timer, LoopState, LoopStep, MayWait, IsServed, deadline_by, marked_by, most_millis}
-use Rattle.tftp_loop.specs.Steps.{is_draining, read_at, round_end, set_by, until_look}
-use Rattle.tftp_loop.specs.Steps.LoopStep.{Waited, Clock_read}
-use Rattle.tftp_loop.specs.LoopStates.{pending_in, state_of, timer_of}
-use Rattle.tftp_loop.specs.MayWait.{AreSettled, AreKept, HasRead, HasSlept, HasWoken, IsHeld, IsSettled, IsTended}
-use Rattle.tftp_loop.specs.MayWait.{ReceivedFew}
+use Rattle.tftp_loop.specs.Steps.{MayWait, IsServed, most_millis}
+use Rattle.tftp_loop.specs.Steps.{read_at}
+use Rattle.tftp_loop.specs.MayWait.{HasSlept, HasWoken}
 use Rattle.tftp_loop.specs.MayWait.{HasFew}
-use Rattle.tftp_loop.specs.MayWait.{millis_of, reads_of, timers_of, woken_if}
+use Rattle.tftp_loop.specs.MayWait.{millis_of, reads_of}
 use Rattle.tftp_loop.specs.declared.drain.Drain.{Drain}
 use Rattle.tftp_loop.proofs.ListLemmas.{map_at}
 use Rattle.tftp_loop.proofs.LoopRuns.{same_state}
 use Rattle.tftp_loop.proofs.Tables.{any_default}
 use Rattle.std.proofs.lemmas.Grind.{common_steps}
-use Rattle.std.proofs.lemmas.List.{length-map}
 use Rattle.std.proofs.lemmas.List.Edits.{map_over_more}
 
 -- ---- how long a wait is

@@ -1,19 +1,16 @@
 -- A negotiation drops no option: each agreed option is in the result, unless one is refused. For `drops_nothing`.
-use Rattle.std.proofs.Common.{◌≡◌, ◌⊎◌, inl, inr, ℕ, ◌^◌, ◌<◌, ◌≤◌, Bool, true, false, cond, nat_le, ◌&&◌}
-use Rattle.std.proofs.Common.{List, [], ◌∷◌, Option, Some, None, Result, Ok, Err, Contains, decimal}
-use Rattle.std.proofs.Common.{bytes_eq, refl, sym, ◌∙◌, ap, subst, arith, eq-eqb}
+use Rattle.std.proofs.Common.{◌≡◌, ◌⊎◌, inl, inr, ℕ, ◌^◌, ◌<◌, Bool, true, false, cond, List, [], ◌∷◌, Option, Some}
+use Rattle.std.proofs.Common.{None, Result, Ok, Err, Contains, decimal, refl, sym, ◌∙◌, ap, subst, arith, rules}
 use Rattle.std.specs.List.{AllByRecursion}
 use Rattle.std.specs.Str.{str_to_ascii_lowercase}
-use Rattle.std.proofs.lemmas.Bool.{cond-true, cond-false, le-leb}
-use Rattle.std.proofs.lemmas.Bool.Decides.{nat_tests}
-use Rattle.std.proofs.lemmas.List.Elements.{Contains-append_cases, Contains-append_right, Contains-push_cases}
-use Rattle.std.proofs.lemmas.List.Elements.{All-contains, All-from_recursion}
+use Rattle.std.proofs.lemmas.Bool.{cond-false}
+use Rattle.std.proofs.lemmas.List.Elements.{Contains-append_right, All-contains, All-from_recursion}
 use Rattle.tftp_wire.specs.declared.options.RawOption.{RawOption}
 use Rattle.tftp_wire.specs.declared.mode.Mode.{Mode}
-use Rattle.tftp_wire.specs.declared.mode.Mode.TheVariants.{Octet, Netascii}
+use Rattle.tftp_wire.specs.declared.mode.Mode.TheVariants.{Octet}
 use Rattle.tftp_negotiate.specs.declared.asked.Asked.{Asked}
 use Rattle.tftp_negotiate.specs.declared.known.Kind.{Kind}
-use Rattle.tftp_negotiate.specs.declared.known.Kind.TheVariants.{Read, Write}
+use Rattle.tftp_negotiate.specs.declared.known.Kind.TheVariants.{Write}
 use Rattle.tftp_negotiate.specs.declared.known.Known.{Known}
 use Rattle.tftp_negotiate.specs.declared.known.Known.TheVariants.{Tsize}
 use Rattle.tftp_negotiate.specs.declared.limits.Limits.{Limits}
@@ -22,15 +19,11 @@ use Rattle.tftp_negotiate.specs.declared.name.Name.TheVariants as name
 use Rattle.tftp_negotiate.specs.declared.refusal.Refusal.{Refusal}
 use Rattle.tftp_negotiate.specs.declared.refusal.Refusal.TheVariants.{Repeated, TooLarge}
 use Rattle.tftp_negotiate.specs.Options.{name_of, number_of, name_text}
-use Rattle.tftp_negotiate.specs.Ranges.{is_in, block_sizes, timeouts, IsBlockSize, IsTimeout}
-use Rattle.tftp_negotiate.specs.Negotiation.{repeats, kept_before, each_judged}
-use Rattle.tftp_negotiate.specs.Asked.{asked_value}
+use Rattle.tftp_negotiate.specs.Negotiation.{kept_before, each_judged}
 use Rattle.tftp_negotiate.specs.Answer.{answer, answered, answered_option}
-use Rattle.tftp_negotiate.specs.Answer.{answered_tsize}
-use Rattle.tftp_negotiate.specs.Agreement.{agreement, taken, taken_option, taken_blksize, taken_timeout, taken_tsize}
-use Rattle.tftp_negotiate.specs.Laws.{Says, HasOption, MayRequest, granted, AnswersWhatIsKnown}
-use Rattle.tftp_negotiate.specs.Laws.{TooLargeForWrites, TakesLength, IsWithinAsked, known_of, AnswersAsked}
-use Rattle.tftp_negotiate.specs.Laws.{TakesWhatWasAsked}
+use Rattle.tftp_negotiate.specs.Agreement.{agreement, taken, taken_option}
+use Rattle.tftp_negotiate.specs.Laws.{Says, HasOption, MayRequest, granted, AnswersWhatIsKnown, TooLargeForWrites}
+use Rattle.tftp_negotiate.specs.Laws.{IsWithinAsked, known_of, AnswersAsked, TakesWhatWasAsked}
 use Rattle.tftp_negotiate.proofs.OptionsLemmas.{number_of-decimal}
 use Rattle.tftp_negotiate.proofs.NegotiationLemmas.{repeats_none}
 
@@ -45,9 +38,7 @@ none_of_none x h = let below = h.1 in omega arith
 
 -- an element of a list is its first, or one of the others
 cases : {X : Type 0} (x y : X) (ys : List X) → Contains (y ∷ ys) x → (y ≡ x) ⊎ Contains ys x
-cases x y ys h = elim (Contains-append_cases (y ∷ []) ys x h) [ inl one ↦ only one | inr others ↦ inr others ] where
-  only : Contains (y ∷ []) x → (y ≡ x) ⊎ Contains ys x
-  only one = elim (Contains-push_cases [] y x one) [ inl none ↦ absurd (none_of_none x none) | inr same ↦ inl same ]
+cases x y ys h = search rules
 
 -- the result of an option is in the list
 abbrev Kept : List Known → Result (Option Known) Refusal → Type 0
@@ -69,33 +60,16 @@ module _ (judgement : RawOption → Result (Option Known) Refusal) where
   keeps_cons : (o : RawOption) (os : List RawOption) (one : Result (Option Known) Refusal)
       (others : Result (List Known) Refusal)
       → judgement o ≡ one → KeepsAll os others → KeepsAll (o ∷ os) (kept_before one others)
-  keeps_cons o os (Err e) others is below = (o, head o os, is)
-  keeps_cons o os (Ok None) (Err e) is below = (below.0, tail below.0 o os below.1, below.2)
-  keeps_cons o os (Ok None) (Ok ks) is below = λ x h.
-      elim (cases x o os h) [ inl same ↦ subst (Kept ks) (sym is ∙ ap judgement same) tt | inr others ↦ below x others ]
-  keeps_cons o os (Ok (Some k)) (Err e) is below = (below.0, tail below.0 o os below.1, below.2)
-  keeps_cons o os (Ok (Some k)) (Ok ks) is below = λ x h.
-      elim (cases x o os h) [
-        | inl same ↦ subst (Kept (k ∷ ks)) (sym is ∙ ap judgement same) (head k ks)
-        | inr others ↦ kept_more k ks (judgement x) (below x others)
-      ]
+  keeps_cons o os one others is below = search (rules, head, tail, cases, kept_more)
 
   keeps_all : (os : List RawOption) → KeepsAll os (each_judged judgement os)
   keeps_all [] = λ o h. absurd (none_of_none o h)
   keeps_all (o ∷ os) = keeps_cons o os (judgement o) (each_judged judgement os) refl (keeps_all os)
 
--- the known option of a name that is in lower case
-abbrev named_by : List ℕ → Option Name
-named_by t = cond (bytes_eq t (name_text name.Blksize)) (Some name.Blksize)
-    (cond (bytes_eq t (name_text name.Timeout)) (Some name.Timeout)
-    (cond (bytes_eq t (name_text name.Tsize)) (Some name.Tsize) None))
-
 -- an option with this name and number is read as such
 named : (text : List ℕ) (one : Name) → str_to_ascii_lowercase text ≡ name_text one → name_of text ≡ Some one
 unfolding name_of
-named text name.Blksize h = ap named_by h
-named text name.Timeout h = ap named_by h
-named text name.Tsize h = ap named_by h
+named text one h = search rules
 
 numbered : (text : List ℕ) (n : ℕ) → text ≡ decimal n → n < 2 ^ 64 → number_of text ≡ Some n
 numbered text n h fits = ap number_of h ∙ number_of-decimal n fits
@@ -114,66 +88,27 @@ taken-reads asked kind mode limit o one n s =
     ap (λ a. taken asked kind mode limit a (number_of o.value)) (named o.name one s.name)
     ∙ ap (taken asked kind mode limit (Some one)) (numbered o.value n s.value s.fits)
 
--- the outcome of a test that gave an `Err`
-cond_err : {A E : Type 0} (b : Bool) (x : A) (e f : E) → cond b (Ok x) (Err e) ≡ Err f → (b ≡ false) × (e ≡ f)
-cond_err true x e f h = cc
-cond_err false x e f h = (refl, cc)
-
-either_way : {A E : Type 0} (b : Bool) (x : A) (e : E)
-    → (cond b (Ok x) (Err e) ≡ Ok x) ⊎ (cond b (Ok x) (Err e) ≡ Err e)
-either_way true x e = inl refl
-either_way false x e = inr refl
-
-above : (n m : ℕ) → nat_le n m ≡ false → m < n
-above n m h = grind (arith, nat_tests)
-
 -- the reason that a server refuses an option
 abbrev IsTooLong : Kind → Mode → Limits → Option Name → Option ℕ → Refusal → Type 0
 IsTooLong kind mode limits one value e = (e ≡ TooLarge) × (kind ≡ Write) × (mode ≡ Octet)
     × (one ≡ Some name.Tsize) × (n : ℕ) × (value ≡ Some n) × (limits.max_file < n)
 
-too_long-tsize : (kind : Kind) (mode : Mode) (length : ℕ) (limits : Limits) (n : ℕ) (e : Refusal)
-    → answered_tsize mode kind length limits.max_file n ≡ Err e
-    → IsTooLong kind mode limits (Some name.Tsize) (Some n) e
-too_long-tsize kind Netascii length limits n e h = cc
-too_long-tsize Read Octet length limits n e h = cc
-too_long-tsize Write Octet length limits n e h =
-    let test : (nat_le n limits.max_file ≡ false) × (TooLarge ≡ e) = cond_err _ _ _ _ h in
-    (sym test.1, refl, refl, refl, n, refl, above n limits.max_file test.0)
-
 too_long : (kind : Kind) (mode : Mode) (length : ℕ) (limits : Limits) (one : Option Name) (value : Option ℕ)
     (e : Refusal)
     → answered kind mode length limits one value ≡ Err e → IsTooLong kind mode limits one value e
-too_long kind mode length limits None value e h = cc
-too_long kind mode length limits (Some name.Blksize) None e h = cc
-too_long kind mode length limits (Some name.Timeout) None e h = cc
-too_long kind mode length limits (Some name.Tsize) None e h = cc
-too_long kind mode length limits (Some name.Blksize) (Some n) e h = cc
-too_long kind mode length limits (Some name.Timeout) (Some n) e h = cc
-too_long kind mode length limits (Some name.Tsize) (Some n) e h = too_long-tsize kind mode length limits n e h
+too_long kind mode length limits one value e h = search rules
 
 too_long-option : (kind : Kind) (mode : Mode) (length : ℕ) (limits : Limits) (o : RawOption) (e : Refusal)
     → answered_option kind mode length limits o ≡ Err e
     → IsTooLong kind mode limits (name_of o.name) (number_of o.value) e
 unfolding answered_option
-too_long-option kind mode length limits o e h =
-    too_long kind mode length limits (name_of o.name) (number_of o.value) e h
-
-in_block_sizes : (n : ℕ) → IsBlockSize n → is_in block_sizes n ≡ true
-in_block_sizes n h = let least = h.0 in let most = h.1 in grind (arith, nat_tests)
-
-in_timeouts : (n : ℕ) → IsTimeout n → is_in timeouts n ≡ true
-in_timeouts n h = let least = h.0 in let most = h.1 in grind (arith, nat_tests)
+too_long-option kind mode length limits o e h = too_long _ _ _ _ _ _ e h
 
 -- a value in its range is granted, or too large
 grants : (kind : Kind) (mode : Mode) (length : ℕ) (limits : Limits) (one : Name) (n : ℕ) → MayRequest kind mode one n
     → (answered kind mode length limits (Some one) (Some n) ≡ Ok (Some (granted kind length limits.max_block one n)))
     ⊎ (answered kind mode length limits (Some one) (Some n) ≡ Err TooLarge)
-grants kind mode length limits name.Blksize n h = inl (ap Ok (cond-true _ _ _ (in_block_sizes n h)))
-grants kind mode length limits name.Timeout n h = inl (ap Ok (cond-true _ _ _ (in_timeouts n h)))
-grants kind Netascii length limits name.Tsize n h = let octet = h.0 in cc
-grants Read Octet length limits name.Tsize n h = inl (ap Ok (cond-true _ _ _ (eq-eqb n 0 (h.1 refl))))
-grants Write Octet length limits name.Tsize n h = either_way (nat_le n limits.max_file) (Some (Tsize n)) TooLarge
+grants kind mode length limits one n h = search rules
 
 -- the answer to a request that repeats no name
 answers : (options : List RawOption) (kind : Kind) (mode : Mode) (length : ℕ) (limits : Limits)
@@ -183,8 +118,7 @@ answers : (options : List RawOption) (kind : Kind) (mode : Mode) (length : ℕ) 
     ⊎ ((known : List Known) × (answer options kind mode length limits ≡ Ok known)
     × ((one : Name) (n : ℕ) → HasOption options one n → MayRequest kind mode one n
     → Contains known (granted kind length limits.max_block one n)))
-answers options kind mode length limits (Err e) is refused =
-    inl (is ∙ ap Err (too_long-option kind mode length limits refused.0 e refused.2).0)
+answers options kind mode length limits (Err e) is refused = search (rules, too_long-option)
 answers options kind mode length limits (Ok ks) is keeps = inr (
   ks,
   is,
@@ -199,10 +133,13 @@ answers options kind mode length limits (Ok ks) is keeps = inr (
 
 -- the server answers each option that it knows and may
 pub answers_what_is_known : AnswersWhatIsKnown
-answers_what_is_known options kind mode length limits once =
-    answers options kind mode length limits (each_judged (answered_option kind mode length limits) options)
-    (cond-false _ _ _ (repeats_none options once))
-    (keeps_all (answered_option kind mode length limits) options)
+answers_what_is_known options kind mode length limits once = search (
+  rules,
+  answers,
+  cond-false,
+  repeats_none,
+  keeps_all,
+)
 
 refused_for : (b : Bool) (r : Result (List Known) Refusal) → cond b (Err Repeated) r ≡ Err TooLarge → r ≡ Err TooLarge
 refused_for true r h = cc
@@ -210,32 +147,13 @@ refused_for false r h = h
 
 -- a write whose stated length is too large is refused
 pub too_large_for_writes : TooLargeForWrites
-too_large_for_writes options kind mode length limits h =
-    let judgement = answered_option kind mode length limits in
-    let one =
-    subst (KeepsAll judgement options) (refused_for (repeats options) (each_judged judgement options) h)
-    (keeps_all judgement options) in
-    let why = too_long-option kind mode length limits one.0 TooLarge one.2 in
-    (why.1, why.2, why.4, (one.0, one.1, why.3, why.5), why.6)
-
--- the agreement on an answer within the request
-takes-tsize : (asked : Option ℕ) (kind : Kind) (limit n : ℕ) → TakesLength asked kind limit n
-    → taken_tsize asked kind limit (Some n) ≡ Ok (Some (Tsize n))
-takes-tsize None Read limit n h = let some = h.0 in cc
-takes-tsize None Write limit n h = cc
-takes-tsize (Some length) Read limit n h = cond-true _ _ _ (le-leb n limit h.1)
-takes-tsize (Some length) Write limit n h = let same : n ≡ length = cc in cond-true _ _ _ (eq-eqb n length same)
-
-in_sizes_to : (n most : ℕ) → 8 ≤ n → n ≤ most → (nat_le 8 n && nat_le n most) ≡ true
-in_sizes_to n most h k = grind (arith, nat_tests)
+too_large_for_writes options kind mode length limits h = search (rules, refused_for, keeps_all, too_long-option) steps
+    1000000
 
 takes : (asked : Asked) (kind : Kind) (mode : Mode) (limit : ℕ) (one : Name) (n : ℕ)
     → IsWithinAsked asked kind mode limit (known_of one n)
     → taken asked kind mode limit (Some one) (Some n) ≡ Ok (Some (known_of one n))
-takes asked kind mode limit name.Blksize n h =
-    ap (λ a. taken_blksize a (Some n)) h.2 ∙ cond-true _ _ _ (in_sizes_to n h.1 h.0 h.3)
-takes asked kind mode limit name.Timeout n h = ap (λ a. taken_timeout a (Some n)) h ∙ cond-true _ _ _ (eq-eqb n n refl)
-takes asked kind mode limit name.Tsize n h = takes-tsize (asked_value mode asked name.Tsize) kind limit n h
+takes asked kind mode limit one n h = search rules
 
 -- an option has one name and one number
 says_one : (o : RawOption) (one other : Name) (n m : ℕ) → Says o one n → Says o other m

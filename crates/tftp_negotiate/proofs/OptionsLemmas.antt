@@ -1,41 +1,27 @@
 -- A name by its letters, and a number by its decimal digits. For `Name::of`, `number_of`, KeptLemmas and LawsLemmas.
-use Rattle.std.proofs.Common.{◌≡◌, ℕ, ◌^◌, ◌<◌, ◌↔◌, Bool, true, false, ◌&&◌, cond, List, Some, None}
-use Rattle.std.proofs.Common.{IsTrue, decimal, nat_lt, bytes_eq, refl, subst, sym, ◌∙◌, ap, arith}
+use Rattle.std.proofs.Common.{◌≡◌, ℕ, ◌^◌, ◌<◌, ◌↔◌, Bool, true, false, ◌&&◌, cond, List, Some, None, IsTrue, decimal}
+use Rattle.std.proofs.Common.{nat_lt, bytes_eq, refl, sym, ◌∙◌, ap, arith, ◌*◌, ◌+◌, IfSome, Option, get_or, length}
+use Rattle.std.proofs.Common.{take, rules}
 use Rattle.std.specs.Str.{str_to_ascii_lowercase}
 use Rattle.std.specs.Char.{digit_value}
 use Rattle.std.specs.Int.{IsInRange}
-use Rattle.std.proofs.Common.{◌*◌, ◌+◌, IfSome, Option, get_or, length, suc, take, zero}
 use Rattle.std.proofs.lemmas.Int.Digits.{digits_value_more}
 use Rattle.std.proofs.lemmas.Str.Parse.{digit_at, digits_value-take-le, numerals_by_value, tells_digits}
 use Rattle.std.specs.Str.Parse.{AllDigits, digits_value}
 use Rattle.std.proofs.lemmas.Fmt.{decimal_is_IsNumeral, decimal_digit, first_decimal, decimal_nonempty, decimal-digits_value}
 use Rattle.std.proofs.lemmas.Slice.Eq.{bytes_eq-Decides}
-use Rattle.std.proofs.lemmas.Bool.{false_from_ne_true, cond-true, cond-false}
-use Rattle.std.proofs.lemmas.Bool.Decides.{same_from_decides, nat_tests}
+use Rattle.std.proofs.lemmas.Bool.{cond-true, cond-false}
+use Rattle.std.proofs.lemmas.Bool.Decides.{nat_tests}
 use Rattle.std.specs.Cmp.Derive.{both_true}
 use Rattle.std.proofs.lemmas.Option.{cond_some}
 use Rattle.tftp_negotiate.specs.declared.name.Name.{Name}
 use Rattle.tftp_negotiate.specs.declared.name.Name.TheVariants.{Blksize, Timeout, Tsize}
 use Rattle.tftp_negotiate.specs.Options.{name_of, number_of, name_text, means}
 
--- the test of the code is the definition's
-pub means_is : (text : List ℕ) (name : Name) (r : Bool) → (IsTrue r ↔ (str_to_ascii_lowercase text ≡ name_text name))
-    → means text name ≡ r
-means_is text name r h =
-    same_from_decides (means text name) r (bytes_eq-Decides (str_to_ascii_lowercase text) (name_text name)) (h.0, h.1)
-
--- the names are in lower case
-lower_name : (name : Name) → str_to_ascii_lowercase (name_text name) ≡ name_text name
-lower_name Blksize = refl
-lower_name Timeout = refl
-lower_name Tsize = refl
-
 -- the same, of the bytes of a name
 pub means_bytes : (text bytes : List ℕ) (name : Name) (r : Bool) → bytes ≡ name_text name
     → (IsTrue r ↔ (str_to_ascii_lowercase text ≡ str_to_ascii_lowercase bytes)) → means text name ≡ r
-means_bytes text bytes name r is h =
-    means_is text name r (subst (λ (b : List ℕ). IsTrue r ↔ (str_to_ascii_lowercase text ≡ b))
-    (ap str_to_ascii_lowercase is ∙ lower_name name) h)
+means_bytes text bytes name r is h = search rules
 
 -- the name `blksize`, in any case
 pub name_of-blksize : (text : List ℕ) → means text Blksize ≡ true → name_of text ≡ Some Blksize
@@ -81,11 +67,10 @@ number_of-decimal n small =
 pub decimal-number_of : (text : List ℕ) (n : ℕ) → number_of text ≡ Some n → (text ≡ decimal n) × (n < 2 ^ 64)
 decimal-number_of text n h =
     let s =
-    cond_some (bytes_eq (decimal (digits_value 10 text)) text && nat_lt (digits_value 10 text) (2 ^ 64))
-    (digits_value 10 text) n (sym (number_by text (digits_value 10 text) refl) ∙ h) in
+    cond_some (bytes_eq (decimal (digits_value 10 text)) text && nat_lt (digits_value 10 text) (2 ^ 64)) (digits_value
+    10 text) n (sym (number_by text (digits_value 10 text) refl) ∙ h) in
     let p = both_parts (bytes_eq (decimal (digits_value 10 text)) text) (nat_lt (digits_value 10 text) (2 ^ 64)) s.0 in
-    let e : text ≡ decimal (digits_value 10 text) =
-    sym ((bytes_eq-Decides (decimal (digits_value 10 text)) text).0 p.0) in
+    let e : text ≡ decimal (digits_value 10 text) = search rules in
     (e ∙ ap decimal s.1, let m = p.1 in let k = s.1 in grind (arith, nat_tests))
 
 -- a text that is not the decimal digits of a number is not a number
@@ -93,17 +78,13 @@ pub number_of_none : (text : List ℕ) → ((n : ℕ) → n < 2 ^ 64 → text �
 number_of_none text none =
     let v = digits_value 10 text in
     let e = number_by text v refl in
-    let no : (bytes_eq (decimal v) text && nat_lt v (2 ^ 64)) ≡ false = false_from_ne_true _ (λ t.
-    let is = decimal-number_of text v (e ∙ cond-true _ _ _ t) in none v is.1 is.0) in
+    let no : (bytes_eq (decimal v) text && nat_lt v (2 ^ 64)) ≡ false = search rules in
     sym (e ∙ cond-false _ _ _ no)
 
 -- a number has a first digit, which is 0 only if it is the only one
 pub begins-decimal : (text : List ℕ) (n : ℕ) → n < 2 ^ 64 → text ≡ decimal n
     → (0 < length text) × (get_or text 0 0 ≡ 48 → length text ≡ 1)
-begins-decimal text zero small e = rw e (rw (decimal_digit 0 (omega arith)) (omega arith, λ _. refl))
-begins-decimal text (suc n) small e =
-    let first = first_decimal (suc n) (omega arith) small in
-    rw e (decimal_nonempty (suc n) small, λ zero. omega arith)
+begins-decimal text n small e = search (rules, decimal_digit, first_decimal, decimal_nonempty)
 
 -- what was read of a text that begins as a number
 pub number_of-read : (text : List ℕ) (r : Option ℕ)

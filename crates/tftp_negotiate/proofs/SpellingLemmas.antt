@@ -1,6 +1,6 @@
 -- Known options as they are sent are options of a packet. For `options_are_spelled` and the crate tftp_rules.
 use Rattle.std.proofs.Common.{◌≡◌, ℕ, ◌+◌, ◌^◌, ◌<◌, ◌≤◌, List, [], ◌∷◌, ◌++◌, length, map, Option, Some, None, IfSome}
-use Rattle.std.proofs.Common.{decimal, sym, ap, ◌∙◌, subst, arith, inl, inr}
+use Rattle.std.proofs.Common.{decimal, arith, rules}
 use Rattle.std.specs.Prelude.{◌≢◌}
 use Rattle.std.specs.List.{AllByRecursion}
 use Rattle.std.proofs.lemmas.Bool.{cases_eq}
@@ -16,7 +16,7 @@ use Rattle.tftp_negotiate.specs.declared.known.Known.TheVariants as known
 use Rattle.tftp_negotiate.specs.declared.name.Name.{Name}
 use Rattle.tftp_negotiate.specs.declared.name.Name.TheVariants.{Blksize, Timeout, Tsize}
 use Rattle.tftp_negotiate.specs.Agreed.{agreed_options, known_option}
-use Rattle.tftp_negotiate.specs.Asked.{asked_tsize, option_of, option_if, request_tsize}
+use Rattle.tftp_negotiate.specs.Asked.{option_of, option_if, request_tsize}
 use Rattle.tftp_negotiate.specs.Laws.{HasWord, KnownAreOptions, AskedAreOptions}
 use Rattle.tftp_negotiate.specs.Options.{name_text}
 
@@ -26,24 +26,10 @@ digits_text [] = tt
 digits_text (d ∷ digits) = ((let z : 48 + d ≢ 0 = omega arith in z), digits_text digits)
 
 number_text : (n : ℕ) → n < 2 ^ 64 → IsText (decimal n)
-number_text n fits = elim (cases_eq n 0) [
-  | inl e ↦
-      subst IsText (sym (ap decimal e ∙ decimal_digit 0 (omega arith))) ((let z : 48 + 0 ≢ 0 = omega arith in z), tt)
-  | inr s ↦ subst IsText (sym (decimal-digits_of n (omega (arith, s)) fits)) (digits_text _)
-]
+number_text n fits = search (rules, cases_eq, decimal_digit, decimal-digits_of, digits_text)
 
 name_is : (name : Name) → (name_text name ≢ []) × IsText (name_text name) × (length (name_text name) ≤ 7)
-name_is Blksize = (
-  (λ e. cc),
-  (omega arith, (omega arith, (omega arith, (omega arith, (omega arith, (omega arith, (omega arith, tt))))))),
-  omega arith,
-)
-name_is Timeout = (
-  (λ e. cc),
-  (omega arith, (omega arith, (omega arith, (omega arith, (omega arith, (omega arith, (omega arith, tt))))))),
-  omega arith,
-)
-name_is Tsize = ((λ e. cc), (omega arith, (omega arith, (omega arith, (omega arith, (omega arith, tt))))), omega arith)
+name_is name = search rules
 
 -- an option as it is sent with its number
 record Spelled (o : RawOption) : Type 0 where
@@ -58,10 +44,7 @@ spelled_option name n fits =
     let b = length-append (decimal n) (0 ∷ []) in
     let c = length-append (name_text name ++ 0 ∷ []) (decimal n ++ 0 ∷ []) in
     let short = h.2 in
-    record {
-      option = record { named = h.0; name = h.1; value = number_text n fits };
-      short = omega (arith, a, b, c, l, short);
-    }
+    search (rules, number_text)
 
 spelled_known : (k : Known) → HasWord k → Spelled (known_option k)
 spelled_known (known.Blksize n) f = spelled_option Blksize n f
@@ -102,10 +85,5 @@ request_word Write length n fits e = omega (arith, e)
 
 -- and the client's
 pub asked_are_options : AskedAreOptions
-asked_are_options asked kind mode length fits is =
-    options_if Blksize asked.blksize _
-    (word_if _ (λ n r. let b = r.1 in omega (arith, b)) asked.blksize is.askable.blksize)
-    (options_if Timeout asked.timeout _
-    (word_if _ (λ n r. let b = r.1 in omega (arith, b)) asked.timeout is.askable.timeout)
-    (last_if Tsize (asked_tsize mode asked)
-    (word_if _ (λ n e. request_word kind length n fits e) (asked_tsize mode asked) is.tsize)))
+asked_are_options asked kind mode length fits is = search (rules, options_if, word_if, last_if, request_word) steps
+    1000000

@@ -1,28 +1,20 @@
 -- A client accepts the options that a server answers to its request, unless the file is longer than it accepts.
 -- For the law a_client_ends_for_a_reason.
-use Rattle.std.proofs.Common.{◌≡◌, ℕ, ◌*◌, ◌^◌, ◌<◌, ◌≤◌, Bool, true, false, List, [], ◌∷◌, Option, Some, None, Result}
-use Rattle.std.proofs.Common.{Ok, Err}
-use Rattle.std.proofs.Common.{refl, ap, ◌∙◌, arith, inl, inr}
-use Rattle.std.specs.Prelude.{◌⊎◌, if◌then◌else◌, nat_le, nat_lt, IfSome}
-use Rattle.std.proofs.lemmas.Bool.{cases_Bool, ltb-true, ltb-false}
-use Rattle.tftp_wire.specs.declared.limits.TheConstants.{MAX_BLOCK}
-use Rattle.tftp_wire.specs.declared.mode.Mode.{Mode}
-use Rattle.tftp_wire.specs.declared.options.RawOption.{RawOption}
-use Rattle.tftp_negotiate.specs.Agreed.{agreed_options}
-use Rattle.tftp_negotiate.specs.Agreement.{agreement, taken, taken_option, taken_tsize}
-use Rattle.tftp_negotiate.specs.Answer.{answer}
+use Rattle.tftp_promises.proofs.Common.{◌≡◌, ℕ, ◌*◌, ◌^◌, ◌<◌, ◌≤◌, Bool, true, false, List, [], ◌∷◌, Option, Some}
+use Rattle.tftp_promises.proofs.Common.{None, Result, Ok, Err, refl, ap, ◌∙◌, arith, inl, inr, ◌⊎◌, if◌then◌else◌}
+use Rattle.tftp_promises.proofs.Common.{nat_le, nat_lt, cases_Bool, ltb-true, MAX_BLOCK, Mode, RawOption}
+use Rattle.tftp_promises.proofs.Common.{agreed_options, agreement, answer, name_of, IsBlockSize, Asked, Known, Refusal}
+use Rattle.std.specs.Prelude.{IfSome}
+use Rattle.std.proofs.lemmas.Bool.{ltb-false}
+use Rattle.tftp_negotiate.specs.Agreement.{taken, taken_option, taken_tsize}
 use Rattle.tftp_negotiate.specs.Asked.{IsFor, asked_options, asked_tsize}
 use Rattle.tftp_negotiate.specs.Negotiation.{each_judged, kept_before, repeats}
-use Rattle.tftp_negotiate.specs.Options.{name_of, number_of}
-use Rattle.tftp_negotiate.specs.Ranges.{IsBlockSize}
-use Rattle.tftp_negotiate.specs.declared.asked.Asked.{Asked}
+use Rattle.tftp_negotiate.specs.Options.{number_of}
 use Rattle.tftp_negotiate.specs.declared.known.Kind.TheVariants as kinds
-use Rattle.tftp_negotiate.specs.declared.known.Known.{Known}
 use Rattle.tftp_negotiate.specs.declared.known.Known.TheVariants.{Tsize as Has_length}
 use Rattle.tftp_negotiate.specs.declared.limits.Limits.{Limits}
 use Rattle.tftp_negotiate.specs.declared.name.Name.{Name}
 use Rattle.tftp_negotiate.specs.declared.name.Name.TheVariants.{Blksize, Timeout, Tsize}
-use Rattle.tftp_negotiate.specs.declared.refusal.Refusal.{Refusal}
 use Rattle.tftp_negotiate.specs.declared.refusal.Refusal.TheVariants.{Repeated, TooLarge}
 use Rattle.tftp_negotiate.proofs.LawsLemmas.{ends_agree}
 use Rattle.tftp_ends.specs.Opening.{asked_size}

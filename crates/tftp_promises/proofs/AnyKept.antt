@@ -1,42 +1,25 @@
 -- In the end state of the traces what a receiver was handed is what its peer's file gave: the invariant by the run
 -- says it of a text that is padded, and no padding is part of what is claimed.
-use Rattle.std.proofs.Common.{◌≡◌, ℕ, Bool, true, false, List, [], ◌++◌, length, Some, None, refl, sym, ap, ◌∙◌, subst, inl}
-use Rattle.std.proofs.Common.{inr}
-use Rattle.std.specs.Prelude.{◌≢◌, if◌then◌else◌, not, slice_get, option_map}
-use Rattle.std.proofs.lemmas.Bool.{true≢false}
-use Rattle.std.proofs.lemmas.Option.{same_Some, slice_get-map}
-use Rattle.tftp_wire.specs.declared.mode.Mode.{Mode}
-use Rattle.tftp_file.specs.Block.{IsPrefixOf}
-use Rattle.tftp_file.specs.Netascii.{wire_text}
-use Rattle.tftp_file.specs.Sink.{SinkMeaning}
-use Rattle.tftp_file.specs.Source.{SourceMeaning}
-use Rattle.tftp_file.specs.declared.files.Files.{Files}
-use Rattle.tftp_file.specs.declared.files.Files.TheVariants.{Source, Sink}
-use Rattle.tftp_ends.specs.declared.phase.Phase.{Phase}
-use Rattle.tftp_ends.specs.declared.phase.Phase.TheVariants.{Waiting, Sending, Receiving, Dallying, Closed}
-use Rattle.tftp_ends.specs.declared.role.Role.{Role}
-use Rattle.tftp_ends.specs.End.{EndState, is_client, is_complete, is_sender, record_of}
-use Rattle.tftp_store.specs.Store.{StoreMeaning}
-use Rattle.tftp_server.specs.State.{TransferState}
-use Rattle.tftp_rules.specs.Machine.{Elsewhere, Endpoint}
-use Rattle.tftp_rules.specs.OpenEnds.{OpenEnd, goes_on, open_view, received_text}
+use Rattle.tftp_promises.proofs.Common.{◌≡◌, ℕ, Bool, true, false, List, [], ◌++◌, length, Some, None, refl, sym, ap}
+use Rattle.tftp_promises.proofs.Common.{◌∙◌, subst, inl, inr, ◌≢◌, if◌then◌else◌, slice_get, option_map, true≢false}
+use Rattle.tftp_promises.proofs.Common.{same_Some, slice_get-map, Mode, IsPrefixOf, wire_text, SinkMeaning}
+use Rattle.tftp_promises.proofs.Common.{SourceMeaning, Files, Source, Sink, Phase, Waiting, Sending, Receiving}
+use Rattle.tftp_promises.proofs.Common.{Dallying, Closed, Role, EndState, is_client, is_complete, is_sender, record_of}
+use Rattle.tftp_promises.proofs.Common.{StoreMeaning, TransferState, Elsewhere, Endpoint, OpenEnd, open_view, EndView}
+use Rattle.tftp_promises.proofs.Common.{IsAmong, moved_in, IsEnd, IsOurs, KeepAnyFiles, ProgramEnd, ServesClient}
+use Rattle.tftp_promises.proofs.Common.{client_end, transfer_end, HadStore, StoreBegan, GaveSince, StoreOpened, Moved}
+use Rattle.tftp_promises.proofs.Common.{ArePortsFresh, moved_at, opened_at, Programs, IsStranger, ClientOf, endpoint}
+use Rattle.tftp_promises.proofs.Common.{HasOpened, joined, Has_asked, all_of}
+use Rattle.std.specs.Prelude.{not}
+use Rattle.tftp_rules.specs.OpenEnds.{goes_on, received_text}
 use Rattle.tftp_rules.specs.Safety.{IsCompleteAt, IsSenderAt}
-use Rattle.tftp_rules.specs.Shows.{EndView}
-use Rattle.tftp_rules.specs.ViewSafety.{IsAmong, IsSafeViews, safety_view}
+use Rattle.tftp_rules.specs.ViewSafety.{IsSafeViews, safety_view}
 use Rattle.tftp_rules.proofs.ViewSafe.{shown_safe}
-use Rattle.tftp_promises.specs.ClientRuns.{moved_in}
-use Rattle.tftp_promises.specs.AnyFiles.{WasGivenBy, HasGot, HasPut, IsEnd, IsOurs, KeepAnyFiles}
-use Rattle.tftp_promises.specs.AnyFiles.{ProgramEnd, ServesClient, WasGiven, WasOpened, WasTaken, client_end, has_of, peer_of}
-use Rattle.tftp_promises.specs.AnyFiles.{safety_of, transfer_end}
+use Rattle.tftp_promises.specs.AnyFiles.{WasGivenBy, HasGot, HasPut}
+use Rattle.tftp_promises.specs.AnyFiles.{WasGiven, WasOpened, WasTaken, has_of, peer_of}
+use Rattle.tftp_promises.specs.AnyFiles.{safety_of}
 use Rattle.tftp_promises.specs.Arrived.{ViewsEnd}
-use Rattle.tftp_promises.specs.Drafts.{HadStore, StoreBegan, TookSince}
-use Rattle.tftp_promises.specs.Given.{GaveSince, StoreOpened}
-use Rattle.tftp_promises.specs.Moved.{Moved}
-use Rattle.tftp_promises.specs.Openings.{ArePortsFresh, moved_at, opened_at}
-use Rattle.tftp_promises.specs.Order.{Programs, IsStranger, ClientOf}
-use Rattle.tftp_promises.specs.Programs.{endpoint}
-use Rattle.tftp_promises.specs.Network.{HasOpened, joined}
-use Rattle.tftp_promises.specs.Snapshots.{Has_asked, all_of}
+use Rattle.tftp_promises.specs.Drafts.{TookSince}
 use Rattle.tftp_promises.proofs.ClientRoles.{run_role}
 use Rattle.tftp_promises.proofs.ClientsServed.{one_there, served_by}
 use Rattle.tftp_promises.proofs.Invariant.{ClientKept, GaveSo, HasFile, HasStored, IsGiven, IsKept, IsOpened}

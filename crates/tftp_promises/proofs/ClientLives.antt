@@ -1,21 +1,14 @@
 -- The run of a client is a life of its end.
-use Rattle.std.proofs.Common.{◌≡◌, ℕ, false, Option, Some, None, refl, List}
-use Rattle.std.specs.Prelude.{IsSome, is_some}
-use Rattle.tftp_file.specs.Sink.{SinkMeaning}
-use Rattle.tftp_file.specs.Source.{SourceMeaning}
-use Rattle.tftp_file.specs.declared.files.Files.{Files}
+use Rattle.tftp_promises.proofs.Common.{◌≡◌, ℕ, false, Option, Some, None, refl, List, IsSome, is_some, SinkMeaning}
+use Rattle.tftp_promises.proofs.Common.{SourceMeaning, Files, Outcome, EndState, outcome_of, Act, Life, State}
+use Rattle.tftp_promises.proofs.Common.{HandlesReceived, MayElapse, IsOpen, Answers, Loses, Stays, Elapses, ClientDoes}
+use Rattle.tftp_promises.proofs.Common.{Receives_one, Reads_clock, Waits_until, Times_out, File_works, Prints_line}
+use Rattle.tftp_promises.proofs.Common.{ClientRun, Starts, Goes_on, acts_in, client_acts, ClientOpens, To_read}
+use Rattle.tftp_promises.proofs.Common.{To_write}
 use Rattle.tftp_ends.specs.declared.endpoint.Endpoint.{Endpoint}
-use Rattle.tftp_ends.specs.declared.outcome.Outcome.{Outcome}
-use Rattle.tftp_ends.specs.End.{EndState, outcome_of}
-use Rattle.tftp_lives.specs.Lives.{Act, Life, Opens, Hears, Loses as Loses_it, Times}
+use Rattle.tftp_lives.specs.Lives.{Opens, Hears, Loses as Loses_it, Times}
 use Rattle.tftp_lives.specs.Unanswered.{Begins, To_get, To_put}
-use Rattle.tftp_client.specs.Converses.{State, HandlesReceived, MayElapse, IsOpen}
-use Rattle.tftp_client.specs.Converses.HandlesReceived.{Answers, Loses}
-use Rattle.tftp_client.specs.Converses.MayElapse.{Stays, Elapses}
-use Rattle.tftp_promises.specs.ClientRuns.{ClientDoes, Receives_one, Reads_clock, Waits_until, Times_out, File_works}
-use Rattle.tftp_promises.specs.ClientRuns.{Prints_line, ClientRun, Starts, Goes_on}
-use Rattle.tftp_promises.specs.Lived.{acts_in, client_acts, elapsing_acts, handling_acts}
-use Rattle.tftp_promises.specs.Programs.{ClientOpens, To_read, To_write}
+use Rattle.tftp_promises.specs.Lived.{elapsing_acts, handling_acts}
 
 -- an end that is not closed is open
 is_open : (o : Option Outcome) → (IsSome o → ⊥) → is_some o ≡ false

@@ -1,10 +1,6 @@
 -- The end of a client keeps its role.
-use Rattle.std.proofs.Common.{◌≡◌, ℕ, refl, ◌∙◌, rules}
-use Rattle.tftp_file.specs.Sink.{SinkMeaning}
-use Rattle.tftp_file.specs.Source.{SourceMeaning}
-use Rattle.tftp_file.specs.declared.files.Files.{Files}
-use Rattle.tftp_client.specs.Converses.{State}
-use Rattle.tftp_promises.specs.ClientRuns.{ClientDoes, ClientRun, Goes_on, Starts}
+use Rattle.tftp_promises.proofs.Common.{◌≡◌, ℕ, refl, ◌∙◌, rules, SinkMeaning, SourceMeaning, Files, State, ClientDoes}
+use Rattle.tftp_promises.proofs.Common.{ClientRun, Goes_on, Starts}
 
 module _ {G K : Type 0} {inputs : SourceMeaning G} {outputs : SinkMeaning K} {port : ℕ} where
   step_role : {s s' : State} {files files' : Files G K} → ClientDoes inputs outputs port s files s' files' →

@@ -1,25 +1,13 @@
 -- What a client notes, step by step.
-use Rattle.std.proofs.lemmas.Grind.{common_steps}
-use Rattle.std.proofs.Common.{◌≡◌, ℕ, List, [], ◌∷◌, ◌++◌, Option, Some, None, refl, ap, ◌∙◌, arith, rules}
-use Rattle.std.specs.Prelude.{◌⊎◌}
-use Rattle.std.specs.List.{AllByRecursion}
-use Rattle.std.proofs.lemmas.List.{append_cancel_right}
-use Rattle.tftp_file.specs.Sink.{SinkMeaning}
-use Rattle.tftp_file.specs.Source.{SourceMeaning}
-use Rattle.tftp_file.specs.declared.files.Files.{Files}
-use Rattle.tftp_ends.specs.End.{EndState}
-use Rattle.tftp_ends.specs.Step.{Reply}
-use Rattle.tftp_rules.specs.Machine.{Endpoint}
-use Rattle.tftp_sockets.specs.Trace.{SocketEvent, QuietEvent, answered}
-use Rattle.tftp_sockets.specs.Trace.SocketEvent.{Received, Sent, Watched, Elapsed, Printed, Quiet}
-use Rattle.tftp_sockets.specs.Trace.QuietEvent.{Empty, Failed, Slept}
-use Rattle.tftp_client.specs.Converses.{State, HandlesReceived, MayElapse, wait_at}
-use Rattle.tftp_client.specs.Converses.HandlesReceived.{Answers, Loses}
-use Rattle.tftp_client.specs.Converses.MayElapse.{Stays, Elapses}
-use Rattle.tftp_promises.specs.ClientRuns.{ClientDoes, ClientRun, Starts, Goes_on, Receives_one, Reads_clock, Waits_until, Times_out}
-use Rattle.tftp_promises.specs.ClientRuns.{File_works, Prints_line}
-use Rattle.tftp_promises.specs.Traces.{IsOfPort, IsQuietAt, AsksFirst}
-use Rattle.tftp_promises.specs.Programs.{ClientProgram, ClientOpens}
+use Rattle.tftp_promises.proofs.Common.{common_steps, ◌≡◌, ℕ, List, [], ◌∷◌, ◌++◌, Option, Some, None, refl, ap, ◌∙◌}
+use Rattle.tftp_promises.proofs.Common.{arith, rules, ◌⊎◌, AllByRecursion, append_cancel_right, SinkMeaning}
+use Rattle.tftp_promises.proofs.Common.{SourceMeaning, Files, EndState, Reply, Endpoint, SocketEvent, answered}
+use Rattle.tftp_promises.proofs.Common.{Received, Sent, Watched, Elapsed, Printed, Quiet, Empty, Failed, Slept, State}
+use Rattle.tftp_promises.proofs.Common.{HandlesReceived, MayElapse, wait_at, Answers, Loses, Stays, Elapses, ClientDoes}
+use Rattle.tftp_promises.proofs.Common.{ClientRun, Starts, Goes_on, Receives_one, Reads_clock, Waits_until, Times_out}
+use Rattle.tftp_promises.proofs.Common.{File_works, Prints_line, IsOfPort, ClientProgram, ClientOpens}
+use Rattle.tftp_sockets.specs.Trace.{QuietEvent}
+use Rattle.tftp_promises.specs.Traces.{IsQuietAt, AsksFirst}
 
 -- the events since `first` are of this port
 abbrev pub Since : ℕ → List SocketEvent → List SocketEvent → Type 0

@@ -1,21 +1,13 @@
 -- What a client did is one run of it, and that of a program.
-use Rattle.std.proofs.Common.{◌≡◌, ℕ, List, [], ◌∷◌, ◌++◌, append_assoc, refl, sym, ap, subst, ◌∙◌}
-use Rattle.tftp_file.specs.Sink.{SinkMeaning}
-use Rattle.tftp_file.specs.Source.{SourceMeaning}
-use Rattle.tftp_file.specs.declared.files.Files.{Files}
-use Rattle.tftp_ends.specs.End.{EndState}
-use Rattle.tftp_rules.specs.Machine.{Endpoint}
-use Rattle.tftp_sockets.specs.Trace.{SocketEvent}
-use Rattle.tftp_sockets.specs.Trace.SocketEvent.{Sent}
+use Rattle.tftp_promises.proofs.Common.{◌≡◌, ℕ, List, [], ◌∷◌, ◌++◌, append_assoc, refl, sym, ap, subst, ◌∙◌}
+use Rattle.tftp_promises.proofs.Common.{SinkMeaning, SourceMeaning, Files, EndState, Endpoint, SocketEvent, Sent}
+use Rattle.tftp_promises.proofs.Common.{Backoff, begun, State, ClientRun, Starts, Goes_on, Receives_one, Waits_until}
+use Rattle.tftp_promises.proofs.Common.{Reads_clock, Times_out, File_works, Prints_line, moved_in, ClientOpens}
 use Rattle.tftp_client.specs.Moved.{Moved, handling_moves, run_moves}
-use Rattle.tftp_ends.specs.declared.backoff.Backoff.{Backoff}
-use Rattle.tftp_client.specs.Runs.{begun}
-use Rattle.tftp_client.specs.Converses.{State, Converses, progress_of}
+use Rattle.tftp_client.specs.Converses.{Converses, progress_of}
 use Rattle.tftp_client.specs.Converses.Converses.{Begins, Receives, Waits, Times, Rests}
-use Rattle.tftp_promises.specs.ClientRuns.{ClientRun, ClientsAreRuns, Starts, Goes_on, Receives_one, Waits_until}
-use Rattle.tftp_promises.specs.ClientRuns.{Reads_clock, Times_out, File_works, Prints_line, moved_in}
+use Rattle.tftp_promises.specs.ClientRuns.{ClientsAreRuns}
 use Rattle.tftp_promises.specs.ClientPrograms.{ClientsArePrograms, IsClientRun}
-use Rattle.tftp_promises.specs.Programs.{ClientOpens}
 use Rattle.tftp_promises.proofs.ClientTraces.{converse}
 
 module _ {G K : Type 0} {inputs : SourceMeaning G} {outputs : SinkMeaning K} {port : ℕ} {first : State}

@@ -1,40 +1,24 @@
 -- In the end state of the traces no two ends share an endpoint, and the peer of a client is the transfer of the server
 -- that its request opened, for the path of its name.
-use Rattle.std.proofs.Common.{◌≡◌, ℕ, Bool, true, false, not, List, [], Ok, Some, refl, sym, ap, ◌∙◌, subst, inl, inr}
-use Rattle.std.proofs.Common.{rules}
-use Rattle.std.specs.Prelude.{not, slice_get, option_map}
-use Rattle.std.specs.List.{Contains}
-use Rattle.std.proofs.lemmas.Bool.{true≢false}
-use Rattle.std.proofs.lemmas.Option.{same_Some, slice_get-map}
-use Rattle.tftp_wire.specs.Spelling.{Spells}
+use Rattle.tftp_promises.proofs.Common.{◌≡◌, ℕ, Bool, true, false, not, List, [], Ok, Some, refl, sym, ap, ◌∙◌, subst}
+use Rattle.tftp_promises.proofs.Common.{inl, inr, rules, slice_get, option_map, Contains, true≢false, same_Some}
+use Rattle.tftp_promises.proofs.Common.{slice_get-map, Spells, Read, Write, one_meaning, path_of_name, SinkMeaning}
+use Rattle.tftp_promises.proofs.Common.{SourceMeaning, Files, EndState, is_client, is_sender, request_of, StoreMeaning}
+use Rattle.tftp_promises.proofs.Common.{Attests, Endpoint, Machine, Message, Party, Request, open_view, message, said}
+use Rattle.tftp_promises.proofs.Common.{EndView, requested, spells_own, TransferState, at, IsEnd, ProgramEnd}
+use Rattle.tftp_promises.proofs.Common.{ServesClient, client_end, transfer_end, moved_in, ArePortsFresh, Programs}
+use Rattle.tftp_promises.proofs.Common.{requests_at, ClientOf, ClientOpens, To_read, To_write, client_at, HasOpened}
+use Rattle.tftp_promises.proofs.Common.{joined, Has_asked, all_of}
+use Rattle.std.specs.Prelude.{not}
 use Rattle.tftp_wire.specs.declared.packet.Packet.{Packet as WirePacket}
-use Rattle.tftp_wire.specs.declared.packet.Packet.TheVariants.{Read, Write}
 use Rattle.tftp_wire.specs.declared.packet.Request.{Request as WireRequest}
-use Rattle.tftp_wire.proofs.SpellingLemmas.{one_meaning}
-use Rattle.tftp_file.specs.Path.{path_of_name}
-use Rattle.tftp_file.specs.Sink.{SinkMeaning}
-use Rattle.tftp_file.specs.Source.{SourceMeaning}
-use Rattle.tftp_file.specs.declared.files.Files.{Files}
-use Rattle.tftp_ends.specs.End.{EndState, is_client, is_sender}
-use Rattle.tftp_ends.specs.Opening.{request_of}
-use Rattle.tftp_store.specs.Store.{StoreMeaning}
-use Rattle.tftp_rules.specs.Facts.{Attests, IsServing}
-use Rattle.tftp_rules.specs.Machine.{Endpoint, Machine, Message, Packet, Party, Request}
-use Rattle.tftp_rules.specs.OpenEnds.{open_view}
-use Rattle.tftp_rules.specs.Rules.{message}
-use Rattle.tftp_rules.specs.Said.{said}
-use Rattle.tftp_rules.specs.Shows.{EndView, Matches, Shows, answered_by, requested}
-use Rattle.tftp_rules.proofs.SaidLemmas.{spells_own}
+use Rattle.tftp_rules.specs.Facts.{IsServing}
+use Rattle.tftp_rules.specs.Machine.{Packet}
+use Rattle.tftp_rules.specs.Shows.{Matches, Shows, answered_by}
 use Rattle.tftp_rules.proofs.Refines.{shown_by}
 use Rattle.tftp_rules.proofs.Steps.{own_client}
-use Rattle.tftp_server.specs.State.{TransferState, at}
-use Rattle.tftp_promises.specs.AnyFiles.{IsEnd, ProgramEnd, ServesClient, client_end, peer_of, transfer_end}
-use Rattle.tftp_promises.specs.ClientRuns.{moved_in}
-use Rattle.tftp_promises.specs.Openings.{ArePortsFresh}
-use Rattle.tftp_promises.specs.Order.{Programs, requests_at, ClientOf}
-use Rattle.tftp_promises.specs.Programs.{ClientOpens, To_read, To_write, client_at, name_of, request_packet}
-use Rattle.tftp_promises.specs.Network.{HasOpened, joined}
-use Rattle.tftp_promises.specs.Snapshots.{Has_asked, all_of}
+use Rattle.tftp_promises.specs.AnyFiles.{peer_of}
+use Rattle.tftp_promises.specs.Programs.{name_of, request_packet}
 use Rattle.tftp_promises.proofs.Invariant.{ClientKept, IsKept, TransferKept}
 use Rattle.tftp_promises.proofs.KeptAsks.{says_request}
 use Rattle.tftp_promises.proofs.KeptShown.{views_end}

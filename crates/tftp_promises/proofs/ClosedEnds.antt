@@ -1,33 +1,22 @@
 -- A closed end with any datagram, and at a timeout: it sends an ERROR or its last datagram at most, and its view stays.
-use Rattle.std.proofs.Common.{◌≡◌, ◌≢◌, ℕ, suc, zero, Bool, true, List, [], ◌∷◌, ◌++◌, set, Option, Some, refl, sym, ap}
-use Rattle.std.proofs.Common.{inl, rules}
-use Rattle.std.specs.Prelude.{is_some, slice_get}
-use Rattle.std.proofs.lemmas.Bool.{true≢false}
-use Rattle.std.proofs.lemmas.Option.{same_Some}
+use Rattle.tftp_promises.proofs.Common.{◌≡◌, ℕ, suc, zero, Bool, true, List, [], ◌∷◌, ◌++◌, set, Option, Some, refl}
+use Rattle.tftp_promises.proofs.Common.{sym, ap, inl, rules, is_some, slice_get, true≢false, same_Some, Action, Respond}
+use Rattle.tftp_promises.proofs.Common.{Response, Ignore, WrongPeer, Retransmit, Close, UnknownTransferId, Outcome}
+use Rattle.tftp_promises.proofs.Common.{Phase, Waiting, Sending, Receiving, Dallying, Closed, Terms, datagram_action}
+use Rattle.tftp_promises.proofs.Common.{timeout_response, outcome_of, response_turn, timeout_turn, Stands, Goes}
+use Rattle.tftp_promises.proofs.Common.{EndKept, Endpoint, Message, Network, OpenEnd, files_of, peer_of, end_after}
+use Rattle.tftp_promises.proofs.Common.{open_view, message, said, EndView, says_error, if_acts}
+use Rattle.std.proofs.Common.{◌≢◌}
 use Rattle.tftp_wire.specs.declared.packet.Packet.{Packet as WirePacket}
-use Rattle.tftp_ends.specs.declared.action.Action.{Action}
-use Rattle.tftp_ends.specs.declared.action.Action.TheVariants.{Respond}
-use Rattle.tftp_ends.specs.declared.action.Response.{Response}
-use Rattle.tftp_ends.specs.declared.action.Response.TheVariants.{Ignore, WrongPeer, Retransmit, Close}
-use Rattle.tftp_ends.specs.declared.error_reply.ErrorReply.TheVariants.{UnknownTransferId}
-use Rattle.tftp_ends.specs.declared.outcome.Outcome.{Outcome}
 use Rattle.tftp_ends.specs.declared.outcome.Outcome.TheVariants as outcomes
-use Rattle.tftp_ends.specs.declared.phase.Phase.{Phase}
-use Rattle.tftp_ends.specs.declared.phase.Phase.TheVariants.{Waiting, Sending, Receiving, Dallying, Closed}
-use Rattle.tftp_ends.specs.declared.phase.Terms.{Terms}
-use Rattle.tftp_ends.specs.Action.{datagram_action, timeout_response}
-use Rattle.tftp_ends.specs.End.{outcome_of}
-use Rattle.tftp_ends.specs.Step.{response_turn, timeout_turn, after, with_position}
-use Rattle.tftp_rules.specs.EndShown.{Stands, Goes, IsThere}
-use Rattle.tftp_rules.specs.EndKept.{EndKept}
-use Rattle.tftp_rules.specs.Machine.{Endpoint, Error, Message, Network}
-use Rattle.tftp_rules.specs.OpenEnds.{OpenEnd, files_of, in_state, peer_of, with_phase, end_after, open_view}
-use Rattle.tftp_rules.specs.Rules.{Rule, message}
-use Rattle.tftp_rules.specs.Said.{said}
-use Rattle.tftp_rules.specs.Shows.{EndView, IsShownWithin}
-use Rattle.tftp_rules.proofs.Actions.{says_error, repeats}
+use Rattle.tftp_ends.specs.Step.{after, with_position}
+use Rattle.tftp_rules.specs.EndShown.{IsThere}
+use Rattle.tftp_rules.specs.Machine.{Error}
+use Rattle.tftp_rules.specs.OpenEnds.{in_state, with_phase}
+use Rattle.tftp_rules.specs.Rules.{Rule}
+use Rattle.tftp_rules.specs.Shows.{IsShownWithin}
+use Rattle.tftp_rules.proofs.Actions.{repeats}
 use Rattle.tftp_rules.proofs.EndMoves.{error_says, from_response}
-use Rattle.tftp_rules.proofs.PhaseMoves.{if_acts}
 
 -- what is there already changes nothing
 pub set_same : {X : Type 0} (xs : List X) (k : ℕ) (x : X) → slice_get xs k ≡ Some x → set xs k x ≡ xs

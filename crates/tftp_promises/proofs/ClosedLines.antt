@@ -1,13 +1,7 @@
 -- Each line of a run is that of a transfer that it removed.
-use Rattle.std.proofs.Common.{◌≡◌, ℕ, List, ◌++◌, append_assoc, refl, sym, ap, ◌∙◌, rules}
-use Rattle.tftp_file.specs.Source.{SourceMeaning}
-use Rattle.tftp_store.specs.Store.{StoreMeaning}
-use Rattle.tftp_server.specs.State.{ServerState}
-use Rattle.tftp_sockets.specs.Trace.{SocketEvent}
-use Rattle.tftp_loop.specs.Run.{Run}
-use Rattle.tftp_loop.specs.Run.Run.{Start, Then}
-use Rattle.tftp_loop.specs.Steps.{LoopState, LoopStep, at_start}
-use Rattle.tftp_loop.specs.declared.serving.LoopConfig.{LoopConfig}
+use Rattle.tftp_promises.proofs.Common.{◌≡◌, ℕ, List, ◌++◌, append_assoc, refl, sym, ap, ◌∙◌, rules, SourceMeaning}
+use Rattle.tftp_promises.proofs.Common.{StoreMeaning, ServerState, SocketEvent, Run, Start, Then, LoopState, LoopStep}
+use Rattle.tftp_promises.proofs.Common.{at_start, LoopConfig}
 use Rattle.tftp_promises.specs.Lines.{printed_lines, close_lines, closed_lines}
 
 module _ {S F D : Type 0} {stores : StoreMeaning S D} {sources : SourceMeaning F} where

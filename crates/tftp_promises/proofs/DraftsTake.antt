@@ -1,20 +1,12 @@
 -- What the draft of a transfer has taken since it was begun, after a step of its end, or after its own work.
-use Rattle.std.proofs.Common.{◌≡◌, ℕ, Bool, true, false, List, [], ◌∷◌, ◌++◌, Option, None, Ok, ap, inl, inr, rules}
-use Rattle.std.specs.Prelude.{◌⊎◌, if◌then◌else◌}
-use Rattle.std.proofs.lemmas.Bool.{true≢false, cases_Bool}
+use Rattle.tftp_promises.proofs.Common.{◌≡◌, ℕ, Bool, true, false, List, [], ◌∷◌, ◌++◌, Option, None, Ok, ap, inl, inr}
+use Rattle.tftp_promises.proofs.Common.{rules, ◌⊎◌, if◌then◌else◌, true≢false, cases_Bool, Holding, Sink, Action}
+use Rattle.tftp_promises.proofs.Common.{Respond, Send, Store, datagram_action, EndState, is_complete, outcome_of, Turn}
+use Rattle.tftp_promises.proofs.Common.{TakesInTurn, StoreMeaning, OpenEnd, end_after, Drafting, drafting_sink}
 use Rattle.tftp_wire.specs.declared.packet.Packet.{Packet as WirePacket}
-use Rattle.tftp_file.specs.Sink.{Holding}
-use Rattle.tftp_file.specs.declared.files.Files.TheVariants.{Sink}
-use Rattle.tftp_ends.specs.declared.action.Action.{Action}
-use Rattle.tftp_ends.specs.declared.action.Action.TheVariants.{Respond, Send, Store}
 use Rattle.tftp_ends.specs.declared.endpoint.Endpoint.{Endpoint}
-use Rattle.tftp_ends.specs.Action.{datagram_action}
-use Rattle.tftp_ends.specs.End.{EndState, is_complete, outcome_of}
-use Rattle.tftp_ends.specs.Step.{Turn, Appended}
-use Rattle.tftp_store.specs.Drafts.{TakesInTurn, Took_more, Written_back}
-use Rattle.tftp_store.specs.Store.{StoreMeaning}
-use Rattle.tftp_rules.specs.OpenEnds.{OpenEnd, end_after}
-use Rattle.tftp_server.specs.Draft.{Drafting, drafting_sink}
+use Rattle.tftp_ends.specs.Step.{Appended}
+use Rattle.tftp_store.specs.Drafts.{Took_more, Written_back}
 use Rattle.tftp_promises.specs.Drafts.{WasCommitted}
 use Rattle.tftp_promises.proofs.Invariant.{TookBy}
 use Rattle.tftp_promises.proofs.MovedStores.{Fate, StoreFate}

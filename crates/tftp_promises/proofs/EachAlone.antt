@@ -1,29 +1,20 @@
 -- A server and each of its clients are joined: the other servers and the other clients are strangers then.
-use Rattle.std.proofs.lemmas.Grind.{common_steps}
-use Rattle.std.proofs.Common.{◌≡◌, ℕ, ◌+◌, ◌<◌, List, [], ◌∷◌, ◌++◌, length, map, Bool, true, false, Some, None, refl}
-use Rattle.std.proofs.Common.{sym, ap, ◌∙◌, subst, zero, suc, arith, inl, inr, rules}
-use Rattle.std.specs.Prelude.{◌≢◌, ◌⊎◌, ◌==◌, if◌then◌else◌, slice_get}
-use Rattle.std.specs.List.{Contains}
-use Rattle.std.proofs.lemmas.Bool.{cases_Bool, cases_eq, eq-eqb, eqb-true, ne_eqb, true≢false}
-use Rattle.std.proofs.lemmas.List.Elements.{Contains-append_left, Contains-append_right}
-use Rattle.std.proofs.lemmas.Option.{same_Some, slice_get-map}
-use Rattle.tftp_file.specs.Sink.{SinkMeaning}
-use Rattle.tftp_file.specs.Source.{SourceMeaning}
-use Rattle.tftp_store.specs.Store.{StoreMeaning}
-use Rattle.tftp_rules.specs.Machine.{Endpoint}
-use Rattle.tftp_sockets.specs.Trace.{SocketEvent}
-use Rattle.tftp_sockets.specs.Trace.SocketEvent.{Received, Sent, Watched, Elapsed, Printed, Quiet}
-use Rattle.tftp_promises.specs.Alone.{AreAmong, EachIsJoined, EachKeepsAnyFiles, EachTakesOne, alone}
-use Rattle.tftp_promises.specs.Alone.{heard_with}
-use Rattle.tftp_promises.specs.Joined.{AreJoined}
-use Rattle.tftp_promises.specs.Traces.{IsOfPort}
-use Rattle.tftp_promises.specs.Order.{CanCome, CanComeOf, IsAtOf, IsError, IsHonest, IsHonestOf, IsStranger}
-use Rattle.tftp_promises.specs.Order.{IsOrder, IsStrangerTo, MayCome}
-use Rattle.tftp_promises.specs.Others.{TakesOwn}
-use Rattle.tftp_promises.specs.Order.{Noted, Programs, WasSent, events_of, ips}
-use Rattle.tftp_promises.specs.Programs.{ServerProgram, client_at, endpoint, has_port}
-use Rattle.tftp_promises.specs.Several.{OneClient, OneServer, Several, all_sent_from, apart_from, ips_of, known_ports}
-use Rattle.tftp_promises.specs.Several.{number_of, other_ports, others_sent_from, sent_from}
+use Rattle.tftp_promises.proofs.Common.{common_steps, ◌≡◌, ℕ, ◌+◌, ◌<◌, List, [], ◌∷◌, ◌++◌, length, map, Bool, true}
+use Rattle.tftp_promises.proofs.Common.{false, Some, None, refl, sym, ap, ◌∙◌, subst, zero, suc, arith, inl, inr, rules}
+use Rattle.tftp_promises.proofs.Common.{◌≢◌, ◌⊎◌, ◌==◌, if◌then◌else◌, slice_get, Contains, cases_Bool, cases_eq}
+use Rattle.tftp_promises.proofs.Common.{eq-eqb, eqb-true, ne_eqb, true≢false, Contains-append_left}
+use Rattle.tftp_promises.proofs.Common.{Contains-append_right, same_Some, slice_get-map, SinkMeaning, SourceMeaning}
+use Rattle.tftp_promises.proofs.Common.{StoreMeaning, Endpoint, SocketEvent, Received, Sent, Watched, Elapsed, Printed}
+use Rattle.tftp_promises.proofs.Common.{Quiet, alone, heard_with, AreJoined, IsOfPort, CanCome, IsError, IsHonest}
+use Rattle.tftp_promises.proofs.Common.{IsStranger, IsOrder, MayCome, TakesOwn, Noted, Programs, events_of, ips}
+use Rattle.tftp_promises.proofs.Common.{ServerProgram, client_at, endpoint, Several, number_of}
+use Rattle.tftp_promises.specs.Alone.{AreAmong, EachIsJoined, EachKeepsAnyFiles, EachTakesOne}
+use Rattle.tftp_promises.specs.Order.{CanComeOf, IsAtOf, IsHonestOf}
+use Rattle.tftp_promises.specs.Order.{IsStrangerTo}
+use Rattle.tftp_promises.specs.Order.{WasSent}
+use Rattle.tftp_promises.specs.Programs.{has_port}
+use Rattle.tftp_promises.specs.Several.{OneClient, OneServer, all_sent_from, apart_from, ips_of, known_ports}
+use Rattle.tftp_promises.specs.Several.{other_ports, others_sent_from, sent_from}
 use Rattle.tftp_promises.proofs.ClientTraces.{asks_first}
 use Rattle.tftp_promises.proofs.KeptEvents.{first_or_more, nothing_in}
 use Rattle.tftp_promises.proofs.Orders.{first_in, later_in, mapped, noted_in}

@@ -1,26 +1,16 @@
 -- The programs of the exchange are joined.
-use Rattle.std.proofs.Common.{◌≡◌, ℕ, List, [], ◌∷◌, ◌++◌, reverse, take, Some, None, refl, sym, ap, ◌∙◌, subst, inl}
-use Rattle.std.proofs.Common.{inr, arith, zero, suc}
-use Rattle.std.specs.Prelude.{◌≢◌, get_or, slice_get}
-use Rattle.std.proofs.lemmas.Option.{same_Some}
-use Rattle.tftp_ends.specs.Step.{ack_bytes, data_bytes}
-use Rattle.tftp_ends.specs.Opening.{oack_bytes}
-use Rattle.std.specs.List.{Contains}
-use Rattle.tftp_file.specs.Memory.{memory_sink, memory_source}
-use Rattle.tftp_store.specs.Memory.{memory_meaning}
-use Rattle.tftp_rules.specs.Machine.{Endpoint}
-use Rattle.tftp_sockets.specs.Trace.{SocketEvent}
-use Rattle.tftp_sockets.specs.Trace.SocketEvent.{Received, Sent}
-use Rattle.tftp_promises.specs.Alone.{IsServed, alone}
-use Rattle.tftp_promises.specs.Joined.{AreJoined}
-use Rattle.tftp_promises.specs.Openings.{ArePortsFresh, our_ports}
-use Rattle.tftp_promises.specs.Order.{Noted, Programs, CanCome, IsHonest, IsStranger, events_of, ips}
-use Rattle.tftp_promises.specs.Others.{TakesOwn}
-use Rattle.tftp_promises.specs.Programs.{endpoint, client_at}
-use Rattle.tftp_promises.specs.Several.{Several, AreHonest, AreInOrder, number_of}
-use Rattle.tftp_promises.specs.Witness.{HasExchanged, SomeAreServed, client_ip, exchange, late_exchange}
-use Rattle.tftp_promises.specs.Witness.{latecomer, other_ip, requests, read_request, server_ip, stranger}
-use Rattle.tftp_promises.specs.Witness.{agreed, read_file}
+use Rattle.tftp_promises.proofs.Common.{◌≡◌, ℕ, List, [], ◌∷◌, ◌++◌, reverse, take, Some, None, refl, sym, ap, ◌∙◌}
+use Rattle.tftp_promises.proofs.Common.{subst, inl, inr, arith, zero, suc, ◌≢◌, slice_get, same_Some, ack_bytes}
+use Rattle.tftp_promises.proofs.Common.{data_bytes, oack_bytes, Contains, memory_sink, memory_source, memory_meaning}
+use Rattle.tftp_promises.proofs.Common.{Endpoint, SocketEvent, Received, Sent, alone, AreJoined, ArePortsFresh}
+use Rattle.tftp_promises.proofs.Common.{our_ports, Noted, Programs, CanCome, IsHonest, IsStranger, events_of, ips}
+use Rattle.tftp_promises.proofs.Common.{TakesOwn, endpoint, client_at, Several, number_of, client_ip, latecomer}
+use Rattle.tftp_promises.proofs.Common.{requests, read_request, server_ip, stranger, agreed, read_file}
+use Rattle.std.specs.Prelude.{get_or}
+use Rattle.tftp_promises.specs.Alone.{IsServed}
+use Rattle.tftp_promises.specs.Several.{AreHonest, AreInOrder}
+use Rattle.tftp_promises.specs.Witness.{HasExchanged, SomeAreServed, exchange, late_exchange}
+use Rattle.tftp_promises.specs.Witness.{other_ip}
 use Rattle.tftp_promises.proofs.ExchangeAlone.{Client, Server, client_away, comes_to, fresh_of_two, last_bytes, only_one}
 use Rattle.tftp_promises.proofs.ExchangeAlone.{two_alone}
 use Rattle.tftp_promises.proofs.ExchangeReader.{asking, reading, stored}

@@ -1,17 +1,10 @@
 -- One client alone with a server, as the exchanges have them: their ports are fresh.
-use Rattle.std.proofs.Common.{◌≡◌, ℕ, List, [], ◌∷◌, Some, None, refl, sym, ap, ◌∙◌, subst, inl, arith, zero, suc}
-use Rattle.std.specs.Prelude.{◌≢◌, get_or, slice_get}
-use Rattle.std.proofs.lemmas.Option.{same_Some}
-use Rattle.std.specs.List.{Contains}
-use Rattle.tftp_file.specs.Memory.{memory_sink, memory_source}
-use Rattle.tftp_store.specs.Memory.{memory_meaning}
-use Rattle.tftp_rules.specs.Machine.{Endpoint}
-use Rattle.tftp_sockets.specs.Trace.SocketEvent.{Received, Sent}
-use Rattle.tftp_promises.specs.Openings.{ArePortsFresh, our_ports}
-use Rattle.tftp_promises.specs.Order.{Noted, Programs, CanCome, ips}
-use Rattle.tftp_promises.specs.Ports.{AreDistinct}
-use Rattle.tftp_promises.specs.Programs.{endpoint, ClientProgram, ServerProgram}
-use Rattle.tftp_promises.specs.Witness.{client_ip, requests, server_ip}
+use Rattle.tftp_promises.proofs.Common.{◌≡◌, ℕ, List, [], ◌∷◌, Some, None, refl, sym, ap, ◌∙◌, subst, inl, arith, zero}
+use Rattle.tftp_promises.proofs.Common.{suc, ◌≢◌, slice_get, same_Some, Contains, memory_sink, memory_source}
+use Rattle.tftp_promises.proofs.Common.{memory_meaning, Endpoint, Received, Sent, ArePortsFresh, our_ports, Noted}
+use Rattle.tftp_promises.proofs.Common.{Programs, CanCome, ips, AreDistinct, endpoint, ClientProgram, ServerProgram}
+use Rattle.tftp_promises.proofs.Common.{client_ip, requests, server_ip}
+use Rattle.std.specs.Prelude.{get_or}
 use Rattle.tftp_promises.proofs.KeptEvents.{nothing_in}
 
 abbrev pub Client : Type 0

@@ -1,29 +1,16 @@
 -- The exchange meets the premises of bounded loss, though a datagram was lost.
-use Rattle.std.proofs.Common.{◌≡◌, ◌+◌, ◌≤◌, Bool, true, false, List, [], ◌∷◌, ◌++◌, refl, ap, ◌∙◌, arith}
-use Rattle.std.proofs.Common.{inr}
-use Rattle.tftp_ends.specs.Opening.{oack_bytes}
-use Rattle.tftp_file.specs.Memory.{memory_source}
-use Rattle.tftp_store.specs.Memory.{memory_meaning}
-use Rattle.tftp_lives.specs.Lives.{Took, Said}
+use Rattle.tftp_promises.proofs.Common.{◌≡◌, ◌+◌, ◌≤◌, Bool, true, false, List, [], ◌∷◌, ◌++◌, refl, ap, ◌∙◌, arith}
+use Rattle.tftp_promises.proofs.Common.{inr, oack_bytes, memory_source, memory_meaning, Took, Said, EndState, Endpoint}
+use Rattle.tftp_promises.proofs.Common.{SocketEvent, Received, Sent, Watched, Printed, Quiet, Slept, Woke, Run, Start}
+use Rattle.tftp_promises.proofs.Common.{Then, LoopStep, ServesClient, WasHeld, acts_at, acts_in, agreed, read_port}
+use Rattle.tftp_promises.proofs.Common.{read_request, reader, latecomer, read_at}
 use Rattle.tftp_lives.specs.Outlasting.{OneAct, ArriveInTime, AnswersPromptly, acts_of, timeouts}
 use Rattle.tftp_lives.proofs.OneOrder.{timeouts_append}
-use Rattle.tftp_ends.specs.End.{EndState}
 use Rattle.tftp_ends.specs.declared.outcome.Outcome.TheVariants as outcomes
 use Rattle.tftp_lines.specs.Printed.{line_text}
 use Rattle.tftp_lines.specs.declared.printed.Printed.TheVariants.{Closed}
-use Rattle.tftp_rules.specs.Machine.{Endpoint}
-use Rattle.tftp_sockets.specs.Trace.{SocketEvent}
-use Rattle.tftp_sockets.specs.Trace.SocketEvent.{Received, Sent, Watched, Printed, Quiet}
-use Rattle.tftp_sockets.specs.Trace.QuietEvent.{Slept, Woke}
-use Rattle.tftp_loop.specs.Run.{Run}
-use Rattle.tftp_loop.specs.Run.Run.{Start, Then}
-use Rattle.tftp_loop.specs.Steps.{LoopStep}
-use Rattle.tftp_promises.specs.AnyFiles.{ServesClient}
-use Rattle.tftp_promises.specs.GivesUp.{WasHeld}
-use Rattle.tftp_promises.specs.Lived.{acts_at, acts_in}
 use Rattle.tftp_promises.specs.Outlasting.{AreBounded}
-use Rattle.tftp_promises.specs.Witness.{SomeAreJoined, lossy_acts, agreed, read_port, read_request, reader}
-use Rattle.tftp_promises.specs.Witness.{latecomer, read_at}
+use Rattle.tftp_promises.specs.Witness.{SomeAreJoined, lossy_acts}
 use Rattle.tftp_promises.proofs.Exchange.{exchanged, programs}
 use Rattle.tftp_promises.proofs.ExchangeParts.{read_spelled}
 use Rattle.tftp_promises.proofs.ExchangeReader.{accepts_does, dallying, reading, stores_does, times_does, waits_does}

@@ -1,17 +1,14 @@
 -- What the steps of the exchange have in common: packets that are spelled, and files in memory.
-use Rattle.std.proofs.Common.{◌≡◌, ℕ, ◌<◌, decimal, false, List, [], ◌∷◌, Some, refl, arith, rules}
+use Rattle.tftp_promises.proofs.Common.{◌≡◌, ℕ, ◌<◌, false, List, [], ◌∷◌, Some, refl, arith, rules, Spells, Octet}
+use Rattle.tftp_promises.proofs.Common.{Read, Data, Ack, Oack, agreed_options, request_of, oack_bytes, ack_bytes}
+use Rattle.tftp_promises.proofs.Common.{data_bytes, agreed, blocks_of_8, read_name, read_request}
+use Rattle.std.proofs.Common.{decimal}
 use Rattle.std.specs.Prelude.{◌^◌}
 use Rattle.std.proofs.lemmas.Fmt.{decimal_digit}
-use Rattle.tftp_wire.specs.Spelling.{Spells}
-use Rattle.tftp_wire.specs.declared.mode.Mode.TheVariants.{Octet}
-use Rattle.tftp_wire.specs.declared.packet.Packet.TheVariants.{Read, Data, Ack, Oack}
-use Rattle.tftp_negotiate.specs.Agreed.{agreed_options}
 use Rattle.tftp_negotiate.specs.Options.{number_of}
 use Rattle.tftp_negotiate.proofs.LawsLemmas.{numbers_are_printed}
 use Rattle.tftp_file.specs.Memory.{MustRefuseAppend, new_mem_sink}
-use Rattle.tftp_ends.specs.Opening.{MayGet, request_of, oack_bytes}
-use Rattle.tftp_ends.specs.Step.{ack_bytes, data_bytes}
-use Rattle.tftp_promises.specs.Witness.{agreed, blocks_of_8, read_name, read_request}
+use Rattle.tftp_ends.specs.Opening.{MayGet}
 
 -- ---- how 8 is written, and read
 pub eight : decimal 8 ≡ 56 ∷ []

@@ -1,36 +1,20 @@
 -- The server of the put, and that it and its client are joined.
-use Rattle.std.proofs.lemmas.Grind.{common_steps}
-use Rattle.std.proofs.Common.{◌≡◌, ℕ, true, false, [], ◌∷◌, reverse, take, Some, None, Ok, refl, sym, arith, inl, rules}
-use Rattle.std.specs.Prelude.{slice_get}
-use Rattle.std.proofs.lemmas.Bool.{true≢false}
-use Rattle.tftp_wire.specs.declared.mode.Mode.TheVariants.{Octet}
-use Rattle.tftp_wire.specs.declared.packet.Packet.TheVariants.{Data, Write}
+use Rattle.tftp_promises.proofs.Common.{common_steps, ◌≡◌, ℕ, true, false, [], ◌∷◌, reverse, take, Some, None, Ok, refl}
+use Rattle.tftp_promises.proofs.Common.{sym, arith, inl, rules, slice_get, true≢false, Octet, Data, Write}
+use Rattle.tftp_promises.proofs.Common.{occurrences_of, name_of, memory_source, Sink, EndState, request_of}
+use Rattle.tftp_promises.proofs.Common.{serving_write, Done, Turn, ack_bytes, after_turn, committed_turn, data_bytes}
+use Rattle.tftp_promises.proofs.Common.{default_terms, memory_meaning, Drafted, Stored, files_in, A_transfer, left_by}
+use Rattle.tftp_promises.proofs.Common.{StepIn, Received, Sent, Start, Then, Request_received, AreJoined, our_ports}
+use Rattle.tftp_promises.proofs.Common.{IsHonest, TakesOwn, ServerProgram, HasOpened, client_ip, read_file, read_name}
+use Rattle.tftp_promises.proofs.Common.{read_port, requests, server_ip}
 use Rattle.tftp_negotiate.specs.Answer.{answered_option}
-use Rattle.tftp_negotiate.specs.Negotiation.{occurrences_of}
-use Rattle.tftp_negotiate.specs.Options.{name_of}
-use Rattle.tftp_file.specs.Memory.{memory_source}
-use Rattle.tftp_file.specs.declared.files.Files.TheVariants.{Sink}
 use Rattle.tftp_ends.specs.declared.outgoing.Outgoing.TheVariants.{LastSent}
-use Rattle.tftp_ends.specs.End.{EndState}
-use Rattle.tftp_ends.specs.Opening.{request_of, serving_write}
-use Rattle.tftp_ends.specs.Step.{Done, Turn, ack_bytes, after_turn, committed_turn, data_bytes}
-use Rattle.tftp_ends.specs.Waiting.{default_terms}
-use Rattle.tftp_store.specs.Memory.{UsesArmed, memory_meaning}
-use Rattle.tftp_store.specs.Store.{Drafted, Stored, new_draft}
-use Rattle.tftp_server.specs.Draft.{files_in}
-use Rattle.tftp_server.specs.Request.{A_transfer, AsksToWrite, left_by}
-use Rattle.tftp_server.specs.Steps.{StepIn}
-use Rattle.tftp_sockets.specs.Trace.SocketEvent.{Received, Sent}
-use Rattle.tftp_loop.specs.Run.Run.{Start, Then}
-use Rattle.tftp_loop.specs.Steps.LoopStep.{Request_received, Request_answered}
-use Rattle.tftp_promises.specs.Joined.{AreJoined}
-use Rattle.tftp_promises.specs.Openings.{our_ports}
-use Rattle.tftp_promises.specs.Order.{IsHonest}
-use Rattle.tftp_promises.specs.Others.{TakesOwn}
-use Rattle.tftp_promises.specs.Programs.{ServerProgram}
-use Rattle.tftp_promises.specs.Network.{HasOpened}
-use Rattle.tftp_promises.specs.Witness.{SomeHaveWritten, client_ip, no_options, put_exchange, read_file, read_name}
-use Rattle.tftp_promises.specs.Witness.{read_port, requests, server_ip, write_file, write_name, write_request, writer}
+use Rattle.tftp_store.specs.Memory.{UsesArmed}
+use Rattle.tftp_store.specs.Store.{new_draft}
+use Rattle.tftp_server.specs.Request.{AsksToWrite}
+use Rattle.tftp_loop.specs.Steps.LoopStep.{Request_answered}
+use Rattle.tftp_promises.specs.Witness.{SomeHaveWritten, no_options, put_exchange}
+use Rattle.tftp_promises.specs.Witness.{write_file, write_name, write_request, writer}
 use Rattle.tftp_promises.proofs.ExchangeAlone.{Both, Client, client_away, comes_to, fresh_of_two, two_alone}
 use Rattle.tftp_promises.proofs.ExchangeParts.{block_spelled}
 use Rattle.tftp_promises.proofs.ExchangeServer.{Step, agreeable, handles}

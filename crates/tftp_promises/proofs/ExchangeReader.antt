@@ -1,38 +1,19 @@
 -- The client of the exchange, which reads.
-use Rattle.std.proofs.Common.{ℕ, true, false, List, [], ◌∷◌, Some, Ok, refl, sym, arith, inl, inr}
-use Rattle.std.specs.List.{Contains}
-use Rattle.std.proofs.lemmas.Bool.{true≢false}
-use Rattle.tftp_wire.specs.declared.mode.Mode.TheVariants.{Octet}
-use Rattle.tftp_wire.specs.declared.packet.Packet.TheVariants.{Data, Oack}
-use Rattle.tftp_negotiate.specs.Agreed.{agreed_options}
+use Rattle.tftp_promises.proofs.Common.{ℕ, true, false, List, [], ◌∷◌, Some, Ok, refl, sym, arith, inl, inr, Contains}
+use Rattle.tftp_promises.proofs.Common.{true≢false, Octet, Data, Oack, agreed_options, occurrences_of, name_of}
+use Rattle.tftp_promises.proofs.Common.{memory_sink, memory_source, Files, Sink, Accept, Terms, EndState, oack_bytes}
+use Rattle.tftp_promises.proofs.Common.{timeout_turn, DatagramStep, Done, Turn, after_turn, ack_bytes, committed_turn}
+use Rattle.tftp_promises.proofs.Common.{data_bytes, response_turn, agreed_terms, Received, Sent, Watched, Elapsed}
+use Rattle.tftp_promises.proofs.Common.{Printed, Quiet, Empty, Slept, State, Answers, Constant, Elapses, begun}
+use Rattle.tftp_promises.proofs.Common.{ClientDoes, Starts, Goes_on, Receives_one, Waits_until, Times_out, Prints_line}
+use Rattle.tftp_promises.proofs.Common.{TakesOwn, ClientOpens, ClientProgram, To_read, agreed, blocks_of_8, client_ip}
+use Rattle.tftp_promises.proofs.Common.{read_file, read_name, read_port, read_at, requests, server_ip}
 use Rattle.tftp_negotiate.specs.Agreement.{taken_option}
-use Rattle.tftp_negotiate.specs.Negotiation.{occurrences_of}
-use Rattle.tftp_negotiate.specs.Options.{name_of}
-use Rattle.tftp_file.specs.Memory.{MemSinkState, new_mem_sink, memory_sink, memory_source}
-use Rattle.tftp_file.specs.declared.files.Files.{Files}
-use Rattle.tftp_file.specs.declared.files.Files.TheVariants.{Sink}
-use Rattle.tftp_ends.specs.declared.action.Response.TheVariants.{Accept}
-use Rattle.tftp_ends.specs.declared.phase.Terms.{Terms}
-use Rattle.tftp_ends.specs.End.{EndState}
-use Rattle.tftp_ends.specs.Opening.{getting, oack_bytes}
-use Rattle.tftp_ends.specs.Step.{timeout_turn, DatagramStep, Done, Turn, after_turn, ack_bytes, committed_turn, data_bytes}
-use Rattle.tftp_ends.specs.Step.{response_turn}
-use Rattle.tftp_ends.specs.Waiting.{agreed_terms}
+use Rattle.tftp_file.specs.Memory.{MemSinkState, new_mem_sink}
+use Rattle.tftp_ends.specs.Opening.{getting}
 use Rattle.tftp_lines.specs.ClientOutcome.{end_text}
 use Rattle.tftp_lines.specs.declared.client_outcome.ClientOutcome.TheVariants as ends
-use Rattle.tftp_sockets.specs.Trace.SocketEvent.{Received, Sent, Watched, Elapsed, Printed, Quiet}
-use Rattle.tftp_sockets.specs.Trace.QuietEvent.{Empty, Slept}
-use Rattle.tftp_client.specs.Converses.{State}
-use Rattle.tftp_client.specs.Converses.HandlesReceived.{Answers}
-use Rattle.tftp_ends.specs.declared.backoff.Backoff.TheVariants.{Constant}
-use Rattle.tftp_client.specs.Converses.MayElapse.{Elapses}
-use Rattle.tftp_client.specs.Runs.{begun}
-use Rattle.tftp_promises.specs.ClientRuns.{ClientDoes, Starts, Goes_on, Receives_one, Waits_until, Times_out}
-use Rattle.tftp_promises.specs.ClientRuns.{Prints_line}
-use Rattle.tftp_promises.specs.Others.{TakesOwn}
-use Rattle.tftp_promises.specs.Programs.{ClientOpens, ClientProgram, To_read}
-use Rattle.tftp_promises.specs.Witness.{agreed, blocks_of_8, client_ip, other_ip, read_file, read_name, read_port}
-use Rattle.tftp_promises.specs.Witness.{read_at, requests, server_ip}
+use Rattle.tftp_promises.specs.Witness.{other_ip}
 use Rattle.tftp_promises.proofs.ExchangeParts.{block_spelled, may_read, oack_spelled, read_8, takes_all}
 
 abbrev at_first : EndState

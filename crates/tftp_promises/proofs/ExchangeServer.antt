@@ -1,48 +1,26 @@
 -- The server of the exchange, step by step.
-use Rattle.std.proofs.Common.{◌≡◌, ℕ, ◌<◌, ◌≤◌, Bool, true, false, List, [], ◌∷◌, ◌++◌, length, Some, None, Ok, refl}
-use Rattle.std.proofs.Common.{sym, ap, arith, rules, inl, inr}
-use Rattle.std.specs.Prelude.{◌+◌, if◌then◌else◌, slice_index_or, slice_set, ⊤}
-use Rattle.std.proofs.lemmas.Bool.{true≢false}
-use Rattle.tftp_wire.specs.declared.mode.Mode.TheVariants.{Octet}
-use Rattle.tftp_wire.specs.declared.packet.Packet.TheVariants.{Read, Ack}
+use Rattle.tftp_promises.proofs.Common.{◌≡◌, ℕ, ◌<◌, ◌≤◌, Bool, true, false, List, [], ◌∷◌, ◌++◌, length, Some, None}
+use Rattle.tftp_promises.proofs.Common.{Ok, refl, sym, ap, arith, rules, inl, inr, if◌then◌else◌, slice_index_or}
+use Rattle.tftp_promises.proofs.Common.{slice_set, ⊤, true≢false, Octet, Read, Ack, occurrences_of, name_of}
+use Rattle.tftp_promises.proofs.Common.{IsBlockSize, memory_source, SinkMeaning, SourceMeaning, Files, Source}
+use Rattle.tftp_promises.proofs.Common.{UnknownTransferId, record_of, request_of, serving_read, AreSame, Turn}
+use Rattle.tftp_promises.proofs.Common.{after_turn, ack_bytes, memory_meaning, Stored, Drafted, Endpoint, files_in}
+use Rattle.tftp_promises.proofs.Common.{A_transfer, left_by, at, is_closed, with_next, StepIn, answered, Received, Run}
+use Rattle.tftp_promises.proofs.Common.{Start, Then, Timer, PortState, LoopStep, A_datagram, Clock_read}
+use Rattle.tftp_promises.proofs.Common.{Request_received, Transfer_closed, Waited, HasClosed, above, is_ours, our_ports}
+use Rattle.tftp_promises.proofs.Common.{Programs, opened_ports, ServerProgram, endpoint, agreed, blocks_of_8, latecomer}
+use Rattle.tftp_promises.proofs.Common.{read_file, read_name, read_request, reader, read_at, requests, stranger}
+use Rattle.std.specs.Prelude.{◌+◌}
 use Rattle.tftp_negotiate.specs.Answer.{answered_option}
-use Rattle.tftp_negotiate.specs.Negotiation.{occurrences_of}
-use Rattle.tftp_negotiate.specs.Options.{name_of}
-use Rattle.tftp_negotiate.specs.Ranges.{IsBlockSize}
-use Rattle.tftp_file.specs.Memory.{memory_source}
-use Rattle.tftp_file.specs.Sink.{SinkMeaning}
-use Rattle.tftp_file.specs.Source.{SourceMeaning}
-use Rattle.tftp_file.specs.declared.files.Files.{Files}
-use Rattle.tftp_file.specs.declared.files.Files.TheVariants.{Source}
-use Rattle.tftp_ends.specs.declared.error_reply.ErrorReply.TheVariants.{UnknownTransferId}
 use Rattle.tftp_ends.specs.declared.outcome.Outcome.TheVariants as outcomes
 use Rattle.tftp_ends.specs.declared.outgoing.Outgoing.{Outgoing}
 use Rattle.tftp_ends.specs.declared.outgoing.Outgoing.TheVariants.{Nothing, LastSent, Error}
-use Rattle.tftp_ends.specs.End.{record_of}
-use Rattle.tftp_ends.specs.Opening.{request_of, serving_read}
-use Rattle.tftp_ends.specs.Files.{AreSame}
-use Rattle.tftp_ends.specs.Step.{Turn, after_turn, ack_bytes, lent, reply_bytes, reported}
-use Rattle.tftp_store.specs.Memory.{memory_meaning}
-use Rattle.tftp_store.specs.Store.{Stored, Drafted}
-use Rattle.tftp_rules.specs.Machine.{Endpoint}
-use Rattle.tftp_server.specs.Draft.{KeepsStore, files_in}
-use Rattle.tftp_server.specs.Request.{A_transfer, AsksToRead, left_by}
-use Rattle.tftp_server.specs.State.{at, is_closed, with_next}
-use Rattle.tftp_server.specs.Steps.{StepIn}
-use Rattle.tftp_sockets.specs.Trace.{answered}
-use Rattle.tftp_sockets.specs.Trace.SocketEvent.{Received}
-use Rattle.tftp_loop.specs.Run.{Run}
-use Rattle.tftp_loop.specs.Run.Run.{Start, Then}
-use Rattle.tftp_loop.specs.Steps.{Timer, PortState, LoopStep, most_in_round, timer_after}
-use Rattle.tftp_loop.specs.Steps.PortStep.{A_datagram}
-use Rattle.tftp_loop.specs.Steps.LoopStep.{At_port, Clock_read, Request_received, Request_answered, Transfer_closed, Waited}
-use Rattle.tftp_promises.specs.Openings.{HasClosed, above, is_ours, our_ports}
-use Rattle.tftp_promises.specs.Order.{Programs}
-use Rattle.tftp_promises.specs.Ports.{opened_ports}
-use Rattle.tftp_promises.specs.Programs.{ServerProgram, endpoint}
+use Rattle.tftp_ends.specs.Step.{lent, reply_bytes, reported}
+use Rattle.tftp_server.specs.Draft.{KeepsStore}
+use Rattle.tftp_server.specs.Request.{AsksToRead}
+use Rattle.tftp_loop.specs.Steps.{most_in_round, timer_after}
+use Rattle.tftp_loop.specs.Steps.LoopStep.{At_port, Request_answered}
 use Rattle.tftp_promises.specs.Several.{ports_for}
-use Rattle.tftp_promises.specs.Witness.{agreed, blocks_of_8, latecomer, read_file, read_name, read_request, reader}
-use Rattle.tftp_promises.specs.Witness.{read_at, requests, stranger}
 use Rattle.tftp_promises.proofs.ExchangeParts.{ack_spelled, read_8, read_spelled}
 use Rattle.tftp_promises.proofs.ExchangeStates.{Held, Loop, at_stranger, completes, config, late, read_by, reading_0}
 use Rattle.tftp_promises.proofs.ExchangeStates.{reading_1, reading_2, sends, serving, store, timed, s0, s1, s2, s3, s4, s5}

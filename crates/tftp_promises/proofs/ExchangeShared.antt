@@ -1,23 +1,17 @@
 -- Two servers share an address and a request port: both open a transfer for one request, and the client takes the first
 -- that answers.
-use Rattle.std.proofs.lemmas.Grind.{common_steps}
-use Rattle.std.proofs.Common.{◌≡◌, ℕ, List, [], ◌∷◌, reverse, Some, refl, sym, ap, ◌∙◌, subst, arith, inl, inr, rules}
-use Rattle.std.specs.Prelude.{◌≢◌, slice_get}
-use Rattle.std.specs.List.{Contains}
-use Rattle.tftp_file.specs.Memory.{memory_sink, memory_source}
-use Rattle.tftp_store.specs.Memory.{memory_meaning}
-use Rattle.tftp_rules.specs.Machine.{Endpoint}
-use Rattle.tftp_sockets.specs.Trace.{SocketEvent}
-use Rattle.tftp_sockets.specs.Trace.SocketEvent.{Received, Sent, Watched, Elapsed, Printed, Quiet}
-use Rattle.tftp_promises.specs.Alone.{IsPassedOver, IsServed, alone}
-use Rattle.tftp_promises.specs.Openings.{ArePortsFresh, our_ports}
-use Rattle.tftp_promises.specs.Order.{CanComeOf, IsHonestOf, IsStrangerTo, Noted, events_of}
-use Rattle.tftp_promises.specs.Ports.{AreDistinct}
-use Rattle.tftp_promises.specs.Programs.{endpoint}
-use Rattle.tftp_promises.specs.Several.{Several, AreHonest, AreInOrder, apart_from, number_of}
+use Rattle.tftp_promises.proofs.Common.{common_steps, ◌≡◌, ℕ, List, [], ◌∷◌, reverse, Some, refl, sym, ap, ◌∙◌, subst}
+use Rattle.tftp_promises.proofs.Common.{arith, inl, inr, rules, ◌≢◌, slice_get, Contains, memory_sink, memory_source}
+use Rattle.tftp_promises.proofs.Common.{memory_meaning, Endpoint, SocketEvent, Received, Sent, Watched, Elapsed}
+use Rattle.tftp_promises.proofs.Common.{Printed, Quiet, alone, ArePortsFresh, our_ports, Noted, events_of, AreDistinct}
+use Rattle.tftp_promises.proofs.Common.{endpoint, Several, number_of, client_ip, read_request, reader, requests}
+use Rattle.tftp_promises.proofs.Common.{server_ip}
+use Rattle.tftp_promises.specs.Alone.{IsPassedOver, IsServed}
+use Rattle.tftp_promises.specs.Order.{CanComeOf, IsHonestOf, IsStrangerTo}
+use Rattle.tftp_promises.specs.Several.{AreHonest, AreInOrder, apart_from}
 use Rattle.tftp_promises.specs.Several.{other_ports}
-use Rattle.tftp_promises.specs.Witness.{SomeAreShared, after_second, client_ip, exchange, read_request, reader}
-use Rattle.tftp_promises.specs.Witness.{renumbered, requests, server_ip, shared_exchange}
+use Rattle.tftp_promises.specs.Witness.{SomeAreShared, after_second, exchange}
+use Rattle.tftp_promises.specs.Witness.{renumbered, shared_exchange}
 use Rattle.tftp_promises.proofs.EachAlone.{sent_in}
 use Rattle.tftp_promises.proofs.Exchange.{joined}
 use Rattle.tftp_promises.proofs.ExchangeAlone.{Client, Server, client_away, two_apart}

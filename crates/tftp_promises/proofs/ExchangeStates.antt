@@ -1,29 +1,15 @@
 -- The states of the server of the exchange: its file, its ends, its transfers and its timers.
-use Rattle.std.proofs.Common.{ℕ, Bool, true, false, List, [], ◌∷◌, Some, None, Ok}
-use Rattle.tftp_wire.specs.declared.mode.Mode.TheVariants.{Octet}
-use Rattle.tftp_file.specs.declared.files.Files.TheVariants.{Source}
-use Rattle.tftp_ends.specs.declared.action.Response.TheVariants.{Complete, WrongPeer}
-use Rattle.tftp_ends.specs.declared.backoff.Backoff.TheVariants.{Constant}
-use Rattle.tftp_ends.specs.declared.error_reply.ErrorReply.TheVariants.{UnknownTransferId}
+use Rattle.tftp_promises.proofs.Common.{ℕ, Bool, true, false, List, [], ◌∷◌, Some, None, Ok, Octet, Source, Complete}
+use Rattle.tftp_promises.proofs.Common.{WrongPeer, Constant, UnknownTransferId, Terms, EndState, oack_bytes}
+use Rattle.tftp_promises.proofs.Common.{serving_read, Turn, after_turn, ack_bytes, data_bytes, error_bytes, filled_turn}
+use Rattle.tftp_promises.proofs.Common.{response_turn, agreed_terms, Stored, Drafted, Endpoint, TransferState}
+use Rattle.tftp_promises.proofs.Common.{ServerState, Config, Received, Sent, Watched, Printed, Quiet, Slept, Woke}
+use Rattle.tftp_promises.proofs.Common.{Timer, LoopState, at_start, LoopConfig, agreed, latecomer, read_file, read_name}
+use Rattle.tftp_promises.proofs.Common.{read_request, reader, requests, read_at, stranger}
 use Rattle.tftp_ends.specs.declared.outcome.Outcome.TheVariants as outcomes
-use Rattle.tftp_ends.specs.declared.phase.Terms.{Terms}
-use Rattle.tftp_ends.specs.End.{EndState}
-use Rattle.tftp_ends.specs.Opening.{oack_bytes, serving_read}
-use Rattle.tftp_ends.specs.Step.{Turn, after_turn, ack_bytes, data_bytes, error_bytes, filled_turn, response_turn}
-use Rattle.tftp_ends.specs.Waiting.{agreed_terms}
-use Rattle.tftp_store.specs.Store.{Stored, Drafted}
 use Rattle.tftp_lines.specs.Printed.{line_text}
 use Rattle.tftp_lines.specs.declared.printed.Printed.TheVariants.{Closed}
-use Rattle.tftp_rules.specs.Machine.{Endpoint}
-use Rattle.tftp_server.specs.State.{TransferState, ServerState}
-use Rattle.tftp_server.specs.declared.config.Config.{Config}
-use Rattle.tftp_sockets.specs.Trace.SocketEvent.{Received, Sent, Watched, Printed, Quiet}
-use Rattle.tftp_sockets.specs.Trace.QuietEvent.{Slept, Woke}
 use Rattle.tftp_sockets.specs.Watch.{last_moment}
-use Rattle.tftp_loop.specs.Steps.{Timer, LoopState, at_start}
-use Rattle.tftp_loop.specs.declared.serving.LoopConfig.{LoopConfig}
-use Rattle.tftp_promises.specs.Witness.{agreed, latecomer, read_file, read_name, read_request, reader, requests}
-use Rattle.tftp_promises.specs.Witness.{read_at, stranger}
 
 abbrev pub Held : Type 0
 Held = TransferState (List ℕ) Drafted

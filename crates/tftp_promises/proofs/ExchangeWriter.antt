@@ -1,30 +1,17 @@
 -- The client of the put, which writes.
-use Rattle.std.proofs.Common.{ℕ, List, [], ◌∷◌, Some, Ok, refl, sym, arith, rules}
+use Rattle.tftp_promises.proofs.Common.{ℕ, List, [], ◌∷◌, Some, Ok, refl, sym, arith, rules, ltb-true, true≢false}
+use Rattle.tftp_promises.proofs.Common.{Spells, Octet, Ack, Write, memory_sink, memory_source, Files, Source, Complete}
+use Rattle.tftp_promises.proofs.Common.{Terms, EndState, request_of, DatagramStep, Turn, ack_bytes, after_turn}
+use Rattle.tftp_promises.proofs.Common.{data_bytes, filled_turn, response_turn, default_terms, Received, Sent, Watched}
+use Rattle.tftp_promises.proofs.Common.{Printed, Quiet, Slept, State, Answers, Constant, begun, ClientDoes, Starts}
+use Rattle.tftp_promises.proofs.Common.{Goes_on, Receives_one, Prints_line, ClientOpens, ClientProgram, To_write}
+use Rattle.tftp_promises.proofs.Common.{client_ip, read_at, read_port, requests}
 use Rattle.std.specs.Prelude.{◌*◌}
-use Rattle.std.proofs.lemmas.Bool.{ltb-true, true≢false}
-use Rattle.tftp_wire.specs.Spelling.{Spells}
-use Rattle.tftp_wire.specs.declared.mode.Mode.TheVariants.{Octet}
-use Rattle.tftp_wire.specs.declared.packet.Packet.TheVariants.{Ack, Write}
-use Rattle.tftp_file.specs.Memory.{MemSinkState, memory_sink, memory_source}
-use Rattle.tftp_file.specs.declared.files.Files.{Files}
-use Rattle.tftp_file.specs.declared.files.Files.TheVariants.{Source}
-use Rattle.tftp_ends.specs.declared.action.Response.TheVariants.{Complete}
-use Rattle.tftp_ends.specs.declared.phase.Terms.{Terms}
-use Rattle.tftp_ends.specs.End.{EndState}
-use Rattle.tftp_ends.specs.Opening.{MayPut, putting, request_of}
-use Rattle.tftp_ends.specs.Step.{DatagramStep, Turn, ack_bytes, after_turn, data_bytes, filled_turn, response_turn}
-use Rattle.tftp_ends.specs.Waiting.{default_terms}
+use Rattle.tftp_file.specs.Memory.{MemSinkState}
+use Rattle.tftp_ends.specs.Opening.{MayPut, putting}
 use Rattle.tftp_lines.specs.ClientOutcome.{end_text}
 use Rattle.tftp_lines.specs.declared.client_outcome.ClientOutcome.TheVariants as ends
-use Rattle.tftp_sockets.specs.Trace.SocketEvent.{Received, Sent, Watched, Printed, Quiet}
-use Rattle.tftp_sockets.specs.Trace.QuietEvent.{Slept}
-use Rattle.tftp_client.specs.Converses.{State}
-use Rattle.tftp_client.specs.Converses.HandlesReceived.{Answers}
-use Rattle.tftp_ends.specs.declared.backoff.Backoff.TheVariants.{Constant}
-use Rattle.tftp_client.specs.Runs.{begun}
-use Rattle.tftp_promises.specs.ClientRuns.{ClientDoes, Starts, Goes_on, Receives_one, Prints_line}
-use Rattle.tftp_promises.specs.Programs.{ClientOpens, ClientProgram, To_write}
-use Rattle.tftp_promises.specs.Witness.{client_ip, no_options, read_at, read_port, requests, write_file, write_name, write_request}
+use Rattle.tftp_promises.specs.Witness.{no_options, write_file, write_name, write_request}
 use Rattle.tftp_promises.proofs.ExchangeParts.{ack_spelled}
 
 pub may_write : MayPut write_name Octet no_options 1

@@ -1,23 +1,12 @@
 -- Each client that is not complete is so for a stated reason. For the law a_client_ends_for_a_reason.
-use Rattle.std.proofs.Common.{◌≡◌, ℕ, Bool, true, false, not, List, Option, Some, None, refl, sym, ap, ◌∙◌, inl, inr}
-use Rattle.std.specs.Prelude.{◌⊎◌, slice_get}
-use Rattle.std.proofs.lemmas.Bool.{true≢false}
-use Rattle.tftp_file.specs.Sink.{SinkMeaning}
-use Rattle.tftp_file.specs.Source.{SourceMeaning}
-use Rattle.tftp_ends.specs.End.{is_complete, is_sender}
-use Rattle.tftp_store.specs.Store.{StoreMeaning}
-use Rattle.tftp_rules.specs.Machine.{Endpoint}
-use Rattle.tftp_lives.specs.Unanswered.{IsOver}
-use Rattle.tftp_promises.specs.Alone.{alone, heard_with}
-use Rattle.tftp_promises.specs.AnyFiles.{client_end, peer_of}
+use Rattle.tftp_promises.proofs.Common.{◌≡◌, ℕ, Bool, true, false, not, List, Option, Some, None, refl, sym, ap, ◌∙◌}
+use Rattle.tftp_promises.proofs.Common.{inl, inr, ◌⊎◌, slice_get, true≢false, SinkMeaning, SourceMeaning, is_complete}
+use Rattle.tftp_promises.proofs.Common.{is_sender, StoreMeaning, Endpoint, IsOver, alone, heard_with, client_end}
+use Rattle.tftp_promises.proofs.Common.{HasFailed, AreJoined, Noted, Programs, ClientOf, client_at, number_of}
+use Rattle.tftp_promises.specs.AnyFiles.{peer_of}
 use Rattle.tftp_promises.specs.Explained.{IsExplained, Goes_on, Failed, Of_request, Too_long}
 use Rattle.tftp_promises.specs.Explained.{Of_transfer, ProgramsAreExplained, SeveralAreExplained}
-use Rattle.tftp_promises.specs.Failed.{HasFailed}
 use Rattle.tftp_promises.specs.GivesUp.{IsSeenUnanswered}
-use Rattle.tftp_promises.specs.Joined.{AreJoined}
-use Rattle.tftp_promises.specs.Order.{Noted, Programs, ClientOf}
-use Rattle.tftp_promises.specs.Programs.{client_at}
-use Rattle.tftp_promises.specs.Several.{number_of}
 use Rattle.tftp_promises.proofs.EachAlone.{each_joined}
 use Rattle.tftp_promises.proofs.Failing.{client_complete, client_failed, client_is, either_other, transfer_failed}
 use Rattle.tftp_promises.proofs.Fated.{requests_settled}

@@ -1,27 +1,18 @@
 -- How a client, and the transfer that serves it, close that have not given up. For Outlasting and Explaining.
-use Rattle.std.proofs.Common.{◌≡◌, ℕ, true, false, List, Some, refl, sym, ap, ◌∙◌, subst, inl, inr}
-use Rattle.std.specs.Prelude.{◌⊎◌, slice_get}
-use Rattle.std.proofs.lemmas.Bool.{true≢false}
-use Rattle.tftp_file.specs.Sink.{SinkMeaning}
-use Rattle.tftp_file.specs.Source.{SourceMeaning}
-use Rattle.tftp_file.specs.declared.files.Files.{Files}
-use Rattle.tftp_ends.specs.declared.outcome.Outcome.{Outcome}
+use Rattle.tftp_promises.proofs.Common.{◌≡◌, ℕ, true, false, List, Some, refl, sym, ap, ◌∙◌, subst, inl, inr, ◌⊎◌}
+use Rattle.tftp_promises.proofs.Common.{slice_get, true≢false, SinkMeaning, SourceMeaning, Files, Outcome, Role}
+use Rattle.tftp_promises.proofs.Common.{EndState, is_client, is_complete, is_sender, StoreMeaning, Endpoint, IsOver}
+use Rattle.tftp_promises.proofs.Common.{IsEnd, IsOurs, KeepAnyFiles, ProgramEnd, ServesClient, client_end, transfer_end}
+use Rattle.tftp_promises.proofs.Common.{HasFailed, IsRefusal, AreJoined, acts_in, Noted, Programs, ClientOf}
+use Rattle.tftp_promises.proofs.Common.{ClientOpens, To_read, To_write, client_at}
 use Rattle.tftp_ends.specs.declared.outcome.Outcome.TheVariants as outcomes
-use Rattle.tftp_ends.specs.declared.role.Role.{Role}
-use Rattle.tftp_ends.specs.End.{EndState, is_client, is_complete, is_sender}
-use Rattle.tftp_store.specs.Store.{StoreMeaning}
-use Rattle.tftp_rules.specs.Machine.{Endpoint}
 use Rattle.tftp_lives.specs.Outlasting.{GaveUp}
-use Rattle.tftp_lives.specs.Unanswered.{IsOther, IsOver}
+use Rattle.tftp_lives.specs.Unanswered.{IsOther}
 use Rattle.tftp_lives.proofs.LivesStand.{life_stands}
 use Rattle.tftp_lives.proofs.OpenEnds.{GoesOn, how_it_is}
-use Rattle.tftp_promises.specs.AnyFiles.{IsEnd, IsOurs, KeepAnyFiles, ProgramEnd, ServesClient, client_end, peer_of, transfer_end}
+use Rattle.tftp_promises.specs.AnyFiles.{peer_of}
 use Rattle.tftp_promises.specs.Blamed.{MayCloseAs, NoneIsBlamed}
-use Rattle.tftp_promises.specs.Failed.{HasFailed, IsFailure, IsRefusal}
-use Rattle.tftp_promises.specs.Joined.{AreJoined}
-use Rattle.tftp_promises.specs.Lived.{acts_in}
-use Rattle.tftp_promises.specs.Order.{Noted, Programs, ClientOf}
-use Rattle.tftp_promises.specs.Programs.{ClientOpens, To_read, To_write, client_at}
+use Rattle.tftp_promises.specs.Failed.{IsFailure}
 use Rattle.tftp_promises.proofs.ClientLives.{client_lives, client_opening}
 use Rattle.tftp_promises.proofs.ClientRoles.{run_role}
 use Rattle.tftp_promises.proofs.ProgramsShown.{programs_keep_any}

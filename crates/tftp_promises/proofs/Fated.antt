@@ -1,17 +1,12 @@
 -- Each datagram at the request port is settled. For the law each_request_is_settled.
-use Rattle.std.proofs.Common.{◌≡◌, ℕ, List, Option, Some, None, sym, ap, ◌∙◌, subst, inl, inr}
-use Rattle.std.specs.Prelude.{◌⊎◌}
-use Rattle.tftp_negotiate.specs.Ranges.{IsBlockSize}
-use Rattle.tftp_file.specs.Source.{SourceMeaning}
+use Rattle.tftp_promises.proofs.Common.{◌≡◌, ℕ, List, Option, Some, None, sym, ap, ◌∙◌, subst, inl, inr, ◌⊎◌}
+use Rattle.tftp_promises.proofs.Common.{IsBlockSize, SourceMeaning, StoreMeaning, Config, Run, Start, Then}
+use Rattle.tftp_promises.proofs.Common.{AnswersRequest, LoopState, LoopStep, Waited, Request_received, No_request_found}
+use Rattle.tftp_promises.proofs.Common.{Request_not_received, Request_noted, Request_lost, Clock_read, Store_set}
+use Rattle.tftp_promises.proofs.Common.{Transfer_closed, Drain_begun}
 use Rattle.tftp_ends.specs.declared.endpoint.Endpoint.{Endpoint}
-use Rattle.tftp_store.specs.Store.{StoreMeaning}
-use Rattle.tftp_server.specs.declared.config.Config.{Config}
-use Rattle.tftp_loop.specs.Run.{Run}
-use Rattle.tftp_loop.specs.Run.Run.{Start, Then}
-use Rattle.tftp_loop.specs.Steps.{AnswersRequest, LoopState, LoopStep}
-use Rattle.tftp_loop.specs.Steps.LoopStep.{Waited, At_port, Request_received, No_request_found}
-use Rattle.tftp_loop.specs.Steps.LoopStep.{Request_not_received, Request_noted, Request_answered, Request_lost}
-use Rattle.tftp_loop.specs.Steps.LoopStep.{Clock_read, Store_set, Transfer_closed, Drain_begun}
+use Rattle.tftp_loop.specs.Steps.LoopStep.{At_port}
+use Rattle.tftp_loop.specs.Steps.LoopStep.{Request_answered}
 use Rattle.tftp_promises.specs.Fates.{IsAnswered, Is_known, Is_refused, Opens, RequestsAreSettled, WasReceived, WasSettled}
 use Rattle.tftp_promises.proofs.PortAnswers.{Begins_to_send, Begins_to_store, PortAnswers, Says_error, Silent, port_answers}
 use Rattle.tftp_promises.proofs.TransferLives.{run_config}

@@ -1,46 +1,28 @@
 -- What is known of the datagram that a client without a peer refused: the server sent it, and an OACK is its answer to the
 -- client's request. For RefusedAnswers.
-use Rattle.std.proofs.Common.{◌≡◌, ℕ, ◌+◌, ◌≤◌, Bool, true, false, not, List, [], ◌∷◌, length, Some}
-use Rattle.std.proofs.Common.{None, refl, sym, ap, ◌∙◌, subst, arith, inl, inr}
-use Rattle.std.specs.Prelude.{◌≢◌, ◌&&◌, ◌==◌, nat_le, option_map, slice_get}
-use Rattle.std.specs.List.{Contains}
-use Rattle.std.proofs.lemmas.Bool.{true≢false, cases_Bool, eq-eqb, le-leb}
-use Rattle.std.proofs.lemmas.List.{append_cancel_right}
-use Rattle.std.proofs.lemmas.List.Elements.{Contains-append_left, Contains-push}
-use Rattle.std.proofs.lemmas.Option.{slice_get-map}
-use Rattle.tftp_wire.specs.Spelling.{IsValid, Spells}
-use Rattle.tftp_wire.specs.declared.options.RawOption.{RawOption}
-use Rattle.tftp_wire.specs.declared.packet.Packet.{Packet}
-use Rattle.tftp_wire.specs.declared.packet.Packet.TheVariants.{Read, Write, Data, Ack, Error, Oack}
+use Rattle.tftp_promises.proofs.Common.{◌≡◌, ℕ, ◌+◌, ◌≤◌, Bool, true, false, not, List, [], ◌∷◌, length, Some, None}
+use Rattle.tftp_promises.proofs.Common.{refl, sym, ap, ◌∙◌, subst, arith, inl, inr, ◌≢◌, ◌&&◌, ◌==◌, nat_le, option_map}
+use Rattle.tftp_promises.proofs.Common.{slice_get, Contains, true≢false, cases_Bool, eq-eqb, append_cancel_right}
+use Rattle.tftp_promises.proofs.Common.{Contains-append_left, Contains-push, slice_get-map, Spells, RawOption, Packet}
+use Rattle.tftp_promises.proofs.Common.{Read, Write, Data, Ack, Error, Oack, one_meaning, agreed_options, Asked, Known}
+use Rattle.tftp_promises.proofs.Common.{DEFAULT_BLOCK, IsBlockSize, SinkMeaning, SourceMeaning, Outcome, Role, EndState}
+use Rattle.tftp_promises.proofs.Common.{is_sender, oack_bytes, has_opcode, A_transfer, TransferState, Config}
+use Rattle.tftp_promises.proofs.Common.{StoreMeaning, Attests, Request, At_client, At_server, Elsewhere, Endpoint}
+use Rattle.tftp_promises.proofs.Common.{Machine, Message, Network, Party, open_view, peer_of, message, said, requested}
+use Rattle.tftp_promises.proofs.Common.{spells_own, client_end, moved_in, IsRefusal, AreJoined, acts_in, joined}
+use Rattle.tftp_promises.proofs.Common.{our_ports, Noted, Programs, ClientOf, IsError, requests_at, client_at}
+use Rattle.tftp_promises.proofs.Common.{Has_asked, all_of, SocketEvent, Received, Sent, Has}
+use Rattle.std.proofs.lemmas.Bool.{le-leb}
+use Rattle.tftp_wire.specs.Spelling.{IsValid}
 use Rattle.tftp_wire.specs.declared.packet.Request.{Request as WireRequest}
-use Rattle.tftp_wire.proofs.SpellingLemmas.{one_meaning}
-use Rattle.tftp_negotiate.specs.Agreed.{agreed_options}
-use Rattle.tftp_negotiate.specs.declared.asked.Asked.{Asked}
-use Rattle.tftp_negotiate.specs.declared.known.Known.{Known}
-use Rattle.tftp_negotiate.specs.declared.limits.TheConstants.{DEFAULT_BLOCK}
-use Rattle.tftp_negotiate.specs.Ranges.{IsBlockSize}
 use Rattle.tftp_file.specs.Block.{block}
-use Rattle.tftp_file.specs.Sink.{SinkMeaning}
-use Rattle.tftp_file.specs.Source.{SourceMeaning}
-use Rattle.tftp_ends.specs.declared.outcome.Outcome.{Outcome}
 use Rattle.tftp_ends.specs.declared.outcome.Outcome.TheVariants as outcomes
-use Rattle.tftp_ends.specs.declared.role.Role.{Role}
-use Rattle.tftp_ends.specs.End.{EndState, is_sender}
-use Rattle.tftp_ends.specs.Opening.{oack_bytes}
-use Rattle.tftp_ends.specs.Run.{has_opcode}
-use Rattle.tftp_server.specs.Request.{A_transfer}
-use Rattle.tftp_server.specs.State.{TransferState}
-use Rattle.tftp_server.specs.declared.config.Config.{Config}
-use Rattle.tftp_store.specs.Store.{StoreMeaning}
-use Rattle.tftp_rules.specs.Facts.{Attests, Holds, home}
-use Rattle.tftp_rules.specs.Machine.{Packet as Said, Request}
-use Rattle.tftp_rules.specs.Machine.{At_client, At_server, Elsewhere, Endpoint, Host, Machine, Message, Network, Party}
+use Rattle.tftp_rules.specs.Facts.{Holds, home}
+use Rattle.tftp_rules.specs.Machine.{Packet as Said}
+use Rattle.tftp_rules.specs.Machine.{Host}
 use Rattle.tftp_rules.specs.Machine.{start}
-use Rattle.tftp_rules.specs.OpenEnds.{open_view, peer_of}
-use Rattle.tftp_rules.specs.Rules.{message, run}
-use Rattle.tftp_rules.specs.Said.{said}
-use Rattle.tftp_rules.specs.Shows.{Matches, Shows, requested}
-use Rattle.tftp_rules.proofs.SaidLemmas.{spells_own}
+use Rattle.tftp_rules.specs.Rules.{run}
+use Rattle.tftp_rules.specs.Shows.{Matches, Shows}
 use Rattle.tftp_rules.proofs.BlamelessActions.{decoded_is}
 use Rattle.tftp_rules.proofs.Blocks.{length-block}
 use Rattle.tftp_rules.proofs.NumbersNear.{AreNear, near_run, near_start}
@@ -49,19 +31,7 @@ use Rattle.tftp_rules.proofs.PlainPeers.{plain_answer}
 use Rattle.tftp_rules.proofs.RulesGrow.{GoToPort, run_goes, start_goes}
 use Rattle.tftp_rules.proofs.Runs.{Holds-start, Holds-run}
 use Rattle.tftp_rules.proofs.Steps.{own_client}
-use Rattle.tftp_promises.specs.AnyFiles.{client_end, peer_of as peer_at}
-use Rattle.tftp_promises.specs.ClientRuns.{moved_in}
-use Rattle.tftp_promises.specs.Failed.{IsRefusal}
-use Rattle.tftp_promises.specs.Joined.{AreJoined}
-use Rattle.tftp_promises.specs.Lived.{acts_in}
-use Rattle.tftp_promises.specs.Network.{joined}
-use Rattle.tftp_promises.specs.Openings.{our_ports}
-use Rattle.tftp_promises.specs.Order.{Noted, Programs, ClientOf, IsError, requests_at}
-use Rattle.tftp_promises.specs.Programs.{client_at}
-use Rattle.tftp_promises.specs.Snapshots.{Has_asked, all_of}
-use Rattle.tftp_sockets.specs.Trace.{SocketEvent}
-use Rattle.tftp_sockets.specs.Trace.SocketEvent.{Received, Sent}
-use Rattle.tftp_lives.specs.Lives.{Has}
+use Rattle.tftp_promises.specs.AnyFiles.{peer_of as peer_at}
 use Rattle.tftp_promises.proofs.ClientRoles.{run_role}
 use Rattle.tftp_promises.proofs.ClientTraces.{asks_there}
 use Rattle.tftp_promises.proofs.ClientsServed.{asks_so, wire_of, writes}

@@ -1,49 +1,29 @@
 -- How a client closes that has no peer: at the first datagram of the server's address that it handles and that is no ERROR
 -- it took no peer, and refused that. For the law a_client_ends_for_a_reason.
-use Rattle.std.proofs.Common.{◌≡◌, ℕ, Bool, true, false, List, ◌∷◌, Option, Some, None, Result, Ok, Err, refl, sym, ap}
-use Rattle.std.proofs.Common.{◌∙◌, subst, inl, inr}
-use Rattle.std.specs.Prelude.{◌⊎◌, ◌==◌, if◌then◌else◌, length, nat_lt, IsSome}
-use Rattle.std.proofs.lemmas.Option.{same_Some}
-use Rattle.tftp_wire.specs.declared.packet.Packet.{Packet}
-use Rattle.tftp_negotiate.specs.declared.asked.Asked.{Asked}
-use Rattle.tftp_file.specs.Sink.{SinkMeaning}
-use Rattle.tftp_file.specs.Source.{SourceMeaning}
-use Rattle.tftp_file.specs.declared.fault.StoreFault.{StoreFault}
-use Rattle.tftp_file.specs.declared.files.Files.{Files}
-use Rattle.tftp_file.specs.declared.files.Files.TheVariants.{Source, Sink}
-use Rattle.tftp_ends.specs.declared.action.Action.{Action}
-use Rattle.tftp_ends.specs.declared.action.Action.TheVariants.{Respond, Send, Store}
-use Rattle.tftp_ends.specs.declared.action.Response.{Response}
-use Rattle.tftp_ends.specs.declared.action.Response.TheVariants.{Ignore, WrongPeer, ResendReply, Retransmit, Wait}
-use Rattle.tftp_ends.specs.declared.action.Response.TheVariants.{Close}
-use Rattle.tftp_ends.specs.declared.action.Response.TheVariants.{Refuse, Accept, Complete}
+use Rattle.tftp_promises.proofs.Common.{◌≡◌, ℕ, Bool, true, false, List, ◌∷◌, Option, Some, None, Result, Ok, Err, refl}
+use Rattle.tftp_promises.proofs.Common.{sym, ap, ◌∙◌, subst, inl, inr, ◌⊎◌, ◌==◌, if◌then◌else◌, nat_lt, IsSome}
+use Rattle.tftp_promises.proofs.Common.{same_Some, Packet, Asked, SinkMeaning, SourceMeaning, StoreFault, Files, Source}
+use Rattle.tftp_promises.proofs.Common.{Sink, Action, Respond, Send, Store, Response, Ignore, WrongPeer, ResendReply}
+use Rattle.tftp_promises.proofs.Common.{Retransmit, Wait, Close, Refuse, Accept, Complete, Outcome, Phase, Waiting}
+use Rattle.tftp_promises.proofs.Common.{Sending, Terms, Decodes, datagram_action, timeout_response, EndState}
+use Rattle.tftp_promises.proofs.Common.{outcome_of, Acts, DatagramStep, Done, GoesOn, Turn, block_length}
+use Rattle.tftp_promises.proofs.Common.{committed_turn, data_bytes, holding, refused_turn, response_turn}
+use Rattle.tftp_promises.proofs.Common.{result_count_is, sent_turn, timeout_turn, Act, Took, Lost, Said, Timed, Has}
+use Rattle.tftp_promises.proofs.Common.{with_reply, peer_of, SocketEvent, Received, HandlesReceived, IsOpen, MayElapse}
+use Rattle.tftp_promises.proofs.Common.{State, received, Watch, Answers, Loses, Stays, Elapses, ClientRun, Starts}
+use Rattle.tftp_promises.proofs.Common.{Goes_on, Receives_one, Reads_clock, Waits_until, Times_out, File_works}
+use Rattle.tftp_promises.proofs.Common.{Prints_line, Tells, Begins_so, Passes, Receives, Misses, Sends, Elapses_then}
+use Rattle.tftp_promises.proofs.Common.{acts_in, HandlesOwn, IsOtherAnswer, TakesOwn}
+use Rattle.std.specs.Prelude.{length}
 use Rattle.tftp_ends.specs.declared.endpoint.Endpoint.{Endpoint}
 use Rattle.tftp_ends.specs.declared.error_reply.ErrorReply.TheVariants as replies
-use Rattle.tftp_ends.specs.declared.outcome.Outcome.{Outcome}
 use Rattle.tftp_ends.specs.declared.outcome.Outcome.TheVariants as outcomes
-use Rattle.tftp_ends.specs.declared.phase.Phase.{Phase}
-use Rattle.tftp_ends.specs.declared.phase.Phase.TheVariants.{Waiting, Sending}
-use Rattle.tftp_ends.specs.declared.phase.Terms.{Terms}
-use Rattle.tftp_ends.specs.Action.{Decodes, datagram_action, timeout_response}
-use Rattle.tftp_ends.specs.End.{EndState, Position, outcome_of}
+use Rattle.tftp_ends.specs.End.{Position}
 use Rattle.tftp_ends.specs.Phase.{waited}
-use Rattle.tftp_ends.specs.Step.{Acts, DatagramStep, Done, GoesOn, Turn, block_length, committed_turn}
-use Rattle.tftp_ends.specs.Step.{data_bytes, holding, refused_turn, response_turn, result_count_is, sent_turn}
-use Rattle.tftp_ends.specs.Step.{timeout_turn}
-use Rattle.tftp_lives.specs.Lives.{Act, Took, Lost, Said, Timed, Has, with_reply}
 use Rattle.tftp_lives.proofs.Stands.{has_more}
-use Rattle.tftp_rules.specs.OpenEnds.{peer_of}
-use Rattle.tftp_sockets.specs.Trace.{SocketEvent}
-use Rattle.tftp_sockets.specs.Trace.SocketEvent.{Received}
-use Rattle.tftp_client.specs.Converses.{HandlesReceived, IsOpen, IsReadBy, MayElapse, MayWait, State, received, renewed}
+use Rattle.tftp_client.specs.Converses.{IsReadBy, MayWait, renewed}
 use Rattle.tftp_client.specs.Converses.{waited as has_waited}
-use Rattle.tftp_sockets.specs.declared.watch.Watch.{Watch}
-use Rattle.tftp_client.specs.Converses.HandlesReceived.{Answers, Loses}
-use Rattle.tftp_client.specs.Converses.MayElapse.{Stays, Elapses}
-use Rattle.tftp_promises.specs.ClientRuns.{ClientRun, Starts, Goes_on, Receives_one, Reads_clock, Waits_until}
-use Rattle.tftp_promises.specs.ClientRuns.{Times_out, File_works, Prints_line, line_printed}
-use Rattle.tftp_promises.specs.Lived.{Tells, Begins_so, Passes, Receives, Misses, Sends, Elapses_then, acts_in}
-use Rattle.tftp_promises.specs.Others.{HandlesOwn, IsOtherAnswer, TakesOwn}
+use Rattle.tftp_promises.specs.ClientRuns.{line_printed}
 use Rattle.tftp_promises.proofs.ClientRoles.{run_role}
 use Rattle.tftp_promises.proofs.WrongPeers.{datagram_stays, timeout_stays}
 

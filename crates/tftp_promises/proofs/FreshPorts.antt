@@ -1,20 +1,13 @@
 -- Ports of which the server uses none twice are fresh: among them are those of its clients' transfers.
-use Rattle.std.proofs.Common.{◌≡◌, ℕ, suc, zero, Bool, true, false, List, [], ◌∷◌, ◌++◌, length, Option, Some, None}
-use Rattle.std.proofs.Common.{refl, sym, ap, ◌∙◌, subst, inl, inr, arith}
-use Rattle.std.specs.Prelude.{if◌then◌else◌, option_to_list, slice_get}
-use Rattle.std.specs.List.{Contains}
-use Rattle.std.proofs.lemmas.List.Elements.{Contains-append_cases, Contains-append_left, Contains-append_right}
-use Rattle.std.proofs.lemmas.List.Elements.{Contains-push}
-use Rattle.std.proofs.lemmas.Option.{same_Some, slice_get_read}
-use Rattle.tftp_file.specs.Sink.{SinkMeaning}
-use Rattle.tftp_file.specs.Source.{SourceMeaning}
-use Rattle.tftp_store.specs.Store.{StoreMeaning}
-use Rattle.tftp_loop.specs.Run.{Run}
-use Rattle.tftp_loop.specs.Run.Run.{Start, Then}
-use Rattle.tftp_loop.specs.Steps.{LoopState, LoopStep, Request_answered}
-use Rattle.tftp_promises.specs.Openings.{DistinctPortsAreFresh, is_ours, our_ports, ours_by}
-use Rattle.tftp_promises.specs.Order.{Programs}
-use Rattle.tftp_promises.specs.Ports.{AreDistinct, opened_by, opened_ports}
+use Rattle.tftp_promises.proofs.Common.{◌≡◌, ℕ, suc, zero, Bool, true, false, List, [], ◌∷◌, ◌++◌, length, Option, Some}
+use Rattle.tftp_promises.proofs.Common.{None, refl, sym, ap, ◌∙◌, subst, inl, inr, arith, if◌then◌else◌, option_to_list}
+use Rattle.tftp_promises.proofs.Common.{slice_get, Contains, Contains-append_cases, Contains-append_left}
+use Rattle.tftp_promises.proofs.Common.{Contains-append_right, Contains-push, same_Some, slice_get_read, SinkMeaning}
+use Rattle.tftp_promises.proofs.Common.{SourceMeaning, StoreMeaning, Run, Start, Then, LoopState, LoopStep}
+use Rattle.tftp_promises.proofs.Common.{Request_answered, is_ours, our_ports, ours_by, Programs, AreDistinct}
+use Rattle.tftp_promises.proofs.Common.{opened_ports}
+use Rattle.tftp_promises.specs.Openings.{DistinctPortsAreFresh}
+use Rattle.tftp_promises.specs.Ports.{opened_by}
 use Rattle.tftp_promises.proofs.NewPlaces.{ours_among}
 
 -- no port is there twice, element by element

@@ -1,27 +1,17 @@
 -- What a source has given since it was opened, after a step of its end, or after its own work.
-use Rattle.std.proofs.Common.{◌≡◌, ℕ, ◌≤◌, Bool, true, false, List, [], ◌++◌, length, Option, Some, None, Result, refl}
-use Rattle.std.proofs.Common.{sym, ap, ◌∙◌, subst, append-nil, rules}
-use Rattle.std.specs.Prelude.{if◌then◌else◌}
-use Rattle.std.proofs.lemmas.List.{length-append, nil_from_length}
-use Rattle.tftp_file.specs.Sink.{SinkMeaning}
-use Rattle.tftp_file.specs.Source.{SourceMeaning, Fills, GivesInTurn, Gave_more}
+use Rattle.tftp_promises.proofs.Common.{◌≡◌, ℕ, ◌≤◌, Bool, true, false, List, [], ◌++◌, length, Option, Some, None}
+use Rattle.tftp_promises.proofs.Common.{Result, refl, sym, ap, ◌∙◌, subst, append-nil, rules, if◌then◌else◌}
+use Rattle.tftp_promises.proofs.Common.{length-append, SinkMeaning, SourceMeaning, Files, Source, Action, FileChanged}
+use Rattle.tftp_promises.proofs.Common.{Terms, EndState, is_sender, outcome_of, Turn, Acts, DatagramStep, after_turn}
+use Rattle.tftp_promises.proofs.Common.{block_length, refused_turn, result_count_is, EndKept, Network, OpenEnd}
+use Rattle.tftp_promises.proofs.Common.{GaveSince, Moved, acts_move, step_moves}
+use Rattle.std.proofs.lemmas.List.{nil_from_length}
+use Rattle.tftp_file.specs.Source.{Fills, GivesInTurn, Gave_more}
 use Rattle.tftp_file.specs.declared.fault.FileFault.{FileFault}
 use Rattle.tftp_file.specs.declared.fault.FileFault.TheVariants as file_faults
-use Rattle.tftp_file.specs.declared.files.Files.{Files}
-use Rattle.tftp_file.specs.declared.files.Files.TheVariants.{Source}
-use Rattle.tftp_ends.specs.declared.action.Action.{Action}
 use Rattle.tftp_ends.specs.declared.endpoint.Endpoint.{Endpoint}
-use Rattle.tftp_ends.specs.declared.error_reply.ErrorReply.TheVariants.{FileChanged}
 use Rattle.tftp_ends.specs.declared.outcome.Outcome.TheVariants as outcomes
-use Rattle.tftp_ends.specs.declared.phase.Terms.{Terms}
-use Rattle.tftp_ends.specs.End.{EndState, is_sender, outcome_of}
-use Rattle.tftp_ends.specs.Step.{Turn, Sends, Acts, DatagramStep, after_turn, block_length, refused_turn}
-use Rattle.tftp_ends.specs.Step.{result_count_is}
-use Rattle.tftp_rules.specs.EndKept.{EndKept}
-use Rattle.tftp_rules.specs.Machine.{Network}
-use Rattle.tftp_rules.specs.OpenEnds.{OpenEnd}
-use Rattle.tftp_promises.specs.Given.{GaveSince}
-use Rattle.tftp_promises.specs.Moved.{Moved, acts_move, step_moves}
+use Rattle.tftp_ends.specs.Step.{Sends}
 use Rattle.tftp_promises.proofs.Invariant.{GaveSo}
 use Rattle.tftp_promises.proofs.MovedSends.{ReadsWithin, reads_within}
 

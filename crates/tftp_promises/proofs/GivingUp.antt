@@ -1,51 +1,30 @@
 -- A client that timed out was not answered by the transfer that serves it. For the law a_client_gives_up_unanswered.
-use Rattle.std.proofs.Common.{append_assoc, ◌≡◌, ℕ, true, false, Option, Some, None, refl, sym, ap, ◌∙◌, ◌++◌, [], ◌∷◌}
-use Rattle.std.proofs.Common.{◌+◌, subst, arith, inl, inr, List}
-use Rattle.std.specs.Prelude.{◌⊎◌, slice_get}
-use Rattle.tftp_file.specs.Sink.{SinkMeaning}
-use Rattle.tftp_file.specs.Source.{SourceMeaning}
+use Rattle.tftp_promises.proofs.Common.{append_assoc, ◌≡◌, ℕ, true, false, Option, Some, None, refl, sym, ap, ◌∙◌, ◌++◌}
+use Rattle.tftp_promises.proofs.Common.{[], ◌∷◌, ◌+◌, subst, arith, inl, inr, List, ◌⊎◌, slice_get, SinkMeaning}
+use Rattle.tftp_promises.proofs.Common.{SourceMeaning, EndState, is_complete, is_sender, outcome_of, record_of}
+use Rattle.tftp_promises.proofs.Common.{StoreMeaning, Endpoint, TransferState, at, drafting_sink, Act, Said, Has}
+use Rattle.tftp_promises.proofs.Common.{append_cancel_right, SocketEvent, Received, Sent, Run, Start, Then, LoopState}
+use Rattle.tftp_promises.proofs.Common.{LoopStep, Waited, Request_received, No_request_found, Request_not_received}
+use Rattle.tftp_promises.proofs.Common.{Request_noted, Request_lost, Clock_read, Store_set, Transfer_closed}
+use Rattle.tftp_promises.proofs.Common.{Drain_begun, ServesClient, client_end, WasHeld, AreJoined, acts_in, ClientRun}
+use Rattle.tftp_promises.proofs.Common.{ClientOpens, To_read, To_write, same_address, Backoff, State, begun, Files}
+use Rattle.tftp_promises.proofs.Common.{true≢false, HasOpened, HasClosed, Noted, Programs, ClientOf, requests_at}
+use Rattle.tftp_promises.proofs.Common.{Removes, client_at}
 use Rattle.tftp_ends.specs.declared.outcome.Outcome.TheVariants as outcomes
-use Rattle.tftp_ends.specs.End.{EndState, is_complete, is_sender, outcome_of, record_of}
-use Rattle.tftp_store.specs.Store.{StoreMeaning}
-use Rattle.tftp_rules.specs.Machine.{Endpoint}
-use Rattle.tftp_server.specs.State.{TransferState, at}
-use Rattle.tftp_server.specs.Draft.{drafting_sink}
 use Rattle.tftp_wire.specs.Spelling.{canonical}
-use Rattle.tftp_lives.specs.Lives.{Act, Said, Has, HasCopies}
+use Rattle.tftp_lives.specs.Lives.{HasCopies}
 use Rattle.tftp_lives.specs.Unanswered.{AreOpposite}
 use Rattle.tftp_lives.proofs.OpenEnds.{flipped}
 use Rattle.tftp_lives.proofs.Unanswered.{give_up_unanswered, give_up_unheard}
-use Rattle.std.proofs.lemmas.List.{append_cancel_right}
-use Rattle.tftp_sockets.specs.Trace.{SocketEvent}
-use Rattle.tftp_sockets.specs.Trace.SocketEvent.{Received, Sent}
-use Rattle.tftp_loop.specs.Run.{Run}
-use Rattle.tftp_loop.specs.Run.Run.{Start, Then}
-use Rattle.tftp_loop.specs.Steps.{LoopState, LoopStep}
-use Rattle.tftp_loop.specs.Steps.LoopStep.{Waited, At_port, Request_received, No_request_found}
-use Rattle.tftp_loop.specs.Steps.LoopStep.{Request_not_received, Request_noted, Request_answered, Request_lost}
-use Rattle.tftp_loop.specs.Steps.LoopStep.{Clock_read, Store_set, Transfer_closed, Drain_begun}
-use Rattle.tftp_promises.specs.AnyFiles.{ServesClient, client_end, peer_of}
+use Rattle.tftp_loop.specs.Steps.LoopStep.{At_port}
+use Rattle.tftp_loop.specs.Steps.LoopStep.{Request_answered}
+use Rattle.tftp_promises.specs.AnyFiles.{peer_of}
 use Rattle.tftp_promises.specs.GivesUp.{ClientsGiveUpUnanswered, ClientsTimeOutSo, GaveUpUnanswered, GaveUpUnheard}
 use Rattle.tftp_promises.specs.GivesUp.{IsSeenUnanswered}
-use Rattle.tftp_promises.specs.GivesUp.{TransfersGiveUpUnanswered, WasHeld}
-use Rattle.tftp_promises.specs.Joined.{AreJoined}
-use Rattle.tftp_promises.specs.Lived.{acts_in}
-use Rattle.tftp_promises.specs.ClientRuns.{ClientRun}
-use Rattle.tftp_promises.specs.Programs.{ClientOpens, To_read, To_write}
-use Rattle.tftp_ends.specs.Action.{same_address}
-use Rattle.tftp_ends.specs.declared.backoff.Backoff.{Backoff}
-use Rattle.tftp_client.specs.Converses.{State}
-use Rattle.tftp_client.specs.Runs.{begun}
-use Rattle.tftp_file.specs.declared.files.Files.{Files}
-use Rattle.std.proofs.lemmas.Bool.{true≢false}
+use Rattle.tftp_promises.specs.GivesUp.{TransfersGiveUpUnanswered}
 use Rattle.tftp_promises.proofs.ClientTraces.{asks_there}
 use Rattle.tftp_promises.proofs.FirstRefused.{still_asks}
 use Rattle.tftp_promises.proofs.OthersTaken.{takes_none}
-use Rattle.tftp_promises.specs.Network.{HasOpened}
-use Rattle.tftp_promises.specs.Openings.{HasClosed}
-use Rattle.tftp_promises.specs.Order.{Noted, Programs, ClientOf, requests_at}
-use Rattle.tftp_promises.specs.Ports.{Removes}
-use Rattle.tftp_promises.specs.Programs.{client_at}
 use Rattle.tftp_promises.proofs.ClientLives.{client_lives, client_opening}
 use Rattle.tftp_promises.proofs.ClientsServed.{served_by}
 use Rattle.tftp_promises.proofs.JointRuns.{traces_joint}

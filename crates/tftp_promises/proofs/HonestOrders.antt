@@ -1,26 +1,14 @@
 -- What a program received in an order of an honest network was sent to it by one of the programs, or may come though none
 -- sent it. For the law a_client_ends_for_a_reason.
-use Rattle.std.proofs.Common.{◌≡◌, ℕ, Bool, true, false, List, [], ◌∷◌, Some, refl, sym, ap}
-use Rattle.std.proofs.Common.{◌∙◌, subst, zero, suc, arith, inl, inr}
-use Rattle.std.specs.Prelude.{◌⊎◌, ◌==◌, if◌then◌else◌, slice_get, option_map}
-use Rattle.std.specs.List.{Contains}
-use Rattle.std.proofs.lemmas.Bool.{eqb-true}
-use Rattle.std.proofs.lemmas.List.Elements.{All-contains, All-from_recursion, Contains-append_cases}
-use Rattle.std.proofs.lemmas.Option.{same_Some, slice_get-map}
-use Rattle.tftp_file.specs.Sink.{SinkMeaning}
-use Rattle.tftp_file.specs.Source.{SourceMeaning}
-use Rattle.tftp_store.specs.Store.{StoreMeaning}
-use Rattle.tftp_lives.specs.Lives.{Has}
-use Rattle.tftp_rules.specs.Machine.{Endpoint}
-use Rattle.tftp_sockets.specs.Trace.{SocketEvent}
-use Rattle.tftp_sockets.specs.Trace.SocketEvent.{Received, Sent}
-use Rattle.tftp_promises.specs.ClientRuns.{moved_in}
-use Rattle.tftp_promises.specs.Joint.{WasSentBefore}
-use Rattle.tftp_promises.specs.Order.{Noted, Programs, CanCome, ClientOf, IsAt, IsHonest, IsOrder, MayCome, events_of}
-use Rattle.tftp_promises.specs.Order.{requests_at}
-use Rattle.tftp_promises.specs.Programs.{client_at, endpoint}
-use Rattle.tftp_promises.specs.Snapshots.{ClientStage, Has_asked, all_of}
-use Rattle.tftp_promises.specs.Traces.{IsOfPort}
+use Rattle.tftp_promises.proofs.Common.{◌≡◌, ℕ, Bool, true, false, List, [], ◌∷◌, Some, refl, sym, ap, ◌∙◌, subst, zero}
+use Rattle.tftp_promises.proofs.Common.{suc, arith, inl, inr, ◌⊎◌, ◌==◌, if◌then◌else◌, slice_get, option_map, Contains}
+use Rattle.tftp_promises.proofs.Common.{eqb-true, Contains-append_cases, same_Some, slice_get-map, SinkMeaning}
+use Rattle.tftp_promises.proofs.Common.{SourceMeaning, StoreMeaning, Has, Endpoint, SocketEvent, Received, Sent}
+use Rattle.tftp_promises.proofs.Common.{moved_in, WasSentBefore, Noted, Programs, CanCome, ClientOf, IsHonest, IsOrder}
+use Rattle.tftp_promises.proofs.Common.{MayCome, events_of, requests_at, client_at, endpoint, ClientStage, Has_asked}
+use Rattle.tftp_promises.proofs.Common.{all_of, IsOfPort}
+use Rattle.std.proofs.lemmas.List.Elements.{All-contains, All-from_recursion}
+use Rattle.tftp_promises.specs.Order.{IsAt}
 use Rattle.tftp_promises.proofs.ClientTraces.{asks_first}
 use Rattle.tftp_promises.proofs.Orders.{later_in, mapped, noted_in, one_in}
 

@@ -1,13 +1,9 @@
 -- The transfer at an identifier, after another one took its place or one was removed.
-use Rattle.std.proofs.Common.{◌≡◌, ◌≢◌, ℕ, Bool, true, false, List, [], ◌∷◌, cond, Some, None, refl, sym, ap}
-use Rattle.std.proofs.Common.{◌∙◌, inl, inr, rules}
-use Rattle.std.specs.Prelude.{◌⊎◌}
-use Rattle.std.proofs.lemmas.Bool.{cases_eq}
-use Rattle.std.proofs.lemmas.Option.{same_Some}
-use Rattle.std.specs.BTreeMap.{is_at}
-use Rattle.std.specs.Ordering.{nat_cmp}
-use Rattle.tftp_server.specs.State.{at, with_next, without}
-use Rattle.tftp_rules.proofs.Entries.{lookup-remove_other, lookup-set_other, lookup-set_same, numbers}
+use Rattle.tftp_promises.proofs.Common.{◌≡◌, ℕ, Bool, true, false, List, [], ◌∷◌, cond, Some, None, refl, sym, ap, ◌∙◌}
+use Rattle.tftp_promises.proofs.Common.{inl, inr, rules, ◌⊎◌, cases_eq, same_Some, is_at, nat_cmp, at, with_next}
+use Rattle.tftp_promises.proofs.Common.{without, numbers}
+use Rattle.std.proofs.Common.{◌≢◌}
+use Rattle.tftp_rules.proofs.Entries.{lookup-remove_other, lookup-set_other, lookup-set_same}
 use Rattle.tftp_promises.proofs.Invariant.{AreKeyedOnce}
 
 module _ {T : Type 0} where

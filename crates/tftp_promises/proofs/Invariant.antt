@@ -1,47 +1,20 @@
 -- The invariant of the programs between two of their steps: rules of the guarded machine lead to the views of all ends
 -- that were opened, and each datagram that was sent is one of its messages. That a message is there (`IsThere`) is said
 -- as for the turns of an end.
-use Rattle.std.specs.Prelude.{ℕ, ◌≡◌, ◌≢◌, ◌⊎◌, ◌<◌, true, false, List, [], ◌∷◌, ◌++◌, slice_get, Option, Some, None}
+use Rattle.tftp_promises.proofs.Common.{◌≢◌, ◌⊎◌, slice_get, rules, Contains, Spells, Mode, IsPrefixOf, wire_text}
+use Rattle.tftp_promises.proofs.Common.{path_of_name, SinkMeaning, SourceMeaning, Files, Source, Sink, EndState}
+use Rattle.tftp_promises.proofs.Common.{is_sender, is_client, outcome_of, TakesInTurn, StoreMeaning, Opening, EndKept}
+use Rattle.tftp_promises.proofs.Common.{Endpoint, Message, Network, OpenEnd, open_view, peer_of, EndView, IsShown}
+use Rattle.tftp_promises.proofs.Common.{requested, IsAmong, IsUnblamed, TransferState, at, SocketEvent, Run, LoopState}
+use Rattle.tftp_promises.proofs.Common.{LoopStep, State, moved_in, HadStore, StoreBegan, GaveSince, StoreOpened}
+use Rattle.tftp_promises.proofs.Common.{WasSentBefore, Moved, HasClosed, above, moved_at, opened_at, our_ports}
+use Rattle.tftp_promises.proofs.Common.{place_at, Programs, IsStranger, requests_at, ClientOf, AreDistinct, endpoint}
+use Rattle.tftp_promises.proofs.Common.{client_at, joined, Snapshot, ClientStage, Unasked, Has_asked}
+use Rattle.std.specs.Prelude.{ℕ, ◌≡◌, ◌<◌, true, false, List, [], ◌∷◌, ◌++◌, Option, Some, None}
 use Rattle.std.specs.Prelude.{Bool, Ok}
-use Rattle.std.proofs.Common.{rules}
-use Rattle.std.specs.List.{Contains}
-use Rattle.tftp_wire.specs.Spelling.{Spells}
-use Rattle.tftp_wire.specs.declared.mode.Mode.{Mode}
 use Rattle.tftp_wire.specs.declared.packet.Request.{Request as WireRequest}
-use Rattle.tftp_file.specs.Block.{IsPrefixOf}
-use Rattle.tftp_file.specs.Netascii.{wire_text}
-use Rattle.tftp_file.specs.Path.{path_of_name}
-use Rattle.tftp_file.specs.Sink.{SinkMeaning}
-use Rattle.tftp_file.specs.Source.{SourceMeaning}
-use Rattle.tftp_file.specs.declared.files.Files.{Files}
-use Rattle.tftp_file.specs.declared.files.Files.TheVariants.{Source, Sink}
-use Rattle.tftp_ends.specs.End.{EndState, is_sender, is_client, outcome_of}
-use Rattle.tftp_store.specs.Drafts.{TakesInTurn}
-use Rattle.tftp_store.specs.Store.{StoreMeaning}
-use Rattle.tftp_store.specs.declared.store.Opening.{Opening}
-use Rattle.tftp_rules.specs.EndKept.{EndKept}
 pub use Rattle.tftp_rules.specs.EndShown.{IsThere, HasArrived}
-use Rattle.tftp_rules.specs.Machine.{Endpoint, Message, Network}
-use Rattle.tftp_rules.specs.OpenEnds.{OpenEnd, open_view, peer_of}
-use Rattle.tftp_rules.specs.Shows.{EndView, IsShown, requested}
-use Rattle.tftp_rules.specs.ViewSafety.{IsAmong}
-use Rattle.tftp_rules.proofs.UnblamedEnds.{IsUnblamed}
-use Rattle.tftp_server.specs.State.{TransferState, at}
-use Rattle.tftp_sockets.specs.Trace.{SocketEvent}
-use Rattle.tftp_loop.specs.Run.{Run}
-use Rattle.tftp_loop.specs.Steps.{LoopState, LoopStep}
-use Rattle.tftp_client.specs.Converses.{State}
-use Rattle.tftp_promises.specs.ClientRuns.{moved_in}
-use Rattle.tftp_promises.specs.Drafts.{HadStore, StoreBegan, WasCommitted}
-use Rattle.tftp_promises.specs.Given.{GaveSince, StoreOpened}
-use Rattle.tftp_promises.specs.Joint.{WasSentBefore}
-use Rattle.tftp_promises.specs.Moved.{Moved}
-use Rattle.tftp_promises.specs.Openings.{HasClosed, above, moved_at, opened_at, our_ports, place_at}
-use Rattle.tftp_promises.specs.Order.{Programs, IsStranger, requests_at, ClientOf}
-use Rattle.tftp_promises.specs.Ports.{AreDistinct}
-use Rattle.tftp_promises.specs.Programs.{endpoint, client_at}
-use Rattle.tftp_promises.specs.Network.{joined}
-use Rattle.tftp_promises.specs.Snapshots.{Snapshot, ClientStage, Unasked, Has_asked}
+use Rattle.tftp_promises.specs.Drafts.{WasCommitted}
 use Rattle.tftp_promises.proofs.RunPlaces.{places}
 use Rattle.tftp_promises.proofs.Texts.{pad_to}
 

@@ -1,34 +1,21 @@
 -- From one order of all events to a joint run. The last steps are taken off one by one, from the
 -- end of the order: a step leaves when the oldest of its events after a wait does.
-use Rattle.std.proofs.Common.{◌≡◌, ℕ, List, [], ◌∷◌, ◌++◌, append_assoc, length, map, set, Option, Some, None, refl}
-use Rattle.std.proofs.Common.{sym, ap, ◌∙◌, subst, zero, suc, arith, inl, inr}
-use Rattle.std.specs.Prelude.{◌≢◌, slice_get, option_map}
-use Rattle.std.specs.List.{Contains, AllByRecursion}
-use Rattle.std.proofs.lemmas.Bool.{cases_eq}
-use Rattle.std.proofs.lemmas.List.{append_cancel_right, length-set, length-map}
-use Rattle.std.proofs.lemmas.Option.{same_Some, slice_get-map, none-some}
-use Rattle.tftp_file.specs.Sink.{SinkMeaning}
-use Rattle.tftp_file.specs.Source.{SourceMeaning}
-use Rattle.tftp_file.specs.declared.files.Files.{Files}
-use Rattle.tftp_store.specs.Store.{StoreMeaning}
-use Rattle.tftp_rules.specs.Machine.{Endpoint}
-use Rattle.tftp_rules.proofs.Indices.{slice_get-set_same, slice_get-set_other}
-use Rattle.tftp_sockets.specs.Trace.{SocketEvent}
-use Rattle.tftp_sockets.specs.Trace.SocketEvent.{Received, Sent}
-use Rattle.tftp_loop.specs.Run.{Run}
-use Rattle.tftp_loop.specs.Run.Run.{Start, Then}
-use Rattle.tftp_loop.specs.Steps.{LoopState, LoopStep}
-use Rattle.tftp_client.specs.Converses.{State}
-use Rattle.tftp_client.specs.Runs.{begun}
-use Rattle.tftp_promises.specs.ClientRuns.{ClientDoes, ClientRun, Starts, Goes_on, client_moves, moved_in}
-use Rattle.tftp_promises.specs.Joint.{Joint, All_begin, Server_does, Client_asks, Client_does, CanTake, WasSentBefore}
+use Rattle.tftp_promises.proofs.Common.{◌≡◌, ℕ, List, [], ◌∷◌, ◌++◌, append_assoc, length, map, set, Option, Some, None}
+use Rattle.tftp_promises.proofs.Common.{refl, sym, ap, ◌∙◌, subst, zero, suc, arith, inl, inr, ◌≢◌, slice_get}
+use Rattle.tftp_promises.proofs.Common.{option_map, Contains, AllByRecursion, cases_eq, append_cancel_right, same_Some}
+use Rattle.tftp_promises.proofs.Common.{slice_get-map, SinkMeaning, SourceMeaning, Files, StoreMeaning, Endpoint}
+use Rattle.tftp_promises.proofs.Common.{slice_get-set_same, slice_get-set_other, SocketEvent, Received, Sent, Run}
+use Rattle.tftp_promises.proofs.Common.{Start, Then, LoopState, LoopStep, State, begun, ClientDoes, ClientRun, Starts}
+use Rattle.tftp_promises.proofs.Common.{Goes_on, client_moves, moved_in, CanTake, WasSentBefore, Moved, Noted, Programs}
+use Rattle.tftp_promises.proofs.Common.{events_of, IsHonest, IsOrder, CanCome, ClientOf, DoesOwn, TakesOwn, endpoint}
+use Rattle.tftp_promises.proofs.Common.{ClientStage, Unasked, Has_asked, Snapshot, just_asked, client_did, all_of}
+use Rattle.std.proofs.lemmas.List.{length-set, length-map}
+use Rattle.std.proofs.lemmas.Option.{none-some}
+use Rattle.tftp_promises.specs.Joint.{Joint, All_begin, Server_does, Client_asks, Client_does}
 use Rattle.tftp_promises.specs.Joint.{TracesAreJoint}
-use Rattle.tftp_promises.specs.Moved.{Moved, nothing_moved}
-use Rattle.tftp_promises.specs.Order.{Noted, Programs, events_of, IsAt, IsHonest, IsOrder, CanCome, ClientOf}
-use Rattle.tftp_promises.specs.Others.{DoesOwn, TakesOwn}
-use Rattle.tftp_promises.specs.Programs.{endpoint}
-use Rattle.tftp_promises.specs.Snapshots.{ClientStage, Unasked, Has_asked, noted_by, Snapshot, just_asked, client_did}
-use Rattle.tftp_promises.specs.Snapshots.{all_of}
+use Rattle.tftp_promises.specs.Moved.{nothing_moved}
+use Rattle.tftp_promises.specs.Order.{IsAt}
+use Rattle.tftp_promises.specs.Snapshots.{noted_by}
 use Rattle.tftp_promises.proofs.ClientTraces.{converse}
 use Rattle.tftp_promises.proofs.Orders.{events_own, events_other, noted_in, set_again, set_own, all_are, mapped}
 use Rattle.tftp_promises.proofs.SeenSteps.{Split, split, heads, no_more, step_back, split_in, oldest_in, past}

@@ -1,15 +1,11 @@
 -- An answer to a client that has no peer comes from the server: a client's DATA, ACK or OACK goes to its peer, which is
 -- at the server.
-use Rattle.std.proofs.Common.{◌≡◌, sym, subst, List, rules}
-use Rattle.std.specs.Prelude.{◌≢◌}
-use Rattle.std.specs.List.{Contains}
+use Rattle.tftp_promises.proofs.Common.{◌≡◌, sym, subst, List, rules, ◌≢◌, Contains, Attests, Endpoint, At_server}
+use Rattle.tftp_promises.proofs.Common.{At_client, Elsewhere, Message, Machine, Network, message, said, EndView}
+use Rattle.tftp_promises.proofs.Common.{IsShown}
 use Rattle.tftp_wire.specs.declared.packet.Packet.{Packet as WirePacket}
 use Rattle.tftp_rules.specs.EndKept.{IsAnswer}
-use Rattle.tftp_rules.specs.Facts.{Holds, Attests}
-use Rattle.tftp_rules.specs.Machine.{Endpoint, At_server, At_client, Elsewhere, Message, Machine, Network}
-use Rattle.tftp_rules.specs.Rules.{message}
-use Rattle.tftp_rules.specs.Said.{said}
-use Rattle.tftp_rules.specs.Shows.{EndView, IsShown}
+use Rattle.tftp_rules.specs.Facts.{Holds}
 use Rattle.tftp_rules.proofs.Refines.{shown_by}
 
 module _ (network : Network) where

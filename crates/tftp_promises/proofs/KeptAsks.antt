@@ -1,44 +1,25 @@
 -- A client that sends its request keeps the invariant.
-use Rattle.std.proofs.Common.{◌≡◌, ℕ, Bool, true, false, List, [], ◌∷◌, ◌++◌, Some, None, refl, sym, ap, ◌∙◌, subst, inl, inr}
-use Rattle.std.proofs.Common.{length}
-use Rattle.std.specs.Prelude.{slice_get}
-use Rattle.std.specs.List.{Contains}
-use Rattle.std.proofs.lemmas.Bool.{true≢false}
-use Rattle.std.proofs.lemmas.List.Elements.{Contains-push}
-use Rattle.std.proofs.lemmas.Option.{same_Some}
-use Rattle.tftp_wire.specs.Spelling.{IsValid, Spells, canonical}
+use Rattle.tftp_promises.proofs.Common.{◌≡◌, ℕ, Bool, true, false, List, [], ◌∷◌, ◌++◌, Some, None, refl, sym, ap, ◌∙◌}
+use Rattle.tftp_promises.proofs.Common.{subst, inl, inr, length, slice_get, Contains, true≢false, Contains-push}
+use Rattle.tftp_promises.proofs.Common.{same_Some, Spells, wire_text, SinkMeaning, SourceMeaning, Files, Source, Sink}
+use Rattle.tftp_promises.proofs.Common.{EndState, is_client, outcome_of, terms_of, request_of, StoreMeaning}
+use Rattle.tftp_promises.proofs.Common.{SocketEvent, Sent, State, begun, EndKept, Endpoint, Message, Request, OpenEnd}
+use Rattle.tftp_promises.proofs.Common.{open_view, message, said, EndView, IsShown, requested, spells_own, moved_in}
+use Rattle.tftp_promises.proofs.Common.{Moved, Programs, requests_at, ClientOf, client_at, endpoint, ClientOpens}
+use Rattle.tftp_promises.proofs.Common.{To_read, To_write, joined, Snapshot, Unasked, Has_asked, just_asked, client_did}
+use Rattle.tftp_wire.specs.Spelling.{IsValid, canonical}
 use Rattle.tftp_wire.specs.declared.packet.Request.{Request as WireRequest}
-use Rattle.tftp_file.specs.Netascii.{wire_text}
-use Rattle.tftp_file.specs.Sink.{SinkMeaning}
-use Rattle.tftp_file.specs.Source.{SourceMeaning, Gave_nothing}
-use Rattle.tftp_file.specs.declared.files.Files.{Files}
-use Rattle.tftp_file.specs.declared.files.Files.TheVariants.{Source, Sink}
-use Rattle.tftp_ends.specs.End.{EndState, is_client, outcome_of, terms_of}
-use Rattle.tftp_ends.specs.Opening.{getting, putting, request_of}
-use Rattle.tftp_store.specs.Store.{StoreMeaning}
-use Rattle.tftp_sockets.specs.Trace.{SocketEvent}
-use Rattle.tftp_sockets.specs.Trace.SocketEvent.{Sent}
-use Rattle.tftp_client.specs.Converses.{State}
-use Rattle.tftp_client.specs.Runs.{begun}
-use Rattle.tftp_rules.specs.EndKept.{EndKept}
-use Rattle.tftp_rules.specs.Machine.{Endpoint, Message, Packet, Request}
-use Rattle.tftp_rules.specs.OpenEnds.{OpenEnd, open_view}
-use Rattle.tftp_rules.specs.Rules.{message, asking}
-use Rattle.tftp_rules.specs.Said.{said}
-use Rattle.tftp_rules.specs.Shows.{EndView, NoneAt, IsShown, requested, view_of}
+use Rattle.tftp_file.specs.Source.{Gave_nothing}
+use Rattle.tftp_ends.specs.Opening.{getting, putting}
+use Rattle.tftp_rules.specs.Machine.{Packet}
+use Rattle.tftp_rules.specs.Rules.{asking}
+use Rattle.tftp_rules.specs.Shows.{NoneAt, view_of}
 use Rattle.tftp_rules.proofs.Actions.{asks}
 use Rattle.tftp_rules.proofs.EndOpenings.{nothing_held, no_text}
 use Rattle.tftp_rules.proofs.Indices.{slice_get-push_new}
-use Rattle.tftp_rules.proofs.SaidLemmas.{spells_own}
 use Rattle.tftp_rules.proofs.UnblamedEnds.{opens_unblamed}
-use Rattle.tftp_promises.specs.ClientRuns.{moved_in}
-use Rattle.tftp_promises.specs.Moved.{Moved, nothing_moved}
-use Rattle.tftp_promises.specs.Order.{Programs, requests_at, ClientOf}
-use Rattle.tftp_promises.specs.Programs.{client_at, endpoint, ClientOpens, To_read}
-use Rattle.tftp_promises.specs.Programs.{To_write}
+use Rattle.tftp_promises.specs.Moved.{nothing_moved}
 use Rattle.tftp_promises.specs.Programs.{OpensToRead, OpensToWrite}
-use Rattle.tftp_promises.specs.Network.{joined}
-use Rattle.tftp_promises.specs.Snapshots.{Snapshot, Unasked, Has_asked, just_asked, client_did}
 use Rattle.tftp_promises.proofs.GivenSteps.{gave_first}
 use Rattle.tftp_promises.proofs.Invariant.{client_text, IsThere, HasFile, IsKept, IsFreshBy}
 use Rattle.tftp_promises.proofs.KeptClients.{ClientTurns, client_keeps, transfer_apart}

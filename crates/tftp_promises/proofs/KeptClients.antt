@@ -1,28 +1,12 @@
 -- A step of a client keeps the invariant, if it does of the client's own end.
-use Rattle.std.proofs.Common.{◌≡◌, ℕ, List, ◌++◌, set, Some, sym, ap, ◌∙◌, subst, inl, inr, rules}
-use Rattle.std.specs.Prelude.{◌≢◌, ◌⊎◌, slice_get}
-use Rattle.std.specs.List.{Contains}
-use Rattle.std.proofs.lemmas.Bool.{cases_eq}
-use Rattle.std.proofs.lemmas.Option.{same_Some}
-use Rattle.tftp_file.specs.Sink.{SinkMeaning}
-use Rattle.tftp_file.specs.Source.{SourceMeaning}
-use Rattle.tftp_file.specs.declared.files.Files.{Files}
-use Rattle.tftp_store.specs.Store.{StoreMeaning}
-use Rattle.tftp_server.specs.State.{TransferState}
-use Rattle.tftp_sockets.specs.Trace.{SocketEvent}
-use Rattle.tftp_sockets.specs.Trace.SocketEvent.{Sent}
-use Rattle.tftp_client.specs.Converses.{State}
-use Rattle.tftp_rules.specs.Machine.{Endpoint, Message}
-use Rattle.tftp_rules.specs.OpenEnds.{OpenEnd}
-use Rattle.tftp_rules.specs.Shows.{EndView, IsShown}
-use Rattle.tftp_rules.specs.ViewSafety.{IsAmong}
-use Rattle.tftp_rules.proofs.Indices.{slice_get-set_cases, slice_get-set_same, slice_get-set_other}
-use Rattle.tftp_promises.specs.Joint.{WasSentBefore}
-use Rattle.tftp_promises.specs.Moved.{Moved}
-use Rattle.tftp_promises.specs.Order.{Programs, IsStranger, ClientOf}
-use Rattle.tftp_promises.specs.Programs.{endpoint, client_at}
-use Rattle.tftp_promises.specs.Network.{joined}
-use Rattle.tftp_promises.specs.Snapshots.{Snapshot, ClientStage, Unasked, Has_asked, noted_by, client_did}
+use Rattle.tftp_promises.proofs.Common.{◌≡◌, ℕ, List, ◌++◌, set, Some, sym, ap, ◌∙◌, subst, inl, inr, rules, ◌≢◌, ◌⊎◌}
+use Rattle.tftp_promises.proofs.Common.{slice_get, Contains, cases_eq, same_Some, SinkMeaning, SourceMeaning, Files}
+use Rattle.tftp_promises.proofs.Common.{StoreMeaning, TransferState, SocketEvent, Sent, State, Endpoint, Message}
+use Rattle.tftp_promises.proofs.Common.{OpenEnd, EndView, IsShown, IsAmong, slice_get-set_same, slice_get-set_other}
+use Rattle.tftp_promises.proofs.Common.{WasSentBefore, Moved, Programs, IsStranger, ClientOf, endpoint, client_at}
+use Rattle.tftp_promises.proofs.Common.{joined, Snapshot, ClientStage, Unasked, Has_asked, client_did}
+use Rattle.tftp_rules.proofs.Indices.{slice_get-set_cases}
+use Rattle.tftp_promises.specs.Snapshots.{noted_by}
 use Rattle.tftp_promises.proofs.Invariant.{IsThere, IsViewed, HasTransferBy}
 use Rattle.tftp_promises.proofs.Invariant.{ClientKept, StageKept, TransferKept, ServerKept, IsOfClient, IsOfTransfer, IsKept}
 use Rattle.tftp_promises.proofs.Invariant.{IsFreshBy, SendsText, same_transfer}

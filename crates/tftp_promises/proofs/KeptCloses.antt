@@ -1,21 +1,12 @@
 -- A transfer that the server removes keeps the invariant: its end stays among the views.
-use Rattle.std.proofs.Common.{◌≡◌, ◌≢◌, ℕ, List, [], ◌++◌, Some, refl, sym, ap, ◌∙◌, subst, inl, inr}
-use Rattle.std.proofs.lemmas.Bool.{cases_eq}
+use Rattle.tftp_promises.proofs.Common.{◌≡◌, ℕ, List, [], ◌++◌, Some, refl, sym, ap, ◌∙◌, subst, inl, inr, cases_eq}
+use Rattle.tftp_promises.proofs.Common.{same_Some, SinkMeaning, SourceMeaning, StoreMeaning, TransferState, ServerState}
+use Rattle.tftp_promises.proofs.Common.{at, without, SocketEvent, LoopState, LoopStep, Endpoint, Message, IsShown}
+use Rattle.tftp_promises.proofs.Common.{numbers, HasClosed, place_at, Programs, joined, Snapshot, server_did}
+use Rattle.std.proofs.Common.{◌≢◌}
 use Rattle.std.proofs.lemmas.List.{append-nil}
-use Rattle.std.proofs.lemmas.Option.{same_Some}
-use Rattle.tftp_file.specs.Sink.{SinkMeaning}
-use Rattle.tftp_file.specs.Source.{SourceMeaning}
-use Rattle.tftp_store.specs.Store.{StoreMeaning}
-use Rattle.tftp_server.specs.State.{TransferState, ServerState, at, without}
-use Rattle.tftp_sockets.specs.Trace.{SocketEvent}
-use Rattle.tftp_loop.specs.Steps.{LoopState, LoopStep, Closes, Transfer_closed}
-use Rattle.tftp_rules.specs.Machine.{Endpoint, Message}
-use Rattle.tftp_rules.specs.Shows.{IsShown}
-use Rattle.tftp_rules.proofs.Entries.{lookup-remove_other, numbers}
-use Rattle.tftp_promises.specs.Openings.{HasClosed, place_at}
-use Rattle.tftp_promises.specs.Order.{Programs}
-use Rattle.tftp_promises.specs.Network.{joined}
-use Rattle.tftp_promises.specs.Snapshots.{Snapshot, server_did}
+use Rattle.tftp_loop.specs.Steps.{Closes, Transfer_closed}
+use Rattle.tftp_rules.proofs.Entries.{lookup-remove_other}
 use Rattle.tftp_promises.proofs.Identifiers.{at-without_cases, once-without}
 use Rattle.tftp_promises.proofs.Invariant.{AreKeyedOnce, HasTransferBy, TransferKept, ServerKept, IsKept}
 use Rattle.tftp_promises.proofs.Invariant.{same_transfer}

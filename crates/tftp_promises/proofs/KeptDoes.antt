@@ -1,47 +1,26 @@
 -- Each step of a client keeps the invariant.
-use Rattle.std.proofs.Common.{◌≡◌, ℕ, Bool, List, [], ◌∷◌, ◌++◌, Option, Some, None, refl, sym, ap, ◌∙◌, subst}
-use Rattle.std.specs.Prelude.{◌≢◌, is_some, IsSome}
-use Rattle.std.specs.List.{Contains}
-use Rattle.std.proofs.lemmas.List.Elements.{Contains-append_left, Contains-push}
-use Rattle.tftp_wire.specs.Spelling.{Spells}
+use Rattle.tftp_promises.proofs.Common.{◌≡◌, ℕ, Bool, List, [], ◌∷◌, ◌++◌, Option, Some, None, refl, sym, ap, ◌∙◌}
+use Rattle.tftp_promises.proofs.Common.{subst, ◌≢◌, is_some, IsSome, Contains, Contains-append_left, Contains-push}
+use Rattle.tftp_promises.proofs.Common.{Spells, Error, one_meaning, IsPrefixOf, SinkMeaning, SourceMeaning, Files}
+use Rattle.tftp_promises.proofs.Common.{Outcome, EndState, outcome_of, KeepsFiles, Turn, after_turn, DatagramStep}
+use Rattle.tftp_promises.proofs.Common.{timeout_turn, StoreMeaning, Watch, SocketEvent, answered, Received, Sent}
+use Rattle.tftp_promises.proofs.Common.{Watched, Elapsed, Printed, Quiet, Slept, State, IsOpen, HandlesReceived}
+use Rattle.tftp_promises.proofs.Common.{MayElapse, received, wait_at, Answers, Loses, Stays, Elapses, Stands, Endpoint}
+use Rattle.tftp_promises.proofs.Common.{Elsewhere, OpenEnd, files_of, open_view, peer_of, slice_get-set_same}
+use Rattle.tftp_promises.proofs.Common.{ClientDoes, Receives_one, Reads_clock, Waits_until, Times_out, File_works}
+use Rattle.tftp_promises.proofs.Common.{Prints_line, client_moves, moved_in, CanTake, Moved, step_moves, our_ports}
+use Rattle.tftp_promises.proofs.Common.{Programs, IsError, DoesOwn, HandlesOwn, IsOtherAnswer, client_at, joined}
+use Rattle.tftp_promises.proofs.Common.{Snapshot, Has_asked, client_did}
 use Rattle.tftp_wire.specs.declared.packet.Packet.{Packet as WirePacket}
-use Rattle.tftp_wire.specs.declared.packet.Packet.TheVariants.{Error}
-use Rattle.tftp_wire.proofs.SpellingLemmas.{one_meaning}
-use Rattle.tftp_file.specs.Block.{IsPrefixOf}
-use Rattle.tftp_file.specs.Sink.{SinkMeaning}
-use Rattle.tftp_file.specs.Source.{SourceMeaning}
-use Rattle.tftp_file.specs.declared.files.Files.{Files}
-use Rattle.tftp_ends.specs.declared.outcome.Outcome.{Outcome}
-use Rattle.tftp_ends.specs.End.{EndState, outcome_of}
-use Rattle.tftp_ends.specs.Files.{KeepsFiles}
-use Rattle.tftp_ends.specs.Step.{Turn, after_turn, DatagramStep, timeout_turn}
-use Rattle.tftp_store.specs.Store.{StoreMeaning}
-use Rattle.tftp_sockets.specs.declared.watch.Watch.{Watch}
-use Rattle.tftp_sockets.specs.Trace.{SocketEvent, QuietEvent, answered}
-use Rattle.tftp_sockets.specs.Trace.SocketEvent.{Received, Sent, Watched, Elapsed, Printed, Quiet}
-use Rattle.tftp_sockets.specs.Trace.QuietEvent.{Slept}
-use Rattle.tftp_client.specs.Converses.{State, IsOpen, HandlesReceived, MayElapse, WorksOnFile, received, renewed, turned}
-use Rattle.tftp_client.specs.Converses.{wait_at, waited, elapsed}
-use Rattle.tftp_client.specs.Converses.HandlesReceived.{Answers, Loses}
-use Rattle.tftp_client.specs.Converses.MayElapse.{Stays, Elapses}
-use Rattle.tftp_rules.specs.EndShown.{Stands}
+use Rattle.tftp_sockets.specs.Trace.{QuietEvent}
+use Rattle.tftp_client.specs.Converses.{WorksOnFile, renewed, turned}
+use Rattle.tftp_client.specs.Converses.{waited, elapsed}
 use Rattle.tftp_rules.specs.EndKept.{IsAnswer, IsFromServer}
-use Rattle.tftp_rules.specs.Machine.{Endpoint, Elsewhere}
-use Rattle.tftp_rules.specs.OpenEnds.{OpenEnd, files_of, open_view, peer_of}
-use Rattle.tftp_rules.proofs.Indices.{slice_get-set_same}
 use Rattle.tftp_rules.proofs.PhaseMoves.{same_ips}
 use Rattle.tftp_rules.proofs.EndTurns.{datagram_goes, timeout_goes}
 use Rattle.tftp_rules.proofs.UnblamedEnds.{timeout_unblamed}
-use Rattle.tftp_promises.specs.ClientRuns.{ClientDoes, Receives_one, Reads_clock, Waits_until, Times_out, File_works, Prints_line}
-use Rattle.tftp_promises.specs.ClientRuns.{client_moves, line_printed, moved_in}
-use Rattle.tftp_promises.specs.Joint.{CanTake}
-use Rattle.tftp_promises.specs.Moved.{Moved, handling_moves, step_moves}
-use Rattle.tftp_promises.specs.Openings.{our_ports}
-use Rattle.tftp_promises.specs.Order.{Programs, IsError}
-use Rattle.tftp_promises.specs.Others.{DoesOwn, HandlesOwn, IsOtherAnswer}
-use Rattle.tftp_promises.specs.Programs.{client_at}
-use Rattle.tftp_promises.specs.Network.{joined}
-use Rattle.tftp_promises.specs.Snapshots.{Snapshot, Has_asked, client_did}
+use Rattle.tftp_promises.specs.ClientRuns.{line_printed}
+use Rattle.tftp_promises.specs.Moved.{handling_moves}
 use Rattle.tftp_promises.proofs.Invariant.{HasArrived, IsKept, IsFreshBy, ClientKept, IsOfClient}
 use Rattle.tftp_promises.proofs.KeptAnswers.{answer_from_server}
 use Rattle.tftp_promises.proofs.KeptEvents.{IsSilent, added_by, added_none, answered_has, answered_sends}

@@ -1,14 +1,8 @@
 -- The events of one step: what was sent is the answer.
-use Rattle.std.proofs.lemmas.Grind.{common_steps}
-use Rattle.std.proofs.Common.{◌≡◌, ℕ, List, [], ◌∷◌, ◌++◌, Option, Some, None, inl, inr, arith, rules}
-use Rattle.std.specs.Prelude.{◌⊎◌}
-use Rattle.std.specs.List.{Contains, AllByRecursion}
-use Rattle.std.proofs.lemmas.List.{append_cancel_right}
-use Rattle.std.proofs.lemmas.List.Elements.{Contains-append_right}
-use Rattle.tftp_ends.specs.Step.{Reply}
-use Rattle.tftp_rules.specs.Machine.{Endpoint}
-use Rattle.tftp_sockets.specs.Trace.{SocketEvent, answered}
-use Rattle.tftp_sockets.specs.Trace.SocketEvent.{Received, Sent, Watched, Elapsed, Printed, Quiet}
+use Rattle.tftp_promises.proofs.Common.{common_steps, ◌≡◌, ℕ, List, [], ◌∷◌, ◌++◌, Option, Some, None, inl, inr, arith}
+use Rattle.tftp_promises.proofs.Common.{rules, ◌⊎◌, Contains, AllByRecursion, append_cancel_right}
+use Rattle.tftp_promises.proofs.Common.{Contains-append_right, Reply, Endpoint, SocketEvent, answered, Received, Sent}
+use Rattle.tftp_promises.proofs.Common.{Watched, Elapsed, Printed, Quiet}
 
 pub nothing_in : {X : Type 0} (x : X) → Contains [] x → ⊥
 nothing_in x h = let l = h.1 in omega arith

@@ -1,28 +1,15 @@
 -- What is known of a client's file, before a step and after it.
-use Rattle.std.proofs.Common.{◌≡◌, ℕ, Bool, true, false, List, [], length, None, sym, ap, ◌∙◌, subst, rules}
-use Rattle.std.specs.Prelude.{if◌then◌else◌}
-use Rattle.std.proofs.lemmas.Bool.{true≢false}
-use Rattle.tftp_file.specs.Block.{IsPrefixOf}
-use Rattle.tftp_file.specs.Sink.{Holding, SinkMeaning}
-use Rattle.tftp_file.specs.Source.{SourceMeaning}
-use Rattle.tftp_file.specs.declared.files.Files.{Files}
-use Rattle.tftp_file.specs.declared.files.Files.TheVariants.{Source, Sink}
-use Rattle.tftp_ends.specs.declared.action.Action.{Action}
+use Rattle.tftp_promises.proofs.Common.{◌≡◌, ℕ, Bool, true, false, List, [], length, None, sym, ap, ◌∙◌, subst, rules}
+use Rattle.tftp_promises.proofs.Common.{if◌then◌else◌, true≢false, IsPrefixOf, Holding, SinkMeaning, SourceMeaning}
+use Rattle.tftp_promises.proofs.Common.{Files, Source, Sink, Action, Role, EndState, is_sender, outcome_of, KeepsFiles}
+use Rattle.tftp_promises.proofs.Common.{Turn, Acts, DatagramStep, StoreMeaning, EndKept, known_source, known_sink}
+use Rattle.tftp_promises.proofs.Common.{Network, OpenEnd, files_of, end_after, moved_in, Moved, step_moves, Programs}
+use Rattle.tftp_promises.proofs.Common.{ClientOf}
 use Rattle.tftp_ends.specs.declared.endpoint.Endpoint.{Endpoint}
-use Rattle.tftp_ends.specs.declared.role.Role.{Role}
 use Rattle.tftp_ends.specs.declared.side.Side.{Side}
-use Rattle.tftp_ends.specs.End.{EndState, is_sender, outcome_of}
-use Rattle.tftp_ends.specs.Files.{AreFilesOf, KeepsFiles}
-use Rattle.tftp_ends.specs.Step.{Turn, Acts, DatagramStep}
-use Rattle.tftp_store.specs.Store.{StoreMeaning}
+use Rattle.tftp_ends.specs.Files.{AreFilesOf}
 use Rattle.tftp_client.specs.Converses.{WorksOnFile}
-use Rattle.tftp_rules.specs.EndKept.{EndKept}
-use Rattle.tftp_rules.specs.KnownFiles.{known_source, known_sink}
-use Rattle.tftp_rules.specs.Machine.{Network}
-use Rattle.tftp_rules.specs.OpenEnds.{OpenEnd, files_of, holding_of, held_in, end_after}
-use Rattle.tftp_promises.specs.ClientRuns.{moved_in}
-use Rattle.tftp_promises.specs.Moved.{Moved, step_moves}
-use Rattle.tftp_promises.specs.Order.{Programs, ClientOf}
+use Rattle.tftp_rules.specs.OpenEnds.{holding_of, held_in}
 use Rattle.tftp_promises.proofs.GivenSteps.{gave_none, step_gives}
 use Rattle.tftp_promises.proofs.Invariant.{HasFile, GaveSo, TookSo}
 use Rattle.tftp_promises.proofs.MovedSends.{source_moves}

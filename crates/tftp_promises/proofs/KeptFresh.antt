@@ -1,27 +1,12 @@
 -- Ports that are fresh after a step were so before it.
-use Rattle.std.proofs.Common.{◌≡◌, ℕ, suc, zero, ◌+◌, List, [], ◌∷◌, ◌++◌, length, set, Some, refl, sym, ap, subst, ◌∙◌}
-use Rattle.std.proofs.Common.{arith, inl, inr, rules}
-use Rattle.std.specs.Prelude.{slice_get}
-use Rattle.std.specs.List.{Contains}
-use Rattle.std.proofs.lemmas.List.Elements.{Contains-append_left, Contains-append_right, Contains-append_cases}
-use Rattle.std.proofs.lemmas.Bool.{cases_eq}
-use Rattle.std.proofs.lemmas.Option.{same_Some, slice_get-map}
-use Rattle.tftp_file.specs.Block.{IsPrefixOf}
-use Rattle.tftp_file.specs.Sink.{SinkMeaning}
-use Rattle.tftp_file.specs.Source.{SourceMeaning}
-use Rattle.tftp_file.specs.declared.files.Files.{Files}
-use Rattle.tftp_store.specs.Store.{StoreMeaning}
-use Rattle.tftp_sockets.specs.Trace.{SocketEvent}
-use Rattle.tftp_loop.specs.Steps.{LoopState, LoopStep}
-use Rattle.tftp_client.specs.Converses.{State}
-use Rattle.tftp_rules.specs.Machine.{Endpoint}
-use Rattle.tftp_rules.proofs.Indices.{slice_get-set_same, slice_get-set_other}
-use Rattle.tftp_promises.specs.ClientRuns.{ClientDoes, client_moves, moved_in}
-use Rattle.tftp_promises.specs.Moved.{Moved}
-use Rattle.tftp_promises.specs.Openings.{ArePortsFresh, moved_at, our_ports, ours_by}
-use Rattle.tftp_promises.specs.Order.{Programs, ClientOf}
-use Rattle.tftp_promises.specs.Ports.{AreDistinct}
-use Rattle.tftp_promises.specs.Snapshots.{Snapshot, ClientStage, Unasked, Has_asked, server_did, client_did, all_of}
+use Rattle.tftp_promises.proofs.Common.{◌≡◌, ℕ, suc, zero, ◌+◌, List, [], ◌∷◌, ◌++◌, length, set, Some, refl, sym, ap}
+use Rattle.tftp_promises.proofs.Common.{subst, ◌∙◌, arith, inl, inr, rules, slice_get, Contains, Contains-append_left}
+use Rattle.tftp_promises.proofs.Common.{Contains-append_right, Contains-append_cases, cases_eq, same_Some}
+use Rattle.tftp_promises.proofs.Common.{slice_get-map, IsPrefixOf, SinkMeaning, SourceMeaning, Files, StoreMeaning}
+use Rattle.tftp_promises.proofs.Common.{SocketEvent, LoopState, LoopStep, State, Endpoint, slice_get-set_same}
+use Rattle.tftp_promises.proofs.Common.{slice_get-set_other, ClientDoes, client_moves, moved_in, Moved, ArePortsFresh}
+use Rattle.tftp_promises.proofs.Common.{moved_at, our_ports, ours_by, Programs, ClientOf, AreDistinct, Snapshot}
+use Rattle.tftp_promises.proofs.Common.{ClientStage, Unasked, Has_asked, server_did, client_did, all_of}
 use Rattle.tftp_promises.proofs.RunPlaces.{placed_by, places}
 use Rattle.tftp_promises.proofs.Invariant.{IsFreshBy, IsToldAt}
 use Rattle.tftp_promises.proofs.MovedSteps.{client_more, opens_none, server_more}

@@ -1,36 +1,20 @@
 -- A transfer that a request opens keeps the invariant.
-use Rattle.std.proofs.Common.{◌≡◌, ◌≢◌, ℕ, ◌+◌, Bool, true, false, List, [], ◌∷◌, ◌++◌, length, Some, None, refl, sym}
-use Rattle.std.proofs.Common.{ap, ◌∙◌, subst, inl, inr, rules}
-use Rattle.std.specs.Prelude.{◌⊎◌, if◌then◌else◌, map, option_to_list}
-use Rattle.std.specs.List.{Contains}
-use Rattle.std.proofs.lemmas.List.{append_cancel_right}
-use Rattle.std.proofs.lemmas.List.Elements.{Contains-append_right, Contains-push}
-use Rattle.tftp_wire.specs.Spelling.{Spells}
-use Rattle.tftp_file.specs.Sink.{SinkMeaning}
-use Rattle.tftp_file.specs.Source.{SourceMeaning}
-use Rattle.tftp_ends.specs.End.{outcome_of}
-use Rattle.tftp_store.specs.Store.{StoreMeaning}
-use Rattle.tftp_server.specs.Request.{A_transfer, left_by}
-use Rattle.tftp_server.specs.State.{TransferState, ServerState, at, with_new}
-use Rattle.tftp_sockets.specs.Trace.{SocketEvent}
-use Rattle.tftp_sockets.specs.Trace.SocketEvent.{Sent}
-use Rattle.tftp_loop.specs.Steps.{AnswersRequest, LoopStep, LoopState, Request_answered, after_request}
+use Rattle.tftp_promises.proofs.Common.{◌≡◌, ℕ, ◌+◌, Bool, true, false, List, [], ◌∷◌, ◌++◌, length, Some, None, refl}
+use Rattle.tftp_promises.proofs.Common.{sym, ap, ◌∙◌, subst, inl, inr, rules, ◌⊎◌, if◌then◌else◌, option_to_list}
+use Rattle.tftp_promises.proofs.Common.{Contains, append_cancel_right, Contains-append_right, Contains-push, Spells}
+use Rattle.tftp_promises.proofs.Common.{SinkMeaning, SourceMeaning, outcome_of, StoreMeaning, A_transfer, left_by}
+use Rattle.tftp_promises.proofs.Common.{TransferState, ServerState, at, with_new, SocketEvent, Sent, AnswersRequest}
+use Rattle.tftp_promises.proofs.Common.{LoopStep, LoopState, Request_answered, after_request, At_server, Endpoint}
+use Rattle.tftp_promises.proofs.Common.{Message, is_same, OpenEnd, open_view, peer_of, message, said, EndView, IsShown}
+use Rattle.tftp_promises.proofs.Common.{numbers, same_self, came_if, HasClosed, above, is_ours, place, place_at}
+use Rattle.tftp_promises.proofs.Common.{Programs, IsStranger, opened_ports, endpoint, joined, Snapshot, server_did}
+use Rattle.std.proofs.Common.{◌≢◌}
+use Rattle.std.specs.Prelude.{map}
 use Rattle.tftp_rules.specs.EndOpens.{EndOpens}
-use Rattle.tftp_rules.specs.Machine.{At_server, Endpoint, Message, is_same}
-use Rattle.tftp_rules.specs.OpenEnds.{OpenEnd, open_view, peer_of}
-use Rattle.tftp_rules.specs.Rules.{message}
-use Rattle.tftp_rules.specs.Said.{said}
-use Rattle.tftp_rules.specs.Shows.{EndView, IsShown, NoneAt}
-use Rattle.tftp_rules.proofs.Entries.{lookup-insert_other, lookup-insert_same, numbers}
-use Rattle.tftp_rules.proofs.Endpoints.{same_self}
+use Rattle.tftp_rules.specs.Shows.{NoneAt}
+use Rattle.tftp_rules.proofs.Entries.{lookup-insert_other, lookup-insert_same}
 use Rattle.tftp_rules.proofs.Indices.{slice_get-push_new}
-use Rattle.tftp_promises.specs.Moved.{came_if}
-use Rattle.tftp_promises.specs.Openings.{HasClosed, above, is_ours, opens_at, place, place_at}
-use Rattle.tftp_promises.specs.Order.{Programs, IsStranger}
-use Rattle.tftp_promises.specs.Ports.{opened_ports}
-use Rattle.tftp_promises.specs.Programs.{endpoint}
-use Rattle.tftp_promises.specs.Network.{joined}
-use Rattle.tftp_promises.specs.Snapshots.{Snapshot, server_did}
+use Rattle.tftp_promises.specs.Openings.{opens_at}
 use Rattle.tftp_promises.proofs.RunPlaces.{placed_by, places}
 use Rattle.tftp_promises.proofs.Invariant.{AreKeyedOnce, HasStored, HasTransferBy, IsFreshBy}
 use Rattle.tftp_promises.proofs.Invariant.{IsKept, IsNamed, IsOfTransfer, IsStrangers, IsThere, ServerKept}

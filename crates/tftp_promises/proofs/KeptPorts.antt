@@ -1,29 +1,12 @@
 -- A step of the server at the port of a transfer keeps the invariant, if it does of the transfer's own end.
-use Rattle.std.proofs.Common.{◌≡◌, ◌≢◌, ℕ, false, List, ◌++◌, set, Some, refl, sym, ap, ◌∙◌, subst, inl, inr, rules}
-use Rattle.std.specs.Prelude.{◌⊎◌, slice_get}
-use Rattle.std.specs.List.{Contains}
-use Rattle.std.proofs.lemmas.Bool.{cases_eq}
-use Rattle.tftp_file.specs.Sink.{SinkMeaning}
-use Rattle.tftp_file.specs.Source.{SourceMeaning}
-use Rattle.tftp_ends.specs.End.{is_client}
-use Rattle.tftp_store.specs.Store.{StoreMeaning}
-use Rattle.tftp_server.specs.State.{TransferState, at, with_next}
-use Rattle.tftp_sockets.specs.Trace.{SocketEvent}
-use Rattle.tftp_sockets.specs.Trace.SocketEvent.{Sent}
-use Rattle.tftp_loop.specs.Steps.{LoopState, LoopStep}
-use Rattle.tftp_rules.specs.EndKept.{EndKept}
-use Rattle.tftp_rules.specs.Machine.{Endpoint, Message}
-use Rattle.tftp_rules.specs.OpenEnds.{OpenEnd, open_view}
-use Rattle.tftp_rules.specs.Shows.{EndView, IsShown}
-use Rattle.tftp_rules.specs.ViewSafety.{IsAmong}
-use Rattle.tftp_rules.proofs.Entries.{lookup-set_other, lookup-set_same, numbers}
-use Rattle.tftp_rules.proofs.Indices.{slice_get-set_same}
-use Rattle.tftp_rules.proofs.UnblamedEnds.{IsUnblamed}
-use Rattle.tftp_promises.specs.Openings.{HasClosed, place_at}
-use Rattle.tftp_promises.specs.Order.{Programs, IsStranger}
-use Rattle.tftp_promises.specs.Programs.{endpoint}
-use Rattle.tftp_promises.specs.Network.{joined}
-use Rattle.tftp_promises.specs.Snapshots.{Snapshot, server_did}
+use Rattle.tftp_promises.proofs.Common.{◌≡◌, ℕ, false, List, ◌++◌, set, Some, refl, sym, ap, ◌∙◌, subst, inl, inr}
+use Rattle.tftp_promises.proofs.Common.{rules, ◌⊎◌, slice_get, Contains, cases_eq, SinkMeaning, SourceMeaning}
+use Rattle.tftp_promises.proofs.Common.{is_client, StoreMeaning, TransferState, at, with_next, SocketEvent, Sent}
+use Rattle.tftp_promises.proofs.Common.{LoopState, LoopStep, EndKept, Endpoint, Message, OpenEnd, open_view, EndView}
+use Rattle.tftp_promises.proofs.Common.{IsShown, IsAmong, numbers, slice_get-set_same, IsUnblamed, HasClosed, place_at}
+use Rattle.tftp_promises.proofs.Common.{Programs, IsStranger, endpoint, joined, Snapshot, server_did}
+use Rattle.std.proofs.Common.{◌≢◌}
+use Rattle.tftp_rules.proofs.Entries.{lookup-set_other, lookup-set_same}
 use Rattle.tftp_promises.proofs.RunPlaces.{places}
 use Rattle.tftp_promises.proofs.Identifiers.{at-with_next_cases, once-with_next}
 use Rattle.tftp_promises.proofs.Invariant.{AreKeyedOnce, IsThere, IsViewed, HasStored, HasTransferBy, TransferKept}

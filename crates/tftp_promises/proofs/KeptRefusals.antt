@@ -1,30 +1,14 @@
 -- A datagram that the request port ignores, or answers by an ERROR, keeps the invariant.
-use Rattle.std.proofs.Common.{◌≡◌, ℕ, List, [], ◌∷◌, ◌++◌, Some, None, sym, ap, ◌∙◌, subst, inl, rules}
-use Rattle.std.specs.Prelude.{◌⊎◌, option_to_list}
-use Rattle.std.specs.List.{Contains}
-use Rattle.std.proofs.lemmas.List.{append_cancel_right}
-use Rattle.std.proofs.lemmas.List.Elements.{Contains-push}
-use Rattle.std.proofs.lemmas.Option.{same_Some}
-use Rattle.tftp_file.specs.Sink.{SinkMeaning}
-use Rattle.tftp_file.specs.Source.{SourceMeaning}
+use Rattle.tftp_promises.proofs.Common.{◌≡◌, ℕ, List, [], ◌∷◌, ◌++◌, Some, None, sym, ap, ◌∙◌, subst, inl, rules, ◌⊎◌}
+use Rattle.tftp_promises.proofs.Common.{option_to_list, Contains, append_cancel_right, Contains-push, same_Some}
+use Rattle.tftp_promises.proofs.Common.{SinkMeaning, SourceMeaning, Reply, error_bytes, StoreMeaning, Came, Nothing}
+use Rattle.tftp_promises.proofs.Common.{Left, left_by, TransferState, ServerState, SocketEvent, Sent, AnswersRequest}
+use Rattle.tftp_promises.proofs.Common.{LoopStep, LoopState, Request_answered, after_request, Endpoint, Message}
+use Rattle.tftp_promises.proofs.Common.{message, says_error, spells_own, HasClosed, Programs, IsStranger, requests_at}
+use Rattle.tftp_promises.proofs.Common.{endpoint, joined, Snapshot, server_did}
 use Rattle.tftp_ends.specs.ErrorReply.{error_packet}
-use Rattle.tftp_ends.specs.Step.{Reply, error_bytes}
-use Rattle.tftp_store.specs.Store.{StoreMeaning}
-use Rattle.tftp_server.specs.Request.{Came, Nothing, Left, left_by}
-use Rattle.tftp_server.specs.State.{TransferState, ServerState}
-use Rattle.tftp_sockets.specs.Trace.{SocketEvent}
-use Rattle.tftp_sockets.specs.Trace.SocketEvent.{Sent}
-use Rattle.tftp_loop.specs.Steps.{AnswersRequest, LoopStep, LoopState, Request_answered, after_request}
-use Rattle.tftp_rules.specs.Machine.{Endpoint, Error, Message}
-use Rattle.tftp_rules.specs.Rules.{message}
-use Rattle.tftp_rules.proofs.Actions.{says_error}
+use Rattle.tftp_rules.specs.Machine.{Error}
 use Rattle.tftp_rules.proofs.EndMoves.{valid_error}
-use Rattle.tftp_rules.proofs.SaidLemmas.{spells_own}
-use Rattle.tftp_promises.specs.Openings.{HasClosed}
-use Rattle.tftp_promises.specs.Order.{Programs, IsStranger, requests_at}
-use Rattle.tftp_promises.specs.Programs.{endpoint}
-use Rattle.tftp_promises.specs.Network.{joined}
-use Rattle.tftp_promises.specs.Snapshots.{Snapshot, server_did}
 use Rattle.tftp_promises.proofs.RunPlaces.{placed_by}
 use Rattle.tftp_promises.proofs.Invariant.{IsKept, IsThere}
 use Rattle.tftp_promises.proofs.KeptEvents.{IsSilent, added_none, answered_sends, none_silent}

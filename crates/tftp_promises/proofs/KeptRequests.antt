@@ -1,41 +1,20 @@
 -- A request that the request port answers keeps the invariant.
-use Rattle.std.proofs.Common.{◌≡◌, ℕ, ◌*◌, ◌<◌, ◌≤◌, Bool, true, false, List, [], ◌++◌, length}
-use Rattle.std.proofs.Common.{Option, Some, refl, sym, ap, ◌∙◌, subst, inl, rules}
-use Rattle.std.specs.List.{Contains}
-use Rattle.std.proofs.lemmas.Bool.{true≢false}
-use Rattle.tftp_wire.specs.Spelling.{Spells}
-use Rattle.tftp_wire.specs.declared.mode.Mode.{Mode}
-use Rattle.tftp_wire.specs.declared.options.RawOption.{RawOption}
+use Rattle.tftp_promises.proofs.Common.{◌≡◌, ℕ, ◌*◌, ◌<◌, ◌≤◌, Bool, true, false, List, [], ◌++◌, length, Option, Some}
+use Rattle.tftp_promises.proofs.Common.{refl, sym, ap, ◌∙◌, subst, inl, rules, Contains, true≢false, Spells, Mode}
+use Rattle.tftp_promises.proofs.Common.{RawOption, size, IsBlockSize, IsPrefixOf, SinkMeaning, SourceMeaning, Source}
+use Rattle.tftp_promises.proofs.Common.{Sink, Decodes, EndState, serving_read, serving_write, TakesInTurn, StoreMeaning}
+use Rattle.tftp_promises.proofs.Common.{TransferState, ServerState, Config, SocketEvent, AnswersRequest, LoopState}
+use Rattle.tftp_promises.proofs.Common.{Request_answered, Endpoint, OpenEnd, message, requested, GaveSince, Moved}
+use Rattle.tftp_promises.proofs.Common.{first_moved, moved_at, opened_at, place, Programs, opened_ports, joined}
+use Rattle.tftp_promises.proofs.Common.{Snapshot, server_did}
 use Rattle.tftp_wire.specs.declared.packet.Packet.{Packet as WirePacket}
 use Rattle.tftp_wire.specs.declared.packet.Request.{Request as WireRequest}
-use Rattle.tftp_negotiate.specs.Agreed.{size}
-use Rattle.tftp_negotiate.specs.Ranges.{IsBlockSize}
-use Rattle.tftp_file.specs.Block.{Fits, IsPrefixOf}
-use Rattle.tftp_file.specs.Sink.{SinkMeaning}
-use Rattle.tftp_file.specs.Source.{SourceMeaning}
-use Rattle.tftp_file.specs.declared.files.Files.TheVariants.{Source, Sink}
-use Rattle.tftp_ends.specs.Action.{Decodes}
-use Rattle.tftp_ends.specs.End.{EndState}
-use Rattle.tftp_ends.specs.Opening.{serving_read, serving_write}
-use Rattle.tftp_store.specs.Drafts.{TakesInTurn, Took_nothing}
-use Rattle.tftp_store.specs.Store.{StoreMeaning}
-use Rattle.tftp_server.specs.State.{TransferState, ServerState}
-use Rattle.tftp_server.specs.declared.config.Config.{Config}
-use Rattle.tftp_sockets.specs.Trace.{SocketEvent}
-use Rattle.tftp_loop.specs.Steps.{AnswersRequest, LoopState, Request_answered}
+use Rattle.tftp_file.specs.Block.{Fits}
+use Rattle.tftp_store.specs.Drafts.{Took_nothing}
 use Rattle.tftp_rules.specs.EndOpens.{IsNewly, new_receiver, new_sender, sending}
-use Rattle.tftp_rules.specs.Machine.{Endpoint, Packet}
-use Rattle.tftp_rules.specs.OpenEnds.{OpenEnd}
-use Rattle.tftp_rules.specs.Rules.{message}
-use Rattle.tftp_rules.specs.Shows.{requested}
+use Rattle.tftp_rules.specs.Machine.{Packet}
 use Rattle.tftp_rules.proofs.EndOpenings.{opens_to_send, opens_to_store}
-use Rattle.tftp_promises.specs.Given.{GaveSince}
-use Rattle.tftp_promises.specs.Moved.{Moved, first_moved, opening_moves, or_before}
-use Rattle.tftp_promises.specs.Openings.{moved_at, opened_at, place}
-use Rattle.tftp_promises.specs.Order.{Programs}
-use Rattle.tftp_promises.specs.Ports.{opened_ports}
-use Rattle.tftp_promises.specs.Network.{joined}
-use Rattle.tftp_promises.specs.Snapshots.{Snapshot, server_did}
+use Rattle.tftp_promises.specs.Moved.{opening_moves, or_before}
 use Rattle.tftp_promises.proofs.GivenSteps.{gave_first}
 use Rattle.tftp_promises.proofs.Invariant.{GaveSo, HasStored, IsFreshBy, IsKept, IsNamed}
 use Rattle.tftp_promises.proofs.Invariant.{IsGiven, IsTaken, TookSo}

@@ -1,17 +1,9 @@
 -- The invariant holds of every joint run, if the steps of the server keep it.
-use Rattle.std.proofs.Common.{ℕ, ◌≡◌, List, ◌++◌, rules}
-use Rattle.tftp_file.specs.Sink.{SinkMeaning}
-use Rattle.tftp_file.specs.Source.{SourceMeaning}
-use Rattle.tftp_store.specs.Store.{StoreMeaning}
-use Rattle.tftp_sockets.specs.Trace.{SocketEvent}
-use Rattle.tftp_loop.specs.Steps.{LoopState, LoopStep}
-use Rattle.tftp_promises.specs.ClientRuns.{client_moves}
-use Rattle.tftp_promises.specs.Joined.{AreJoined}
-use Rattle.tftp_promises.specs.Joint.{CanTake, Joint, All_begin, Server_does, Client_asks, Client_does}
+use Rattle.tftp_promises.proofs.Common.{ℕ, ◌≡◌, List, ◌++◌, rules, SinkMeaning, SourceMeaning, StoreMeaning}
+use Rattle.tftp_promises.proofs.Common.{SocketEvent, LoopState, LoopStep, client_moves, AreJoined, CanTake, Noted}
+use Rattle.tftp_promises.proofs.Common.{Programs, client_at, Snapshot, just_asked, Has_asked, server_did, all_of}
+use Rattle.tftp_promises.specs.Joint.{Joint, All_begin, Server_does, Client_asks, Client_does}
 use Rattle.tftp_promises.specs.Joint.{TracesAreJoint}
-use Rattle.tftp_promises.specs.Order.{Noted, Programs}
-use Rattle.tftp_promises.specs.Programs.{client_at}
-use Rattle.tftp_promises.specs.Snapshots.{Snapshot, just_asked, Has_asked, server_did, all_of}
 use Rattle.tftp_promises.proofs.Invariant.{IsKept, IsFreshBy}
 use Rattle.tftp_promises.proofs.KeptAsks.{asks_keeps}
 use Rattle.tftp_promises.proofs.KeptDoes.{does_keeps}

@@ -1,24 +1,9 @@
 -- A step of the server keeps the invariant, if it does of the transfers and of what was said.
-use Rattle.std.proofs.Common.{◌≡◌, ℕ, List, ◌++◌, Some, sym, subst, inl, inr, rules}
-use Rattle.std.specs.Prelude.{◌⊎◌, slice_get}
-use Rattle.std.specs.List.{Contains}
-use Rattle.std.proofs.lemmas.List.Elements.{Contains-append_cases}
-use Rattle.tftp_file.specs.Sink.{SinkMeaning}
-use Rattle.tftp_file.specs.Source.{SourceMeaning}
-use Rattle.tftp_store.specs.Store.{StoreMeaning}
-use Rattle.tftp_server.specs.State.{TransferState}
-use Rattle.tftp_sockets.specs.Trace.{SocketEvent}
-use Rattle.tftp_sockets.specs.Trace.SocketEvent.{Sent}
-use Rattle.tftp_loop.specs.Steps.{LoopState, LoopStep}
-use Rattle.tftp_rules.specs.Machine.{Endpoint, Message}
-use Rattle.tftp_rules.specs.OpenEnds.{OpenEnd}
-use Rattle.tftp_rules.specs.Shows.{EndView, IsShown}
-use Rattle.tftp_rules.specs.ViewSafety.{IsAmong}
-use Rattle.tftp_promises.specs.Joint.{WasSentBefore}
-use Rattle.tftp_promises.specs.Order.{Programs, IsStranger, ClientOf}
-use Rattle.tftp_promises.specs.Programs.{endpoint, client_at}
-use Rattle.tftp_promises.specs.Network.{joined}
-use Rattle.tftp_promises.specs.Snapshots.{Snapshot, ClientStage, Unasked, Has_asked, server_did}
+use Rattle.tftp_promises.proofs.Common.{◌≡◌, ℕ, List, ◌++◌, Some, sym, subst, inl, inr, rules, ◌⊎◌, slice_get, Contains}
+use Rattle.tftp_promises.proofs.Common.{Contains-append_cases, SinkMeaning, SourceMeaning, StoreMeaning, TransferState}
+use Rattle.tftp_promises.proofs.Common.{SocketEvent, Sent, LoopState, LoopStep, Endpoint, Message, OpenEnd, EndView}
+use Rattle.tftp_promises.proofs.Common.{IsShown, IsAmong, WasSentBefore, Programs, IsStranger, ClientOf, endpoint}
+use Rattle.tftp_promises.proofs.Common.{client_at, joined, Snapshot, ClientStage, Unasked, Has_asked, server_did}
 use Rattle.tftp_promises.proofs.Invariant.{IsThere, IsViewed, HasTransferBy, StageKept, TransferKept, ServerKept}
 use Rattle.tftp_promises.proofs.Invariant.{IsOfClient, IsOfTransfer, IsKept, SendsText}
 use Rattle.tftp_promises.proofs.KeptViews.{sent_still, there_still}

@@ -1,37 +1,23 @@
 -- Each step of the server keeps the invariant, if an answered request does.
-use Rattle.std.proofs.Common.{◌≡◌, ℕ, true, List, [], ◌∷◌, ◌++◌, Some, None, refl, sym, ap, ◌∙◌, subst, inl, inr, rules}
-use Rattle.std.specs.Prelude.{◌⊎◌}
-use Rattle.std.specs.List.{Contains, AllByRecursion}
-use Rattle.std.proofs.lemmas.Bool.{cases_Bool}
-use Rattle.std.proofs.lemmas.List.Elements.{Contains-push}
-use Rattle.tftp_file.specs.Sink.{SinkMeaning}
-use Rattle.tftp_file.specs.Source.{SourceMeaning}
-use Rattle.tftp_ends.specs.declared.error_reply.ErrorReply.TheVariants.{UnknownTransferId}
-use Rattle.tftp_ends.specs.End.{EndState}
-use Rattle.tftp_ends.specs.Step.{error_bytes}
-use Rattle.tftp_store.specs.Store.{StoreMeaning}
-use Rattle.tftp_server.specs.State.{TransferState, ServerState}
-use Rattle.tftp_sockets.specs.Trace.{SocketEvent}
-use Rattle.tftp_sockets.specs.Trace.SocketEvent.{Received, Watched, Elapsed, Printed, Quiet}
-use Rattle.tftp_sockets.specs.Trace.QuietEvent.{Drain_signalled, Empty, Failed, Slept, Woke}
-use Rattle.tftp_loop.specs.Steps.{LoopState, LoopStep, port_state, Waited, At_port, Request_received, No_request_found}
-use Rattle.tftp_loop.specs.Steps.{Request_not_received, Request_noted, Request_answered, Request_lost, Clock_read}
+use Rattle.tftp_promises.proofs.Common.{◌≡◌, ℕ, true, List, [], ◌∷◌, ◌++◌, Some, None, refl, sym, ap, ◌∙◌, subst, inl}
+use Rattle.tftp_promises.proofs.Common.{inr, rules, ◌⊎◌, Contains, AllByRecursion, cases_Bool, Contains-push}
+use Rattle.tftp_promises.proofs.Common.{SinkMeaning, SourceMeaning, UnknownTransferId, EndState, error_bytes}
+use Rattle.tftp_promises.proofs.Common.{StoreMeaning, TransferState, ServerState, SocketEvent, Received, Watched}
+use Rattle.tftp_promises.proofs.Common.{Elapsed, Printed, Quiet, Empty, Failed, Slept, Woke, LoopState, LoopStep}
+use Rattle.tftp_promises.proofs.Common.{port_state, At_port, Request_answered, ServesPort, AnswersRequest, PortStep}
+use Rattle.tftp_promises.proofs.Common.{Endpoint, CanTake, WasSentBefore, Moved, port_moves, is_ours, our_ports}
+use Rattle.tftp_promises.proofs.Common.{place_at, Programs, IsStranger, MayCome, requests_at, Removes, endpoint, joined}
+use Rattle.tftp_promises.proofs.Common.{Snapshot, server_did}
+use Rattle.tftp_sockets.specs.Trace.QuietEvent.{Drain_signalled}
+use Rattle.tftp_loop.specs.Steps.{Waited, Request_received, No_request_found}
+use Rattle.tftp_loop.specs.Steps.{Request_not_received, Request_noted, Request_lost, Clock_read}
 use Rattle.tftp_loop.specs.Steps.{Store_set, BeginsDrain, Drain_begun, Transfer_closed}
-use Rattle.tftp_loop.specs.Steps.{Waits, ServesPort, ReceivesRequest, FindsNoRequest, FailsToReceiveRequest}
-use Rattle.tftp_loop.specs.Steps.{NotesRequest, AnswersRequest, LosesRequest, ReadsClock, SetsStore, PortStep, A_datagram}
+use Rattle.tftp_loop.specs.Steps.{Waits, ReceivesRequest, FindsNoRequest, FailsToReceiveRequest}
+use Rattle.tftp_loop.specs.Steps.{NotesRequest, LosesRequest, ReadsClock, SetsStore, A_datagram}
 use Rattle.tftp_loop.specs.Steps.{note_event}
 use Rattle.tftp_loop.specs.Steps.{A_lost_datagram, A_late_datagram, Nothing_found, A_failed_receive, A_timeout}
 use Rattle.tftp_loop.specs.Steps.{A_missed_timeout}
 use Rattle.tftp_loop.specs.Steps.{ReceivesAndHandles, Work}
-use Rattle.tftp_rules.specs.Machine.{Endpoint}
-use Rattle.tftp_promises.specs.Joint.{CanTake, WasSentBefore}
-use Rattle.tftp_promises.specs.Moved.{Moved, port_moves}
-use Rattle.tftp_promises.specs.Openings.{is_ours, our_ports, place_at}
-use Rattle.tftp_promises.specs.Order.{Programs, IsStranger, MayCome, requests_at}
-use Rattle.tftp_promises.specs.Ports.{Removes}
-use Rattle.tftp_promises.specs.Programs.{endpoint}
-use Rattle.tftp_promises.specs.Network.{joined}
-use Rattle.tftp_promises.specs.Snapshots.{Snapshot, server_did}
 use Rattle.tftp_promises.proofs.RunPlaces.{placed_by}
 use Rattle.tftp_promises.proofs.Invariant.{HasArrived, IsThere, IsKept, IsFreshBy, IsStrangers}
 use Rattle.tftp_promises.proofs.KeptCloses.{closing_keeps}

@@ -1,11 +1,9 @@
 -- What the view of an end has of its state and of its text.
-use Rattle.std.proofs.Common.{◌≡◌, ℕ, Bool, true, false, List, refl, subst}
-use Rattle.std.specs.Prelude.{◌&&◌, not, is_some, if◌then◌else◌}
-use Rattle.tftp_ends.specs.declared.phase.Phase.{Phase}
-use Rattle.tftp_ends.specs.declared.phase.Phase.TheVariants.{Waiting, Sending, Receiving, Dallying, Closed}
-use Rattle.tftp_ends.specs.End.{EndState, is_sender, is_complete, outcome_of}
-use Rattle.tftp_rules.specs.Machine.{Endpoint}
-use Rattle.tftp_rules.specs.OpenEnds.{OpenEnd, open_view, has_failed, received_text}
+use Rattle.tftp_promises.proofs.Common.{◌≡◌, ℕ, Bool, true, false, List, refl, subst, ◌&&◌, is_some, if◌then◌else◌}
+use Rattle.tftp_promises.proofs.Common.{Phase, Waiting, Sending, Receiving, Dallying, Closed, EndState, is_sender}
+use Rattle.tftp_promises.proofs.Common.{is_complete, outcome_of, Endpoint, OpenEnd, open_view}
+use Rattle.std.specs.Prelude.{not}
+use Rattle.tftp_rules.specs.OpenEnds.{has_failed, received_text}
 use Rattle.tftp_promises.specs.Arrived.{ViewsEnd}
 
 -- closed, and not complete

@@ -1,16 +1,10 @@
 -- The invariant holds before any program has done anything.
-use Rattle.std.proofs.Common.{◌≡◌, ℕ, suc, zero, List, [], ◌∷◌, map, Some, None, sym, ap, ◌∙◌, subst, inl, inr, rules}
-use Rattle.std.specs.Prelude.{◌⊎◌, slice_get}
-use Rattle.tftp_file.specs.Sink.{SinkMeaning}
-use Rattle.tftp_file.specs.Source.{SourceMeaning}
-use Rattle.tftp_store.specs.Store.{StoreMeaning}
-use Rattle.tftp_server.specs.State.{TransferState, at}
-use Rattle.tftp_rules.specs.Machine.{Endpoint}
+use Rattle.tftp_promises.proofs.Common.{◌≡◌, ℕ, suc, zero, List, [], ◌∷◌, map, Some, None, sym, ap, ◌∙◌, subst, inl}
+use Rattle.tftp_promises.proofs.Common.{inr, rules, ◌⊎◌, slice_get, SinkMeaning, SourceMeaning, StoreMeaning}
+use Rattle.tftp_promises.proofs.Common.{TransferState, at, Endpoint, WasSentBefore, Programs, IsStranger, joined}
+use Rattle.tftp_promises.proofs.Common.{ClientStage, Unasked}
 use Rattle.tftp_rules.proofs.Refines.{shown_start}
-use Rattle.tftp_promises.specs.Joint.{WasSentBefore}
-use Rattle.tftp_promises.specs.Order.{Programs, IsStranger}
-use Rattle.tftp_promises.specs.Network.{joined}
-use Rattle.tftp_promises.specs.Snapshots.{ClientStage, Unasked, nothing_done}
+use Rattle.tftp_promises.specs.Snapshots.{nothing_done}
 use Rattle.tftp_promises.proofs.Invariant.{IsThere, HasTransferBy, StageKept, IsKept}
 use Rattle.tftp_promises.proofs.KeptEvents.{nothing_in}
 

@@ -1,9 +1,6 @@
 -- Each step of the server keeps the invariant.
+use Rattle.tftp_promises.proofs.Common.{SinkMeaning, SourceMeaning, StoreMeaning, Programs}
 use Rattle.std.specs.Prelude.{ℕ}
-use Rattle.tftp_file.specs.Sink.{SinkMeaning}
-use Rattle.tftp_file.specs.Source.{SourceMeaning}
-use Rattle.tftp_store.specs.Store.{StoreMeaning}
-use Rattle.tftp_promises.specs.Order.{Programs}
 use Rattle.tftp_promises.proofs.KeptRequests.{request_keeps}
 use Rattle.tftp_promises.proofs.KeptRuns.{ServerStepsKeep}
 use Rattle.tftp_promises.proofs.KeptServes.{AnswersKeep, serves_keep}

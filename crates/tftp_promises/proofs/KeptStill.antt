@@ -1,21 +1,9 @@
 -- A step of the server that changes no transfer keeps the invariant, if what it sends is shown.
-use Rattle.std.proofs.Common.{◌≡◌, ℕ, List, [], ◌++◌, sym, ap, ◌∙◌, subst, inl, rules}
-use Rattle.std.specs.Prelude.{◌⊎◌}
-use Rattle.std.specs.List.{Contains}
+use Rattle.tftp_promises.proofs.Common.{◌≡◌, ℕ, List, [], ◌++◌, sym, ap, ◌∙◌, subst, inl, rules, ◌⊎◌, Contains}
+use Rattle.tftp_promises.proofs.Common.{SinkMeaning, SourceMeaning, StoreMeaning, TransferState, at, SocketEvent, Sent}
+use Rattle.tftp_promises.proofs.Common.{LoopState, LoopStep, Endpoint, Message, IsShown, Programs, IsStranger, endpoint}
+use Rattle.tftp_promises.proofs.Common.{joined, Snapshot, server_did}
 use Rattle.std.proofs.lemmas.List.{append-nil}
-use Rattle.tftp_file.specs.Sink.{SinkMeaning}
-use Rattle.tftp_file.specs.Source.{SourceMeaning}
-use Rattle.tftp_store.specs.Store.{StoreMeaning}
-use Rattle.tftp_server.specs.State.{TransferState, at}
-use Rattle.tftp_sockets.specs.Trace.{SocketEvent}
-use Rattle.tftp_sockets.specs.Trace.SocketEvent.{Sent}
-use Rattle.tftp_loop.specs.Steps.{LoopState, LoopStep}
-use Rattle.tftp_rules.specs.Machine.{Endpoint, Message}
-use Rattle.tftp_rules.specs.Shows.{IsShown}
-use Rattle.tftp_promises.specs.Order.{Programs, IsStranger}
-use Rattle.tftp_promises.specs.Programs.{endpoint}
-use Rattle.tftp_promises.specs.Network.{joined}
-use Rattle.tftp_promises.specs.Snapshots.{Snapshot, server_did}
 use Rattle.tftp_promises.proofs.Invariant.{AreKeyedOnce, HasTransferBy, IsThere, TransferKept, ServerKept, IsKept}
 use Rattle.tftp_promises.proofs.Invariant.{same_transfer}
 use Rattle.tftp_promises.proofs.KeptEvents.{IsSilent}

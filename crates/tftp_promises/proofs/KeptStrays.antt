@@ -1,33 +1,17 @@
 -- What a step receives is among the messages: it was sent before, or it is a stranger's or an ERROR, whose message may
 -- be added at any time.
-use Rattle.std.proofs.lemmas.Grind.{common_steps}
-use Rattle.std.proofs.Common.{ℕ, List, [], ◌∷◌, ◌++◌, subst, inl, inr, arith, rules}
-use Rattle.std.specs.Prelude.{◌≢◌, ◌⊎◌}
-use Rattle.std.specs.List.{Contains}
-use Rattle.std.proofs.lemmas.List.Elements.{Contains-push}
+use Rattle.tftp_promises.proofs.Common.{common_steps, ℕ, List, [], ◌∷◌, ◌++◌, subst, inl, inr, arith, rules, ◌≢◌, ◌⊎◌}
+use Rattle.tftp_promises.proofs.Common.{Contains, Contains-push, Spells, Error, SinkMeaning, SourceMeaning, error_bytes}
+use Rattle.tftp_promises.proofs.Common.{ErrorReply, StoreMeaning, TransferState, Endpoint, Elsewhere, Message, message}
+use Rattle.tftp_promises.proofs.Common.{said, IsShown, says_error, spells_own, WasSentBefore, Programs, IsError}
+use Rattle.tftp_promises.proofs.Common.{IsStranger, MayCome, ClientOf, joined, Snapshot, ClientStage}
 use Rattle.tftp_wire.specs.Parts.{packet_in}
-use Rattle.tftp_wire.specs.Spelling.{Spells}
 use Rattle.tftp_wire.specs.declared.packet.Packet.{Packet as WirePacket}
-use Rattle.tftp_wire.specs.declared.packet.Packet.TheVariants.{Error}
 use Rattle.tftp_wire.proofs.SpellingLemmas.{spelled_is_found}
-use Rattle.tftp_file.specs.Sink.{SinkMeaning}
-use Rattle.tftp_file.specs.Source.{SourceMeaning}
 use Rattle.tftp_ends.specs.ErrorReply.{error_packet}
-use Rattle.tftp_ends.specs.Step.{error_bytes}
-use Rattle.tftp_ends.specs.declared.error_reply.ErrorReply.{ErrorReply}
-use Rattle.tftp_store.specs.Store.{StoreMeaning}
-use Rattle.tftp_server.specs.State.{TransferState}
-use Rattle.tftp_rules.specs.Machine.{Endpoint, Elsewhere, Error as Says_an_error, Message}
-use Rattle.tftp_rules.specs.Rules.{message}
-use Rattle.tftp_rules.specs.Said.{said}
-use Rattle.tftp_rules.specs.Shows.{IsShown}
-use Rattle.tftp_rules.proofs.Actions.{says_error, strays}
+use Rattle.tftp_rules.specs.Machine.{Error as Says_an_error}
+use Rattle.tftp_rules.proofs.Actions.{strays}
 use Rattle.tftp_rules.proofs.EndMoves.{valid_error}
-use Rattle.tftp_rules.proofs.SaidLemmas.{spells_own}
-use Rattle.tftp_promises.specs.Joint.{WasSentBefore}
-use Rattle.tftp_promises.specs.Order.{Programs, IsError, IsStranger, MayCome, ClientOf}
-use Rattle.tftp_promises.specs.Network.{joined}
-use Rattle.tftp_promises.specs.Snapshots.{Snapshot, ClientStage}
 use Rattle.tftp_promises.proofs.Invariant.{HasArrived, IsThere, IsKept, StageKept, TransferKept}
 use Rattle.tftp_promises.proofs.Invariant.{same_transfer}
 use Rattle.tftp_promises.proofs.KeptViews.{arrived_still, sent_still, there_says, there_still, viewed_still}

@@ -1,32 +1,13 @@
 -- A turn of a client's end keeps the invariant, and so does a step that leaves the end as it was.
-use Rattle.std.proofs.Common.{◌≡◌, ℕ, List, [], ◌++◌, set, Option, Some, refl, sym, ap, ◌∙◌, subst, inl, inr, rules}
-use Rattle.std.specs.Prelude.{◌⊎◌}
-use Rattle.std.specs.List.{Contains}
+use Rattle.tftp_promises.proofs.Common.{◌≡◌, ℕ, List, [], ◌++◌, set, Option, Some, refl, sym, ap, ◌∙◌, subst, inl, inr}
+use Rattle.tftp_promises.proofs.Common.{rules, ◌⊎◌, Contains, Contains-append_cases, Contains-push, Holding}
+use Rattle.tftp_promises.proofs.Common.{SinkMeaning, SourceMeaning, Files, is_client, Turn, Reply, after_turn}
+use Rattle.tftp_promises.proofs.Common.{StoreMeaning, SocketEvent, Sent, State, Goes, Endpoint, Message, OpenEnd}
+use Rattle.tftp_promises.proofs.Common.{end_after, open_view, message, said, EndView, IsShown, slice_get-set_same}
+use Rattle.tftp_promises.proofs.Common.{IsUnblamed, unblamed_still, WasSentBefore, Moved, Programs, endpoint, client_at}
+use Rattle.tftp_promises.proofs.Common.{joined, Snapshot, Has_asked, client_did}
 use Rattle.std.proofs.lemmas.List.{append-nil}
-use Rattle.std.proofs.lemmas.List.Elements.{Contains-append_cases, Contains-push}
-use Rattle.tftp_file.specs.Sink.{Holding, SinkMeaning}
-use Rattle.tftp_file.specs.Source.{SourceMeaning}
-use Rattle.tftp_file.specs.declared.files.Files.{Files}
-use Rattle.tftp_ends.specs.End.{is_client}
-use Rattle.tftp_ends.specs.Step.{Turn, Reply, after_turn}
-use Rattle.tftp_store.specs.Store.{StoreMeaning}
-use Rattle.tftp_sockets.specs.Trace.{SocketEvent}
-use Rattle.tftp_sockets.specs.Trace.SocketEvent.{Sent}
-use Rattle.tftp_client.specs.Converses.{State}
-use Rattle.tftp_rules.specs.EndShown.{Goes, Replies, Newest}
-use Rattle.tftp_rules.specs.Machine.{Endpoint, Message}
-use Rattle.tftp_rules.specs.OpenEnds.{OpenEnd, end_after, open_view}
-use Rattle.tftp_rules.specs.Rules.{message}
-use Rattle.tftp_rules.specs.Said.{said}
-use Rattle.tftp_rules.specs.Shows.{EndView, IsShown}
-use Rattle.tftp_rules.proofs.Indices.{slice_get-set_same}
-use Rattle.tftp_rules.proofs.UnblamedEnds.{IsUnblamed, unblamed_still}
-use Rattle.tftp_promises.specs.Joint.{WasSentBefore}
-use Rattle.tftp_promises.specs.Moved.{Moved}
-use Rattle.tftp_promises.specs.Order.{Programs}
-use Rattle.tftp_promises.specs.Programs.{endpoint, client_at}
-use Rattle.tftp_promises.specs.Network.{joined}
-use Rattle.tftp_promises.specs.Snapshots.{Snapshot, Has_asked, client_did}
+use Rattle.tftp_rules.specs.EndShown.{Replies, Newest}
 use Rattle.tftp_promises.proofs.Invariant.{IsThere, HasFile, IsViewed, ClientKept, IsKept, IsFreshBy, SendsText}
 use Rattle.tftp_promises.proofs.Invariant.{IsOfClient}
 use Rattle.tftp_promises.proofs.KeptClients.{ClientTurns, client_keeps}

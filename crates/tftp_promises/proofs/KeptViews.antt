@@ -1,27 +1,12 @@
 -- An end stays viewed when another end turns, or when one more opens.
-use Rattle.std.proofs.lemmas.Grind.{common_steps}
-use Rattle.std.proofs.Common.{◌≡◌, ℕ, List, [], ◌∷◌, ◌++◌, set, Some, sym, ap, ◌∙◌, subst, inl, inr, arith, rules}
-use Rattle.std.specs.Prelude.{◌≢◌, ◌⊎◌, slice_get}
-use Rattle.std.specs.List.{Contains}
-use Rattle.std.proofs.lemmas.List.Elements.{Contains-append_left}
-use Rattle.std.proofs.lemmas.Option.{same_Some}
-use Rattle.tftp_wire.specs.Spelling.{Spells}
-use Rattle.tftp_wire.specs.declared.mode.Mode.{Mode}
+use Rattle.tftp_promises.proofs.Common.{common_steps, ◌≡◌, ℕ, List, [], ◌∷◌, ◌++◌, set, Some, sym, ap, ◌∙◌, subst, inl}
+use Rattle.tftp_promises.proofs.Common.{inr, arith, rules, ◌≢◌, ◌⊎◌, slice_get, Contains, Contains-append_left}
+use Rattle.tftp_promises.proofs.Common.{same_Some, Spells, Mode, one_meaning, SinkMeaning, SourceMeaning, StoreMeaning}
+use Rattle.tftp_promises.proofs.Common.{Endpoint, Message, Network, OpenEnd, open_view, message, said, EndView, IsShown}
+use Rattle.tftp_promises.proofs.Common.{IsAmong, slice_get-set_other, unblamed_still, Programs, IsStranger}
 use Rattle.tftp_wire.specs.declared.packet.Packet.{Packet as WirePacket}
-use Rattle.tftp_wire.proofs.SpellingLemmas.{one_meaning}
-use Rattle.tftp_file.specs.Sink.{SinkMeaning}
-use Rattle.tftp_file.specs.Source.{SourceMeaning}
-use Rattle.tftp_store.specs.Store.{StoreMeaning}
-use Rattle.tftp_rules.specs.Machine.{Endpoint, Message, Network}
-use Rattle.tftp_rules.specs.OpenEnds.{OpenEnd, open_view}
-use Rattle.tftp_rules.specs.Rules.{message}
-use Rattle.tftp_rules.specs.Said.{said}
-use Rattle.tftp_rules.specs.Shows.{EndView, IsShown}
-use Rattle.tftp_rules.specs.ViewSafety.{IsAmong}
-use Rattle.tftp_rules.proofs.Indices.{slice_get-set_cases, slice_get-set_other, slice_get-push_cases}
+use Rattle.tftp_rules.proofs.Indices.{slice_get-set_cases, slice_get-push_cases}
 use Rattle.tftp_rules.proofs.Indices.{slice_get-push_old}
-use Rattle.tftp_rules.proofs.UnblamedEnds.{unblamed_still}
-use Rattle.tftp_promises.specs.Order.{Programs, IsStranger}
 use Rattle.tftp_promises.proofs.Invariant.{IsThere, HasArrived, IsViewed}
 
 -- what was said is there still

@@ -1,25 +1,9 @@
 -- A step of a transfer over any files, by what the finished run moved.
-use Rattle.std.proofs.Common.{◌≡◌, ℕ, Bool, true, false, List, length, None, refl, sym, ap, ◌∙◌, subst}
-use Rattle.std.specs.Prelude.{⊤}
-use Rattle.tftp_file.specs.Block.{IsPrefixOf}
-use Rattle.tftp_file.specs.Sink.{Holding}
-use Rattle.tftp_file.specs.Source.{SourceMeaning}
-use Rattle.tftp_file.specs.declared.files.Files.{Files}
-use Rattle.tftp_file.specs.declared.files.Files.TheVariants.{Source, Sink}
-use Rattle.tftp_ends.specs.Action.{datagram_action}
-use Rattle.tftp_ends.specs.End.{is_sender, outcome_of}
-use Rattle.tftp_ends.specs.Files.{AreSame}
-use Rattle.tftp_ends.specs.Step.{Turn, DatagramStep}
-use Rattle.tftp_store.specs.Store.{StoreMeaning}
-use Rattle.tftp_store.specs.declared.store.Opening.{Opening}
-use Rattle.tftp_server.specs.Draft.{Drafting, files_in, drafting_sink}
-use Rattle.tftp_server.specs.Steps.{StepIn}
-use Rattle.tftp_rules.specs.EndKept.{EndKept}
-use Rattle.tftp_rules.specs.KnownFiles.{known_source, known_sink}
-use Rattle.tftp_rules.specs.Machine.{Endpoint, Network}
-use Rattle.tftp_rules.specs.OpenEnds.{OpenEnd, files_of, end_after}
-use Rattle.tftp_promises.specs.Given.{GaveSince}
-use Rattle.tftp_promises.specs.Moved.{Moved, step_moves}
+use Rattle.tftp_promises.proofs.Common.{◌≡◌, ℕ, Bool, true, false, List, length, None, refl, sym, ap, ◌∙◌, subst, ⊤}
+use Rattle.tftp_promises.proofs.Common.{IsPrefixOf, Holding, SourceMeaning, Files, Source, Sink, datagram_action}
+use Rattle.tftp_promises.proofs.Common.{is_sender, outcome_of, AreSame, Turn, DatagramStep, StoreMeaning, Opening}
+use Rattle.tftp_promises.proofs.Common.{Drafting, files_in, drafting_sink, StepIn, EndKept, known_source, known_sink}
+use Rattle.tftp_promises.proofs.Common.{Endpoint, Network, OpenEnd, files_of, end_after, GaveSince, Moved, step_moves}
 use Rattle.tftp_promises.proofs.DraftsTake.{complete_responds, fate_takes}
 use Rattle.tftp_promises.proofs.GivenSteps.{step_gives}
 use Rattle.tftp_promises.proofs.Invariant.{GaveSo, TookBy, TookSo}

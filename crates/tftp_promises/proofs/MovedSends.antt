@@ -1,44 +1,28 @@
 -- A step of a sender over any source is one over the text that the finished run tells.
-use Rattle.std.proofs.Common.{◌≡◌, ℕ, ◌+◌, ◌-◌, ◌*◌, ◌≤◌, Bool, true, false, List, [], ◌++◌, append_assoc, append-nil}
-use Rattle.std.proofs.Common.{length, take, drop, Option, Some, None, Result, Ok, Err, refl, sym, ap, ◌∙◌, subst, arith}
-use Rattle.std.proofs.Common.{rules}
-use Rattle.std.specs.Prelude.{◌≢◌, ◌&&◌, if◌then◌else◌, is_none}
-use Rattle.std.proofs.lemmas.Bool.{true≢false}
-use Rattle.std.proofs.lemmas.List.{length-append, length-drop}
+use Rattle.tftp_promises.proofs.Common.{◌≡◌, ℕ, ◌+◌, ◌*◌, ◌≤◌, Bool, true, false, List, [], ◌++◌, append_assoc}
+use Rattle.tftp_promises.proofs.Common.{append-nil, length, take, drop, Option, Some, None, Result, Ok, Err, refl, sym}
+use Rattle.tftp_promises.proofs.Common.{ap, ◌∙◌, subst, arith, rules, ◌≢◌, ◌&&◌, if◌then◌else◌, is_none, true≢false}
+use Rattle.tftp_promises.proofs.Common.{length-append, Read, Ack, has_error_opcode, Asked, Refusal, IsPrefixOf}
+use Rattle.tftp_promises.proofs.Common.{SinkMeaning, SourceMeaning, Source, Action, Respond, Send, Store, Ignore}
+use Rattle.tftp_promises.proofs.Common.{WrongPeer, FileChanged, Phase, Sending, Terms, datagram_action, packet_action}
+use Rattle.tftp_promises.proofs.Common.{garbled_response, is_wrong_peer, is_sender, is_client, outcome_of, terms_of}
+use Rattle.tftp_promises.proofs.Common.{Turn, Acts, DatagramStep, block_length, data_bytes, filled_turn, refused_turn}
+use Rattle.tftp_promises.proofs.Common.{result_count_is, sent_turn, begin_action, writer_action, EndKept, known_source}
+use Rattle.tftp_promises.proofs.Common.{known_sink, Network, OpenEnd, end_after, if_acts, Moved, acts_move, step_moves}
+use Rattle.std.proofs.Common.{◌-◌}
+use Rattle.std.proofs.lemmas.List.{length-drop}
 use Rattle.tftp_wire.specs.declared.packet.Packet.{Packet as WirePacket}
-use Rattle.tftp_wire.specs.declared.packet.Packet.TheVariants.{Read, Ack}
-use Rattle.tftp_wire.specs.Reading.{has_error_opcode}
-use Rattle.tftp_negotiate.specs.declared.asked.Asked.{Asked}
 use Rattle.tftp_negotiate.specs.declared.known.Kind.TheVariants as kinds
-use Rattle.tftp_negotiate.specs.declared.refusal.Refusal.{Refusal}
 use Rattle.tftp_negotiate.specs.declared.refusal.Refusal.TheVariants as refusals
-use Rattle.tftp_file.specs.Block.{IsPrefixOf}
-use Rattle.tftp_file.specs.Sink.{SinkMeaning}
-use Rattle.tftp_file.specs.Source.{SourceMeaning, Fills}
+use Rattle.tftp_file.specs.Source.{Fills}
 use Rattle.tftp_file.specs.declared.fault.FileFault.{FileFault}
 use Rattle.tftp_file.specs.declared.fault.FileFault.TheVariants as file_faults
-use Rattle.tftp_file.specs.declared.files.Files.TheVariants.{Source}
-use Rattle.tftp_ends.specs.declared.action.Action.{Action}
-use Rattle.tftp_ends.specs.declared.action.Action.TheVariants.{Respond, Send, Store}
-use Rattle.tftp_ends.specs.declared.action.Response.TheVariants.{Ignore, WrongPeer}
 use Rattle.tftp_ends.specs.declared.endpoint.Endpoint.{Endpoint}
-use Rattle.tftp_ends.specs.declared.error_reply.ErrorReply.TheVariants.{FileChanged}
 use Rattle.tftp_ends.specs.declared.outcome.Outcome.TheVariants as outcomes
-use Rattle.tftp_ends.specs.declared.phase.Phase.{Phase}
-use Rattle.tftp_ends.specs.declared.phase.Phase.TheVariants.{Sending}
-use Rattle.tftp_ends.specs.declared.phase.Terms.{Terms}
-use Rattle.tftp_ends.specs.Action.{datagram_action, packet_action, garbled_response, is_wrong_peer}
-use Rattle.tftp_ends.specs.End.{is_sender, is_client, outcome_of, terms_of}
 use Rattle.tftp_ends.specs.Sender.{sender_action}
-use Rattle.tftp_ends.specs.Step.{Turn, Sends, Acts, DatagramStep, block_length, data_bytes, filled_turn, refused_turn}
-use Rattle.tftp_ends.specs.Step.{result_count_is, sent_turn}
-use Rattle.tftp_ends.specs.Waiting.{begin_action, writer_action}
-use Rattle.tftp_rules.specs.EndKept.{EndKept, PhaseKept, IsUnderWay}
-use Rattle.tftp_rules.specs.KnownFiles.{known_source, known_sink}
-use Rattle.tftp_rules.specs.Machine.{Network}
-use Rattle.tftp_rules.specs.OpenEnds.{OpenEnd, end_after}
-use Rattle.tftp_rules.proofs.PhaseMoves.{if_acts}
-use Rattle.tftp_promises.specs.Moved.{Moved, acts_move, step_moves, with_more}
+use Rattle.tftp_ends.specs.Step.{Sends}
+use Rattle.tftp_rules.specs.EndKept.{PhaseKept, IsUnderWay}
+use Rattle.tftp_promises.specs.Moved.{with_more}
 use Rattle.tftp_promises.proofs.Invariant.{GaveSo}
 use Rattle.tftp_promises.proofs.Texts.{pad_to, pad_length, begins_padded, begins_after, begins_by_take, then_rest}
 

@@ -1,40 +1,25 @@
 -- What has moved at the place of a transfer after a step of the server, and after a run; and where a step leaves the
 -- transfers.
-use Rattle.std.proofs.Common.{◌≡◌, ℕ, Bool, true, false, List, [], ◌∷◌, Option, Some, None, refl, sym, ap, ◌∙◌, subst}
-use Rattle.std.proofs.Common.{inl, inr}
-use Rattle.std.specs.Prelude.{◌≢◌, ◌==◌, if◌then◌else◌, length, map, option_map, option_to_list}
-use Rattle.std.specs.List.{Contains}
-use Rattle.std.proofs.lemmas.Bool.{true≢false}
-use Rattle.std.proofs.lemmas.List.Elements.{Contains-push}
-use Rattle.tftp_file.specs.Block.{IsPrefixOf}
-use Rattle.tftp_file.specs.Sink.{SinkMeaning}
-use Rattle.tftp_file.specs.Source.{SourceMeaning}
-use Rattle.tftp_file.specs.declared.files.Files.{Files}
-use Rattle.tftp_ends.specs.declared.action.Action.{Action}
-use Rattle.tftp_ends.specs.declared.action.Action.TheVariants.{Respond, Send, Store}
+use Rattle.tftp_promises.proofs.Common.{◌≡◌, ℕ, Bool, true, false, List, [], ◌∷◌, Option, Some, None, refl, sym, ap}
+use Rattle.tftp_promises.proofs.Common.{◌∙◌, subst, inl, inr, ◌≢◌, ◌==◌, if◌then◌else◌, option_map, option_to_list}
+use Rattle.tftp_promises.proofs.Common.{Contains, true≢false, Contains-push, IsPrefixOf, SinkMeaning, SourceMeaning}
+use Rattle.tftp_promises.proofs.Common.{Files, Action, Respond, Send, Store, EndState, Turn, Acts, StoreMeaning, Came}
+use Rattle.tftp_promises.proofs.Common.{Nothing, Error_reply, A_transfer, left_by, TransferState, LoopState, LoopStep}
+use Rattle.tftp_promises.proofs.Common.{At_port, Request_answered, ServesPort, AnswersRequest, PortStep, PortState, Run}
+use Rattle.tftp_promises.proofs.Common.{Then, State, HandlesReceived, Answers, Loses, is_same, same_self, ClientDoes}
+use Rattle.tftp_promises.proofs.Common.{Receives_one, Reads_clock, Waits_until, Times_out, File_works, Prints_line}
+use Rattle.tftp_promises.proofs.Common.{client_moves, Moved, acts_move, came_if, port_moves, place, place_at, Programs}
+use Rattle.tftp_promises.proofs.Common.{opened_ports}
+use Rattle.std.specs.Prelude.{length, map}
 use Rattle.tftp_ends.specs.declared.endpoint.Endpoint.{Endpoint}
-use Rattle.tftp_ends.specs.End.{EndState}
-use Rattle.tftp_ends.specs.Step.{Turn, Acts}
-use Rattle.tftp_store.specs.Store.{StoreMeaning}
-use Rattle.tftp_server.specs.Request.{Came, Nothing, Error_reply, A_transfer, left_by}
-use Rattle.tftp_server.specs.State.{TransferState}
-use Rattle.tftp_loop.specs.Steps.{LoopState, LoopStep, Waited, At_port, Request_received, No_request_found}
-use Rattle.tftp_loop.specs.Steps.{Request_not_received, Request_noted, Request_answered, Request_lost, Clock_read}
+use Rattle.tftp_loop.specs.Steps.{Waited, Request_received, No_request_found}
+use Rattle.tftp_loop.specs.Steps.{Request_not_received, Request_noted, Request_lost, Clock_read}
 use Rattle.tftp_loop.specs.Steps.{Store_set, Drain_begun, Transfer_closed}
-use Rattle.tftp_loop.specs.Steps.{ServesPort, AnswersRequest, PortStep, A_datagram, A_lost_datagram, A_late_datagram}
-use Rattle.tftp_loop.specs.Steps.{Nothing_found, A_failed_receive, A_timeout, A_missed_timeout, Work, PortState}
-use Rattle.tftp_loop.specs.Run.{Run}
-use Rattle.tftp_loop.specs.Run.Run.{Then}
-use Rattle.tftp_client.specs.Converses.{State, HandlesReceived}
-use Rattle.tftp_client.specs.Converses.HandlesReceived.{Answers, Loses}
-use Rattle.tftp_rules.specs.Machine.{is_same}
-use Rattle.tftp_rules.proofs.Endpoints.{cases_same, same_other, same_self}
-use Rattle.tftp_promises.specs.ClientRuns.{ClientDoes, Receives_one, Reads_clock, Waits_until, Times_out, File_works, Prints_line}
-use Rattle.tftp_promises.specs.ClientRuns.{client_moves}
-use Rattle.tftp_promises.specs.Moved.{Moved, acts_move, came_if, handling_moves, opening_moves, port_moves}
-use Rattle.tftp_promises.specs.Openings.{does_move, opens_at, or_place, place, place_at}
-use Rattle.tftp_promises.specs.Order.{Programs}
-use Rattle.tftp_promises.specs.Ports.{opened_ports}
+use Rattle.tftp_loop.specs.Steps.{A_datagram, A_lost_datagram, A_late_datagram}
+use Rattle.tftp_loop.specs.Steps.{Nothing_found, A_failed_receive, A_timeout, A_missed_timeout, Work}
+use Rattle.tftp_rules.proofs.Endpoints.{cases_same, same_other}
+use Rattle.tftp_promises.specs.Moved.{handling_moves, opening_moves}
+use Rattle.tftp_promises.specs.Openings.{does_move, opens_at, or_place}
 use Rattle.tftp_promises.proofs.RunPlaces.{placed_by}
 use Rattle.tftp_promises.proofs.Texts.{begins_itself, begins_more}
 

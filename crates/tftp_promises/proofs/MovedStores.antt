@@ -1,29 +1,21 @@
 -- A step of a receiver over any sink is one over what the sink was handed.
-use Rattle.std.proofs.Common.{◌≡◌, ℕ, Bool, true, false, List, [], ◌∷◌, ◌++◌, append-nil, Some, Result, Ok, Err, refl}
-use Rattle.std.proofs.Common.{None, sym, ap, ◌∙◌, subst, inl, inr, rules}
-use Rattle.std.specs.Prelude.{◌≢◌, ◌⊎◌, ◌||◌, is_ok, nat_lt, length, IfErr}
+use Rattle.tftp_promises.proofs.Common.{◌≡◌, ℕ, Bool, true, false, List, [], ◌∷◌, ◌++◌, append-nil, Some, Result, Ok}
+use Rattle.tftp_promises.proofs.Common.{Err, refl, None, sym, ap, ◌∙◌, subst, inl, inr, rules, ◌≢◌, ◌⊎◌, nat_lt}
+use Rattle.tftp_promises.proofs.Common.{true≢false, Holding, SinkMeaning, SourceMeaning, StoreFault, Files, Sink}
+use Rattle.tftp_promises.proofs.Common.{Action, Respond, Send, Store, ErrorReply, Terms, datagram_action, EndState}
+use Rattle.tftp_promises.proofs.Common.{outcome_of, Done, Turn, GoesOn, Acts, DatagramStep, committed_turn, holding}
+use Rattle.tftp_promises.proofs.Common.{refused_turn, known_source, known_sink, OpenEnd, end_after, Moved, acts_move}
+use Rattle.tftp_promises.proofs.Common.{step_moves}
+use Rattle.std.specs.Prelude.{◌||◌, is_ok, length, IfErr}
 use Rattle.std.specs.Result.{result_err}
-use Rattle.std.proofs.lemmas.Bool.{true≢false}
-use Rattle.tftp_file.specs.Sink.{Holding, SinkMeaning, CommitsFreely, UnlessArmed, as_committed, with_piece}
-use Rattle.tftp_file.specs.Source.{SourceMeaning}
-use Rattle.tftp_file.specs.declared.fault.StoreFault.{StoreFault}
+use Rattle.tftp_file.specs.Sink.{CommitsFreely, UnlessArmed, as_committed, with_piece}
 use Rattle.tftp_file.specs.declared.fault.StoreFault.TheVariants as faults
-use Rattle.tftp_file.specs.declared.files.Files.{Files}
-use Rattle.tftp_file.specs.declared.files.Files.TheVariants.{Sink}
-use Rattle.tftp_ends.specs.declared.action.Action.{Action}
-use Rattle.tftp_ends.specs.declared.action.Action.TheVariants.{Respond, Send, Store}
 use Rattle.tftp_ends.specs.declared.endpoint.Endpoint.{Endpoint}
-use Rattle.tftp_ends.specs.declared.error_reply.ErrorReply.{ErrorReply}
 use Rattle.tftp_ends.specs.declared.error_reply.ErrorReply.TheVariants as replies
 use Rattle.tftp_ends.specs.declared.outcome.Outcome.TheVariants as outcomes
-use Rattle.tftp_ends.specs.declared.phase.Terms.{Terms}
-use Rattle.tftp_ends.specs.Action.{datagram_action}
-use Rattle.tftp_ends.specs.End.{EndState, outcome_of}
-use Rattle.tftp_ends.specs.Step.{Done, Turn, Appended, Stores, GoesOn, Acts, DatagramStep, committed_turn, holding}
-use Rattle.tftp_ends.specs.Step.{refused_turn}
-use Rattle.tftp_rules.specs.KnownFiles.{known_source, known_sink}
-use Rattle.tftp_rules.specs.OpenEnds.{OpenEnd, holding_of, end_after}
-use Rattle.tftp_promises.specs.Moved.{Moved, acts_move, commits_after, step_moves, with_more}
+use Rattle.tftp_ends.specs.Step.{Appended, Stores}
+use Rattle.tftp_rules.specs.OpenEnds.{holding_of}
+use Rattle.tftp_promises.specs.Moved.{commits_after, with_more}
 use Rattle.tftp_promises.proofs.Invariant.{TookSo}
 
 -- a fault that anything may return

@@ -1,15 +1,12 @@
 -- The transfer at an identifier, after a new one was added.
-use Rattle.std.proofs.Common.{◌≡◌, ◌≢◌, ℕ, Bool, false, List, [], ◌∷◌, cond, Some, None, refl, sym, ap, ◌∙◌}
-use Rattle.std.proofs.Common.{inl, inr}
-use Rattle.std.specs.Prelude.{◌⊎◌}
-use Rattle.std.proofs.lemmas.Bool.{true≢false, cases_eq}
-use Rattle.std.proofs.lemmas.Option.{same_Some}
-use Rattle.std.specs.BTreeMap.{is_at}
-use Rattle.std.specs.Ordering.{nat_cmp, match_ordering, is_eq}
+use Rattle.tftp_promises.proofs.Common.{◌≡◌, ℕ, Bool, false, List, [], ◌∷◌, cond, Some, None, refl, sym, ap, ◌∙◌, inl}
+use Rattle.tftp_promises.proofs.Common.{inr, ◌⊎◌, true≢false, cases_eq, same_Some, is_at, nat_cmp, at, with_new}
+use Rattle.tftp_promises.proofs.Common.{numbers}
+use Rattle.std.proofs.Common.{◌≢◌}
+use Rattle.std.specs.Ordering.{match_ordering, is_eq}
 use Rattle.std.specs.declared.cmp.Ordering.{Ordering}
 use Rattle.std.specs.declared.cmp.Ordering.TheVariants.{Less, Equal, Greater}
-use Rattle.tftp_server.specs.State.{at, with_new}
-use Rattle.tftp_rules.proofs.Entries.{at_same, lookup-insert_other, lookup-insert_same, numbers}
+use Rattle.tftp_rules.proofs.Entries.{at_same, lookup-insert_other, lookup-insert_same}
 use Rattle.tftp_promises.proofs.Invariant.{AreKeyedOnce}
 
 module _ {T : Type 0} where

@@ -1,29 +1,19 @@
 -- No two transfers of a run are at one place, and none is at a client's endpoint.
-use Rattle.std.proofs.Common.{◌≡◌, ◌≢◌, ℕ, suc, zero, ◌+◌, ◌<◌, ◌≤◌, Bool, true, false, List, [], ◌∷◌, ◌++◌, length}
-use Rattle.std.proofs.Common.{map, Option, Some, None, refl, sym, ap, ◌∙◌, subst, inl, inr, arith, rules}
-use Rattle.std.specs.Prelude.{◌⊎◌, if◌then◌else◌, option_to_list, slice_get}
-use Rattle.std.specs.List.{Contains}
-use Rattle.std.proofs.lemmas.List.{length-append}
-use Rattle.std.proofs.lemmas.List.Elements.{Contains-append_cases, Contains-append_left, Contains-append_right}
-use Rattle.std.proofs.lemmas.List.Elements.{Contains-push}
-use Rattle.std.proofs.lemmas.Option.{slice_get_read}
-use Rattle.tftp_file.specs.Sink.{SinkMeaning}
-use Rattle.tftp_file.specs.Source.{SourceMeaning}
-use Rattle.tftp_store.specs.Store.{StoreMeaning}
-use Rattle.tftp_server.specs.Request.{Came, Left, left_by}
-use Rattle.tftp_sockets.specs.Trace.{SocketEvent}
-use Rattle.tftp_loop.specs.Run.{Run}
-use Rattle.tftp_loop.specs.Run.Run.{Start, Then}
-use Rattle.tftp_loop.specs.Steps.{LoopState, LoopStep, Waited, At_port, Request_received, No_request_found}
-use Rattle.tftp_loop.specs.Steps.{Request_not_received, Request_noted, Request_answered, Request_lost, Clock_read}
-use Rattle.tftp_loop.specs.Steps.{Store_set, Drain_begun, Transfer_closed, AnswersRequest}
-use Rattle.tftp_rules.specs.Machine.{At_server, Endpoint}
-use Rattle.tftp_promises.specs.Openings.{above, is_ours, our_ports, ours_by, place, total}
-use Rattle.tftp_promises.specs.Order.{Programs, ClientOf}
-use Rattle.tftp_promises.specs.Ports.{AreDistinct, opened_by, opened_ports}
-use Rattle.tftp_promises.specs.Programs.{endpoint, client_at, ClientProgram}
-use Rattle.tftp_promises.specs.Network.{joined}
-use Rattle.tftp_promises.specs.Snapshots.{Snapshot, server_did}
+use Rattle.tftp_promises.proofs.Common.{◌≡◌, ℕ, suc, zero, ◌+◌, ◌<◌, ◌≤◌, Bool, true, false, List, [], ◌∷◌, ◌++◌}
+use Rattle.tftp_promises.proofs.Common.{length, map, Option, Some, None, refl, sym, ap, ◌∙◌, subst, inl, inr, arith}
+use Rattle.tftp_promises.proofs.Common.{rules, ◌⊎◌, if◌then◌else◌, option_to_list, slice_get, Contains, length-append}
+use Rattle.tftp_promises.proofs.Common.{Contains-append_cases, Contains-append_left, Contains-append_right}
+use Rattle.tftp_promises.proofs.Common.{Contains-push, slice_get_read, SinkMeaning, SourceMeaning, StoreMeaning, Came}
+use Rattle.tftp_promises.proofs.Common.{Left, left_by, SocketEvent, Run, Start, Then, LoopState, LoopStep, At_port}
+use Rattle.tftp_promises.proofs.Common.{Request_answered, AnswersRequest, At_server, Endpoint, above, is_ours}
+use Rattle.tftp_promises.proofs.Common.{our_ports, ours_by, place, Programs, ClientOf, AreDistinct, opened_ports}
+use Rattle.tftp_promises.proofs.Common.{endpoint, client_at, ClientProgram, joined, Snapshot, server_did}
+use Rattle.std.proofs.Common.{◌≢◌}
+use Rattle.tftp_loop.specs.Steps.{Waited, Request_received, No_request_found}
+use Rattle.tftp_loop.specs.Steps.{Request_not_received, Request_noted, Request_lost, Clock_read}
+use Rattle.tftp_loop.specs.Steps.{Store_set, Drain_begun, Transfer_closed}
+use Rattle.tftp_promises.specs.Openings.{total}
+use Rattle.tftp_promises.specs.Ports.{opened_by}
 use Rattle.tftp_promises.proofs.RunPlaces.{placed_by, places}
 use Rattle.tftp_promises.proofs.Invariant.{IsFreshBy}
 use Rattle.tftp_promises.proofs.KeptEvents.{nothing_in, only_one, first_or_more}

@@ -1,35 +1,21 @@
 -- Each OACK that a server sent opened a transfer: it is the first datagram of one, and was sent to where its request
 -- came from. For the law a_client_ends_for_a_reason.
-use Rattle.std.proofs.Common.{◌≡◌, ℕ, true, List, [], ◌∷◌, ◌++◌, append_assoc, Option, Some, None, refl, sym, ap}
-use Rattle.std.proofs.Common.{◌∙◌, subst, inl, inr}
-use Rattle.std.specs.Prelude.{◌⊎◌}
-use Rattle.std.proofs.lemmas.Bool.{true≢false}
-use Rattle.std.proofs.lemmas.List.{append_cancel_right}
-use Rattle.tftp_wire.specs.declared.mode.Mode.{Mode}
-use Rattle.tftp_negotiate.specs.Ranges.{IsBlockSize}
-use Rattle.tftp_file.specs.Source.{SourceMeaning}
+use Rattle.tftp_promises.proofs.Common.{◌≡◌, ℕ, true, List, [], ◌∷◌, ◌++◌, append_assoc, Option, Some, None, refl, sym}
+use Rattle.tftp_promises.proofs.Common.{ap, ◌∙◌, subst, inl, inr, ◌⊎◌, true≢false, append_cancel_right, Mode}
+use Rattle.tftp_promises.proofs.Common.{IsBlockSize, SourceMeaning, has_opcode, Reply, error_bytes, timeout_turn}
+use Rattle.tftp_promises.proofs.Common.{StoreMeaning, Opening, drafting_sink, Came, Nothing, Error_reply, A_transfer}
+use Rattle.tftp_promises.proofs.Common.{Left, left_by, ServerState, TransferState, at, Act, Said, Has, SocketEvent}
+use Rattle.tftp_promises.proofs.Common.{answered, Received, Sent, Watched, Elapsed, Printed, Quiet, Run, Start, Then}
+use Rattle.tftp_promises.proofs.Common.{AnswersRequest, PortState, LoopState, PortStep, LoopStep, after_request}
+use Rattle.tftp_promises.proofs.Common.{port_state, A_datagram, A_lost_datagram, A_late_datagram, Nothing_found}
+use Rattle.tftp_promises.proofs.Common.{A_failed_receive, A_timeout, A_missed_timeout, Work, Waited, Request_received}
+use Rattle.tftp_promises.proofs.Common.{No_request_found, Request_not_received, Request_noted, Request_lost, Clock_read}
+use Rattle.tftp_promises.proofs.Common.{Store_set, Transfer_closed, Drain_begun, StoreOpened, acts_at}
 use Rattle.tftp_ends.specs.declared.endpoint.Endpoint.{Endpoint}
-use Rattle.tftp_ends.specs.Run.{has_opcode}
-use Rattle.tftp_ends.specs.Step.{Reply, error_bytes, timeout_turn}
-use Rattle.tftp_store.specs.Store.{StoreMeaning}
-use Rattle.tftp_store.specs.declared.store.Opening.{Opening}
-use Rattle.tftp_server.specs.Draft.{drafting_sink}
-use Rattle.tftp_server.specs.Request.{Came, Nothing, Error_reply, A_transfer, Left, left_by}
-use Rattle.tftp_server.specs.State.{ServerState, TransferState, at}
-use Rattle.tftp_lives.specs.Lives.{Act, Said, Has}
 use Rattle.tftp_lives.proofs.NewestSaid.{IsPlain, datagram_plain, newest_said, timeout_plain}
-use Rattle.tftp_sockets.specs.Trace.{SocketEvent, answered}
-use Rattle.tftp_sockets.specs.Trace.SocketEvent.{Received, Sent, Watched, Elapsed, Printed, Quiet}
-use Rattle.tftp_loop.specs.Run.{Run}
-use Rattle.tftp_loop.specs.Run.Run.{Start, Then}
-use Rattle.tftp_loop.specs.Steps.{AnswersRequest, PortState, LoopState, PortStep, LoopStep, after_request, port_state}
-use Rattle.tftp_loop.specs.Steps.PortStep.{A_datagram, A_lost_datagram, A_late_datagram, Nothing_found}
-use Rattle.tftp_loop.specs.Steps.PortStep.{A_failed_receive, A_timeout, A_missed_timeout, Work}
-use Rattle.tftp_loop.specs.Steps.LoopStep.{Waited, At_port, Request_received, No_request_found}
-use Rattle.tftp_loop.specs.Steps.LoopStep.{Request_not_received, Request_noted, Request_answered, Request_lost}
-use Rattle.tftp_loop.specs.Steps.LoopStep.{Clock_read, Store_set, Transfer_closed, Drain_begun}
-use Rattle.tftp_promises.specs.Given.{StoreOpened, StoreOpens}
-use Rattle.tftp_promises.specs.Lived.{acts_at}
+use Rattle.tftp_loop.specs.Steps.LoopStep.{At_port}
+use Rattle.tftp_loop.specs.Steps.LoopStep.{Request_answered}
+use Rattle.tftp_promises.specs.Given.{StoreOpens}
 use Rattle.tftp_promises.proofs.SeenLives.{tells_sent}
 use Rattle.tftp_promises.proofs.TraceLives.{step_adds, transfers_noted}
 use Rattle.tftp_promises.proofs.TransferLives.{run_config, transfers_live}

@@ -1,32 +1,22 @@
 -- At each time of a run each held transfer has one timer.
-use Rattle.std.proofs.Common.{arith, ◌≡◌, ◌<◌, ◌≤◌, ℕ, Bool, true, false, List, [], ◌∷◌, ◌++◌, map, length, Option}
-use Rattle.std.proofs.Common.{Some, None, refl, sym, ap, subst, ◌∙◌, inl, inr}
-use Rattle.std.specs.Prelude.{slice_set, slice_index_or, IsSome}
-use Rattle.std.specs.List.{Contains, swap_remove}
-use Rattle.std.specs.BTreeMap.{is_at}
-use Rattle.std.specs.Ordering.{nat_cmp}
-use Rattle.std.proofs.lemmas.Bool.{cases_eq}
-use Rattle.tftp_file.specs.Source.{SourceMeaning}
-use Rattle.tftp_ends.specs.declared.backoff.Backoff.{Backoff}
+use Rattle.tftp_promises.proofs.Common.{arith, ◌≡◌, ◌<◌, ◌≤◌, ℕ, Bool, true, false, List, [], ◌∷◌, ◌++◌, map, length}
+use Rattle.tftp_promises.proofs.Common.{Option, Some, None, refl, sym, ap, subst, ◌∙◌, inl, inr, slice_set}
+use Rattle.tftp_promises.proofs.Common.{slice_index_or, IsSome, Contains, is_at, nat_cmp, cases_eq, SourceMeaning}
+use Rattle.tftp_promises.proofs.Common.{Backoff, StoreMeaning, TransferState, ServerState, at, with_new, without}
+use Rattle.tftp_promises.proofs.Common.{KeepsHeld, Came, Left, Nothing, Error_reply, A_transfer, left_by, WorksAt}
+use Rattle.tftp_promises.proofs.Common.{SocketEvent, Run, Start, Then, Timer, PortState, LoopState, PortStep, LoopStep}
+use Rattle.tftp_promises.proofs.Common.{at_start, A_datagram, A_lost_datagram, A_late_datagram, Nothing_found}
+use Rattle.tftp_promises.proofs.Common.{A_failed_receive, A_timeout, A_missed_timeout, Work, Waited, Request_received}
+use Rattle.tftp_promises.proofs.Common.{No_request_found, Request_not_received, Request_noted, Request_lost, Clock_read}
+use Rattle.tftp_promises.proofs.Common.{Store_set, Transfer_closed, Drain_begun, LoopConfig}
+use Rattle.std.specs.List.{swap_remove}
 use Rattle.tftp_ends.specs.declared.endpoint.Endpoint.{Endpoint}
 use Rattle.tftp_ends.specs.declared.record.Record.{Record}
-use Rattle.tftp_store.specs.Store.{StoreMeaning}
-use Rattle.tftp_server.specs.State.{TransferState, ServerState, at, taken_of, with_new, without}
-use Rattle.tftp_server.specs.Steps.{KeepsHeld}
-use Rattle.tftp_server.specs.Request.{Came, Left, Nothing, Error_reply, A_transfer, left_by}
-use Rattle.tftp_server.specs.Work.{WorksAt}
-use Rattle.tftp_sockets.specs.Trace.{SocketEvent}
-use Rattle.tftp_loop.specs.Run.{Run}
-use Rattle.tftp_loop.specs.Run.Run.{Start, Then}
-use Rattle.tftp_loop.specs.Steps.{Timer, PortState, LoopState, PortStep, LoopStep, at_start, marked_by, set_by, timer_after}
+use Rattle.tftp_server.specs.State.{taken_of}
+use Rattle.tftp_loop.specs.Steps.{marked_by, set_by, timer_after}
 use Rattle.tftp_loop.specs.Steps.{with_timer, interval_at, started}
-use Rattle.tftp_loop.specs.Steps.PortStep.{A_datagram, A_lost_datagram, A_late_datagram, Nothing_found, A_failed_receive}
-use Rattle.tftp_loop.specs.Steps.PortStep.{A_timeout, A_missed_timeout, Work}
-use Rattle.tftp_loop.specs.Steps.LoopStep.{Waited, At_port, Request_received, No_request_found, Request_not_received}
-use Rattle.tftp_loop.specs.Steps.LoopStep.{Request_noted, Request_answered, Request_lost, Clock_read, Store_set}
-use Rattle.tftp_loop.specs.Steps.LoopStep.{Transfer_closed}
-use Rattle.tftp_loop.specs.Steps.LoopStep.{Drain_begun}
-use Rattle.tftp_loop.specs.declared.serving.LoopConfig.{LoopConfig}
+use Rattle.tftp_loop.specs.Steps.LoopStep.{At_port}
+use Rattle.tftp_loop.specs.Steps.LoopStep.{Request_answered}
 use Rattle.tftp_promises.specs.Timers.{HasOneTimerEach, timer_ports}
 use Rattle.tftp_promises.proofs.PortCounts.{hit, hit_same, hit_other, hits, hits_push, hits_map, hits_swap_removed}
 use Rattle.tftp_promises.proofs.PortCounts.{hits_set, hits_apart, hits_contained, contains_hit, keyed, keyed_absent}

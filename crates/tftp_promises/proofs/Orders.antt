@@ -1,14 +1,10 @@
 -- What one program noted of an order of events, and lists with one element per client.
-use Rattle.std.proofs.Common.{◌≡◌, ℕ, List, [], ◌∷◌, length, map, set, Bool, true, false, Option, Some, None, refl, sym}
-use Rattle.std.proofs.Common.{ap, ◌∙◌, subst, zero, suc, arith, inl, inr, rules}
-use Rattle.std.specs.Prelude.{◌≢◌, ◌==◌, if◌then◌else◌, slice_get, option_map}
-use Rattle.std.specs.List.{Contains}
-use Rattle.std.proofs.lemmas.Bool.{cond-true, eq-eqb}
-use Rattle.std.proofs.lemmas.List.Elements.{Contains-append_cases, Contains-append_left, Contains-append_right}
-use Rattle.std.proofs.lemmas.List.Elements.{Contains-push}
-use Rattle.std.proofs.lemmas.Option.{same_Some}
-use Rattle.tftp_sockets.specs.Trace.{SocketEvent}
-use Rattle.tftp_promises.specs.Order.{Noted, events_of}
+use Rattle.tftp_promises.proofs.Common.{◌≡◌, ℕ, List, [], ◌∷◌, length, map, set, Bool, true, false, Option, Some, None}
+use Rattle.tftp_promises.proofs.Common.{refl, sym, ap, ◌∙◌, subst, zero, suc, arith, inl, inr, rules, ◌≢◌, ◌==◌}
+use Rattle.tftp_promises.proofs.Common.{if◌then◌else◌, slice_get, option_map, Contains, eq-eqb, Contains-append_cases}
+use Rattle.tftp_promises.proofs.Common.{Contains-append_left, Contains-append_right, Contains-push, same_Some}
+use Rattle.tftp_promises.proofs.Common.{SocketEvent, Noted, events_of}
+use Rattle.std.proofs.lemmas.Bool.{cond-true}
 
 -- ---- elements
 

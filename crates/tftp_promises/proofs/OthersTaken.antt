@@ -1,16 +1,9 @@
 -- A client takes no answer of other servers where there are none.
-use Rattle.std.proofs.Common.{ℕ, List, [], rules}
-use Rattle.tftp_file.specs.Sink.{SinkMeaning}
-use Rattle.tftp_file.specs.Source.{SourceMeaning}
-use Rattle.tftp_file.specs.declared.files.Files.{Files}
-use Rattle.tftp_store.specs.Store.{StoreMeaning}
-use Rattle.tftp_client.specs.Converses.{State, HandlesReceived}
-use Rattle.tftp_client.specs.Converses.HandlesReceived.{Answers, Loses}
-use Rattle.tftp_rules.specs.Machine.{Endpoint}
-use Rattle.tftp_promises.specs.ClientRuns.{ClientDoes, ClientRun, Starts, Goes_on, Receives_one, Reads_clock, Waits_until}
-use Rattle.tftp_promises.specs.ClientRuns.{Times_out, File_works, Prints_line}
+use Rattle.tftp_promises.proofs.Common.{ℕ, List, [], rules, SinkMeaning, SourceMeaning, Files, StoreMeaning, State}
+use Rattle.tftp_promises.proofs.Common.{HandlesReceived, Answers, Loses, Endpoint, ClientDoes, ClientRun, Starts}
+use Rattle.tftp_promises.proofs.Common.{Goes_on, Receives_one, Reads_clock, Waits_until, Times_out, File_works}
+use Rattle.tftp_promises.proofs.Common.{Prints_line, DoesOwn, HandlesOwn, TakesOwn}
 use Rattle.tftp_promises.specs.Joined.{ServersAloneAreJoined}
-use Rattle.tftp_promises.specs.Others.{DoesOwn, HandlesOwn, TakesOwn}
 use Rattle.tftp_promises.proofs.KeptEvents.{nothing_in}
 
 module _ {G K : Type 0} {inputs : SourceMeaning G} {outputs : SinkMeaning K} (ip : List ℕ) where

@@ -1,34 +1,22 @@
 -- A client and its transfer outlast bounded loss. For the law a_client_outlasts_loss.
-use Rattle.std.proofs.Common.{◌≡◌, ℕ, suc, Bool, true, false, not, List, [], ◌∷◌, ◌++◌, Some, refl, sym, ap, ◌∙◌}
-use Rattle.std.proofs.Common.{append_assoc, subst, inl, inr}
-use Rattle.std.specs.Prelude.{◌⊎◌, ◌==◌, if◌then◌else◌, slice_get}
-use Rattle.std.proofs.lemmas.Bool.{eqb-true}
-use Rattle.std.proofs.lemmas.List.{append_cancel_right}
-use Rattle.tftp_file.specs.Sink.{SinkMeaning}
-use Rattle.tftp_file.specs.Source.{SourceMeaning}
+use Rattle.tftp_promises.proofs.Common.{◌≡◌, ℕ, suc, Bool, true, false, not, List, [], ◌∷◌, ◌++◌, Some, refl, sym, ap}
+use Rattle.tftp_promises.proofs.Common.{◌∙◌, append_assoc, subst, inl, inr, ◌⊎◌, ◌==◌, if◌then◌else◌, slice_get}
+use Rattle.tftp_promises.proofs.Common.{eqb-true, append_cancel_right, SinkMeaning, SourceMeaning, is_complete}
+use Rattle.tftp_promises.proofs.Common.{is_sender, StoreMeaning, drafting_sink, Act, Life, Took, Lost, Said, Timed}
+use Rattle.tftp_promises.proofs.Common.{IsOver, SocketEvent, ServesClient, client_end, WasHeld, AreJoined, Tells}
+use Rattle.tftp_promises.proofs.Common.{Begins_so, Passes, Receives, Misses, Sends, Elapses_then, acts_at, acts_in}
+use Rattle.tftp_promises.proofs.Common.{Noted, Programs, ClientOf, events_of, HasFailed, client_at}
 use Rattle.tftp_ends.specs.declared.endpoint.Endpoint.{Endpoint}
-use Rattle.tftp_ends.specs.End.{is_complete, is_sender}
 use Rattle.tftp_ends.specs.Run.{IsOpen}
-use Rattle.tftp_store.specs.Store.{StoreMeaning}
-use Rattle.tftp_server.specs.Draft.{drafting_sink}
-use Rattle.tftp_lives.specs.Lives.{Act, Life, Took, Lost, Said, Timed}
 use Rattle.tftp_lives.specs.Outlasting.{GaveUp, OneAct}
-use Rattle.tftp_lives.specs.Unanswered.{AreOpposite, IsOver}
+use Rattle.tftp_lives.specs.Unanswered.{AreOpposite}
 use Rattle.tftp_lives.proofs.LivesStand.{life_stands}
 use Rattle.tftp_lives.proofs.OpenEnds.{how_it_is}
 use Rattle.tftp_lives.proofs.Outlasts.{ends_outlast_loss}
-use Rattle.tftp_sockets.specs.Trace.{SocketEvent}
-use Rattle.tftp_promises.specs.AnyFiles.{ServesClient, client_end, peer_of}
-use Rattle.tftp_promises.specs.GivesUp.{WasHeld}
-use Rattle.tftp_promises.specs.Joined.{AreJoined}
-use Rattle.tftp_promises.specs.Lived.{IsLiving, Tells, Begins_so, Passes, Receives, Misses, Sends}
-use Rattle.tftp_promises.specs.Lived.{Elapses_then}
-use Rattle.tftp_promises.specs.Lived.{acts_at, acts_in}
-use Rattle.tftp_promises.specs.Order.{Noted, Programs, ClientOf, events_of}
-use Rattle.tftp_promises.specs.Failed.{HasFailed}
+use Rattle.tftp_promises.specs.AnyFiles.{peer_of}
+use Rattle.tftp_promises.specs.Lived.{IsLiving}
 use Rattle.tftp_promises.specs.Outlasting.{AreBounded, AreShown, IsEventOf, OutlastLoss, ProgramsOutlastLoss, Shows, Ends_so}
 use Rattle.tftp_promises.specs.Outlasting.{Another, Of_client, Of_server}
-use Rattle.tftp_promises.specs.Programs.{client_at}
 use Rattle.tftp_promises.proofs.ClientLives.{client_lives, client_opening}
 use Rattle.tftp_promises.proofs.Failing.{client_complete, client_failed, client_is, transfer_complete, transfer_failed}
 use Rattle.tftp_promises.proofs.GivingUp.{was_held}

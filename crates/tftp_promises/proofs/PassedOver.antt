@@ -1,32 +1,18 @@
 -- A server that a client passes over: for these two the client has sent its request, and no more.
-use Rattle.std.proofs.lemmas.Grind.{common_steps}
-use Rattle.std.proofs.Common.{◌≡◌, ℕ, List, [], ◌∷◌, ◌++◌, Bool, true, false, Some, None, refl, sym, ap, ◌∙◌}
-use Rattle.std.proofs.Common.{subst, zero, suc, arith, inl, inr, rules}
-use Rattle.std.specs.Prelude.{◌≢◌, ◌⊎◌, ◌==◌, if◌then◌else◌, slice_get}
-use Rattle.std.specs.List.{Contains}
-use Rattle.std.proofs.lemmas.Bool.{cases_Bool, eq-eqb, eqb-true, true≢false}
-use Rattle.std.proofs.lemmas.Option.{same_Some}
-use Rattle.tftp_file.specs.Block.{IsPrefixOf}
-use Rattle.tftp_file.specs.Sink.{SinkMeaning}
-use Rattle.tftp_file.specs.Source.{SourceMeaning}
-use Rattle.tftp_ends.specs.End.{is_complete, is_sender}
-use Rattle.tftp_store.specs.Store.{StoreMeaning}
-use Rattle.tftp_rules.specs.Machine.{Endpoint}
+use Rattle.tftp_promises.proofs.Common.{common_steps, ◌≡◌, ℕ, List, [], ◌∷◌, ◌++◌, Bool, true, false, Some, None, refl}
+use Rattle.tftp_promises.proofs.Common.{sym, ap, ◌∙◌, subst, zero, suc, arith, inl, inr, rules, ◌≢◌, ◌⊎◌, ◌==◌}
+use Rattle.tftp_promises.proofs.Common.{if◌then◌else◌, slice_get, Contains, cases_Bool, eq-eqb, eqb-true, true≢false}
+use Rattle.tftp_promises.proofs.Common.{same_Some, IsPrefixOf, SinkMeaning, SourceMeaning, is_complete, is_sender}
+use Rattle.tftp_promises.proofs.Common.{StoreMeaning, Endpoint, SocketEvent, Received, Sent, Watched, Elapsed, Printed}
+use Rattle.tftp_promises.proofs.Common.{Quiet, Run, LoopState, LoopStep, alone, heard_with, IsEnd, IsOurs, KeepAnyFiles}
+use Rattle.tftp_promises.proofs.Common.{ProgramEnd, client_end, AreJoined, ArePortsFresh, our_ports, CanCome, IsHonest}
+use Rattle.tftp_promises.proofs.Common.{IsOrder, IsStranger, MayCome, Noted, Programs, events_of, ips, TakesOwn}
+use Rattle.tftp_promises.proofs.Common.{AreDistinct, client_at, endpoint, Several, number_of}
 use Rattle.tftp_rules.proofs.ViewSafe.{first_of_empty}
-use Rattle.tftp_sockets.specs.Trace.{SocketEvent}
-use Rattle.tftp_sockets.specs.Trace.SocketEvent.{Received, Sent, Watched, Elapsed, Printed, Quiet}
-use Rattle.tftp_loop.specs.Run.{Run}
-use Rattle.tftp_loop.specs.Steps.{LoopState, LoopStep}
-use Rattle.tftp_promises.specs.Alone.{HasNothing, IsPassedOver, OthersHaveNothing, alone, heard_with, just_asking}
-use Rattle.tftp_promises.specs.AnyFiles.{IsEnd, IsOurs, KeepAnyFiles, ProgramEnd, client_end, has_of, peer_of}
-use Rattle.tftp_promises.specs.Joined.{AreJoined}
-use Rattle.tftp_promises.specs.Openings.{ArePortsFresh, our_ports}
-use Rattle.tftp_promises.specs.Order.{CanCome, IsHonest, IsOrder, IsStranger, MayCome, Noted, Programs, events_of}
-use Rattle.tftp_promises.specs.Order.{IsAtOf, WasSent, ips}
-use Rattle.tftp_promises.specs.Others.{TakesOwn}
-use Rattle.tftp_promises.specs.Ports.{AreDistinct}
-use Rattle.tftp_promises.specs.Programs.{client_at, endpoint}
-use Rattle.tftp_promises.specs.Several.{OneClient, OneServer, Several, number_of}
+use Rattle.tftp_promises.specs.Alone.{HasNothing, IsPassedOver, OthersHaveNothing, just_asking}
+use Rattle.tftp_promises.specs.AnyFiles.{has_of, peer_of}
+use Rattle.tftp_promises.specs.Order.{IsAtOf, WasSent}
+use Rattle.tftp_promises.specs.Several.{OneClient, OneServer}
 use Rattle.tftp_promises.proofs.ClientTraces.{asks_first, asks_there}
 use Rattle.tftp_promises.proofs.EachAlone.{honest_both, order_both, sent_own}
 use Rattle.tftp_promises.proofs.KeptEvents.{first_or_more, nothing_in}

@@ -1,23 +1,18 @@
 -- Where the programs are in their network.
-use Rattle.std.proofs.Common.{◌≡◌, ℕ, Bool, true, false, List, [], ◌∷◌, None, Some, refl, sym, ap, ◌∙◌, subst, zero}
-use Rattle.std.proofs.Common.{suc, arith, inl, inr, rules}
-use Rattle.std.specs.Prelude.{◌≢◌, ◌==◌, ◌&&◌, not, if◌then◌else◌, slice_get}
-use Rattle.std.specs.List.{Contains}
-use Rattle.std.proofs.lemmas.Bool.{cases_Bool, cases_eq, cond-true, cond-false, eq-eqb, false_from_ne_true, ne_eqb}
-use Rattle.std.proofs.lemmas.Bool.{true≢false}
-use Rattle.std.proofs.lemmas.List.Elements.{Contains-append_cases, Contains-append_left, Contains-append_right}
-use Rattle.std.proofs.lemmas.List.Elements.{Contains-push}
-use Rattle.tftp_file.specs.Sink.{SinkMeaning}
-use Rattle.tftp_file.specs.Source.{SourceMeaning}
-use Rattle.tftp_store.specs.Store.{StoreMeaning}
-use Rattle.tftp_rules.specs.Machine.{Endpoint, Host, At_server, At_client, Elsewhere, is_same}
-use Rattle.tftp_rules.proofs.Endpoints.{same_ip, same_self, same_other}
+use Rattle.tftp_promises.proofs.Common.{◌≡◌, ℕ, Bool, true, false, List, [], ◌∷◌, None, Some, refl, sym, ap, ◌∙◌, subst}
+use Rattle.tftp_promises.proofs.Common.{zero, suc, arith, inl, inr, rules, ◌≢◌, ◌==◌, ◌&&◌, if◌then◌else◌, slice_get}
+use Rattle.tftp_promises.proofs.Common.{Contains, cases_Bool, cases_eq, eq-eqb, ne_eqb, true≢false}
+use Rattle.tftp_promises.proofs.Common.{Contains-append_cases, Contains-append_left, Contains-append_right}
+use Rattle.tftp_promises.proofs.Common.{Contains-push, SinkMeaning, SourceMeaning, StoreMeaning, Endpoint, At_server}
+use Rattle.tftp_promises.proofs.Common.{At_client, Elsewhere, is_same, same_self, is_ours, Programs, IsStranger}
+use Rattle.tftp_promises.proofs.Common.{ClientOf, endpoint, ClientProgram, client_at, joined}
+use Rattle.std.specs.Prelude.{not}
+use Rattle.std.proofs.lemmas.Bool.{cond-true, cond-false, false_from_ne_true}
+use Rattle.tftp_rules.specs.Machine.{Host}
+use Rattle.tftp_rules.proofs.Endpoints.{same_ip, same_other}
 use Rattle.tftp_promises.specs.Hosts.{ClientsAreThere, ServerIsThere, StrangersAreElsewhere}
-use Rattle.tftp_promises.specs.Openings.{is_ours}
-use Rattle.tftp_promises.specs.Order.{Programs, IsStranger, ClientOf}
-use Rattle.tftp_promises.specs.Programs.{endpoint, ClientProgram, client_at, has_client, has_port}
+use Rattle.tftp_promises.specs.Programs.{has_client, has_port}
 use Rattle.tftp_promises.specs.Programs.{is_at_server}
-use Rattle.tftp_promises.specs.Network.{joined}
 use Rattle.tftp_promises.proofs.Orders.{one_in}
 
 abbrev at_of : Bool → Bool → Host

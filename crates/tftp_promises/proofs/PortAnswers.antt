@@ -1,39 +1,24 @@
 -- How the request port answers a datagram.
-use Rattle.std.proofs.Common.{◌≡◌, ℕ, ◌*◌, ◌^◌, ◌<◌, ◌≤◌, Bool, true, false, List, [], ◌∷◌, length, Option}
-use Rattle.std.proofs.Common.{Result, Ok, Err, refl, sym, ap, ◌∙◌, subst, inl, inr, arith}
-use Rattle.std.specs.Prelude.{◌⊎◌, if◌then◌else◌, nat_lt}
-use Rattle.std.proofs.lemmas.Bool.{ltb-true}
-use Rattle.tftp_wire.specs.Reading.{has_error_opcode}
-use Rattle.tftp_wire.specs.declared.limits.TheConstants.{MAX_BLOCK}
-use Rattle.tftp_wire.specs.declared.mode.Mode.{Mode}
-use Rattle.tftp_wire.specs.declared.options.RawOption.{RawOption}
+use Rattle.tftp_promises.proofs.Common.{◌≡◌, ℕ, ◌*◌, ◌^◌, ◌<◌, ◌≤◌, Bool, true, false, List, [], ◌∷◌, length, Option}
+use Rattle.tftp_promises.proofs.Common.{Result, Ok, Err, refl, sym, ap, ◌∙◌, subst, inl, inr, arith, ◌⊎◌, if◌then◌else◌}
+use Rattle.tftp_promises.proofs.Common.{nat_lt, ltb-true, has_error_opcode, MAX_BLOCK, Mode, RawOption, Known, Refusal}
+use Rattle.tftp_promises.proofs.Common.{DEFAULT_BLOCK, size, answer, IsBlockSize, SourceMeaning, StoreFault, Source}
+use Rattle.tftp_promises.proofs.Common.{Sink, ErrorReply, FileChanged, EndState, serving_read, serving_write}
+use Rattle.tftp_promises.proofs.Common.{block_length, StoreMeaning, Opening, Ask, Came, Nothing, Error_reply}
+use Rattle.tftp_promises.proofs.Common.{A_transfer, Left, ServerState, first_moved}
 use Rattle.tftp_wire.specs.declared.packet.Packet.{Packet as WirePacket}
 use Rattle.tftp_negotiate.specs.declared.known.Kind.TheVariants as kinds
-use Rattle.tftp_negotiate.specs.declared.known.Known.{Known}
-use Rattle.tftp_negotiate.specs.declared.refusal.Refusal.{Refusal}
-use Rattle.tftp_negotiate.specs.declared.limits.TheConstants.{DEFAULT_BLOCK}
-use Rattle.tftp_negotiate.specs.Agreed.{size}
-use Rattle.tftp_negotiate.specs.Answer.{answer}
-use Rattle.tftp_negotiate.specs.Ranges.{IsBlockSize}
-use Rattle.tftp_file.specs.Source.{SourceMeaning, GivesInTurn, Gave_more, Gave_nothing}
-use Rattle.tftp_file.specs.declared.fault.StoreFault.{StoreFault}
-use Rattle.tftp_file.specs.declared.files.Files.TheVariants.{Source, Sink}
+use Rattle.tftp_file.specs.Source.{GivesInTurn, Gave_more, Gave_nothing}
 use Rattle.tftp_ends.specs.declared.endpoint.Endpoint.{Endpoint}
-use Rattle.tftp_ends.specs.declared.error_reply.ErrorReply.{ErrorReply}
-use Rattle.tftp_ends.specs.declared.error_reply.ErrorReply.TheVariants.{FileChanged, FileTooLarge}
-use Rattle.tftp_ends.specs.End.{EndState}
-use Rattle.tftp_ends.specs.Opening.{ServesRead, serving_read, serving_write}
-use Rattle.tftp_ends.specs.Step.{block_length}
-use Rattle.tftp_store.specs.Store.{StoreMeaning, measured}
-use Rattle.tftp_store.specs.declared.store.Opening.{Opening}
-use Rattle.tftp_server.specs.Port.{Ask, Ignores, Refuses, Reads, Writes, Service, Sends, Refused, accept_reply, asks}
+use Rattle.tftp_ends.specs.declared.error_reply.ErrorReply.TheVariants.{FileTooLarge}
+use Rattle.tftp_ends.specs.Opening.{ServesRead}
+use Rattle.tftp_store.specs.Store.{measured}
+use Rattle.tftp_server.specs.Port.{Ignores, Refuses, Reads, Writes, Service, Sends, Refused, accept_reply, asks}
 use Rattle.tftp_server.specs.Port.{begin_reply, by_draft, by_file, by_length, open_reply}
-use Rattle.tftp_server.specs.Request.{AsksToRead, AsksToWrite, Came, Nothing, Error_reply, A_transfer, Goes, Left}
+use Rattle.tftp_server.specs.Request.{AsksToRead, AsksToWrite, Goes}
 use Rattle.tftp_server.specs.Request.{RequestStep, Sent, Starts, Taken, opened_length}
-use Rattle.tftp_server.specs.State.{ServerState}
 use Rattle.tftp_rules.specs.EndOpens.{AreGranted}
 use Rattle.tftp_rules.proofs.Granted.{answer_granted, answer_small}
-use Rattle.tftp_promises.specs.Moved.{first_moved}
 use Rattle.tftp_promises.proofs.MovedSends.{piece_length}
 use Rattle.tftp_promises.proofs.Requested.{Implies, IsAsked, asks_imply}
 

@@ -1,14 +1,15 @@
 -- How many elements of a list, and how many entries of a table, have a port.
-use Rattle.std.proofs.Common.{arith, ◌≡◌, ◌+◌, ◌<◌, ◌≤◌, ℕ, zero, suc, Bool, true, false, List, [], ◌∷◌, ◌++◌, map}
-use Rattle.std.proofs.Common.{length, Option, Some, None, cond, eqb, refl, sym, ap, ◌∙◌, inl, inr, rules}
-use Rattle.std.specs.Prelude.{slice_set, slice_index_or, slice_get, IsSome}
-use Rattle.std.specs.List.{Contains, swap_remove, sum_by}
+use Rattle.tftp_promises.proofs.Common.{arith, ◌≡◌, ◌+◌, ◌<◌, ◌≤◌, ℕ, zero, suc, Bool, true, false, List, [], ◌∷◌, ◌++◌}
+use Rattle.tftp_promises.proofs.Common.{map, length, Option, Some, None, cond, refl, sym, ap, ◌∙◌, inl, inr, rules}
+use Rattle.tftp_promises.proofs.Common.{slice_set, slice_index_or, slice_get, IsSome, Contains, is_at, nat_cmp}
+use Rattle.tftp_promises.proofs.Common.{cases_eq, eq-eqb, ne_eqb}
+use Rattle.std.proofs.Common.{eqb}
+use Rattle.std.specs.List.{swap_remove, sum_by}
 use Rattle.std.specs.Map.{lookup, remove_entry, set_value}
-use Rattle.std.specs.BTreeMap.{insert_entry, is_at}
-use Rattle.std.specs.Ordering.{nat_cmp, match_ordering, is_eq}
+use Rattle.std.specs.BTreeMap.{insert_entry}
+use Rattle.std.specs.Ordering.{match_ordering, is_eq}
 use Rattle.std.specs.declared.cmp.Ordering.{Ordering}
 use Rattle.std.specs.declared.cmp.Ordering.TheVariants.{Less, Equal, Greater}
-use Rattle.std.proofs.lemmas.Bool.{cases_eq, eq-eqb, ne_eqb}
 use Rattle.std.proofs.lemmas.Bool.Decides.{nat_tests}
 use Rattle.std.proofs.lemmas.List.Sums.{sum_by-cons, sum_by-swap_remove}
 

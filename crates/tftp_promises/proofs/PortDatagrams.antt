@@ -1,49 +1,25 @@
 -- A datagram that the server handles at the port of a transfer keeps the invariant.
-use Rattle.std.proofs.Common.{◌≡◌, ℕ, Bool, true, false, List, [], ◌∷◌, ◌++◌, None, refl, sym, ap, ◌∙◌, subst}
-use Rattle.std.proofs.Common.{inl, inr, rules}
-use Rattle.std.specs.Prelude.{◌≢◌, ◌⊎◌, Option, is_some, ⊤}
-use Rattle.std.proofs.lemmas.Bool.{true≢false, cases_Bool}
-use Rattle.tftp_wire.specs.Reading.{has_error_opcode}
-use Rattle.tftp_wire.specs.Spelling.{Spells}
+use Rattle.tftp_promises.proofs.Common.{◌≡◌, ℕ, Bool, true, false, List, [], ◌∷◌, ◌++◌, None, refl, sym, ap, ◌∙◌, subst}
+use Rattle.tftp_promises.proofs.Common.{inl, inr, rules, ◌≢◌, ◌⊎◌, is_some, ⊤, true≢false, cases_Bool, has_error_opcode}
+use Rattle.tftp_promises.proofs.Common.{Spells, IsPrefixOf, Holding, SinkMeaning, SourceMeaning, Files, Source, Sink}
+use Rattle.tftp_promises.proofs.Common.{Action, Respond, Response, UnknownTransferId, Role, datagram_action, EndState}
+use Rattle.tftp_promises.proofs.Common.{is_sender, outcome_of, AreSame, Reply, Turn, Acts, DatagramStep, after_turn}
+use Rattle.tftp_promises.proofs.Common.{error_bytes, StoreMeaning, Opening, Drafting, files_in, drafting_sink}
+use Rattle.tftp_promises.proofs.Common.{ServerState, with_next, StepIn, Config, SocketEvent, Received, LoopState}
+use Rattle.tftp_promises.proofs.Common.{ServesPort, At_port, PortStep, port_state, Stands, Goes, known_source}
+use Rattle.tftp_promises.proofs.Common.{known_sink, Endpoint, Elsewhere, OpenEnd, files_of, end_after, open_view}
+use Rattle.tftp_promises.proofs.Common.{peer_of, IsUnblamed, HadStore, StoreBegan, GaveSince, StoreOpened, Moved}
+use Rattle.tftp_promises.proofs.Common.{port_moves, step_moves, is_ours, moved_at, opened_at, place_at, Programs}
+use Rattle.tftp_promises.proofs.Common.{IsStranger, endpoint, joined, Snapshot, server_did}
+use Rattle.std.specs.Prelude.{Option}
 use Rattle.tftp_wire.specs.declared.packet.Packet.{Packet as WirePacket}
-use Rattle.tftp_file.specs.Block.{IsPrefixOf}
-use Rattle.tftp_file.specs.Sink.{Holding, SinkMeaning}
-use Rattle.tftp_file.specs.Source.{SourceMeaning}
-use Rattle.tftp_file.specs.declared.files.Files.{Files}
-use Rattle.tftp_file.specs.declared.files.Files.TheVariants.{Source, Sink}
-use Rattle.tftp_ends.specs.declared.action.Action.{Action}
-use Rattle.tftp_ends.specs.declared.action.Action.TheVariants.{Respond}
-use Rattle.tftp_ends.specs.declared.action.Response.{Response}
-use Rattle.tftp_ends.specs.declared.error_reply.ErrorReply.TheVariants.{UnknownTransferId}
-use Rattle.tftp_ends.specs.declared.role.Role.{Role}
-use Rattle.tftp_ends.specs.Action.{datagram_action}
-use Rattle.tftp_ends.specs.End.{EndState, Position, is_sender, outcome_of}
-use Rattle.tftp_ends.specs.Files.{AreSame}
-use Rattle.tftp_ends.specs.Step.{Reply, Turn, Acts, DatagramStep, after_turn, error_bytes, with_position}
-use Rattle.tftp_store.specs.Store.{StoreMeaning}
-use Rattle.tftp_store.specs.declared.store.Opening.{Opening}
-use Rattle.tftp_server.specs.Draft.{Drafting, files_in, drafting_sink}
-use Rattle.tftp_server.specs.State.{ServerState, with_next}
-use Rattle.tftp_server.specs.Steps.{StepIn, TakesDatagramLent}
-use Rattle.tftp_server.specs.declared.config.Config.{Config}
-use Rattle.tftp_sockets.specs.Trace.{SocketEvent}
-use Rattle.tftp_sockets.specs.Trace.SocketEvent.{Received}
-use Rattle.tftp_loop.specs.Steps.{LoopState, ServesPort, At_port, PortStep, A_datagram, AnswersDatagram}
-use Rattle.tftp_loop.specs.Steps.{ReceivesAndHandles, port_state}
-use Rattle.tftp_rules.specs.EndShown.{Stands, IsOpenAt, Goes}
-use Rattle.tftp_rules.specs.KnownFiles.{known_source, known_sink}
-use Rattle.tftp_rules.specs.Machine.{Endpoint, Elsewhere}
-use Rattle.tftp_rules.specs.OpenEnds.{OpenEnd, files_of, end_after, open_view, peer_of}
+use Rattle.tftp_ends.specs.End.{Position}
+use Rattle.tftp_ends.specs.Step.{with_position}
+use Rattle.tftp_server.specs.Steps.{TakesDatagramLent}
+use Rattle.tftp_loop.specs.Steps.{A_datagram, AnswersDatagram}
+use Rattle.tftp_loop.specs.Steps.{ReceivesAndHandles}
+use Rattle.tftp_rules.specs.EndShown.{IsOpenAt}
 use Rattle.tftp_rules.proofs.EndTurns.{datagram_goes}
-use Rattle.tftp_rules.proofs.UnblamedEnds.{IsUnblamed}
-use Rattle.tftp_promises.specs.Drafts.{HadStore, StoreBegan}
-use Rattle.tftp_promises.specs.Given.{GaveSince, StoreOpened}
-use Rattle.tftp_promises.specs.Moved.{Moved, port_moves, step_moves}
-use Rattle.tftp_promises.specs.Openings.{is_ours, moved_at, opened_at, place_at}
-use Rattle.tftp_promises.specs.Order.{Programs, IsStranger}
-use Rattle.tftp_promises.specs.Programs.{endpoint}
-use Rattle.tftp_promises.specs.Network.{joined}
-use Rattle.tftp_promises.specs.Snapshots.{Snapshot, server_did}
 use Rattle.tftp_promises.proofs.ClosedEnds.{ClosedAnswers, closed_datagram_goes, wrong_datagram_goes}
 use Rattle.tftp_promises.proofs.Invariant.{GaveSo, TookBy, TookSo, IsGiven, IsOpened, IsTaken, IsToldAt, length_of}
 use Rattle.tftp_promises.proofs.Invariant.{place_text, HasArrived, HasStored, IsThere, TransferKept, IsKept, IsFreshBy}

@@ -1,14 +1,8 @@
 -- An end at a port: its peer, and its files over one store.
-use Rattle.std.proofs.Common.{◌≡◌, ℕ, Bool, false, List, None, rules}
-use Rattle.std.specs.Prelude.{is_some, ⊤}
-use Rattle.tftp_file.specs.declared.files.Files.{Files}
-use Rattle.tftp_ends.specs.declared.phase.Phase.{Phase}
-use Rattle.tftp_ends.specs.End.{is_client, outcome_of}
-use Rattle.tftp_ends.specs.Files.{AreSame}
-use Rattle.tftp_server.specs.Draft.{files_in, KeepsStore}
+use Rattle.tftp_promises.proofs.Common.{◌≡◌, ℕ, Bool, false, List, None, rules, is_some, ⊤, Files, Phase, is_client}
+use Rattle.tftp_promises.proofs.Common.{outcome_of, AreSame, files_in, Network, OpenEnd, peer_of}
+use Rattle.tftp_server.specs.Draft.{KeepsStore}
 use Rattle.tftp_rules.specs.EndKept.{PhaseKept}
-use Rattle.tftp_rules.specs.Machine.{Network}
-use Rattle.tftp_rules.specs.OpenEnds.{OpenEnd, peer_of}
 
 module _ (network : Network) where
   -- an open end of the server has a peer

@@ -1,22 +1,9 @@
 -- What a step of the server at the port of a transfer leaves as it was, and what it noted.
-use Rattle.std.proofs.Common.{◌≡◌, ℕ, false, List, [], ◌∷◌, ◌++◌, Option, Some, None, refl, sym, ap, ◌∙◌, subst, rules}
-use Rattle.std.specs.Prelude.{◌⊎◌, is_some}
-use Rattle.std.specs.List.{Contains}
-use Rattle.std.proofs.lemmas.Bool.{true≢false}
-use Rattle.tftp_file.specs.Sink.{SinkMeaning}
-use Rattle.tftp_file.specs.Source.{SourceMeaning}
-use Rattle.tftp_ends.specs.Step.{Reply}
-use Rattle.tftp_ends.specs.declared.outcome.Outcome.{Outcome}
-use Rattle.tftp_store.specs.Store.{StoreMeaning}
-use Rattle.tftp_server.specs.State.{ServerState}
-use Rattle.tftp_sockets.specs.Trace.{SocketEvent, answered}
-use Rattle.tftp_sockets.specs.Trace.SocketEvent.{Received}
-use Rattle.tftp_loop.specs.Steps.{LoopState, ServesPort, At_port}
-use Rattle.tftp_rules.specs.Machine.{Endpoint}
-use Rattle.tftp_promises.specs.Joint.{CanTake, WasSentBefore}
-use Rattle.tftp_promises.specs.Order.{Programs, MayCome}
-use Rattle.tftp_promises.specs.Programs.{endpoint}
-use Rattle.tftp_promises.specs.Snapshots.{Snapshot}
+use Rattle.tftp_promises.proofs.Common.{◌≡◌, ℕ, false, List, [], ◌∷◌, ◌++◌, Option, Some, None, refl, sym, ap, ◌∙◌}
+use Rattle.tftp_promises.proofs.Common.{subst, rules, ◌⊎◌, is_some, Contains, true≢false, SinkMeaning, SourceMeaning}
+use Rattle.tftp_promises.proofs.Common.{Reply, Outcome, StoreMeaning, ServerState, SocketEvent, answered, Received}
+use Rattle.tftp_promises.proofs.Common.{LoopState, ServesPort, At_port, Endpoint, CanTake, WasSentBefore, Programs}
+use Rattle.tftp_promises.proofs.Common.{MayCome, endpoint, Snapshot}
 use Rattle.tftp_promises.proofs.Invariant.{IsKept}
 use Rattle.tftp_promises.proofs.KeptEvents.{IsSilent, SendsOnly, added_by, answered_has, answered_sends}
 use Rattle.tftp_promises.proofs.ServerStays.{ServerStays}

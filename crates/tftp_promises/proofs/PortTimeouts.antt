@@ -1,31 +1,16 @@
 -- A timeout that the server delivers to a transfer keeps the invariant.
-use Rattle.std.proofs.Common.{◌≡◌, ℕ, List, [], ◌∷◌, ◌++◌, None, refl, sym, ap, ◌∙◌, subst, inl, inr, rules}
-use Rattle.std.specs.Prelude.{◌⊎◌, is_some}
-use Rattle.std.proofs.lemmas.Bool.{cases_Bool}
-use Rattle.tftp_file.specs.Sink.{Holding, SinkMeaning}
-use Rattle.tftp_file.specs.Source.{SourceMeaning}
-use Rattle.tftp_file.specs.declared.files.Files.{Files}
-use Rattle.tftp_file.specs.declared.files.Files.TheVariants.{Source, Sink}
+use Rattle.tftp_promises.proofs.Common.{◌≡◌, ℕ, List, [], ◌∷◌, ◌++◌, None, refl, sym, ap, ◌∙◌, subst, inl, inr, rules}
+use Rattle.tftp_promises.proofs.Common.{◌⊎◌, is_some, cases_Bool, Holding, SinkMeaning, SourceMeaning, Files, Source}
+use Rattle.tftp_promises.proofs.Common.{Sink, EndState, outcome_of, Turn, after_turn, timeout_turn, StoreMeaning}
+use Rattle.tftp_promises.proofs.Common.{TransferState, ServerState, with_next, SocketEvent, Elapsed, LoopState}
+use Rattle.tftp_promises.proofs.Common.{ServesPort, At_port, Stands, Goes, Endpoint, OpenEnd, files_of, end_after}
+use Rattle.tftp_promises.proofs.Common.{open_view, moved_at, place_at, Programs, endpoint, joined, Snapshot, server_did}
 use Rattle.tftp_ends.specs.declared.record.Step.{Step}
 use Rattle.tftp_ends.specs.declared.outcome.Outcome.TheVariants as outcomes
-use Rattle.tftp_ends.specs.End.{EndState, outcome_of}
-use Rattle.tftp_ends.specs.Step.{Turn, after_turn, timeout_turn}
-use Rattle.tftp_store.specs.Store.{StoreMeaning}
-use Rattle.tftp_server.specs.State.{TransferState, ServerState, with_next}
 use Rattle.tftp_server.specs.Steps.{TimesOutLent, with_end}
-use Rattle.tftp_sockets.specs.Trace.{SocketEvent}
-use Rattle.tftp_sockets.specs.Trace.SocketEvent.{Elapsed}
-use Rattle.tftp_loop.specs.Steps.{LoopState, ServesPort, At_port, AnswersTimeout}
-use Rattle.tftp_rules.specs.EndShown.{Stands, Goes}
-use Rattle.tftp_rules.specs.Machine.{Endpoint}
-use Rattle.tftp_rules.specs.OpenEnds.{OpenEnd, files_of, end_after, open_view}
+use Rattle.tftp_loop.specs.Steps.{AnswersTimeout}
 use Rattle.tftp_rules.proofs.EndTurns.{timeout_goes}
 use Rattle.tftp_rules.proofs.UnblamedEnds.{timeout_unblamed}
-use Rattle.tftp_promises.specs.Openings.{moved_at, place_at}
-use Rattle.tftp_promises.specs.Order.{Programs}
-use Rattle.tftp_promises.specs.Programs.{endpoint}
-use Rattle.tftp_promises.specs.Network.{joined}
-use Rattle.tftp_promises.specs.Snapshots.{Snapshot, server_did}
 use Rattle.tftp_promises.proofs.ClosedEnds.{closed_timeout_goes}
 use Rattle.tftp_promises.proofs.DraftsTake.{took_still}
 use Rattle.tftp_promises.proofs.GivenSteps.{gave_still}

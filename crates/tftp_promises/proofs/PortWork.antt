@@ -1,30 +1,15 @@
 -- A step at the port of a transfer that leaves its end as it was keeps the invariant: a datagram is lost, a receive
 -- finds none, a timeout finds no open transfer, or the file does its work.
-use Rattle.std.proofs.Common.{◌≡◌, ℕ, Bool, List, [], ◌∷◌, ◌++◌, set, Option, Some, None, refl, sym, ap, ◌∙◌, inl}
-use Rattle.std.proofs.Common.{rules}
-use Rattle.std.specs.Prelude.{◌⊎◌}
+use Rattle.tftp_promises.proofs.Common.{◌≡◌, ℕ, Bool, List, [], ◌∷◌, ◌++◌, set, Option, Some, None, refl, sym, ap, ◌∙◌}
+use Rattle.tftp_promises.proofs.Common.{inl, rules, ◌⊎◌, SinkMeaning, SourceMeaning, Files, Source, Sink, AreSame}
+use Rattle.tftp_promises.proofs.Common.{KeepsFiles, StoreMeaning, files_in, drafting_sink, TransferState, ServerState}
+use Rattle.tftp_promises.proofs.Common.{at, with_next, KeepsHeld, WorksAt, SocketEvent, Received, LoopState, LoopStep}
+use Rattle.tftp_promises.proofs.Common.{ServesPort, At_port, Endpoint, OpenEnd, open_view, IsShown, unblamed_still}
+use Rattle.tftp_promises.proofs.Common.{place_at, Programs, joined, Snapshot, server_did}
 use Rattle.std.proofs.lemmas.List.{append-nil}
-use Rattle.tftp_file.specs.Sink.{SinkMeaning}
-use Rattle.tftp_file.specs.Source.{SourceMeaning}
-use Rattle.tftp_file.specs.declared.files.Files.{Files}
-use Rattle.tftp_file.specs.declared.files.Files.TheVariants.{Source, Sink}
-use Rattle.tftp_ends.specs.Files.{AreSame, KeepsFiles}
-use Rattle.tftp_store.specs.Store.{StoreMeaning}
-use Rattle.tftp_server.specs.Draft.{files_in, drafting_sink, KeepsDraft}
-use Rattle.tftp_server.specs.State.{TransferState, ServerState, at, with_next}
-use Rattle.tftp_server.specs.Steps.{KeepsHeld}
-use Rattle.tftp_server.specs.Work.{FilesWork, WorksAt}
-use Rattle.tftp_sockets.specs.Trace.{SocketEvent}
-use Rattle.tftp_sockets.specs.Trace.SocketEvent.{Received}
-use Rattle.tftp_loop.specs.Steps.{LoopState, LoopStep, ServesPort, At_port, LosesDatagram, WorksAtPort}
-use Rattle.tftp_rules.specs.Machine.{Endpoint}
-use Rattle.tftp_rules.specs.OpenEnds.{OpenEnd, open_view}
-use Rattle.tftp_rules.specs.Shows.{IsShown}
-use Rattle.tftp_rules.proofs.UnblamedEnds.{unblamed_still}
-use Rattle.tftp_promises.specs.Openings.{place_at}
-use Rattle.tftp_promises.specs.Order.{Programs}
-use Rattle.tftp_promises.specs.Network.{joined}
-use Rattle.tftp_promises.specs.Snapshots.{Snapshot, server_did}
+use Rattle.tftp_server.specs.Draft.{KeepsDraft}
+use Rattle.tftp_server.specs.Work.{FilesWork}
+use Rattle.tftp_loop.specs.Steps.{LosesDatagram, WorksAtPort}
 use Rattle.tftp_promises.proofs.ClosedEnds.{set_same}
 use Rattle.tftp_promises.proofs.DraftsTake.{took_none}
 use Rattle.tftp_promises.proofs.GivenSteps.{gave_none}

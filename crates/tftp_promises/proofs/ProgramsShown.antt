@@ -1,9 +1,6 @@
 -- Rules of the guarded machine lead to the ends of programs in an honest network, which so keep the promises of a
 -- transfer.
-use Rattle.std.proofs.Common.{rules}
-use Rattle.tftp_file.specs.Sink.{SinkMeaning}
-use Rattle.tftp_file.specs.Source.{SourceMeaning}
-use Rattle.tftp_store.specs.Store.{StoreMeaning}
+use Rattle.tftp_promises.proofs.Common.{rules, SinkMeaning, SourceMeaning, StoreMeaning}
 use Rattle.tftp_promises.specs.Joined.{ProgramsKeepAnyFiles}
 use Rattle.tftp_promises.proofs.JointRuns.{traces_joint}
 use Rattle.tftp_promises.proofs.AnyKept.{any_kept}

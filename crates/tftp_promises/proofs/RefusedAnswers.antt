@@ -1,51 +1,24 @@
 -- A client that has no peer refuses its server's first answer only if its file is too long for it.
 -- For the law a_client_ends_for_a_reason.
-use Rattle.std.proofs.Common.{◌≡◌, ℕ, ◌*◌, ◌^◌, ◌<◌, true, false, not, List, [], ◌∷◌, Some}
-use Rattle.std.proofs.Common.{None, Result, Ok, refl, sym, ap, ◌∙◌, subst, arith, inl, inr}
-use Rattle.std.specs.Prelude.{◌≢◌, ◌⊎◌, slice_get}
-use Rattle.std.specs.List.{Contains}
-use Rattle.std.proofs.lemmas.Bool.{true≢false}
-use Rattle.tftp_wire.specs.Spelling.{Spells}
-use Rattle.tftp_wire.specs.declared.limits.TheConstants.{MAX_BLOCK}
-use Rattle.tftp_wire.specs.declared.options.RawOption.{RawOption}
-use Rattle.tftp_wire.specs.declared.packet.Packet.{Packet}
-use Rattle.tftp_wire.specs.declared.packet.Packet.TheVariants.{Read, Write, Data, Ack, Error, Oack}
+use Rattle.tftp_promises.proofs.Common.{◌≡◌, ℕ, ◌*◌, ◌^◌, ◌<◌, true, false, not, List, [], ◌∷◌, Some, None, Result, Ok}
+use Rattle.tftp_promises.proofs.Common.{refl, sym, ap, ◌∙◌, subst, arith, inl, inr, ◌≢◌, ◌⊎◌, slice_get, Contains}
+use Rattle.tftp_promises.proofs.Common.{true≢false, Spells, MAX_BLOCK, RawOption, Packet, Read, Write, Data, Ack, Error}
+use Rattle.tftp_promises.proofs.Common.{Oack, agreed_options, agreement, answer, Known, SinkMeaning, SourceMeaning}
+use Rattle.tftp_promises.proofs.Common.{Outcome, Role, accept_action, begin_with_action, reader_action, writer_action}
+use Rattle.tftp_promises.proofs.Common.{Mode, Refusal, path_of_name, EndState, is_sender, outcome_of, oack_bytes}
+use Rattle.tftp_promises.proofs.Common.{request_of, serving_read, serving_write, has_opcode, A_transfer, Error_reply}
+use Rattle.tftp_promises.proofs.Common.{Nothing, Config, StoreMeaning, Attests, Endpoint, Message, Party, message, said}
+use Rattle.tftp_promises.proofs.Common.{State, begun, client_end, IsRefusal, AreJoined, acts_in, Noted, Programs}
+use Rattle.tftp_promises.proofs.Common.{ClientOf, requests_at, ClientOpens, To_read, To_write, client_at}
 use Rattle.tftp_wire.specs.declared.packet.Request.{Request as WireRequest}
-use Rattle.tftp_negotiate.specs.Agreed.{agreed_options}
-use Rattle.tftp_negotiate.specs.Agreement.{agreement}
-use Rattle.tftp_negotiate.specs.Answer.{answer}
 use Rattle.tftp_negotiate.specs.Asked.{asked_options}
 use Rattle.tftp_negotiate.specs.declared.known.Kind.TheVariants as kinds
-use Rattle.tftp_negotiate.specs.declared.known.Known.{Known}
-use Rattle.tftp_file.specs.Sink.{SinkMeaning}
-use Rattle.tftp_file.specs.Source.{SourceMeaning}
-use Rattle.tftp_ends.specs.declared.outcome.Outcome.{Outcome}
 use Rattle.tftp_ends.specs.declared.outcome.Outcome.TheVariants as outcomes
-use Rattle.tftp_ends.specs.declared.role.Role.{Role}
 use Rattle.tftp_ends.specs.declared.side.Side.TheVariants.{ClientRead, ClientWrite}
-use Rattle.tftp_ends.specs.Waiting.{accept_action, begin_with_action, reader_action, writer_action}
-use Rattle.tftp_wire.specs.declared.mode.Mode.{Mode}
-use Rattle.tftp_negotiate.specs.declared.refusal.Refusal.{Refusal}
-use Rattle.tftp_file.specs.Path.{path_of_name}
-use Rattle.tftp_ends.specs.End.{EndState, is_sender, outcome_of}
-use Rattle.tftp_ends.specs.Opening.{oack_bytes, request_of, role_of, serving_read, serving_write}
-use Rattle.tftp_ends.specs.Run.{has_opcode}
-use Rattle.tftp_server.specs.Request.{A_transfer, Error_reply, Nothing}
-use Rattle.tftp_server.specs.declared.config.Config.{Config}
-use Rattle.tftp_store.specs.Store.{StoreMeaning}
-use Rattle.tftp_rules.specs.Facts.{Attests}
-use Rattle.tftp_rules.specs.Machine.{Endpoint, Message, Party}
-use Rattle.tftp_rules.specs.Rules.{message}
-use Rattle.tftp_rules.specs.Said.{said}
+use Rattle.tftp_ends.specs.Opening.{role_of}
 use Rattle.tftp_rules.proofs.SaidLemmas.{says_spelled}
-use Rattle.tftp_client.specs.Converses.{State}
-use Rattle.tftp_client.specs.Runs.{begun}
-use Rattle.tftp_promises.specs.AnyFiles.{client_end, peer_of as peer_at}
-use Rattle.tftp_promises.specs.Failed.{IsRefusal}
-use Rattle.tftp_promises.specs.Joined.{AreJoined}
-use Rattle.tftp_promises.specs.Lived.{acts_in}
-use Rattle.tftp_promises.specs.Order.{Noted, Programs, ClientOf, requests_at}
-use Rattle.tftp_promises.specs.Programs.{ClientOpens, OpensToRead, OpensToWrite, To_read, To_write, client_at}
+use Rattle.tftp_promises.specs.AnyFiles.{peer_of as peer_at}
+use Rattle.tftp_promises.specs.Programs.{OpensToRead, OpensToWrite}
 use Rattle.tftp_promises.specs.Programs.{request_packet}
 use Rattle.tftp_promises.specs.TooLong.{HasTooManyBlocks, IsLongerThanAccepted, IsTooLong}
 use Rattle.tftp_promises.proofs.AnswersTaken.{read_taken, write_taken}

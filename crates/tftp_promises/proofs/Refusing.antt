@@ -1,38 +1,21 @@
 -- Which first answers a waiting client refuses. For the law a_client_ends_for_a_reason.
-use Rattle.std.proofs.Common.{◌≡◌, ℕ, ◌+◌, ◌*◌, ◌≤◌, Bool, true, false, not, List, [], Option, Some, None, Result, Ok}
-use Rattle.std.proofs.Common.{Err, refl, sym}
-use Rattle.std.proofs.Common.{◌∙◌, subst, inl, inr}
-use Rattle.std.specs.Prelude.{◌⊎◌, ◌&&◌, ◌==◌, if◌then◌else◌, is_none, length, nat_le, nat_lt}
-use Rattle.std.proofs.lemmas.Bool.{true≢false, ltb-false}
-use Rattle.tftp_wire.specs.Reading.{has_error_opcode}
-use Rattle.tftp_wire.specs.declared.mode.Mode.{Mode}
-use Rattle.tftp_wire.specs.declared.packet.Packet.{Packet}
-use Rattle.tftp_wire.specs.declared.packet.Packet.TheVariants.{Data, Ack, Error}
-use Rattle.tftp_negotiate.specs.declared.asked.Asked.{Asked}
-use Rattle.tftp_negotiate.specs.declared.known.Known.{Known}
-use Rattle.tftp_negotiate.specs.declared.limits.TheConstants.{DEFAULT_BLOCK}
-use Rattle.tftp_negotiate.specs.declared.refusal.Refusal.{Refusal}
+use Rattle.tftp_promises.proofs.Common.{◌≡◌, ℕ, ◌+◌, ◌*◌, ◌≤◌, Bool, true, false, not, List, [], Option, Some, None}
+use Rattle.tftp_promises.proofs.Common.{Result, Ok, Err, refl, sym, ◌∙◌, subst, inl, inr, ◌⊎◌, ◌&&◌, ◌==◌}
+use Rattle.tftp_promises.proofs.Common.{if◌then◌else◌, is_none, nat_le, nat_lt, true≢false, has_error_opcode, Mode}
+use Rattle.tftp_promises.proofs.Common.{Packet, Data, Ack, Error, Asked, Known, DEFAULT_BLOCK, Refusal, Action, Respond}
+use Rattle.tftp_promises.proofs.Common.{Send, Store, Ignore, WrongPeer, ResendReply, Refuse, Outcome, Phase, Waiting}
+use Rattle.tftp_promises.proofs.Common.{Terms, Role, datagram_action, garbled_response, is_wrong_peer, packet_action}
+use Rattle.tftp_promises.proofs.Common.{same_address, EndState, is_sender, terms_of, data_action, next_action}
+use Rattle.tftp_promises.proofs.Common.{illegal_action, is_readable, accept_action, begin_action, begin_with_action}
+use Rattle.tftp_promises.proofs.Common.{default_terms, reader_action, agreed_terms, writer_action, size}
+use Rattle.std.specs.Prelude.{length}
+use Rattle.std.proofs.lemmas.Bool.{ltb-false}
 use Rattle.tftp_negotiate.specs.declared.refusal.Refusal.TheVariants as refusals
-use Rattle.tftp_ends.specs.declared.action.Action.{Action}
-use Rattle.tftp_ends.specs.declared.action.Action.TheVariants.{Respond, Send, Store}
-use Rattle.tftp_ends.specs.declared.action.Response.TheVariants.{Ignore, WrongPeer, ResendReply, Refuse}
 use Rattle.tftp_ends.specs.declared.endpoint.Endpoint.{Endpoint}
 use Rattle.tftp_ends.specs.declared.error_reply.ErrorReply.TheVariants as replies
-use Rattle.tftp_ends.specs.declared.outcome.Outcome.{Outcome}
 use Rattle.tftp_ends.specs.declared.outcome.Outcome.TheVariants as outcomes
-use Rattle.tftp_ends.specs.declared.phase.Phase.{Phase}
-use Rattle.tftp_ends.specs.declared.phase.Phase.TheVariants.{Waiting}
-use Rattle.tftp_ends.specs.declared.phase.Terms.{Terms}
-use Rattle.tftp_ends.specs.declared.role.Role.{Role}
-use Rattle.tftp_ends.specs.Action.{datagram_action, garbled_response, is_wrong_peer, packet_action, same_address}
-use Rattle.tftp_ends.specs.End.{EndState, is_sender, terms_of}
-use Rattle.tftp_ends.specs.Receiver.{data_action, next_action}
-use Rattle.tftp_ends.specs.Sender.{illegal_action, peer_error}
-use Rattle.tftp_ends.specs.Text.{is_readable}
-use Rattle.tftp_ends.specs.Waiting.{accept_action, begin_action, begin_with_action, default_terms, no_answer}
-use Rattle.tftp_ends.specs.Waiting.{reader_action}
-use Rattle.tftp_ends.specs.Waiting.{agreed_terms, writer_action}
-use Rattle.tftp_negotiate.specs.Agreed.{size}
+use Rattle.tftp_ends.specs.Sender.{peer_error}
+use Rattle.tftp_ends.specs.Waiting.{no_answer}
 use Rattle.tftp_promises.proofs.FirstRefused.{ClosesBy}
 
 module _ (o : Outcome) where

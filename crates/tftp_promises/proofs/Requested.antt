@@ -1,21 +1,14 @@
 -- What the request port's decision implies for the request.
-use Rattle.std.proofs.Common.{◌≡◌, ℕ, Bool, true, false, List, Option, Some, None, Result, Ok, Err, refl, subst, inl, inr}
-use Rattle.std.specs.Prelude.{◌⊎◌, if◌then◌else◌, nat_le}
-use Rattle.tftp_wire.specs.declared.mode.Mode.{Mode}
-use Rattle.tftp_wire.specs.declared.options.RawOption.{RawOption}
+use Rattle.tftp_promises.proofs.Common.{◌≡◌, ℕ, Bool, true, false, List, Option, Some, None, Result, Ok, Err, refl}
+use Rattle.tftp_promises.proofs.Common.{subst, inl, inr, ◌⊎◌, if◌then◌else◌, nat_le, Mode, RawOption, Read, Write, Data}
+use Rattle.tftp_promises.proofs.Common.{Ack, Error, Oack, has_error_opcode, Known, Refusal, answer, path_of_name}
+use Rattle.tftp_promises.proofs.Common.{requested, Ask}
 use Rattle.tftp_wire.specs.declared.packet.Packet.{Packet as WirePacket}
-use Rattle.tftp_wire.specs.declared.packet.Packet.TheVariants.{Read, Write, Data, Ack, Error, Oack}
 use Rattle.tftp_wire.specs.declared.packet.Request.{Request as WireRequest}
-use Rattle.tftp_wire.specs.Reading.{has_error_opcode}
 use Rattle.tftp_negotiate.specs.declared.known.Kind.TheVariants as kinds
-use Rattle.tftp_negotiate.specs.declared.known.Known.{Known}
 use Rattle.tftp_negotiate.specs.declared.limits.Limits.{Limits}
-use Rattle.tftp_negotiate.specs.declared.refusal.Refusal.{Refusal}
-use Rattle.tftp_negotiate.specs.Answer.{answer}
-use Rattle.tftp_file.specs.Path.{path_of_name}
 use Rattle.tftp_file.specs.declared.path.PathFault.{PathFault}
-use Rattle.tftp_rules.specs.Shows.{requested}
-use Rattle.tftp_server.specs.Port.{Ask, Ignores, Refuses, Reads, Writes, asks, by_kind, by_name, by_options, by_packet}
+use Rattle.tftp_server.specs.Port.{Ignores, Refuses, Reads, Writes, asks, by_kind, by_name, by_options, by_packet}
 use Rattle.tftp_server.specs.Port.{by_repeat}
 use Rattle.tftp_ends.specs.declared.error_reply.ErrorReply.TheVariants.{ServerBusy}
 

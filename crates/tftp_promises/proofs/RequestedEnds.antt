@@ -1,19 +1,13 @@
 -- The end of the server that a request opens: its side, its peer, and the text that it sends first.
-use Rattle.std.proofs.Common.{◌≡◌, ℕ, ◌≤◌, true, false, List, [], ◌∷◌, ◌++◌, length, take}
-use Rattle.std.proofs.Common.{drop, min, Some, None, refl, sym, ap, ◌∙◌, arith, rules}
+use Rattle.tftp_promises.proofs.Common.{◌≡◌, ℕ, ◌≤◌, true, false, List, [], ◌∷◌, ◌++◌, length, take, drop, Some, None}
+use Rattle.tftp_promises.proofs.Common.{refl, sym, ap, ◌∙◌, arith, rules, Mode, Known, DEFAULT_BLOCK, IsPrefixOf}
+use Rattle.tftp_promises.proofs.Common.{is_sender, outcome_of, serving_read, serving_write, block_length, Endpoint}
+use Rattle.tftp_promises.proofs.Common.{peer_of, first_moved}
+use Rattle.std.proofs.Common.{min}
 use Rattle.std.proofs.lemmas.List.{take_min, drop_min}
-use Rattle.tftp_wire.specs.declared.mode.Mode.{Mode}
-use Rattle.tftp_negotiate.specs.declared.known.Known.{Known}
-use Rattle.tftp_negotiate.specs.declared.limits.TheConstants.{DEFAULT_BLOCK}
-use Rattle.tftp_file.specs.Block.{IsPrefixOf, block}
-use Rattle.tftp_ends.specs.End.{is_sender, outcome_of}
-use Rattle.tftp_ends.specs.Opening.{serving_read, serving_write}
-use Rattle.tftp_ends.specs.Step.{block_length}
+use Rattle.tftp_file.specs.Block.{block}
 use Rattle.tftp_rules.specs.EndOpens.{left_at_first, sending}
-use Rattle.tftp_rules.specs.Machine.{Endpoint}
-use Rattle.tftp_rules.specs.OpenEnds.{peer_of}
 use Rattle.tftp_rules.proofs.FirstSent.{first_want}
-use Rattle.tftp_promises.specs.Moved.{first_moved}
 use Rattle.tftp_promises.proofs.PortAnswers.{IsFirst}
 use Rattle.tftp_promises.proofs.Texts.{begins_by_take, then_rest}
 

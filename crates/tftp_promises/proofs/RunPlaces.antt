@@ -1,15 +1,7 @@
 -- Where a run opened its transfers.
-use Rattle.std.specs.Prelude.{List, [], ◌++◌, length, map, option_to_list}
-use Rattle.tftp_file.specs.Sink.{SinkMeaning}
-use Rattle.tftp_file.specs.Source.{SourceMeaning}
-use Rattle.tftp_store.specs.Store.{StoreMeaning}
-use Rattle.tftp_loop.specs.Run.{Run}
-use Rattle.tftp_loop.specs.Run.Run.{Start, Then}
-use Rattle.tftp_loop.specs.Steps.{LoopState, LoopStep, Request_answered}
-use Rattle.tftp_rules.specs.Machine.{Endpoint}
-use Rattle.tftp_promises.specs.Openings.{place}
-use Rattle.tftp_promises.specs.Order.{Programs}
-use Rattle.tftp_promises.specs.Ports.{opened_ports}
+use Rattle.tftp_promises.proofs.Common.{option_to_list, SinkMeaning, SourceMeaning, StoreMeaning, Run, Start, Then}
+use Rattle.tftp_promises.proofs.Common.{LoopState, LoopStep, Request_answered, Endpoint, place, Programs, opened_ports}
+use Rattle.std.specs.Prelude.{List, [], ◌++◌, length, map}
 
 module _ {S F D G K : Type 0} {stores : StoreMeaning S D} {sources : SourceMeaning F} {inputs : SourceMeaning G}
     {outputs : SinkMeaning K}

@@ -1,28 +1,15 @@
 -- What a trace shows that tells of the acts of an end. For GivingUp.
-use Rattle.std.proofs.Common.{◌≡◌, ℕ, Bool, ◌+◌, ◌≤◌, zero, suc, List, [], ◌∷◌, ◌++◌, length, refl, ap, ◌∙◌, subst, arith}
-use Rattle.std.proofs.Common.{Option, Some, None, inl, inr}
-use Rattle.std.specs.Prelude.{◌⊎◌, ◌==◌, if◌then◌else◌}
-use Rattle.std.proofs.lemmas.Bool.{eq-eqb}
-use Rattle.tftp_file.specs.Sink.{SinkMeaning}
-use Rattle.tftp_file.specs.Source.{SourceMeaning}
-use Rattle.tftp_file.specs.declared.files.Files.{Files}
+use Rattle.tftp_promises.proofs.Common.{◌≡◌, ℕ, Bool, ◌+◌, ◌≤◌, zero, suc, List, [], ◌∷◌, ◌++◌, length, refl, ap, ◌∙◌}
+use Rattle.tftp_promises.proofs.Common.{subst, arith, Option, Some, None, inl, inr, ◌⊎◌, ◌==◌, if◌then◌else◌, eq-eqb}
+use Rattle.tftp_promises.proofs.Common.{SinkMeaning, SourceMeaning, Files, EndState, Reply, timeout_turn, Act, Took}
+use Rattle.tftp_promises.proofs.Common.{Lost, Said, Timed, Has, with_reply, SocketEvent, answered, Received, Sent}
+use Rattle.tftp_promises.proofs.Common.{Watched, Elapsed, Printed, Quiet, Slept, State, wait_at, Answers, Loses, Stays}
+use Rattle.tftp_promises.proofs.Common.{Elapses, Backoff, begun, ClientDoes, Receives_one, Reads_clock, Waits_until}
+use Rattle.tftp_promises.proofs.Common.{Times_out, File_works, Prints_line, ClientRun, Starts, Goes_on, Tells}
+use Rattle.tftp_promises.proofs.Common.{Begins_so, Passes, Receives, Misses, Sends, Elapses_then, acts_in, client_acts}
 use Rattle.tftp_ends.specs.declared.endpoint.Endpoint.{Endpoint}
-use Rattle.tftp_ends.specs.End.{EndState}
-use Rattle.tftp_ends.specs.Step.{Reply, timeout_turn}
-use Rattle.tftp_lives.specs.Lives.{Act, Took, Lost, Said, Timed, Has, HasCopies, timed, with_reply}
-use Rattle.tftp_sockets.specs.Trace.{SocketEvent, answered}
-use Rattle.tftp_sockets.specs.Trace.SocketEvent.{Received, Sent, Watched, Elapsed, Printed, Quiet}
-use Rattle.tftp_sockets.specs.Trace.QuietEvent.{Slept}
-use Rattle.tftp_client.specs.Converses.{State, wait_at}
-use Rattle.tftp_client.specs.Converses.HandlesReceived.{Answers, Loses}
-use Rattle.tftp_client.specs.Converses.MayElapse.{Stays, Elapses}
-use Rattle.tftp_ends.specs.declared.backoff.Backoff.{Backoff}
-use Rattle.tftp_client.specs.Runs.{begun}
-use Rattle.tftp_promises.specs.ClientRuns.{ClientDoes, Receives_one, Reads_clock, Waits_until, Times_out, File_works}
-use Rattle.tftp_promises.specs.ClientRuns.{Prints_line, ClientRun, Starts, Goes_on}
+use Rattle.tftp_lives.specs.Lives.{HasCopies, timed}
 use Rattle.tftp_promises.specs.GivesUp.{elapsed}
-use Rattle.tftp_promises.specs.Lived.{Tells, Begins_so, Passes, Receives, Misses, Sends, Elapses_then}
-use Rattle.tftp_promises.specs.Lived.{acts_in, client_acts}
 
 module _ (port : ℕ) where
   elapsed_on : (e : SocketEvent) (events : List SocketEvent) → elapsed port events ≤ elapsed port (e ∷ events)

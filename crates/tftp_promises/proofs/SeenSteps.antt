@@ -1,14 +1,9 @@
 -- Traces of which only the older events are seen, so that the last step is seen in part.
-use Rattle.std.proofs.lemmas.Grind.{common_steps}
-use Rattle.std.proofs.Common.{◌≡◌, ℕ, List, [], ◌∷◌, ◌++◌, append_assoc, length, sym, ap, ◌∙◌, subst, suc, arith, inl}
-use Rattle.std.proofs.Common.{inr}
-use Rattle.std.specs.List.{Contains, AllByRecursion}
-use Rattle.std.proofs.lemmas.List.{append_cancel_right}
-use Rattle.std.proofs.lemmas.List.Elements.{Contains-append_cases, Contains-append_right, All-from_recursion}
+use Rattle.tftp_promises.proofs.Common.{common_steps, ◌≡◌, ℕ, List, [], ◌∷◌, ◌++◌, append_assoc, length, sym, ap, ◌∙◌}
+use Rattle.tftp_promises.proofs.Common.{subst, suc, arith, inl, inr, Contains, AllByRecursion, append_cancel_right}
+use Rattle.tftp_promises.proofs.Common.{Contains-append_cases, Contains-append_right, Endpoint, SocketEvent, Received}
+use Rattle.std.proofs.lemmas.List.Elements.{All-from_recursion}
 use Rattle.std.proofs.lemmas.List.Elements.{All-contains}
-use Rattle.tftp_rules.specs.Machine.{Endpoint}
-use Rattle.tftp_sockets.specs.Trace.{SocketEvent}
-use Rattle.tftp_sockets.specs.Trace.SocketEvent.{Received}
 use Rattle.tftp_promises.proofs.StepEvents.{IsOther, IsQuiet, OldestOnly}
 
 -- the last step added `ahead ++ x ∷ rest`, of which what is seen of the trace has `x ∷ rest`

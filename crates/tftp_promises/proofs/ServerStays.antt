@@ -1,22 +1,10 @@
 -- What a step of the server leaves as it was, if it opens and removes no transfer.
-use Rattle.std.proofs.Common.{◌≡◌, ℕ, List, [], ◌++◌, Option, Some, sym, ap, ◌∙◌, subst, inr, rules}
-use Rattle.std.specs.List.{Contains}
-use Rattle.tftp_file.specs.Sink.{SinkMeaning}
-use Rattle.tftp_file.specs.Source.{SourceMeaning}
-use Rattle.tftp_file.specs.declared.files.Files.{Files}
-use Rattle.tftp_file.specs.declared.files.Files.TheVariants.{Source, Sink}
-use Rattle.tftp_store.specs.Store.{StoreMeaning}
-use Rattle.tftp_server.specs.State.{TransferState}
-use Rattle.tftp_sockets.specs.Trace.{SocketEvent}
-use Rattle.tftp_loop.specs.Steps.{LoopState, LoopStep}
-use Rattle.tftp_rules.specs.Machine.{Endpoint}
-use Rattle.tftp_rules.specs.OpenEnds.{OpenEnd}
-use Rattle.tftp_promises.specs.Given.{GaveSince}
-use Rattle.tftp_promises.specs.Moved.{Moved, or_before}
-use Rattle.tftp_promises.specs.Openings.{HasClosed, moved_at, opened_at, place_at}
-use Rattle.tftp_promises.specs.Order.{Programs, requests_at}
-use Rattle.tftp_promises.specs.Ports.{Removes}
-use Rattle.tftp_promises.specs.Snapshots.{Snapshot, server_did}
+use Rattle.tftp_promises.proofs.Common.{◌≡◌, ℕ, List, [], ◌++◌, Option, Some, sym, ap, ◌∙◌, subst, inr, rules, Contains}
+use Rattle.tftp_promises.proofs.Common.{SinkMeaning, SourceMeaning, Files, Source, Sink, StoreMeaning, TransferState}
+use Rattle.tftp_promises.proofs.Common.{SocketEvent, LoopState, LoopStep, Endpoint, OpenEnd, GaveSince, Moved}
+use Rattle.tftp_promises.proofs.Common.{HasClosed, moved_at, opened_at, place_at, Programs, requests_at, Removes}
+use Rattle.tftp_promises.proofs.Common.{Snapshot, server_did}
+use Rattle.tftp_promises.specs.Moved.{or_before}
 use Rattle.tftp_promises.proofs.RunPlaces.{placed_by, places}
 use Rattle.tftp_promises.proofs.Invariant.{HasArrived, IsGiven, IsOpened, GaveSo, TookSo, HasStored, IsKept, IsTaken}
 use Rattle.tftp_promises.proofs.MovedSteps.{MovesNone}

@@ -1,11 +1,6 @@
 -- What a server did is one run of it.
-use Rattle.std.proofs.Common.{◌≡◌, List, [], ◌∷◌, ◌++◌, append_assoc, refl, sym, ap, ◌∙◌}
-use Rattle.tftp_file.specs.Source.{SourceMeaning}
-use Rattle.tftp_store.specs.Store.{StoreMeaning}
-use Rattle.tftp_sockets.specs.Trace.{SocketEvent}
-use Rattle.tftp_loop.specs.Run.{Run}
-use Rattle.tftp_loop.specs.Run.Run.{Start, Then}
-use Rattle.tftp_loop.specs.Steps.{LoopState, LoopStep}
+use Rattle.tftp_promises.proofs.Common.{◌≡◌, List, [], ◌∷◌, ◌++◌, append_assoc, refl, sym, ap, ◌∙◌, SourceMeaning}
+use Rattle.tftp_promises.proofs.Common.{StoreMeaning, SocketEvent, Run, Start, Then, LoopState, LoopStep}
 use Rattle.tftp_promises.specs.Programs.{ServersAreRuns}
 use Rattle.tftp_promises.proofs.StepEvents.{Silent, Notes, server_adds}
 

@@ -1,24 +1,19 @@
 -- What one step of a program notes: a datagram that it receives is the oldest of its events.
-use Rattle.std.proofs.Common.{◌≡◌, ℕ, List, [], ◌∷◌, ◌++◌, Option, Some, None, refl, ap, ◌∙◌}
-use Rattle.std.specs.List.{AllByRecursion}
-use Rattle.tftp_file.specs.Sink.{SinkMeaning}
-use Rattle.tftp_file.specs.Source.{SourceMeaning}
-use Rattle.tftp_file.specs.declared.files.Files.{Files}
-use Rattle.tftp_ends.specs.Step.{Reply, timeout_turn}
-use Rattle.tftp_rules.specs.Machine.{Endpoint}
-use Rattle.tftp_store.specs.Store.{StoreMeaning}
-use Rattle.tftp_sockets.specs.Trace.{SocketEvent, answered, replied}
-use Rattle.tftp_sockets.specs.Trace.SocketEvent.{Received, Sent, Watched, Elapsed, Printed, Quiet}
-use Rattle.tftp_sockets.specs.Trace.QuietEvent.{Drain_signalled, Empty, Failed, Slept, Woke}
-use Rattle.tftp_loop.specs.Steps.{LoopState, PortState, LoopStep, PortStep, A_datagram, A_lost_datagram}
-use Rattle.tftp_loop.specs.Steps.{A_late_datagram, Nothing_found, A_failed_receive, A_timeout, A_missed_timeout, Work, Waited, At_port}
+use Rattle.tftp_promises.proofs.Common.{◌≡◌, ℕ, List, [], ◌∷◌, ◌++◌, Option, Some, None, refl, ap, ◌∙◌, AllByRecursion}
+use Rattle.tftp_promises.proofs.Common.{SinkMeaning, SourceMeaning, Files, Reply, timeout_turn, Endpoint, StoreMeaning}
+use Rattle.tftp_promises.proofs.Common.{SocketEvent, answered, Received, Sent, Watched, Elapsed, Printed, Quiet, Empty}
+use Rattle.tftp_promises.proofs.Common.{Failed, Slept, Woke, LoopState, PortState, LoopStep, PortStep, At_port}
+use Rattle.tftp_promises.proofs.Common.{Request_answered, State, HandlesReceived, MayElapse, wait_at, Answers, Loses}
+use Rattle.tftp_promises.proofs.Common.{Stays, Elapses, ClientDoes, Receives_one, Reads_clock, Waits_until, Times_out}
+use Rattle.tftp_promises.proofs.Common.{File_works, Prints_line}
+use Rattle.tftp_sockets.specs.Trace.{replied}
+use Rattle.tftp_sockets.specs.Trace.QuietEvent.{Drain_signalled}
+use Rattle.tftp_loop.specs.Steps.{A_datagram, A_lost_datagram}
+use Rattle.tftp_loop.specs.Steps.{A_late_datagram, Nothing_found, A_failed_receive, A_timeout, A_missed_timeout, Work}
+use Rattle.tftp_loop.specs.Steps.{Waited}
 use Rattle.tftp_loop.specs.Steps.{Request_received, No_request_found, Request_not_received, Request_noted}
-use Rattle.tftp_loop.specs.Steps.{Request_answered, Request_lost, Clock_read, Store_set, Drain_begun, Transfer_closed}
+use Rattle.tftp_loop.specs.Steps.{Request_lost, Clock_read, Store_set, Drain_begun, Transfer_closed}
 use Rattle.tftp_loop.specs.Steps.{answering_port, note_event}
-use Rattle.tftp_client.specs.Converses.{State, HandlesReceived, MayElapse, wait_at}
-use Rattle.tftp_client.specs.Converses.HandlesReceived.{Answers, Loses}
-use Rattle.tftp_client.specs.Converses.MayElapse.{Stays, Elapses}
-use Rattle.tftp_promises.specs.ClientRuns.{ClientDoes, Receives_one, Reads_clock, Waits_until, Times_out, File_works, Prints_line}
 use Rattle.tftp_promises.specs.Snapshots.{}
 
 -- no datagram received

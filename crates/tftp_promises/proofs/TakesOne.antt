@@ -1,59 +1,37 @@
 -- A client takes the answers of one port only: at the first datagram of the server's address that it handles and that is
 -- no ERROR it has a peer, or closes.
-use Rattle.std.proofs.Common.{◌≡◌, ℕ, Bool, true, false, List, [], Option, Some, None, refl, sym, ap, ◌∙◌, subst, inl, inr}
-use Rattle.std.specs.Prelude.{◌≢◌, ◌⊎◌, ◌&&◌, ◌==◌, ◌*◌, if◌then◌else◌, not, is_none, length, nat_le, nat_lt, IsSome}
+use Rattle.tftp_promises.proofs.Common.{◌≡◌, ℕ, Bool, true, false, List, [], Option, Some, None, refl, sym, ap, ◌∙◌}
+use Rattle.tftp_promises.proofs.Common.{subst, inl, inr, ◌≢◌, ◌⊎◌, ◌&&◌, ◌==◌, if◌then◌else◌, is_none, nat_le, nat_lt}
+use Rattle.tftp_promises.proofs.Common.{IsSome, Contains, cases_Bool, eqb-true, true≢false, has_error_opcode, Mode}
+use Rattle.tftp_promises.proofs.Common.{Read, Write, Data, Ack, Error, Oack, Asked, Known, Refusal, agreement}
+use Rattle.tftp_promises.proofs.Common.{SinkMeaning, SourceMeaning, StoreFault, Files, Source, Sink, Action, Respond}
+use Rattle.tftp_promises.proofs.Common.{Send, Store, Response, Ignore, WrongPeer, ResendReply, Retransmit, Wait, Close}
+use Rattle.tftp_promises.proofs.Common.{Refuse, Accept, Complete, Phase, Waiting, Sending, Receiving, Dallying, Closed}
+use Rattle.tftp_promises.proofs.Common.{Terms, Decodes, datagram_action, garbled_response, is_wrong_peer, packet_action}
+use Rattle.tftp_promises.proofs.Common.{same_address, EndState, is_sender, outcome_of, terms_of, data_action}
+use Rattle.tftp_promises.proofs.Common.{next_action, illegal_action, Acts, DatagramStep, Done, GoesOn, Turn, after_turn}
+use Rattle.tftp_promises.proofs.Common.{block_length, committed_turn, data_bytes, holding, response_turn}
+use Rattle.tftp_promises.proofs.Common.{result_count_is, sent_turn, is_readable, accept_action, agreed_terms}
+use Rattle.tftp_promises.proofs.Common.{begin_action, begin_with_action, default_terms, reader_action, writer_action}
+use Rattle.tftp_promises.proofs.Common.{HandlesReceived, IsOpen, MayElapse, State, received, Watch, Answers, Loses}
+use Rattle.tftp_promises.proofs.Common.{Stays, Elapses, Endpoint, peer_of, if_acts, ClientDoes, ClientRun, Starts}
+use Rattle.tftp_promises.proofs.Common.{Goes_on, Receives_one, Reads_clock, Waits_until, Times_out, File_works}
+use Rattle.tftp_promises.proofs.Common.{Prints_line, DoesOwn, IsOtherAnswer, TakesOwn, IsError, ClientProgram}
+use Rattle.std.specs.Prelude.{◌*◌, not, length}
 use Rattle.std.specs.Prelude.{Result, Ok, Err}
 use Rattle.std.specs.Cmp.Lexicographic.{same_text}
-use Rattle.std.specs.List.{Contains}
-use Rattle.std.proofs.lemmas.Bool.{cases_Bool, eqb-true, true≢false}
-use Rattle.tftp_wire.specs.Reading.{has_error_opcode}
-use Rattle.tftp_wire.specs.declared.mode.Mode.{Mode}
 use Rattle.tftp_wire.specs.declared.packet.Packet.{Packet as WirePacket}
-use Rattle.tftp_wire.specs.declared.packet.Packet.TheVariants.{Read, Write, Data, Ack, Error, Oack}
-use Rattle.tftp_negotiate.specs.declared.asked.Asked.{Asked}
 use Rattle.tftp_negotiate.specs.declared.known.Kind.TheVariants as kinds
-use Rattle.tftp_negotiate.specs.declared.known.Known.{Known}
-use Rattle.tftp_negotiate.specs.declared.refusal.Refusal.{Refusal}
 use Rattle.tftp_negotiate.specs.declared.refusal.Refusal.TheVariants.{Repeated, TooLarge, NotAsked, BadValue}
-use Rattle.tftp_negotiate.specs.Agreement.{agreement}
-use Rattle.tftp_file.specs.Sink.{SinkMeaning}
-use Rattle.tftp_file.specs.Source.{SourceMeaning}
-use Rattle.tftp_file.specs.declared.fault.StoreFault.{StoreFault}
-use Rattle.tftp_file.specs.declared.files.Files.{Files}
-use Rattle.tftp_file.specs.declared.files.Files.TheVariants.{Source, Sink}
-use Rattle.tftp_ends.specs.declared.action.Action.{Action}
-use Rattle.tftp_ends.specs.declared.action.Action.TheVariants.{Respond, Send, Store}
-use Rattle.tftp_ends.specs.declared.action.Response.{Response}
-use Rattle.tftp_ends.specs.declared.action.Response.TheVariants.{Ignore, WrongPeer, ResendReply, Retransmit, Wait, Close}
-use Rattle.tftp_ends.specs.declared.action.Response.TheVariants.{Refuse, Accept, Complete}
 use Rattle.tftp_ends.specs.declared.error_reply.ErrorReply.TheVariants as replies
 use Rattle.tftp_ends.specs.declared.outcome.Outcome.TheVariants as outcomes
-use Rattle.tftp_ends.specs.declared.phase.Phase.{Phase}
-use Rattle.tftp_ends.specs.declared.phase.Phase.TheVariants.{Waiting, Sending, Receiving, Dallying, Closed}
-use Rattle.tftp_ends.specs.declared.phase.Terms.{Terms}
-use Rattle.tftp_ends.specs.Action.{Decodes, datagram_action, garbled_response, is_wrong_peer, packet_action, same_address}
 use Rattle.tftp_ends.specs.Action.{waiting_action}
-use Rattle.tftp_ends.specs.End.{EndState, is_sender, outcome_of, terms_of}
-use Rattle.tftp_ends.specs.Receiver.{data_action, next_action}
-use Rattle.tftp_ends.specs.Sender.{illegal_action}
-use Rattle.tftp_ends.specs.Step.{Acts, DatagramStep, Done, GoesOn, Turn, after_turn, block_length}
-use Rattle.tftp_ends.specs.Step.{committed_turn, data_bytes, holding, response_turn, result_count_is, sent_turn}
-use Rattle.tftp_ends.specs.Text.{is_readable}
-use Rattle.tftp_ends.specs.Waiting.{accept_action, agreed_terms, begin_action, begin_with_action, default_terms}
-use Rattle.tftp_ends.specs.Waiting.{no_answer, reader_action, refusal_action, writer_action}
-use Rattle.tftp_client.specs.Converses.{HandlesReceived, IsOpen, IsReadBy, MayElapse, MayWait, State, received}
-use Rattle.tftp_sockets.specs.declared.watch.Watch.{Watch}
-use Rattle.tftp_client.specs.Converses.HandlesReceived.{Answers, Loses}
-use Rattle.tftp_client.specs.Converses.MayElapse.{Stays, Elapses}
-use Rattle.tftp_rules.specs.Machine.{Endpoint, is_same_ip}
-use Rattle.tftp_rules.specs.OpenEnds.{peer_of}
+use Rattle.tftp_ends.specs.Waiting.{no_answer, refusal_action}
+use Rattle.tftp_client.specs.Converses.{IsReadBy, MayWait}
+use Rattle.tftp_rules.specs.Machine.{is_same_ip}
 use Rattle.tftp_rules.proofs.Endpoints.{same_ip}
-use Rattle.tftp_rules.proofs.PhaseMoves.{both_true, if_acts}
-use Rattle.tftp_promises.specs.ClientRuns.{ClientDoes, ClientRun, Starts, Goes_on, Receives_one, Reads_clock, Waits_until}
-use Rattle.tftp_promises.specs.ClientRuns.{Times_out, File_works, Prints_line}
-use Rattle.tftp_promises.specs.Others.{ClientsTakeOne, DoesOwn, IsOtherAnswer, TakesOwn}
-use Rattle.tftp_promises.specs.Order.{IsError}
-use Rattle.tftp_promises.specs.Programs.{ClientProgram}
+use Rattle.tftp_rules.proofs.PhaseMoves.{both_true}
+use Rattle.tftp_promises.specs.Others.{ClientsTakeOne}
 use Rattle.tftp_promises.proofs.ClientTraces.{asks_there}
 use Rattle.tftp_promises.proofs.WrongPeers.{datagram_stays, timeout_stays}
 

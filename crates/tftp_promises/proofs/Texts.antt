@@ -1,8 +1,8 @@
 -- Prefixes of texts, and a text that is padded to a length.
-use Rattle.std.proofs.Common.{◌≡◌, ℕ, zero, suc, ◌≤◌, List, [], ◌∷◌, ◌++◌, append_assoc, append-nil, length, take, drop}
-use Rattle.std.proofs.Common.{replicate, refl, sym, ap, ◌∙◌, arith, rules}
-use Rattle.std.proofs.lemmas.List.{append_cancel_left, length-append, length-replicate, length-take}
-use Rattle.tftp_file.specs.Block.{IsPrefixOf}
+use Rattle.tftp_promises.proofs.Common.{◌≡◌, ℕ, zero, suc, ◌≤◌, List, [], ◌∷◌, ◌++◌, append_assoc, append-nil, length}
+use Rattle.tftp_promises.proofs.Common.{take, drop, refl, sym, ap, ◌∙◌, arith, rules, length-append, IsPrefixOf}
+use Rattle.std.proofs.Common.{replicate}
+use Rattle.std.proofs.lemmas.List.{append_cancel_left, length-replicate, length-take}
 
 -- the text of this length that begins so, padded by this byte
 abbrev pub pad_to : ℕ → ℕ → List ℕ → List ℕ

@@ -1,43 +1,28 @@
 -- What the end of a client, or of a transfer, has handled and sent is in the trace of its program.
-use Rattle.std.proofs.Common.{◌≡◌, ℕ, Bool, true, false, List, [], ◌∷◌, ◌++◌, Option, Some, None, refl, sym, ap}
-use Rattle.std.proofs.Common.{subst, inl, inr}
-use Rattle.std.specs.Prelude.{◌==◌, if◌then◌else◌, ⊤}
-use Rattle.std.proofs.lemmas.Bool.{cases_eq, eq-eqb, ne_eqb}
-use Rattle.tftp_file.specs.Sink.{SinkMeaning}
-use Rattle.tftp_file.specs.Source.{SourceMeaning}
-use Rattle.tftp_file.specs.declared.files.Files.{Files}
+use Rattle.tftp_promises.proofs.Common.{◌≡◌, ℕ, Bool, true, false, List, [], ◌∷◌, ◌++◌, Option, Some, None, refl, sym}
+use Rattle.tftp_promises.proofs.Common.{ap, subst, inl, inr, ◌==◌, if◌then◌else◌, ⊤, cases_eq, eq-eqb, ne_eqb}
+use Rattle.tftp_promises.proofs.Common.{SinkMeaning, SourceMeaning, Files, EndState, Reply, timeout_turn, StoreMeaning}
+use Rattle.tftp_promises.proofs.Common.{Ask, Came, Nothing, Error_reply, A_transfer, Left, left_by, TransferState}
+use Rattle.tftp_promises.proofs.Common.{ServerState, at, Act, Took, Lost, Said, Timed, with_reply, SocketEvent}
+use Rattle.tftp_promises.proofs.Common.{answered, Received, Sent, Watched, Elapsed, Printed, Quiet, Slept, State}
+use Rattle.tftp_promises.proofs.Common.{HandlesReceived, MayElapse, wait_at, Answers, Loses, Stays, Elapses, Backoff}
+use Rattle.tftp_promises.proofs.Common.{begun, Run, Start, Then, PortState, LoopState, PortStep, LoopStep}
+use Rattle.tftp_promises.proofs.Common.{after_request, port_state, A_datagram, A_lost_datagram, A_late_datagram}
+use Rattle.tftp_promises.proofs.Common.{Nothing_found, A_failed_receive, A_timeout, A_missed_timeout, Work, Waited}
+use Rattle.tftp_promises.proofs.Common.{Request_received, No_request_found, Request_not_received, Request_noted}
+use Rattle.tftp_promises.proofs.Common.{Request_lost, Clock_read, Store_set, Transfer_closed, Drain_begun, ClientDoes}
+use Rattle.tftp_promises.proofs.Common.{Receives_one, Reads_clock, Waits_until, Times_out, File_works, Prints_line}
+use Rattle.tftp_promises.proofs.Common.{ClientRun, Starts, Goes_on, Tells, Begins_so, Passes, Receives, Misses, Sends}
+use Rattle.tftp_promises.proofs.Common.{Elapses_then, acts_at, acts_in, client_acts, came_if}
 use Rattle.tftp_ends.specs.declared.endpoint.Endpoint.{Endpoint}
-use Rattle.tftp_ends.specs.End.{EndState}
-use Rattle.tftp_ends.specs.Step.{Reply, timeout_turn}
-use Rattle.tftp_store.specs.Store.{StoreMeaning}
-use Rattle.tftp_server.specs.Port.{Ask}
-use Rattle.tftp_server.specs.Request.{Came, Nothing, Error_reply, A_transfer, Left, left_by}
-use Rattle.tftp_server.specs.State.{TransferState, ServerState, at, is_open}
-use Rattle.tftp_lives.specs.Lives.{Act, Took, Lost, Said, Timed, newest, with_reply}
-use Rattle.tftp_sockets.specs.Trace.{SocketEvent, answered}
-use Rattle.tftp_sockets.specs.Trace.SocketEvent.{Received, Sent, Watched, Elapsed, Printed, Quiet}
-use Rattle.tftp_sockets.specs.Trace.QuietEvent.{Slept}
-use Rattle.tftp_client.specs.Converses.{State, HandlesReceived, MayElapse, wait_at}
-use Rattle.tftp_client.specs.Converses.HandlesReceived.{Answers, Loses}
-use Rattle.tftp_client.specs.Converses.MayElapse.{Stays, Elapses}
-use Rattle.tftp_ends.specs.declared.backoff.Backoff.{Backoff}
-use Rattle.tftp_client.specs.Runs.{begun}
-use Rattle.tftp_loop.specs.Run.{Run}
-use Rattle.tftp_loop.specs.Run.Run.{Start, Then}
-use Rattle.tftp_loop.specs.Steps.{PortState, LoopState, PortStep, LoopStep, after_request, port_state}
-use Rattle.tftp_loop.specs.Steps.PortStep.{A_datagram, A_lost_datagram, A_late_datagram, Nothing_found}
-use Rattle.tftp_loop.specs.Steps.PortStep.{A_failed_receive, A_timeout, A_missed_timeout, Work}
-use Rattle.tftp_loop.specs.Steps.LoopStep.{Waited, At_port, Request_received, No_request_found}
-use Rattle.tftp_loop.specs.Steps.LoopStep.{Request_not_received, Request_noted, Request_answered, Request_lost}
-use Rattle.tftp_loop.specs.Steps.LoopStep.{Clock_read, Store_set, Transfer_closed, Drain_begun}
+use Rattle.tftp_server.specs.State.{is_open}
+use Rattle.tftp_lives.specs.Lives.{newest}
+use Rattle.tftp_loop.specs.Steps.LoopStep.{At_port}
+use Rattle.tftp_loop.specs.Steps.LoopStep.{Request_answered}
 use Rattle.tftp_loop.proofs.OpenedEnds.{BeginsAt, OpensFor, OpensIn, To_read, To_write, opens_for, serves_begins}
 use Rattle.tftp_loop.proofs.OpenedEnds.{write_begins}
-use Rattle.tftp_promises.specs.ClientRuns.{ClientDoes, Receives_one, Reads_clock, Waits_until, Times_out, File_works}
-use Rattle.tftp_promises.specs.ClientRuns.{Prints_line, ClientRun, Starts, Goes_on}
-use Rattle.tftp_promises.specs.Lived.{AreNoted, Tells, Begins_so, Passes, Receives, Misses, Sends, Elapses_then, acts_at}
-use Rattle.tftp_promises.specs.Lived.{acts_in}
-use Rattle.tftp_promises.specs.Lived.{client_acts, elapsing_acts, first_act, handling_acts, port_acts}
-use Rattle.tftp_promises.specs.Moved.{came_if}
+use Rattle.tftp_promises.specs.Lived.{AreNoted}
+use Rattle.tftp_promises.specs.Lived.{elapsing_acts, first_act, handling_acts, port_acts}
 
 -- ---- a trace that goes on
 module _ (port : ℕ) (before : List SocketEvent) where

@@ -1,42 +1,28 @@
 -- At each time of a server's run each transfer that it holds has lived so: what it handled and sent since it opened is
 -- that of the run, and is a life of its end.
-use Rattle.std.proofs.Common.{◌≡◌, ℕ, ◌*◌, ◌<◌, Bool, true, false, not, List, [], ◌∷◌, Option, Some, None, refl, sym, ap}
-use Rattle.std.proofs.Common.{◌∙◌, subst, inl, inr, arith}
-use Rattle.std.specs.Prelude.{◌==◌, if◌then◌else◌}
-use Rattle.std.proofs.lemmas.Bool.{true≢false, cases_eq, eq-eqb, ne_eqb}
-use Rattle.tftp_wire.specs.declared.packet.Packet.{Packet}
-use Rattle.tftp_file.specs.Source.{SourceMeaning}
-use Rattle.tftp_file.specs.declared.files.Files.{Files}
+use Rattle.tftp_promises.proofs.Common.{◌≡◌, ℕ, ◌*◌, ◌<◌, Bool, true, false, not, List, [], ◌∷◌, Option, Some, None}
+use Rattle.tftp_promises.proofs.Common.{refl, sym, ap, ◌∙◌, subst, inl, inr, arith, ◌==◌, if◌then◌else◌, true≢false}
+use Rattle.tftp_promises.proofs.Common.{cases_eq, eq-eqb, ne_eqb, Packet, SourceMeaning, Files, EndState, serving_read}
+use Rattle.tftp_promises.proofs.Common.{Turn, DatagramStep, after_turn, timeout_turn, size, IsBlockSize, Known, Mode}
+use Rattle.tftp_promises.proofs.Common.{StoreMeaning, Drafting, drafting_sink, Config, Came, Nothing, Error_reply}
+use Rattle.tftp_promises.proofs.Common.{A_transfer, Left, left_by, TransferState, ServerState, at, is_closed, with_next}
+use Rattle.tftp_promises.proofs.Common.{KeepsHeld, WorksAt, Act, Took, Lost, Timed, Life, with_reply, Run, Start, Then}
+use Rattle.tftp_promises.proofs.Common.{PortState, LoopState, PortStep, LoopStep, port_state, A_datagram}
+use Rattle.tftp_promises.proofs.Common.{A_lost_datagram, A_late_datagram, Nothing_found, A_failed_receive, A_timeout}
+use Rattle.tftp_promises.proofs.Common.{A_missed_timeout, Work, Waited, Request_received, No_request_found}
+use Rattle.tftp_promises.proofs.Common.{Request_not_received, Request_noted, Request_lost, Clock_read, Store_set}
+use Rattle.tftp_promises.proofs.Common.{Transfer_closed, Drain_begun, acts_at, came_if}
 use Rattle.tftp_ends.specs.declared.endpoint.Endpoint.{Endpoint}
-use Rattle.tftp_ends.specs.End.{EndState}
-use Rattle.tftp_ends.specs.Opening.{serving_read}
-use Rattle.tftp_ends.specs.Step.{Turn, DatagramStep, after_turn, timeout_turn}
-use Rattle.tftp_negotiate.specs.Agreed.{size}
-use Rattle.tftp_negotiate.specs.Ranges.{IsBlockSize}
-use Rattle.tftp_negotiate.specs.declared.known.Known.{Known}
 use Rattle.tftp_rules.specs.EndOpens.{AreGranted}
-use Rattle.tftp_wire.specs.declared.mode.Mode.{Mode}
-use Rattle.tftp_store.specs.Store.{StoreMeaning}
-use Rattle.tftp_server.specs.Draft.{Drafting, drafting_sink}
-use Rattle.tftp_server.specs.declared.config.Config.{Config}
-use Rattle.tftp_server.specs.Request.{Came, Nothing, Error_reply, A_transfer, Left, left_by}
-use Rattle.tftp_server.specs.State.{TransferState, ServerState, at, is_closed, is_open, with_next}
-use Rattle.tftp_server.specs.Steps.{KeepsHeld, with_end}
-use Rattle.tftp_server.specs.Work.{WorksAt}
-use Rattle.tftp_lives.specs.Lives.{Act, Took, Lost, Timed, Life, Opens, Hears, Loses, Times, newest, with_reply}
+use Rattle.tftp_server.specs.State.{is_open}
+use Rattle.tftp_server.specs.Steps.{with_end}
+use Rattle.tftp_lives.specs.Lives.{Opens, Hears, Loses, Times, newest}
 use Rattle.tftp_lives.specs.Unanswered.{Begins, MayAgree, To_serve_read, To_serve_write}
-use Rattle.tftp_loop.specs.Run.{Run}
-use Rattle.tftp_loop.specs.Run.Run.{Start, Then}
-use Rattle.tftp_loop.specs.Steps.{PortState, LoopState, PortStep, LoopStep, port_state}
-use Rattle.tftp_loop.specs.Steps.PortStep.{A_datagram, A_lost_datagram, A_late_datagram, Nothing_found}
-use Rattle.tftp_loop.specs.Steps.PortStep.{A_failed_receive, A_timeout, A_missed_timeout, Work}
-use Rattle.tftp_loop.specs.Steps.LoopStep.{Waited, At_port, Request_received, No_request_found}
-use Rattle.tftp_loop.specs.Steps.LoopStep.{Request_not_received, Request_noted, Request_answered, Request_lost}
-use Rattle.tftp_loop.specs.Steps.LoopStep.{Clock_read, Store_set, Transfer_closed, Drain_begun}
+use Rattle.tftp_loop.specs.Steps.LoopStep.{At_port}
+use Rattle.tftp_loop.specs.Steps.LoopStep.{Request_answered}
 use Rattle.tftp_loop.proofs.PortEnds.{same_config}
 use Rattle.tftp_loop.proofs.Reserving.{carried_config}
-use Rattle.tftp_promises.specs.Lived.{IsLiving, acts_at, first_act, port_acts}
-use Rattle.tftp_promises.specs.Moved.{came_if}
+use Rattle.tftp_promises.specs.Lived.{IsLiving, first_act, port_acts}
 use Rattle.tftp_promises.proofs.Identifiers.{at-with_next_cases, at-without_cases, once-with_next, once-without}
 use Rattle.tftp_promises.proofs.Invariant.{AreKeyedOnce}
 use Rattle.tftp_promises.proofs.NewIdentifiers.{at-with_new_cases, once-with_new}

@@ -1,25 +1,9 @@
 -- A turn of the end of a transfer that the server holds keeps the invariant.
-use Rattle.std.proofs.Common.{◌≡◌, ℕ, false, List, ◌++◌, Some, refl, sym, ap, ◌∙◌, subst, inl, inr}
-use Rattle.std.specs.Prelude.{◌≢◌, ◌⊎◌}
-use Rattle.std.specs.List.{Contains}
-use Rattle.tftp_file.specs.Sink.{SinkMeaning}
-use Rattle.tftp_file.specs.Source.{SourceMeaning}
-use Rattle.tftp_ends.specs.End.{is_client}
-use Rattle.tftp_ends.specs.Step.{Reply, Turn}
-use Rattle.tftp_store.specs.Store.{StoreMeaning}
-use Rattle.tftp_server.specs.State.{TransferState, at, with_next}
-use Rattle.tftp_sockets.specs.Trace.{SocketEvent}
-use Rattle.tftp_sockets.specs.Trace.SocketEvent.{Sent}
-use Rattle.tftp_loop.specs.Steps.{LoopState, LoopStep}
-use Rattle.tftp_rules.specs.EndShown.{Goes}
-use Rattle.tftp_rules.specs.Machine.{Endpoint}
-use Rattle.tftp_rules.specs.OpenEnds.{OpenEnd}
-use Rattle.tftp_rules.proofs.UnblamedEnds.{IsUnblamed, unblamed_still}
-use Rattle.tftp_promises.specs.Openings.{place_at}
-use Rattle.tftp_promises.specs.Order.{Programs, IsStranger}
-use Rattle.tftp_promises.specs.Programs.{endpoint}
-use Rattle.tftp_promises.specs.Network.{joined}
-use Rattle.tftp_promises.specs.Snapshots.{Snapshot, server_did}
+use Rattle.tftp_promises.proofs.Common.{◌≡◌, ℕ, false, List, ◌++◌, Some, refl, sym, ap, ◌∙◌, subst, inl, inr, ◌≢◌, ◌⊎◌}
+use Rattle.tftp_promises.proofs.Common.{Contains, SinkMeaning, SourceMeaning, is_client, Reply, Turn, StoreMeaning}
+use Rattle.tftp_promises.proofs.Common.{TransferState, at, with_next, SocketEvent, Sent, LoopState, LoopStep, Goes}
+use Rattle.tftp_promises.proofs.Common.{Endpoint, OpenEnd, IsUnblamed, unblamed_still, place_at, Programs, IsStranger}
+use Rattle.tftp_promises.proofs.Common.{endpoint, joined, Snapshot, server_did}
 use Rattle.tftp_promises.proofs.Invariant.{IsThere, HasStored, TransferKept, IsKept, IsFreshBy, IsStrangers}
 use Rattle.tftp_promises.proofs.Invariant.{SendsText}
 use Rattle.tftp_promises.proofs.KeptEvents.{SendsOnly}

@@ -1,26 +1,12 @@
 -- A request that repeats that of no open transfer is answered by no end that is shown.
-use Rattle.std.proofs.Common.{◌≡◌, ℕ, Bool, true, false, List, [], ◌∷◌, cond, Option, Some, None, refl, sym, ◌∙◌, subst}
-use Rattle.std.proofs.Common.{inl, inr, rules}
-use Rattle.std.proofs.lemmas.Bool.{true≢false, cases_Bool}
-use Rattle.std.specs.BTreeMap.{is_at}
-use Rattle.std.specs.Ordering.{nat_cmp}
+use Rattle.tftp_promises.proofs.Common.{◌≡◌, ℕ, Bool, true, false, List, [], ◌∷◌, cond, Option, Some, None, refl, sym}
+use Rattle.tftp_promises.proofs.Common.{◌∙◌, subst, inl, inr, rules, true≢false, cases_Bool, is_at, nat_cmp}
+use Rattle.tftp_promises.proofs.Common.{SinkMeaning, SourceMeaning, is_client, StoreMeaning, TransferState, at}
+use Rattle.tftp_promises.proofs.Common.{is_closed, Run, Start, Then, LoopStep, LoopState, Endpoint, OpenEnd, open_view}
+use Rattle.tftp_promises.proofs.Common.{EndView, IsAmong, HasClosed, Programs, Removes, Snapshot, Has_asked}
 use Rattle.tftp_wire.specs.declared.packet.Packet.{Packet as WirePacket}
-use Rattle.tftp_file.specs.Sink.{SinkMeaning}
-use Rattle.tftp_file.specs.Source.{SourceMeaning}
-use Rattle.tftp_ends.specs.End.{is_client}
-use Rattle.tftp_store.specs.Store.{StoreMeaning}
-use Rattle.tftp_server.specs.State.{AnyRepeats, TransferState, IsRepeated, Repeats, at, is_closed}
-use Rattle.tftp_loop.specs.Run.{Run}
-use Rattle.tftp_loop.specs.Run.Run.{Start, Then}
-use Rattle.tftp_loop.specs.Steps.{LoopStep, LoopState}
-use Rattle.tftp_rules.specs.Machine.{Endpoint}
-use Rattle.tftp_rules.specs.OpenEnds.{OpenEnd, open_view}
-use Rattle.tftp_rules.specs.Shows.{EndView, IsAnswering, NoneAnswers}
-use Rattle.tftp_rules.specs.ViewSafety.{IsAmong}
-use Rattle.tftp_promises.specs.Openings.{HasClosed}
-use Rattle.tftp_promises.specs.Order.{Programs}
-use Rattle.tftp_promises.specs.Ports.{Removes}
-use Rattle.tftp_promises.specs.Snapshots.{Snapshot, Has_asked}
+use Rattle.tftp_server.specs.State.{AnyRepeats, IsRepeated, Repeats}
+use Rattle.tftp_rules.specs.Shows.{IsAnswering, NoneAnswers}
 use Rattle.tftp_promises.proofs.Invariant.{HasTransferBy, IsKept}
 use Rattle.tftp_promises.proofs.KeptViews.{view_there}
 

@@ -1,37 +1,17 @@
 -- No end of the programs has blamed a peer that is no stranger where the traces arrive.
 -- For the law no_program_is_blamed.
-use Rattle.std.proofs.Common.{◌≡◌, ℕ, suc, zero, ◌≤◌, List, [], ◌∷◌, ◌++◌, length, take, replicate}
-use Rattle.std.proofs.Common.{Some, refl, sym, ap, ◌∙◌, subst, arith, inl, inr, rules}
-use Rattle.std.specs.Prelude.{option_map, slice_get}
-use Rattle.std.proofs.lemmas.Bool.{cases_Bool}
-use Rattle.std.proofs.lemmas.List.{length-append}
-use Rattle.std.proofs.lemmas.Option.{same_Some, slice_get-map}
-use Rattle.tftp_wire.specs.declared.mode.Mode.{Mode}
-use Rattle.tftp_file.specs.Netascii.{wire_text}
-use Rattle.tftp_file.specs.Sink.{SinkMeaning}
-use Rattle.tftp_file.specs.Source.{SourceMeaning}
-use Rattle.tftp_file.specs.declared.files.Files.{Files}
-use Rattle.tftp_file.specs.declared.files.Files.TheVariants.{Source, Sink}
-use Rattle.tftp_ends.specs.declared.outcome.Outcome.{Outcome}
+use Rattle.tftp_promises.proofs.Common.{◌≡◌, ℕ, suc, zero, ◌≤◌, List, [], ◌∷◌, ◌++◌, length, take, Some, refl, sym, ap}
+use Rattle.tftp_promises.proofs.Common.{◌∙◌, subst, arith, inl, inr, rules, option_map, slice_get, cases_Bool}
+use Rattle.tftp_promises.proofs.Common.{length-append, same_Some, slice_get-map, Mode, wire_text, SinkMeaning}
+use Rattle.tftp_promises.proofs.Common.{SourceMeaning, Files, Source, Sink, Outcome, Role, EndState, StoreMeaning}
+use Rattle.tftp_promises.proofs.Common.{TransferState, Endpoint, OpenEnd, IsUnblamed, alone, heard_with, IsEnd}
+use Rattle.tftp_promises.proofs.Common.{ProgramEnd, moved_in, HasOpened, joined, ArePortsFresh, moved_at, opened_at}
+use Rattle.tftp_promises.proofs.Common.{Programs, ClientOf, client_at, number_of, Has_asked, all_of}
+use Rattle.std.proofs.Common.{replicate}
 use Rattle.tftp_ends.specs.declared.outcome.Outcome.TheVariants as outcomes
-use Rattle.tftp_ends.specs.declared.role.Role.{Role}
-use Rattle.tftp_ends.specs.End.{EndState}
-use Rattle.tftp_store.specs.Store.{StoreMeaning}
-use Rattle.tftp_server.specs.State.{TransferState}
-use Rattle.tftp_rules.specs.Machine.{Endpoint}
-use Rattle.tftp_rules.specs.OpenEnds.{OpenEnd}
 use Rattle.tftp_rules.proofs.HostBytes.{padded_text}
-use Rattle.tftp_rules.proofs.UnblamedEnds.{BlamesBy, IsUnblamed}
-use Rattle.tftp_promises.specs.Alone.{alone, heard_with}
-use Rattle.tftp_promises.specs.AnyFiles.{IsEnd, ProgramEnd}
+use Rattle.tftp_rules.proofs.UnblamedEnds.{BlamesBy}
 use Rattle.tftp_promises.specs.Blamed.{BeginsFile, EachIsUnblamed, MayCloseAs, NoneIsBlamed, ProgramsAreUnblamed}
-use Rattle.tftp_promises.specs.ClientRuns.{moved_in}
-use Rattle.tftp_promises.specs.Network.{HasOpened, joined}
-use Rattle.tftp_promises.specs.Openings.{ArePortsFresh, moved_at, opened_at}
-use Rattle.tftp_promises.specs.Order.{Programs, ClientOf}
-use Rattle.tftp_promises.specs.Programs.{client_at}
-use Rattle.tftp_promises.specs.Several.{number_of}
-use Rattle.tftp_promises.specs.Snapshots.{Has_asked, all_of}
 use Rattle.tftp_promises.proofs.ClientRoles.{run_role}
 use Rattle.tftp_promises.proofs.EachAlone.{each_joined}
 use Rattle.tftp_promises.proofs.Invariant.{ClientKept, IsKept, IsOpened, SendsText, client_text}

@@ -1,37 +1,18 @@
 -- What an end of the programs receives makes it blame no peer that is no stranger.
 -- For the law no_program_is_blamed.
-use Rattle.std.proofs.Common.{◌≡◌, ◌≢◌, ℕ, suc, zero, ◌+◌, true, List, ◌∷◌, length, None, Some, refl, sym, ap, ◌∙◌}
-use Rattle.std.proofs.Common.{arith, inl, inr, rules}
-use Rattle.std.specs.Prelude.{slice_get}
-use Rattle.std.specs.List.{Contains}
-use Rattle.std.proofs.lemmas.Bool.{true≢false}
-use Rattle.std.proofs.lemmas.Option.{slice_get_read}
-use Rattle.tftp_wire.specs.Spelling.{Spells}
-use Rattle.tftp_wire.specs.declared.mode.Mode.{Mode}
+use Rattle.tftp_promises.proofs.Common.{◌≡◌, ℕ, suc, zero, ◌+◌, true, List, ◌∷◌, length, None, Some, refl, sym, ap, ◌∙◌}
+use Rattle.tftp_promises.proofs.Common.{arith, inl, inr, rules, slice_get, Contains, true≢false, slice_get_read, Spells}
+use Rattle.tftp_promises.proofs.Common.{Mode, wire_text, Holding, SinkMeaning, SourceMeaning, Files, Source, Sink}
+use Rattle.tftp_promises.proofs.Common.{is_sender, outcome_of, Turn, DatagramStep, after_turn, StoreMeaning}
+use Rattle.tftp_promises.proofs.Common.{known_source, known_sink, Endpoint, Elsewhere, Machine, Party, OpenEnd}
+use Rattle.tftp_promises.proofs.Common.{files_of, EndView, IsAmong, IsUnblamed, Moved, joined, above, opened_at}
+use Rattle.tftp_promises.proofs.Common.{Programs, requests_at, ClientOf, AreDistinct, client_at, Snapshot, Has_asked}
+use Rattle.std.proofs.Common.{◌≢◌}
 use Rattle.tftp_wire.specs.declared.packet.Packet.{Packet as WirePacket}
-use Rattle.tftp_file.specs.Netascii.{wire_text}
-use Rattle.tftp_file.specs.Sink.{Holding, SinkMeaning}
-use Rattle.tftp_file.specs.Source.{SourceMeaning}
-use Rattle.tftp_file.specs.declared.files.Files.{Files}
-use Rattle.tftp_file.specs.declared.files.Files.TheVariants.{Source, Sink}
-use Rattle.tftp_ends.specs.End.{is_sender, outcome_of}
-use Rattle.tftp_ends.specs.Step.{Turn, DatagramStep, after_turn}
-use Rattle.tftp_store.specs.Store.{StoreMeaning}
 use Rattle.tftp_rules.specs.EndKept.{IsFromServer}
-use Rattle.tftp_rules.specs.KnownFiles.{known_source, known_sink}
-use Rattle.tftp_rules.specs.Machine.{Endpoint, Elsewhere, Machine, Party, start}
-use Rattle.tftp_rules.specs.OpenEnds.{OpenEnd, files_of}
+use Rattle.tftp_rules.specs.Machine.{start}
 use Rattle.tftp_rules.specs.Rules.{run}
-use Rattle.tftp_rules.specs.Shows.{EndView}
-use Rattle.tftp_rules.specs.ViewSafety.{IsAmong}
-use Rattle.tftp_rules.proofs.UnblamedEnds.{IsUnblamed, datagram_unblamed}
-use Rattle.tftp_promises.specs.Moved.{Moved}
-use Rattle.tftp_promises.specs.Network.{joined}
-use Rattle.tftp_promises.specs.Openings.{above, opened_at}
-use Rattle.tftp_promises.specs.Order.{Programs, requests_at, ClientOf}
-use Rattle.tftp_promises.specs.Ports.{AreDistinct}
-use Rattle.tftp_promises.specs.Programs.{client_at}
-use Rattle.tftp_promises.specs.Snapshots.{Snapshot, Has_asked}
+use Rattle.tftp_rules.proofs.UnblamedEnds.{datagram_unblamed}
 use Rattle.tftp_promises.proofs.Invariant.{ClientKept, HasArrived, HasFile, HasStored, IsFreshBy, IsKept, IsOfClient}
 use Rattle.tftp_promises.proofs.Invariant.{IsOfTransfer, IsOpened, IsViewed, SendsText, TransferKept, client_text, place_text}
 use Rattle.tftp_promises.proofs.NewPlaces.{client_apart, place_cases}

@@ -1,34 +1,19 @@
 -- An end that has a peer keeps it, and answers a datagram to its sender; at a timeout it sends its last datagram again.
-use Rattle.std.proofs.Common.{◌≡◌, ◌≢◌, ℕ, Bool, List, Option, Some, refl, rules}
-use Rattle.std.specs.Prelude.{◌⊎◌, ◌&&◌, ◌==◌, if◌then◌else◌, is_none, length, nat_lt}
-use Rattle.tftp_wire.specs.Reading.{has_error_opcode}
-use Rattle.tftp_wire.specs.declared.mode.Mode.{Mode}
+use Rattle.tftp_promises.proofs.Common.{◌≡◌, ℕ, Bool, List, Option, Some, refl, rules, ◌⊎◌, ◌&&◌, ◌==◌, if◌then◌else◌}
+use Rattle.tftp_promises.proofs.Common.{is_none, nat_lt, has_error_opcode, Mode, SinkMeaning, SourceMeaning, Files}
+use Rattle.tftp_promises.proofs.Common.{Action, Respond, Send, Store, Response, Ignore, WrongPeer, ResendReply}
+use Rattle.tftp_promises.proofs.Common.{Retransmit, Wait, Close, Refuse, Accept, Complete, Outcome, Phase, Terms}
+use Rattle.tftp_promises.proofs.Common.{datagram_action, garbled_response, is_wrong_peer, packet_action}
+use Rattle.tftp_promises.proofs.Common.{timeout_response, EndState, terms_of, data_action, next_action, illegal_action}
+use Rattle.tftp_promises.proofs.Common.{Acts, Reply, Turn, after_turn, error_bytes, response_turn, timeout_turn}
+use Rattle.tftp_promises.proofs.Common.{is_readable, StoreMeaning, Endpoint, peer_of, if_acts, Programs, IsStranger}
+use Rattle.std.proofs.Common.{◌≢◌}
+use Rattle.std.specs.Prelude.{length}
 use Rattle.tftp_wire.specs.declared.packet.Packet.{Packet as WirePacket}
-use Rattle.tftp_file.specs.Sink.{SinkMeaning}
-use Rattle.tftp_file.specs.Source.{SourceMeaning}
-use Rattle.tftp_file.specs.declared.files.Files.{Files}
-use Rattle.tftp_ends.specs.declared.action.Action.{Action}
-use Rattle.tftp_ends.specs.declared.action.Action.TheVariants.{Respond, Send, Store}
-use Rattle.tftp_ends.specs.declared.action.Response.{Response}
-use Rattle.tftp_ends.specs.declared.action.Response.TheVariants.{Ignore, WrongPeer, ResendReply, Retransmit, Wait}
-use Rattle.tftp_ends.specs.declared.action.Response.TheVariants.{Close}
-use Rattle.tftp_ends.specs.declared.action.Response.TheVariants.{Refuse, Accept, Complete}
 use Rattle.tftp_ends.specs.declared.error_reply.ErrorReply.TheVariants as replies
-use Rattle.tftp_ends.specs.declared.outcome.Outcome.{Outcome}
 use Rattle.tftp_ends.specs.declared.outcome.Outcome.TheVariants as outcomes
-use Rattle.tftp_ends.specs.declared.phase.Phase.{Phase}
-use Rattle.tftp_ends.specs.declared.phase.Terms.{Terms}
-use Rattle.tftp_ends.specs.Action.{datagram_action, garbled_response, is_wrong_peer, packet_action, timeout_response}
-use Rattle.tftp_ends.specs.End.{EndState, terms_of}
-use Rattle.tftp_ends.specs.Receiver.{receiver_action, data_action, next_action, dally_response}
-use Rattle.tftp_ends.specs.Sender.{sender_action, illegal_action}
-use Rattle.tftp_ends.specs.Step.{Acts, Reply, Turn, after_turn, error_bytes, response_turn, timeout_turn}
-use Rattle.tftp_ends.specs.Text.{is_readable}
-use Rattle.tftp_store.specs.Store.{StoreMeaning}
-use Rattle.tftp_rules.specs.Machine.{Endpoint}
-use Rattle.tftp_rules.specs.OpenEnds.{peer_of}
-use Rattle.tftp_rules.proofs.PhaseMoves.{if_acts}
-use Rattle.tftp_promises.specs.Order.{Programs, IsStranger}
+use Rattle.tftp_ends.specs.Receiver.{receiver_action, dally_response}
+use Rattle.tftp_ends.specs.Sender.{sender_action}
 use Rattle.tftp_promises.proofs.Invariant.{IsStrangers}
 
 -- the peer that had this peer, and sent its last datagram there, keeps it in the turn; its answer goes to `from`

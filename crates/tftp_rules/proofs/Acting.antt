@@ -1,17 +1,13 @@
 -- Rules that act in sequence at one end, by the view of that end. For Actions and Refines.
-use Rattle.std.proofs.lemmas.Grind.{common_steps}
-use Rattle.std.proofs.Common.{◌≡◌, ◌+◌, Bool, true, false, List, [], ◌∷◌, ◌++◌, sym, refl, ap, ◌∙◌, subst, arith, rules}
-use Rattle.std.specs.Prelude.{◌≢◌}
-use Rattle.std.specs.List.{Contains}
-use Rattle.std.proofs.lemmas.List.{append-nil}
+use Rattle.tftp_rules.proofs.Common.{common_steps, ◌≡◌, ◌+◌, Bool, true, false, List, [], ◌∷◌, ◌++◌, sym, refl, ap, ◌∙◌}
+use Rattle.tftp_rules.proofs.Common.{subst, arith, rules, ◌≢◌, Contains, append-nil, Endpoint, Message, Party, Machine}
+use Rattle.tftp_rules.proofs.Common.{Network, Rule, Asks, Opens_plainly, Opens_with, Takes_oack, Takes_ack, Takes_data}
+use Rattle.tftp_rules.proofs.Common.{Appends, Sends_next, Completes, Fails, Fails_with, Fails_to_begin, Says_error}
+use Rattle.tftp_rules.proofs.Common.{Repeats, Strays, actor, Guard, party_after, after, IsLegal, run, ActInTurn}
+use Rattle.tftp_rules.proofs.Common.{party_then, sent_by}
 use Rattle.std.proofs.lemmas.List.Elements.{Contains-append_left}
 use Rattle.tftp_wire.specs.declared.packet.Request.{Request as WireRequest}
-use Rattle.tftp_rules.specs.Machine.{Endpoint, Message, Party, Machine, Network}
-use Rattle.tftp_rules.specs.Rules.{Rule, Asks, Opens_plainly, Opens_with, Takes_oack, Takes_ack, Takes_data, Appends}
-use Rattle.tftp_rules.specs.Rules.{Sends_next, Completes, Fails, Fails_with, Fails_to_begin, Says_error, Repeats}
-use Rattle.tftp_rules.specs.Rules.{Strays, actor, MayAct, Guard, OpensNoDuplicate, packets, party_after, after, IsLegal}
-use Rattle.tftp_rules.specs.Rules.{run}
-use Rattle.tftp_rules.specs.Shows.{ActInTurn, party_then, sent_by}
+use Rattle.tftp_rules.specs.Rules.{MayAct, OpensNoDuplicate, packets}
 use Rattle.tftp_rules.proofs.Grows.{with_at, with_other}
 
 -- what the view of an end does not have

@@ -1,39 +1,22 @@
 -- The actions that a datagram may lead to, each with what is known where it does.
 -- For TermsTaken, and for the laws of worlds (tftp_player).
-use Rattle.std.proofs.Common.{◌≡◌, ℕ, ◌+◌, Bool, true, false, List, [], length, Option, Some, None, Result, Ok, Err, refl, sym}
-use Rattle.std.proofs.Common.{subst, arith, rules}
-use Rattle.std.specs.Prelude.{◌≢◌, ◌==◌, ◌/◌, ◌*◌, nat_lt, nat_le, is_none, ◌&&◌, if◌then◌else◌, ⊤}
-use Rattle.std.proofs.lemmas.Bool.{eqb-true}
-use Rattle.tftp_wire.specs.Reading.{has_error_opcode}
-use Rattle.tftp_wire.specs.declared.mode.Mode.{Mode}
+use Rattle.tftp_rules.proofs.Common.{◌≡◌, ℕ, ◌+◌, Bool, true, false, List, [], length, Option, Some, None, Result, Ok}
+use Rattle.tftp_rules.proofs.Common.{Err, refl, sym, subst, arith, rules, ◌≢◌, ◌==◌, nat_lt, is_none, ◌&&◌}
+use Rattle.tftp_rules.proofs.Common.{if◌then◌else◌, eqb-true, has_error_opcode, Mode, Read, Write, Oack, agreement}
+use Rattle.tftp_rules.proofs.Common.{Asked, Known, DEFAULT_BLOCK, Refusal, Action, Respond, Send, Store, Response}
+use Rattle.tftp_rules.proofs.Common.{Ignore, WrongPeer, ResendReply, Close, Refuse, Accept, Complete, ErrorReply}
+use Rattle.tftp_rules.proofs.Common.{Outcome, Phase, Waiting, Sending, Receiving, Dallying, Closed, Terms, EndState}
+use Rattle.tftp_rules.proofs.Common.{is_client, terms_of, is_wrong_peer, garbled_response, packet_action}
+use Rattle.tftp_rules.proofs.Common.{datagram_action, sender_action, receiver_action, next_action, dally_response}
+use Rattle.tftp_rules.proofs.Common.{is_readable, reader_action, writer_action, accept_action, refusal_action}
+use Rattle.tftp_rules.proofs.Common.{default_terms, agreed_terms, Endpoint}
+use Rattle.std.specs.Prelude.{◌/◌, ◌*◌, nat_le, ⊤}
 use Rattle.tftp_wire.specs.declared.packet.Packet.{Packet}
-use Rattle.tftp_wire.specs.declared.packet.Packet.TheVariants.{Read, Write, Data, Ack, Error, Oack}
-use Rattle.tftp_negotiate.specs.Agreement.{agreement}
-use Rattle.tftp_negotiate.specs.declared.asked.Asked.{Asked}
+use Rattle.tftp_wire.specs.declared.packet.Packet.TheVariants.{Data, Ack, Error}
 use Rattle.tftp_negotiate.specs.declared.known.Kind.TheVariants as kinds
-use Rattle.tftp_negotiate.specs.declared.known.Known.{Known}
-use Rattle.tftp_negotiate.specs.declared.limits.TheConstants.{DEFAULT_BLOCK}
-use Rattle.tftp_negotiate.specs.declared.refusal.Refusal.{Refusal}
 use Rattle.tftp_negotiate.specs.declared.refusal.Refusal.TheVariants as refusals
-use Rattle.tftp_ends.specs.declared.action.Action.{Action}
-use Rattle.tftp_ends.specs.declared.action.Action.TheVariants.{Respond, Send, Store}
-use Rattle.tftp_ends.specs.declared.action.Response.{Response}
-use Rattle.tftp_ends.specs.declared.action.Response.TheVariants.{Ignore, WrongPeer, ResendReply, Close, Refuse, Accept}
-use Rattle.tftp_ends.specs.declared.action.Response.TheVariants.{Complete}
-use Rattle.tftp_ends.specs.declared.error_reply.ErrorReply.{ErrorReply}
-use Rattle.tftp_ends.specs.declared.outcome.Outcome.{Outcome}
 use Rattle.tftp_ends.specs.declared.outcome.Outcome.TheVariants as outcomes
-use Rattle.tftp_ends.specs.declared.phase.Phase.{Phase}
-use Rattle.tftp_ends.specs.declared.phase.Phase.TheVariants.{Waiting, Sending, Receiving, Dallying, Closed}
-use Rattle.tftp_ends.specs.declared.phase.Terms.{Terms}
-use Rattle.tftp_ends.specs.End.{EndState, is_client, terms_of}
-use Rattle.tftp_ends.specs.Action.{is_wrong_peer, garbled_response, packet_action, datagram_action}
-use Rattle.tftp_ends.specs.Sender.{sender_action}
-use Rattle.tftp_ends.specs.Receiver.{receiver_action, next_action, dally_response}
-use Rattle.tftp_ends.specs.Text.{is_readable}
-use Rattle.tftp_ends.specs.Waiting.{reader_action, writer_action, accept_action, begin_action, begin_with_action}
-use Rattle.tftp_ends.specs.Waiting.{refusal_action, default_terms, agreed_terms}
-use Rattle.tftp_rules.specs.Machine.{Endpoint}
+use Rattle.tftp_ends.specs.Waiting.{begin_action, begin_with_action}
 
 -- an outcome for what a peer sent
 abbrev pub Accuses : Outcome → Type 0

@@ -1,22 +1,18 @@
 -- Each act of an end, each opening and each datagram is shown. For six other files and the crates tftp_player and
 -- tftp_promises.
-use Rattle.std.proofs.Common.{◌≡◌, ℕ, ◌+◌, ◌<◌, ◌≤◌, Bool, true, false, List, [], ◌∷◌, ◌++◌, length, set, Some, None}
-use Rattle.std.proofs.Common.{sym, refl, ◌∙◌, arith, rules}
-use Rattle.std.specs.Prelude.{nat_lt, if◌then◌else◌}
-use Rattle.std.specs.List.{Contains}
-use Rattle.std.proofs.lemmas.Bool.{true≢false}
-use Rattle.tftp_negotiate.specs.declared.limits.TheConstants.{DEFAULT_BLOCK}
+use Rattle.tftp_rules.proofs.Common.{◌≡◌, ℕ, ◌+◌, ◌<◌, ◌≤◌, Bool, true, false, List, [], ◌∷◌, ◌++◌, length, set, Some}
+use Rattle.tftp_rules.proofs.Common.{None, sym, refl, ◌∙◌, arith, rules, nat_lt, if◌then◌else◌, Contains, true≢false}
+use Rattle.tftp_rules.proofs.Common.{DEFAULT_BLOCK, Spells, block, block_count, Fits, IsPrefixOf, Endpoint, At_server}
+use Rattle.tftp_rules.proofs.Common.{At_client, Elsewhere, Packet, Request, Data, Ack, Error, Message, Party, Network}
+use Rattle.tftp_rules.proofs.Common.{Rule, Asks, Opens_plainly, Opens_with, Takes_oack, Takes_ack, Takes_data, Appends}
+use Rattle.tftp_rules.proofs.Common.{Sends_next, Completes, Fails, Fails_with, Fails_to_begin, Says_error, Repeats}
+use Rattle.tftp_rules.proofs.Common.{Strays, message, asking, opened, EndView, Matches, IsShownAt, IsShownWithin}
+use Rattle.tftp_rules.proofs.Common.{ActInTurn, party_then, sent_by, Stands}
 use Rattle.tftp_wire.specs.declared.packet.Request.{Request as WireRequest}
-use Rattle.tftp_wire.specs.Spelling.{Spells}
-use Rattle.tftp_file.specs.Block.{block, block_count, Fits, IsPrefixOf}
-use Rattle.tftp_rules.specs.Machine.{Endpoint, At_server, At_client, Elsewhere, Packet, Request, Data, Ack, Oack}
-use Rattle.tftp_rules.specs.Machine.{Error, Message, Party, Network}
-use Rattle.tftp_rules.specs.Rules.{Rule, Asks, Opens_plainly, Opens_with, Takes_oack, Takes_ack, Takes_data, Appends}
-use Rattle.tftp_rules.specs.Rules.{Sends_next, Completes, Fails, Fails_with, Fails_to_begin, Says_error, Repeats}
-use Rattle.tftp_rules.specs.Rules.{Strays, message, asking, opened, HasText, HasAccepted}
-use Rattle.tftp_rules.specs.Shows.{NoneAt, EndView, party_of, view_of, Matches, requested, IsShownAt, IsShownWithin}
-use Rattle.tftp_rules.specs.Shows.{ActInTurn, party_then, sent_by, NoneAnswers}
-use Rattle.tftp_rules.specs.EndShown.{Stands}
+use Rattle.tftp_rules.specs.Machine.{Oack}
+use Rattle.tftp_rules.specs.Rules.{HasText, HasAccepted}
+use Rattle.tftp_rules.specs.Shows.{NoneAt, party_of, view_of, requested}
+use Rattle.tftp_rules.specs.Shows.{NoneAnswers}
 use Rattle.tftp_rules.proofs.Acting.{stays_open}
 use Rattle.tftp_rules.proofs.Refines.{shown_acts, shown_opens, shown_speaks, shown_within}
 

@@ -1,10 +1,6 @@
 -- The datagram of a rule is true of its sender. For Keeps, Moving and Opening.
-use Rattle.std.proofs.Common.{[], ◌∷◌, sym, subst, rules}
-use Rattle.std.specs.Prelude.{◌≢◌}
-use Rattle.std.specs.List.{Contains}
-use Rattle.tftp_rules.specs.Machine.{Endpoint, Elsewhere, Packet, Message, Party, with_end, Network}
-use Rattle.tftp_rules.specs.Rules.{message}
-use Rattle.tftp_rules.specs.Facts.{Attests}
+use Rattle.tftp_rules.proofs.Common.{[], ◌∷◌, sym, subst, rules, ◌≢◌, Contains, Endpoint, Elsewhere, Packet, Message}
+use Rattle.tftp_rules.proofs.Common.{Party, with_end, Network, message, Attests}
 use Rattle.tftp_rules.proofs.Grows.{with_at}
 use Rattle.tftp_rules.proofs.Steps.{none_sent}
 

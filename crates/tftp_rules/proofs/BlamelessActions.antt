@@ -1,43 +1,27 @@
 -- No action on a datagram blames a peer that is no stranger, which sent what is true.
 -- For the laws on blame of worlds (tftp_player) and of programs (tftp_promises).
-use Rattle.std.proofs.Common.{◌≡◌, ℕ, ◌+◌, ◌*◌, ◌<◌, ◌≤◌, true, false, not, List, [], ◌++◌, length, take, Option, Some}
-use Rattle.std.proofs.Common.{None, Result, Ok, Err, refl, sym, ap, ◌∙◌, subst, arith, inr, rules as std_rules}
-use Rattle.std.specs.Prelude.{◌≢◌, ◌==◌, ◌/◌, nat_lt, is_none, ◌&&◌, if◌then◌else◌, option_map, slice_get}
-use Rattle.std.specs.List.{Contains}
-use Rattle.std.proofs.lemmas.Bool.{true≢false, eqb-true, ltb-false, le-ltb}
-use Rattle.tftp_wire.specs.Reading.{has_error_opcode}
-use Rattle.tftp_wire.specs.Spelling.{Spells}
-use Rattle.tftp_wire.specs.declared.mode.Mode.{Mode}
+use Rattle.tftp_rules.proofs.Common.{◌≡◌, ℕ, ◌+◌, ◌*◌, ◌<◌, ◌≤◌, true, false, not, List, [], ◌++◌, length, take, Option}
+use Rattle.tftp_rules.proofs.Common.{Some, None, Result, Ok, Err, refl, sym, ap, ◌∙◌, subst, arith, inr, ◌≢◌, ◌==◌}
+use Rattle.tftp_rules.proofs.Common.{nat_lt, is_none, ◌&&◌, if◌then◌else◌, option_map, slice_get, Contains, true≢false}
+use Rattle.tftp_rules.proofs.Common.{eqb-true, ltb-false, has_error_opcode, Spells, Mode, Read, Write, Oack, Asked}
+use Rattle.tftp_rules.proofs.Common.{Known, DEFAULT_BLOCK, Refusal, block, Fits, wire_text, Outcome, Phase, Waiting}
+use Rattle.tftp_rules.proofs.Common.{Sending, Receiving, Dallying, Closed, Terms, is_sender, is_client, is_complete}
+use Rattle.tftp_rules.proofs.Common.{terms_of, Decodes, is_wrong_peer, same_address, garbled_response, packet_action}
+use Rattle.tftp_rules.proofs.Common.{datagram_action, sender_action, receiver_action, next_action, dally_response}
+use Rattle.tftp_rules.proofs.Common.{is_readable, reader_action, writer_action, accept_action, refusal_action}
+use Rattle.tftp_rules.proofs.Common.{default_terms, EndKept, PhaseKept, IsFromServer, IsThere, Attests, Holds, Endpoint}
+use Rattle.tftp_rules.proofs.Common.{Elsewhere, Machine, Message, Network, Party, start, OpenEnd, has_failed, open_view}
+use Rattle.tftp_rules.proofs.Common.{Rule, message, run, said, EndView, IsShownAt, Matches, Shows}
+use Rattle.std.proofs.Common.{rules as std_rules}
+use Rattle.std.specs.Prelude.{◌/◌}
+use Rattle.std.proofs.lemmas.Bool.{le-ltb}
 use Rattle.tftp_wire.specs.declared.packet.Packet.{Packet}
-use Rattle.tftp_wire.specs.declared.packet.Packet.TheVariants.{Read, Write, Data, Ack, Error, Oack}
+use Rattle.tftp_wire.specs.declared.packet.Packet.TheVariants.{Data, Ack, Error}
 use Rattle.tftp_wire.proofs.SpellingLemmas.{one_meaning, spelled_has_no_fault}
-use Rattle.tftp_negotiate.specs.declared.asked.Asked.{Asked}
 use Rattle.tftp_negotiate.specs.declared.known.Kind.TheVariants as kinds
-use Rattle.tftp_negotiate.specs.declared.known.Known.{Known}
-use Rattle.tftp_negotiate.specs.declared.limits.TheConstants.{DEFAULT_BLOCK}
-use Rattle.tftp_negotiate.specs.declared.refusal.Refusal.{Refusal}
 use Rattle.tftp_negotiate.specs.declared.refusal.Refusal.TheVariants as refusals
-use Rattle.tftp_file.specs.Block.{block, Fits}
-use Rattle.tftp_file.specs.Netascii.{wire_text}
-use Rattle.tftp_ends.specs.declared.outcome.Outcome.{Outcome}
 use Rattle.tftp_ends.specs.declared.outcome.Outcome.TheVariants as outcomes
-use Rattle.tftp_ends.specs.declared.phase.Phase.{Phase}
-use Rattle.tftp_ends.specs.declared.phase.Phase.TheVariants.{Waiting, Sending, Receiving, Dallying, Closed}
-use Rattle.tftp_ends.specs.declared.phase.Terms.{Terms}
-use Rattle.tftp_ends.specs.End.{is_sender, is_client, is_complete, number_of, size_of, terms_of}
-use Rattle.tftp_ends.specs.Action.{Decodes, is_wrong_peer, same_address, garbled_response, packet_action, datagram_action}
-use Rattle.tftp_ends.specs.Sender.{sender_action}
-use Rattle.tftp_ends.specs.Receiver.{receiver_action, next_action, dally_response}
-use Rattle.tftp_ends.specs.Text.{is_readable}
-use Rattle.tftp_ends.specs.Waiting.{reader_action, writer_action, accept_action, refusal_action, default_terms}
-use Rattle.tftp_rules.specs.EndKept.{EndKept, PhaseKept, IsFromServer}
-use Rattle.tftp_rules.specs.EndShown.{IsThere}
-use Rattle.tftp_rules.specs.Facts.{Attests, Holds}
-use Rattle.tftp_rules.specs.Machine.{Endpoint, Elsewhere, Machine, Message, Network, Party, start}
-use Rattle.tftp_rules.specs.OpenEnds.{OpenEnd, has_failed, open_view}
-use Rattle.tftp_rules.specs.Rules.{Rule, message, run}
-use Rattle.tftp_rules.specs.Said.{said}
-use Rattle.tftp_rules.specs.Shows.{EndView, IsShownAt, Matches, Shows}
+use Rattle.tftp_ends.specs.End.{number_of, size_of}
 use Rattle.tftp_rules.proofs.BlamelessTurns.{Allowed, CanSend, Fine, FineResponse, either, either_if, no_terms, IsCalm}
 use Rattle.tftp_rules.proofs.Grows.{HasPeer, peer_of as peer_is}
 use Rattle.tftp_rules.proofs.NumbersNear.{AreNear, near_run, near_start}

@@ -1,26 +1,14 @@
 -- A turn blames nobody if its action does not, whatever it means to blame a peer by an outcome.
 -- For BlamelessActions, and for the laws on blame of worlds (tftp_player) and of programs (tftp_promises).
-use Rattle.std.proofs.lemmas.Grind.{common_steps}
-use Rattle.std.proofs.Common.{◌≡◌, ℕ, ◌+◌, ◌*◌, Bool, true, false, List, length, drop, Option, Some, None, refl, sym}
-use Rattle.std.proofs.Common.{◌∙◌, subst, arith, rules}
-use Rattle.std.specs.Prelude.{◌≢◌, if◌then◌else◌, option_map}
-use Rattle.tftp_file.specs.declared.fault.StoreFault.{StoreFault}
-use Rattle.tftp_file.specs.declared.files.Files.{Files}
-use Rattle.tftp_file.specs.Sink.{Holding, SinkMeaning}
-use Rattle.tftp_file.specs.Source.{SourceMeaning}
-use Rattle.tftp_ends.specs.declared.action.Action.{Action}
-use Rattle.tftp_ends.specs.declared.action.Action.TheVariants.{Respond, Send, Store}
-use Rattle.tftp_ends.specs.declared.action.Response.{Response}
-use Rattle.tftp_ends.specs.declared.action.Response.TheVariants.{Close, Refuse, Complete}
-use Rattle.tftp_ends.specs.declared.outcome.Outcome.{Outcome}
+use Rattle.tftp_rules.proofs.Common.{common_steps, ◌≡◌, ℕ, ◌+◌, ◌*◌, Bool, true, false, List, length, drop, Option}
+use Rattle.tftp_rules.proofs.Common.{Some, None, refl, sym, ◌∙◌, subst, arith, rules, ◌≢◌, if◌then◌else◌, option_map}
+use Rattle.tftp_rules.proofs.Common.{StoreFault, Files, Holding, SinkMeaning, SourceMeaning, Action, Respond, Send}
+use Rattle.tftp_rules.proofs.Common.{Store, Response, Close, Refuse, Complete, Outcome, Phase, Terms, EndState}
+use Rattle.tftp_rules.proofs.Common.{is_sender, terms_of, outcome_of, Turn, Acts, SendsFrom, StoresIn, response_turn}
+use Rattle.tftp_rules.proofs.Common.{timeout_turn, Endpoint, Elsewhere, Network, OpenEnd, files_of}
 use Rattle.tftp_ends.specs.declared.outcome.Outcome.TheVariants as outcomes
-use Rattle.tftp_ends.specs.declared.phase.Phase.{Phase}
-use Rattle.tftp_ends.specs.declared.phase.Terms.{Terms}
-use Rattle.tftp_ends.specs.End.{EndState, is_sender, terms_of, outcome_of, Position}
+use Rattle.tftp_ends.specs.End.{Position}
 use Rattle.tftp_ends.specs.Phase.{waited}
-use Rattle.tftp_ends.specs.Step.{Turn, Acts, SendsFrom, StoresIn, response_turn, timeout_turn}
-use Rattle.tftp_rules.specs.Machine.{Endpoint, Elsewhere, Network}
-use Rattle.tftp_rules.specs.OpenEnds.{OpenEnd, files_of}
 
 -- which outcomes blame which peer: these blame none
 pub record IsCalm (Blames : Endpoint → Outcome → Type 0) : Type 0 where

@@ -1,35 +1,20 @@
 -- The answers of an open end that touch no file: ERRORs, retransmissions, acknowledgements. For four other files and
 -- the crates tftp_player and tftp_promises.
-use Rattle.std.proofs.Common.{◌≡◌, ℕ, ◌-◌, Bool, true, false, List, [], ◌∷◌, ◌++◌, Option, Some, sym, refl, ap, subst}
-use Rattle.std.proofs.Common.{arith, inl, rules}
-use Rattle.std.specs.Prelude.{if◌then◌else◌, not, is_some}
-use Rattle.std.specs.List.{Contains}
-use Rattle.std.proofs.lemmas.Bool.{true≢false}
-use Rattle.std.proofs.lemmas.List.{append-nil}
-use Rattle.tftp_wire.specs.Spelling.{IsValid, canonical}
-use Rattle.tftp_file.specs.declared.files.Files.{Files}
-use Rattle.tftp_file.specs.Block.{IsPrefixOf}
-use Rattle.tftp_file.specs.Netascii.{wire_text}
-use Rattle.tftp_file.specs.Sink.{Holding}
-use Rattle.tftp_ends.specs.declared.error_reply.ErrorReply.{ErrorReply}
+use Rattle.tftp_rules.proofs.Common.{◌≡◌, ℕ, ◌-◌, Bool, true, false, List, [], ◌∷◌, ◌++◌, Option, Some, sym, refl, ap}
+use Rattle.tftp_rules.proofs.Common.{subst, arith, inl, rules, if◌then◌else◌, is_some, Contains, true≢false, append-nil}
+use Rattle.tftp_rules.proofs.Common.{IsValid, canonical, Files, IsPrefixOf, wire_text, Holding, ErrorReply, Outcome}
+use Rattle.tftp_rules.proofs.Common.{Phase, Terms, Response, Ignore, WrongPeer, ResendReply, Close, Refuse, is_sender}
+use Rattle.tftp_rules.proofs.Common.{terms_of, is_complete, outcome_of, Turn, response_turn, with_position, Endpoint}
+use Rattle.tftp_rules.proofs.Common.{Error, Message, Network, Rule, Says_error, Repeats, message, said, EndView}
+use Rattle.tftp_rules.proofs.Common.{OpenEnd, files_of, in_state, end_after, goes_on, has_failed, open_view, EndKept}
+use Rattle.tftp_rules.proofs.Common.{Stands, IsThere, Goes}
+use Rattle.std.specs.Prelude.{not}
 use Rattle.tftp_ends.specs.declared.error_reply.ErrorReply.TheVariants.{UnknownTransferId}
-use Rattle.tftp_ends.specs.declared.outcome.Outcome.{Outcome}
-use Rattle.tftp_ends.specs.declared.phase.Phase.{Phase}
-use Rattle.tftp_ends.specs.declared.phase.Terms.{Terms}
-use Rattle.tftp_ends.specs.declared.action.Response.{Response}
-use Rattle.tftp_ends.specs.declared.action.Response.TheVariants.{Ignore, WrongPeer, ResendReply, Retransmit, Close}
-use Rattle.tftp_ends.specs.declared.action.Response.TheVariants.{Refuse}
-use Rattle.tftp_ends.specs.End.{is_sender, terms_of, is_complete, outcome_of}
+use Rattle.tftp_ends.specs.declared.action.Response.TheVariants.{Retransmit}
 use Rattle.tftp_ends.specs.ErrorReply.{error_packet}
-use Rattle.tftp_ends.specs.Step.{Turn, response_turn, after, with_position}
-use Rattle.tftp_rules.specs.Machine.{Endpoint, Error, Message, Network}
-use Rattle.tftp_rules.specs.Rules.{Rule, Says_error, Repeats, message}
-use Rattle.tftp_rules.specs.Said.{said}
-use Rattle.tftp_rules.specs.Shows.{EndView}
-use Rattle.tftp_rules.specs.OpenEnds.{OpenEnd, files_of, in_state, end_after, goes_on, has_failed}
-use Rattle.tftp_rules.specs.OpenEnds.{text_of as text_of_end, open_view}
-use Rattle.tftp_rules.specs.EndKept.{EndKept}
-use Rattle.tftp_rules.specs.EndShown.{Stands, Replies, IsThere, Goes}
+use Rattle.tftp_ends.specs.Step.{after}
+use Rattle.tftp_rules.specs.OpenEnds.{text_of as text_of_end}
+use Rattle.tftp_rules.specs.EndShown.{Replies}
 use Rattle.tftp_rules.proofs.Actions.{goes, closes, refuses}
 use Rattle.tftp_rules.proofs.SaidLemmas.{spells_own}
 

@@ -1,15 +1,9 @@
 -- A request opens an end of the server in any network, with its first datagram. For `a_request_opens_an_end` and the
 -- crates tftp_player and tftp_promises.
-use Rattle.std.proofs.Common.{◌≡◌, ◌*◌, ◌≤◌, true, false, [], ◌∷◌, ◌++◌, refl, arith, rules}
-use Rattle.tftp_wire.specs.declared.mode.Mode.{Mode}
-use Rattle.tftp_wire.specs.declared.mode.Mode.TheVariants.{Octet, Netascii}
-use Rattle.tftp_negotiate.specs.declared.limits.TheConstants.{DEFAULT_BLOCK}
-use Rattle.tftp_negotiate.specs.Agreed.{size}
-use Rattle.tftp_file.specs.Block.{block_count}
-use Rattle.tftp_file.specs.Netascii.{wire_text}
+use Rattle.tftp_rules.proofs.Common.{◌≡◌, ◌*◌, ◌≤◌, true, false, [], ◌∷◌, ◌++◌, refl, arith, rules, Mode, Octet}
+use Rattle.tftp_rules.proofs.Common.{Netascii, DEFAULT_BLOCK, size, block_count, wire_text, Network}
 use Rattle.tftp_rules.specs.EndKept.{HeldBackFits}
 use Rattle.tftp_rules.specs.EndOpens.{ReadsOpen, WritesOpen, new_receiver, new_sender}
-use Rattle.tftp_rules.specs.Machine.{Network}
 use Rattle.tftp_rules.proofs.Actions.{serves_plainly, serves_with}
 use Rattle.tftp_rules.proofs.SaidLemmas.{own_oack}
 use Rattle.tftp_rules.proofs.FirstSent.{first_of_read, first_of_write, read_first_is, read_first_valid}

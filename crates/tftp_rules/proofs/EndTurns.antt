@@ -1,32 +1,22 @@
 -- An open end with any datagram, and at a timeout. For `an_open_end_takes_its_turn` and the crates tftp_player and
 -- tftp_promises.
-use Rattle.std.proofs.Common.{◌≡◌, ℕ, Bool, true, false, List, [], Option, Some, refl, inl, arith, rules}
-use Rattle.std.specs.Prelude.{◌==◌, ◌&&◌, if◌then◌else◌, is_none, is_some}
-use Rattle.std.proofs.lemmas.Bool.{true≢false}
+use Rattle.tftp_rules.proofs.Common.{◌≡◌, ℕ, Bool, true, false, List, [], Option, Some, refl, inl, arith, rules, ◌==◌}
+use Rattle.tftp_rules.proofs.Common.{◌&&◌, if◌then◌else◌, is_none, is_some, true≢false, Spells, Fresh, Phase, Waiting}
+use Rattle.tftp_rules.proofs.Common.{Sending, Receiving, Dallying, Closed, Terms, Action, Respond, Response, Ignore}
+use Rattle.tftp_rules.proofs.Common.{WrongPeer, Close, is_sender, is_client, terms_of, outcome_of, same_address}
+use Rattle.tftp_rules.proofs.Common.{is_wrong_peer, garbled_response, packet_action, datagram_action, has_error_opcode}
+use Rattle.tftp_rules.proofs.Common.{response_turn, with_position, reader_action, writer_action, Endpoint, Message}
+use Rattle.tftp_rules.proofs.Common.{Network, Rule, EndView, OpenEnd, in_state, with_phase, goes_on, open_view, EndKept}
+use Rattle.tftp_rules.proofs.Common.{IsFromServer, Stands, Goes, IsThere}
 use Rattle.tftp_wire.specs.declared.packet.Packet.{Packet as WirePacket}
-use Rattle.tftp_wire.specs.Spelling.{Spells}
 use Rattle.tftp_ends.specs.declared.outcome.Outcome.TheVariants as outcomes
 use Rattle.tftp_ends.specs.declared.phase.Dally.{Dally}
-use Rattle.tftp_ends.specs.declared.phase.Dally.TheVariants.{Fresh, Waited}
-use Rattle.tftp_ends.specs.declared.phase.Phase.{Phase}
-use Rattle.tftp_ends.specs.declared.phase.Phase.TheVariants.{Waiting, Sending, Receiving, Dallying, Closed}
-use Rattle.tftp_ends.specs.declared.phase.Terms.{Terms}
-use Rattle.tftp_ends.specs.declared.action.Action.{Action}
-use Rattle.tftp_ends.specs.declared.action.Action.TheVariants.{Respond}
-use Rattle.tftp_ends.specs.declared.action.Response.{Response}
-use Rattle.tftp_ends.specs.declared.action.Response.TheVariants.{Ignore, WrongPeer, Retransmit, Close}
-use Rattle.tftp_ends.specs.End.{is_sender, is_client, terms_of, outcome_of}
-use Rattle.tftp_ends.specs.Action.{same_address, same_endpoint, is_wrong_peer, garbled_response, packet_action}
-use Rattle.tftp_ends.specs.Action.{datagram_action, timeout_response}
-use Rattle.tftp_wire.specs.Reading.{has_error_opcode}
-use Rattle.tftp_ends.specs.Step.{response_turn, after, with_position}
-use Rattle.tftp_ends.specs.Waiting.{reader_action, writer_action}
-use Rattle.tftp_rules.specs.Machine.{Endpoint, Message, Network}
-use Rattle.tftp_rules.specs.Rules.{Rule}
-use Rattle.tftp_rules.specs.Shows.{EndView}
-use Rattle.tftp_rules.specs.OpenEnds.{OpenEnd, in_state, with_phase, goes_on, open_view}
-use Rattle.tftp_rules.specs.EndKept.{EndKept, IsFromServer}
-use Rattle.tftp_rules.specs.EndShown.{Stands, Goes, IsThere, DatagramTurnsAreShown, TimeoutTurnsAreShown}
+use Rattle.tftp_ends.specs.declared.phase.Dally.TheVariants.{Waited}
+use Rattle.tftp_ends.specs.declared.action.Response.TheVariants.{Retransmit}
+use Rattle.tftp_ends.specs.Action.{same_endpoint}
+use Rattle.tftp_ends.specs.Action.{timeout_response}
+use Rattle.tftp_ends.specs.Step.{after}
+use Rattle.tftp_rules.specs.EndShown.{DatagramTurnsAreShown, TimeoutTurnsAreShown}
 use Rattle.tftp_rules.proofs.Actions.{goes}
 use Rattle.tftp_rules.proofs.EndMoves.{from_response, gives_up, retries}
 use Rattle.tftp_rules.proofs.SaidLemmas.{says_spelled}

@@ -1,19 +1,13 @@
 -- The first datagram of a server's end, and what its source has left then. For EndOpenings and the crate
 -- tftp_promises.
-use Rattle.std.proofs.Common.{◌≡◌, ℕ, ◌*◌, ◌^◌, ◌<◌, List, [], ◌∷◌, drop, min, refl, arith, ◌-◌}
-use Rattle.std.specs.Prelude.{◌≢◌}
-use Rattle.std.proofs.lemmas.List.{length-take}
-use Rattle.tftp_wire.specs.declared.mode.Mode.{Mode}
+use Rattle.tftp_rules.proofs.Common.{◌≡◌, ℕ, ◌*◌, ◌^◌, ◌<◌, List, [], ◌∷◌, drop, refl, arith, ◌-◌, ◌≢◌, length-take}
+use Rattle.tftp_rules.proofs.Common.{Mode, Oack, IsValid, canonical, Known, DEFAULT_BLOCK, block, block_length}
+use Rattle.std.proofs.Common.{min}
 use Rattle.tftp_wire.specs.declared.packet.Packet.{Packet as WirePacket}
-use Rattle.tftp_wire.specs.declared.packet.Packet.TheVariants.{Data, Ack, Oack}
-use Rattle.tftp_wire.specs.Spelling.{IsValid, canonical}
-use Rattle.tftp_negotiate.specs.declared.known.Known.{Known}
-use Rattle.tftp_negotiate.specs.declared.limits.TheConstants.{DEFAULT_BLOCK}
+use Rattle.tftp_wire.specs.declared.packet.Packet.TheVariants.{Data, Ack}
 use Rattle.tftp_negotiate.specs.Agreed.{agreed_options}
-use Rattle.tftp_file.specs.Block.{block}
 use Rattle.tftp_ends.specs.declared.endpoint.Endpoint.{Endpoint}
 use Rattle.tftp_ends.specs.Opening.{serving_write}
-use Rattle.tftp_ends.specs.Step.{block_length}
 use Rattle.tftp_rules.specs.EndOpens.{AreGranted, sending}
 
 -- what the end of a read sends first: DATA 1, or the OACK of the agreed options

@@ -1,13 +1,11 @@
 -- An open end of the machine continues: what does not change, and what its datagrams imply stays true. For twelve
 -- other files and the crate tftp_player.
-use Rattle.std.proofs.Common.{◌≡◌, ◌≤◌, true, not, List, ◌++◌, Some, sym, ap, ◌∙◌, subst, inl, inr, rules}
-use Rattle.std.specs.Prelude.{◌≢◌}
-use Rattle.std.specs.List.{Contains}
+use Rattle.tftp_rules.proofs.Common.{◌≡◌, ◌≤◌, true, not, List, ◌++◌, Some, sym, ap, ◌∙◌, subst, inl, inr, rules, ◌≢◌}
+use Rattle.tftp_rules.proofs.Common.{Contains, Contains-append_cases, Endpoint, is_same, Elsewhere, Packet, Message}
+use Rattle.tftp_rules.proofs.Common.{Party, Machine, with_end, Network, Attests, HasReceived, IsSoundParty, Holds}
 use Rattle.std.proofs.lemmas.Bool.{cond-true, cond-false}
-use Rattle.std.proofs.lemmas.List.Elements.{Contains-append_cases}
-use Rattle.tftp_rules.specs.Machine.{Endpoint, is_same, Elsewhere, Packet, Message, Party, Machine, with_end, Network}
 use Rattle.tftp_rules.proofs.Endpoints.{cases_same, same_self, same_other}
-use Rattle.tftp_rules.specs.Facts.{Attests, IsServing, HasReceived, IsSoundParty, Holds}
+use Rattle.tftp_rules.specs.Facts.{IsServing}
 
 -- an open end x became y
 pub record Grows (x y : Party) : Type 0 where

@@ -1,13 +1,12 @@
 -- From wire text to the bytes of a file: a prefix on the wire is a prefix of the file. For NextBlocks and the crates
 -- tftp_player and tftp_promises.
-use Rattle.std.proofs.Common.{◌≡◌, ℕ, suc, zero, List, [], ◌∷◌, ◌++◌, sym, refl, ap, ◌∙◌, arith, append_assoc, length}
-use Rattle.std.proofs.Common.{replicate, rules}
-use Rattle.std.specs.Prelude.{◌≢◌, if◌then◌else◌}
-use Rattle.std.proofs.lemmas.List.{append-nil, length-append, nil_from_length}
-use Rattle.tftp_wire.specs.declared.mode.Mode.{Mode}
-use Rattle.tftp_wire.specs.declared.mode.Mode.TheVariants.{Octet, Netascii}
-use Rattle.tftp_file.specs.Block.{IsPrefixOf}
-use Rattle.tftp_file.specs.Netascii.{wire_byte, netascii_text, wire_text}
+use Rattle.tftp_rules.proofs.Common.{◌≡◌, ℕ, List, [], ◌∷◌, ◌++◌, sym, refl, ap, ◌∙◌, arith, append_assoc, length}
+use Rattle.tftp_rules.proofs.Common.{rules, ◌≢◌, if◌then◌else◌, append-nil, Mode, Octet, Netascii, IsPrefixOf}
+use Rattle.tftp_rules.proofs.Common.{wire_text}
+use Rattle.std.proofs.Common.{suc, zero}
+use Rattle.std.proofs.Common.{replicate}
+use Rattle.std.proofs.lemmas.List.{length-append, nil_from_length}
+use Rattle.tftp_file.specs.Netascii.{wire_byte, netascii_text}
 
 -- the wire text of a byte
 data ByteForm (x : ℕ) : Type 0 where

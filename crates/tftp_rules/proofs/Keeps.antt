@@ -1,14 +1,11 @@
 -- Each rule of the machine preserves the invariant. For five other files.
-use Rattle.std.proofs.Common.{◌≡◌, ◌+◌, true, false, [], ◌∷◌, ◌++◌, length, Some, None, sym, refl, ◌∙◌, arith, inl, inr}
-use Rattle.std.specs.Prelude.{if◌then◌else◌, nat_lt}
-use Rattle.std.proofs.lemmas.Bool.{true≢false, cases_Bool}
-use Rattle.tftp_negotiate.specs.declared.limits.TheConstants.{DEFAULT_BLOCK}
-use Rattle.tftp_file.specs.Block.{block}
-use Rattle.tftp_rules.specs.Machine.{Data, Ack, Oack, Error, Machine, with_end, Network}
-use Rattle.tftp_rules.specs.Rules.{Rule, Asks, Opens_plainly, Opens_with, Takes_oack, Takes_ack, Takes_data, Appends}
-use Rattle.tftp_rules.specs.Rules.{Sends_next, Completes, Fails, Fails_with, Fails_to_begin, Says_error, Repeats}
-use Rattle.tftp_rules.specs.Rules.{Strays, message, taken, Guard, after}
-use Rattle.tftp_rules.specs.Facts.{Holds}
+use Rattle.tftp_rules.proofs.Common.{◌≡◌, ◌+◌, true, false, [], ◌∷◌, ◌++◌, length, Some, None, sym, refl, ◌∙◌, arith}
+use Rattle.tftp_rules.proofs.Common.{inl, inr, if◌then◌else◌, nat_lt, true≢false, cases_Bool, DEFAULT_BLOCK, block}
+use Rattle.tftp_rules.proofs.Common.{Data, Ack, Error, Machine, with_end, Network, Rule, Asks, Opens_plainly}
+use Rattle.tftp_rules.proofs.Common.{Opens_with, Takes_oack, Takes_ack, Takes_data, Appends, Sends_next, Completes}
+use Rattle.tftp_rules.proofs.Common.{Fails, Fails_with, Fails_to_begin, Says_error, Repeats, Strays, message, taken}
+use Rattle.tftp_rules.proofs.Common.{Guard, after, Holds}
+use Rattle.tftp_rules.specs.Machine.{Oack}
 use Rattle.tftp_rules.proofs.Steps.{own_server, own_of, server_end}
 use Rattle.tftp_rules.proofs.Attesting.{attested_one, attested_none}
 use Rattle.tftp_rules.proofs.Opening.{asks, opens, accepting, takes, attested_first}

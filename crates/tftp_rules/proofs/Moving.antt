@@ -1,13 +1,10 @@
 -- A receiver that stores a block, a sender that sends the next one, an end that fails. For Keeps.
-use Rattle.std.proofs.Common.{◌≡◌, ℕ, ◌+◌, ◌*◌, ◌≤◌, true, false, List, [], ◌∷◌, ◌++◌, length, take, Some, None, sym}
-use Rattle.std.proofs.Common.{refl, ◌∙◌, subst, arith, inl, inr, rules}
-use Rattle.std.specs.Prelude.{◌≢◌, nat_lt}
-use Rattle.std.specs.List.{Contains}
-use Rattle.std.proofs.lemmas.Bool.{true≢false, cases_Bool, ltb-true, ltb-false}
-use Rattle.tftp_file.specs.Block.{block_count, IsPrefixOf}
-use Rattle.tftp_rules.specs.Machine.{Endpoint, Elsewhere, Data, Ack, Message, Party, Machine, with_end, Network}
-use Rattle.tftp_rules.specs.Rules.{Fails, message, IsLive, IsNext, IsAcked, after}
-use Rattle.tftp_rules.specs.Facts.{Attests, HasReceived, Holds}
+use Rattle.tftp_rules.proofs.Common.{◌≡◌, ℕ, ◌+◌, ◌*◌, ◌≤◌, true, false, List, [], ◌∷◌, ◌++◌, length, take, Some, None}
+use Rattle.tftp_rules.proofs.Common.{sym, refl, ◌∙◌, subst, arith, inl, inr, rules, ◌≢◌, nat_lt, Contains, true≢false}
+use Rattle.tftp_rules.proofs.Common.{cases_Bool, ltb-true, ltb-false, block_count, IsPrefixOf, Endpoint, Elsewhere}
+use Rattle.tftp_rules.proofs.Common.{Data, Ack, Message, Party, Machine, with_end, Network, Fails, message, after}
+use Rattle.tftp_rules.proofs.Common.{Attests, HasReceived, Holds}
+use Rattle.tftp_rules.specs.Rules.{IsLive, IsNext, IsAcked}
 use Rattle.tftp_rules.proofs.Grows.{Grows, Grows-same, AllGrow-with, HasReceived-grows, IsSound-grows, kept}
 use Rattle.tftp_rules.proofs.Blocks.{prefix_by_take, take-block, last_block, full_block, count_is_past}
 use Rattle.tftp_rules.proofs.Steps.{one_sent, own_of, same_size, Moves, IsSound-moves, GoesOn, next_block}

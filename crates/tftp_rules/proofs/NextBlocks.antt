@@ -1,17 +1,14 @@
 -- The next block of a text: how long it is, and that it can be read.
 -- For StorableBlocks, and for the laws of worlds (tftp_player).
-use Rattle.std.proofs.lemmas.Grind.{common_steps}
-use Rattle.std.proofs.Common.{◌≡◌, ℕ, ◌+◌, ◌*◌, ◌-◌, ◌<◌, ◌≤◌, Bool, true, false, List, [], ◌∷◌, ◌++◌, length, drop}
-use Rattle.std.proofs.Common.{refl, sym, ap, ◌∙◌, subst, arith, inl, rules}
-use Rattle.std.specs.Prelude.{◌⊎◌, ◌&&◌, not, nat_lt}
-use Rattle.std.proofs.lemmas.List.{append-nil}
-use Rattle.tftp_wire.specs.declared.mode.Mode.{Mode}
-use Rattle.tftp_wire.specs.declared.mode.Mode.TheVariants.{Octet, Netascii}
-use Rattle.tftp_file.specs.Block.{block, block_count, Fits}
-use Rattle.tftp_file.specs.Netascii.{netascii_text, wire_text}
+use Rattle.tftp_rules.proofs.Common.{common_steps, ◌≡◌, ℕ, ◌+◌, ◌*◌, ◌-◌, ◌<◌, ◌≤◌, Bool, true, false, List, [], ◌∷◌}
+use Rattle.tftp_rules.proofs.Common.{◌++◌, length, drop, refl, sym, ap, ◌∙◌, subst, arith, inl, rules, ◌⊎◌, ◌&&◌}
+use Rattle.tftp_rules.proofs.Common.{nat_lt, append-nil, Mode, Octet, Netascii, block, block_count, Fits, wire_text}
+use Rattle.tftp_rules.proofs.Common.{is_readable}
+use Rattle.std.specs.Prelude.{not}
+use Rattle.tftp_file.specs.Netascii.{netascii_text}
 use Rattle.tftp_file.proofs.BlockLemmas.{last_short, others_full}
 use Rattle.tftp_file.proofs.CutLemmas.{begins_front}
-use Rattle.tftp_ends.specs.Text.{is_readable, begins_netascii, ends_in_cr}
+use Rattle.tftp_ends.specs.Text.{begins_netascii, ends_in_cr}
 use Rattle.tftp_ends.proofs.TextLemmas.{decoded_begins, decoded_ends}
 use Rattle.tftp_rules.proofs.Blocks.{length-block}
 use Rattle.tftp_rules.proofs.HostBytes.{wire_prefix}

@@ -1,18 +1,14 @@
 -- How far apart the numbers of an end and of its peer are, in every run of the guarded machine.
 -- For the laws of worlds on recovery and on blame (tftp_player).
-use Rattle.std.proofs.Common.{◌≡◌, ℕ, ◌+◌, ◌*◌, ◌<◌, ◌≤◌, Bool, true, false, not, List, [], ◌∷◌, length, Some, None}
-use Rattle.std.proofs.Common.{sym, refl, ap, ◌∙◌, arith, rules as std_rules}
-use Rattle.std.specs.Prelude.{◌≢◌, if◌then◌else◌}
+use Rattle.tftp_rules.proofs.Common.{◌≡◌, ℕ, ◌+◌, ◌*◌, ◌<◌, ◌≤◌, Bool, true, false, not, List, [], ◌∷◌, length, Some}
+use Rattle.tftp_rules.proofs.Common.{None, sym, refl, ap, ◌∙◌, arith, ◌≢◌, if◌then◌else◌, true≢false, ltb-true}
+use Rattle.tftp_rules.proofs.Common.{cases_eq, same_Some, DEFAULT_BLOCK, block, block_count, IsSoundParty, Holds}
+use Rattle.tftp_rules.proofs.Common.{Endpoint, Elsewhere, Data, Party, Machine, with_end, start, Network, Rule, Asks}
+use Rattle.tftp_rules.proofs.Common.{Opens_plainly, Opens_with, Takes_oack, Takes_ack, Takes_data, Appends, Sends_next}
+use Rattle.tftp_rules.proofs.Common.{Completes, Fails, Fails_with, Fails_to_begin, Says_error, Repeats, Strays, message}
+use Rattle.tftp_rules.proofs.Common.{party_after, Guard, after, IsLegal, run}
+use Rattle.std.proofs.Common.{rules as std_rules}
 use Rattle.std.proofs.Math.Nat.{div-lt_iff_lt-mul}
-use Rattle.std.proofs.lemmas.Bool.{true≢false, ltb-true, cases_eq}
-use Rattle.std.proofs.lemmas.Option.{same_Some}
-use Rattle.tftp_negotiate.specs.declared.limits.TheConstants.{DEFAULT_BLOCK}
-use Rattle.tftp_file.specs.Block.{block, block_count}
-use Rattle.tftp_rules.specs.Facts.{IsSoundParty, Holds}
-use Rattle.tftp_rules.specs.Machine.{Endpoint, Elsewhere, Data, Party, Machine, with_end, start, Network}
-use Rattle.tftp_rules.specs.Rules.{Rule, Asks, Opens_plainly, Opens_with, Takes_oack, Takes_ack, Takes_data, Appends}
-use Rattle.tftp_rules.specs.Rules.{Sends_next, Completes, Fails, Fails_with, Fails_to_begin, Says_error, Repeats}
-use Rattle.tftp_rules.specs.Rules.{Strays, message, party_after, Guard, after, IsLegal, run}
 use Rattle.tftp_rules.proofs.Blocks.{length-block}
 use Rattle.tftp_rules.proofs.Endpoints.{cases_same}
 use Rattle.tftp_rules.proofs.Grows.{Grows, AllGrow, AllGrow-with, with_at, with_other}

@@ -1,16 +1,12 @@
 -- A client's request, the opening of a server's end, and a client that accepts its peer. For Keeps and RecordedKept.
-use Rattle.std.proofs.Common.{◌≡◌, ℕ, ◌<◌, Bool, true, false, not, List, [], ◌∷◌, ◌++◌, Some, sym, refl, ap, ◌∙◌, arith}
-use Rattle.std.proofs.Common.{rules}
-use Rattle.std.specs.Prelude.{◌≢◌, if◌then◌else◌}
-use Rattle.std.specs.List.{Contains}
-use Rattle.std.proofs.lemmas.Bool.{true≢false}
-use Rattle.tftp_negotiate.specs.declared.limits.TheConstants.{DEFAULT_BLOCK}
+use Rattle.tftp_rules.proofs.Common.{◌≡◌, ℕ, ◌<◌, Bool, true, false, not, List, [], ◌∷◌, ◌++◌, Some, sym, refl, ap, ◌∙◌}
+use Rattle.tftp_rules.proofs.Common.{arith, rules, ◌≢◌, if◌then◌else◌, Contains, true≢false, DEFAULT_BLOCK, block}
+use Rattle.tftp_rules.proofs.Common.{Endpoint, At_server, Elsewhere, Packet, Request, Data, Ack, Message, Party}
+use Rattle.tftp_rules.proofs.Common.{Machine, with_end, Network, Asks, message, taken, opened, Guard, after, Attests}
+use Rattle.tftp_rules.proofs.Common.{Holds}
 use Rattle.tftp_wire.specs.declared.packet.Request.{Request as WireRequest}
-use Rattle.tftp_file.specs.Block.{block}
-use Rattle.tftp_rules.specs.Machine.{Endpoint, At_server, Elsewhere, Packet, Request, Data, Ack, Message, Party}
-use Rattle.tftp_rules.specs.Machine.{Machine, with_end, Network}
-use Rattle.tftp_rules.specs.Rules.{Asks, message, Waits, taken, opened, Guard, after}
-use Rattle.tftp_rules.specs.Facts.{Attests, IsServing, Holds}
+use Rattle.tftp_rules.specs.Rules.{Waits}
+use Rattle.tftp_rules.specs.Facts.{IsServing}
 use Rattle.tftp_rules.proofs.Grows.{Grows, AllGrow-with, kept}
 use Rattle.tftp_rules.proofs.Steps.{not-not, own_of, received_nothing}
 use Rattle.tftp_rules.proofs.Attesting.{attested_one}

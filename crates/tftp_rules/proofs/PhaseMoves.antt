@@ -1,43 +1,26 @@
 -- An end by its phase: a sender, a receiver, one that dallies. For EndTurns, WaitingMoves and the crates tftp_player
 -- and tftp_promises.
-use Rattle.std.proofs.Common.{◌≡◌, ℕ, ◌+◌, ◌/◌, ◌<◌, ◌≤◌, Bool, true, false, List, length, Option, Some, None, sym}
-use Rattle.std.proofs.Common.{refl, ap, ◌∙◌, arith, rules}
-use Rattle.std.specs.Prelude.{◌==◌, ◌&&◌, if◌then◌else◌, not, nat_lt, is_some}
-use Rattle.std.specs.List.{Contains}
+use Rattle.tftp_rules.proofs.Common.{◌≡◌, ℕ, ◌+◌, ◌<◌, ◌≤◌, Bool, true, false, List, length, Option, Some, None, sym}
+use Rattle.tftp_rules.proofs.Common.{refl, ap, ◌∙◌, arith, rules, ◌==◌, ◌&&◌, if◌then◌else◌, nat_lt, is_some, Contains}
+use Rattle.tftp_rules.proofs.Common.{true≢false, ltb-true, eqb-true, ltb-false, Read, Write, Oack, Spells, Files}
+use Rattle.tftp_rules.proofs.Common.{block_count, Holding, ErrorReply, Outcome, Sending, Receiving, Dallying, Terms}
+use Rattle.tftp_rules.proofs.Common.{Action, Respond, Send, Store, Response, Ignore, WrongPeer, ResendReply, Close}
+use Rattle.tftp_rules.proofs.Common.{Refuse, Complete, outcome_of, receiver_action, next_action, dally_response}
+use Rattle.tftp_rules.proofs.Common.{same_address, sender_action, Turn, Acts, is_readable, Endpoint, Message, Network}
+use Rattle.tftp_rules.proofs.Common.{Rule, message, said, EndView, OpenEnd, files_of, end_after, open_view, with_phase}
+use Rattle.tftp_rules.proofs.Common.{known_source, known_sink, EndKept, Stands, Goes, IsThere}
+use Rattle.std.proofs.Common.{◌/◌}
+use Rattle.std.specs.Prelude.{not}
 use Rattle.std.specs.Cmp.Lexicographic.{same_text}
-use Rattle.std.proofs.lemmas.Bool.{true≢false, ltb-true, eqb-true, ltb-false}
 use Rattle.tftp_wire.specs.declared.packet.Packet.{Packet as WirePacket}
-use Rattle.tftp_wire.specs.declared.packet.Packet.TheVariants.{Read, Write, Data, Ack, Error, Oack}
-use Rattle.tftp_wire.specs.Spelling.{Spells}
-use Rattle.tftp_file.specs.declared.files.Files.{Files}
-use Rattle.tftp_file.specs.Block.{block_count}
-use Rattle.tftp_file.specs.Sink.{Holding}
+use Rattle.tftp_wire.specs.declared.packet.Packet.TheVariants.{Data, Ack, Error}
 use Rattle.tftp_ends.specs.declared.phase.Dally.{Dally}
 use Rattle.tftp_ends.specs.declared.error_reply.ErrorReply.TheVariants as replies
-use Rattle.tftp_ends.specs.declared.error_reply.ErrorReply.{ErrorReply}
-use Rattle.tftp_ends.specs.declared.outcome.Outcome.{Outcome}
 use Rattle.tftp_ends.specs.declared.outcome.Outcome.TheVariants as outcomes
-use Rattle.tftp_ends.specs.declared.phase.Phase.TheVariants.{Sending, Receiving, Dallying}
-use Rattle.tftp_ends.specs.declared.phase.Terms.{Terms}
-use Rattle.tftp_ends.specs.declared.action.Action.{Action}
-use Rattle.tftp_ends.specs.declared.action.Action.TheVariants.{Respond, Send, Store}
-use Rattle.tftp_ends.specs.declared.action.Response.{Response}
-use Rattle.tftp_ends.specs.declared.action.Response.TheVariants.{Ignore, WrongPeer, ResendReply, Close, Refuse}
-use Rattle.tftp_ends.specs.declared.action.Response.TheVariants.{Complete}
-use Rattle.tftp_ends.specs.End.{outcome_of}
-use Rattle.tftp_ends.specs.Receiver.{receiver_action, data_action, next_action, dally_response}
-use Rattle.tftp_ends.specs.Action.{same_address, same_endpoint}
-use Rattle.tftp_ends.specs.Sender.{sender_action, acked_action, illegal_action}
-use Rattle.tftp_ends.specs.Step.{Turn, Acts}
-use Rattle.tftp_ends.specs.Text.{is_readable}
-use Rattle.tftp_rules.specs.Machine.{Endpoint, Data as Says_data, Ack as Says_ack, Message, Network}
-use Rattle.tftp_rules.specs.Rules.{Rule, message}
-use Rattle.tftp_rules.specs.Said.{said}
-use Rattle.tftp_rules.specs.Shows.{EndView}
-use Rattle.tftp_rules.specs.OpenEnds.{OpenEnd, files_of, end_after, open_view, with_phase}
-use Rattle.tftp_rules.specs.KnownFiles.{known_source, known_sink}
-use Rattle.tftp_rules.specs.EndKept.{EndKept}
-use Rattle.tftp_rules.specs.EndShown.{Stands, Goes, IsThere}
+use Rattle.tftp_ends.specs.Receiver.{data_action}
+use Rattle.tftp_ends.specs.Action.{same_endpoint}
+use Rattle.tftp_ends.specs.Sender.{acked_action, illegal_action}
+use Rattle.tftp_rules.specs.Machine.{Data as Says_data, Ack as Says_ack}
 use Rattle.tftp_rules.proofs.Actions.{stores, refuses_next}
 use Rattle.tftp_rules.proofs.SaidLemmas.{data_of}
 use Rattle.tftp_rules.proofs.EndMoves.{from_response, ignores, answers_wrong_peer, answers_again, gives_up, refuses_now}

@@ -1,19 +1,14 @@
 -- An end of the server was opened without options exactly if the first of its datagrams is no OACK.
 -- For BlamelessActions, and for the laws on blame of worlds (tftp_player) and of programs (tftp_promises).
-use Rattle.std.proofs.Common.{◌≡◌, Bool, true, false, List, [], ◌∷◌, ◌++◌, Option, Some, None, refl, sym}
+use Rattle.tftp_rules.proofs.Common.{◌≡◌, Bool, true, false, List, [], ◌∷◌, ◌++◌, Option, Some, None, refl, sym, ◌≢◌}
+use Rattle.tftp_rules.proofs.Common.{if◌then◌else◌, Contains, true≢false, Terms, Attests, Holds, Endpoint, At_server}
+use Rattle.tftp_rules.proofs.Common.{Elsewhere, Packet, Request, Data, Ack, Error, Message, Party, Machine, Network}
+use Rattle.tftp_rules.proofs.Common.{is_same, with_end, start, Rule, message, Guard, after, IsLegal, run, said}
 use Rattle.std.proofs.Common.{rules as std_rules}
-use Rattle.std.specs.Prelude.{◌≢◌, if◌then◌else◌}
-use Rattle.std.specs.List.{Contains}
-use Rattle.std.proofs.lemmas.Bool.{true≢false}
 use Rattle.std.proofs.lemmas.List.Elements.{Contains-append_right}
 use Rattle.tftp_wire.specs.declared.packet.Packet.{Packet as WirePacket}
 use Rattle.tftp_wire.specs.declared.packet.Packet.TheVariants as wire
-use Rattle.tftp_ends.specs.declared.phase.Terms.{Terms}
-use Rattle.tftp_rules.specs.Facts.{Attests, Holds}
-use Rattle.tftp_rules.specs.Machine.{Endpoint, At_server, Elsewhere, Packet, Request, Data, Ack, Oack, Error, Message}
-use Rattle.tftp_rules.specs.Machine.{Party, Machine, Network, is_same, with_end, start}
-use Rattle.tftp_rules.specs.Rules.{Rule, message, Guard, after, IsLegal, run}
-use Rattle.tftp_rules.specs.Said.{said}
+use Rattle.tftp_rules.specs.Machine.{Oack}
 use Rattle.tftp_rules.proofs.ActionCases.{IsPlainAnswer}
 use Rattle.tftp_rules.proofs.Endpoints.{cases_same, same_other}
 use Rattle.tftp_rules.proofs.Grows.{with_at, with_other}

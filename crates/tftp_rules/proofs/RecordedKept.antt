@@ -1,19 +1,16 @@
 -- Each rule of the machine preserves the record of the datagrams sent. For `every_run_is_safe` and Refines.
-use Rattle.std.proofs.lemmas.Grind.{common_steps}
-use Rattle.std.proofs.Common.{◌≡◌, ℕ, ◌+◌, Bool, true, false, not, List, [], ◌∷◌, ◌++◌, length, Some, sym, refl, ap}
-use Rattle.std.proofs.Common.{◌∙◌, subst, arith, inl, inr, rules as std_rules}
-use Rattle.std.specs.Prelude.{◌≢◌, if◌then◌else◌, nat_lt}
-use Rattle.std.specs.List.{Contains}
-use Rattle.std.proofs.lemmas.Bool.{true≢false, cases_eq}
-use Rattle.std.proofs.lemmas.List.Elements.{Contains-append_cases, Contains-append_left, Contains-push}
-use Rattle.tftp_negotiate.specs.declared.limits.TheConstants.{DEFAULT_BLOCK}
-use Rattle.tftp_file.specs.Block.{block, block_count}
-use Rattle.tftp_rules.specs.Machine.{Endpoint, Elsewhere, Packet, Request, Data, Ack, Oack, Error, Message, Party}
-use Rattle.tftp_rules.specs.Machine.{Machine, with_end, start, Network}
-use Rattle.tftp_rules.specs.Rules.{Rule, Asks, Opens_plainly, Opens_with, Takes_oack, Takes_ack, Takes_data, Appends}
-use Rattle.tftp_rules.specs.Rules.{Sends_next, Completes, Fails, Fails_with, Fails_to_begin, Says_error, Repeats}
-use Rattle.tftp_rules.specs.Rules.{Strays, message, Waits, taken, opened, asking, Guard, after, IsLegal, run}
-use Rattle.tftp_rules.specs.Facts.{Holds}
+use Rattle.tftp_rules.proofs.Common.{common_steps, ◌≡◌, ℕ, ◌+◌, Bool, true, false, not, List, [], ◌∷◌, ◌++◌, length}
+use Rattle.tftp_rules.proofs.Common.{Some, sym, refl, ap, ◌∙◌, subst, arith, inl, inr, ◌≢◌, if◌then◌else◌, nat_lt}
+use Rattle.tftp_rules.proofs.Common.{Contains, true≢false, cases_eq, Contains-append_cases, DEFAULT_BLOCK, block}
+use Rattle.tftp_rules.proofs.Common.{block_count, Endpoint, Elsewhere, Packet, Request, Data, Ack, Error, Message}
+use Rattle.tftp_rules.proofs.Common.{Party, Machine, with_end, start, Network, Rule, Asks, Opens_plainly, Opens_with}
+use Rattle.tftp_rules.proofs.Common.{Takes_oack, Takes_ack, Takes_data, Appends, Sends_next, Completes, Fails}
+use Rattle.tftp_rules.proofs.Common.{Fails_with, Fails_to_begin, Says_error, Repeats, Strays, message, taken, opened}
+use Rattle.tftp_rules.proofs.Common.{asking, Guard, after, IsLegal, run, Holds}
+use Rattle.std.proofs.Common.{rules as std_rules}
+use Rattle.std.proofs.lemmas.List.Elements.{Contains-append_left, Contains-push}
+use Rattle.tftp_rules.specs.Machine.{Oack}
+use Rattle.tftp_rules.specs.Rules.{Waits}
 use Rattle.tftp_rules.specs.Recorded.{IsRecorded, IsFirstAck, AreRecorded}
 use Rattle.tftp_rules.proofs.Endpoints.{cases_same}
 use Rattle.tftp_rules.proofs.Grows.{with_at, with_other}

@@ -1,20 +1,20 @@
 -- What is shown stays shown after a step, an opening or a datagram. For four functions, Actions, ViewSafe and the
 -- crates tftp_player and tftp_promises.
-use Rattle.std.proofs.Common.{◌≡◌, ℕ, Bool, true, false, List, [], ◌∷◌, ◌++◌, length, set, Some, sym, refl, ap, ◌∙◌}
-use Rattle.std.proofs.Common.{subst, inl, inr, rules}
-use Rattle.std.specs.Prelude.{◌≢◌, ◌≤◌, ◌⊎◌, slice_get}
-use Rattle.std.proofs.lemmas.Bool.{cases_Bool}
-use Rattle.tftp_rules.specs.Machine.{Endpoint, Message, Party, nobody, Machine, start, Network}
-use Rattle.tftp_wire.specs.Spelling.{Spells}
+use Rattle.tftp_rules.proofs.Common.{◌≡◌, ℕ, Bool, true, false, List, [], ◌∷◌, ◌++◌, length, set, Some, sym, refl, ap}
+use Rattle.tftp_rules.proofs.Common.{◌∙◌, subst, inl, inr, rules, ◌≢◌, ◌⊎◌, slice_get, cases_Bool, Endpoint, Message}
+use Rattle.tftp_rules.proofs.Common.{Party, Machine, start, Network, Spells, Holds, Rule, Asks, Opens_plainly}
+use Rattle.tftp_rules.proofs.Common.{Opens_with, actor, Guard, party_after, after, IsLegal, run, EndView, Matches}
+use Rattle.tftp_rules.proofs.Common.{Shows, IsShownAt, IsShownWithin, ActInTurn, party_then, sent_by}
+use Rattle.std.specs.Prelude.{◌≤◌}
+use Rattle.tftp_rules.specs.Machine.{nobody}
 use Rattle.tftp_wire.specs.declared.packet.Packet.{Packet as WirePacket}
 use Rattle.tftp_wire.specs.declared.packet.Request.{Request as WireRequest}
-use Rattle.tftp_rules.specs.Facts.{Holds}
 use Rattle.tftp_rules.specs.Recorded.{AreRecorded}
-use Rattle.tftp_rules.specs.Rules.{Rule, Asks, Opens_plainly, Opens_with, actor, MayAct, Guard, OpensNoDuplicate}
-use Rattle.tftp_rules.specs.Rules.{AreOver, packets, party_after, after, IsLegal, run}
-use Rattle.tftp_rules.specs.Shows.{EndView, party_of, Matches, requested, answered_by, HasRequest, IsInService}
+use Rattle.tftp_rules.specs.Rules.{MayAct, OpensNoDuplicate}
+use Rattle.tftp_rules.specs.Rules.{AreOver, packets}
+use Rattle.tftp_rules.specs.Shows.{party_of, requested, answered_by, HasRequest, IsInService}
 use Rattle.tftp_rules.specs.Shows.{AreApart, NoneAt}
-use Rattle.tftp_rules.specs.Shows.{Shows, IsShownAt, IsShownWithin, IsShown, ActInTurn, party_then, sent_by, OpensEnd}
+use Rattle.tftp_rules.specs.Shows.{IsShown, OpensEnd}
 use Rattle.tftp_rules.specs.Shows.{Speaks, NoneAnswers, AsksUnanswered}
 use Rattle.tftp_rules.proofs.Acting.{Unshown, with_unshown, KeepsOn, act_in_turn}
 use Rattle.tftp_rules.proofs.Endpoints.{cases_same}

@@ -1,19 +1,15 @@
 -- What each run of the guarded machine keeps: how its ends go on, and where requests are sent.
 -- For the laws of worlds on recovery and on blame (tftp_player).
-use Rattle.std.proofs.Common.{◌≡◌, ℕ, ◌≤◌, Bool, true, false, not, List, [], ◌∷◌, ◌++◌, Some, sym, refl, ap, ◌∙◌, subst}
-use Rattle.std.proofs.Common.{arith, inl, inr, rules as std_rules}
-use Rattle.std.specs.Prelude.{◌≢◌, ◌⊎◌, if◌then◌else◌}
-use Rattle.std.specs.List.{Contains}
-use Rattle.std.proofs.lemmas.Bool.{true≢false}
-use Rattle.std.proofs.lemmas.List.Elements.{Contains-append_cases}
-use Rattle.tftp_negotiate.specs.declared.limits.TheConstants.{DEFAULT_BLOCK}
-use Rattle.tftp_file.specs.Block.{block, Fits}
-use Rattle.tftp_rules.specs.Facts.{Holds}
-use Rattle.tftp_rules.specs.Machine.{Endpoint, Elsewhere, Packet, Request, Data, Ack, Oack, Error, Message, Party, Machine}
-use Rattle.tftp_rules.specs.Machine.{with_end, start, Network}
-use Rattle.tftp_rules.specs.Rules.{Rule, Asks, Opens_plainly, Opens_with, Takes_oack, Takes_ack, Takes_data, Appends}
-use Rattle.tftp_rules.specs.Rules.{Sends_next, Completes, Fails, Fails_with, Fails_to_begin, Says_error, Repeats}
-use Rattle.tftp_rules.specs.Rules.{Strays, actor, party_after, Guard, after, IsLegal, run, HasText}
+use Rattle.tftp_rules.proofs.Common.{◌≡◌, ℕ, ◌≤◌, Bool, true, false, not, List, [], ◌∷◌, ◌++◌, Some, sym, refl, ap, ◌∙◌}
+use Rattle.tftp_rules.proofs.Common.{subst, arith, inl, inr, ◌≢◌, ◌⊎◌, if◌then◌else◌, Contains, true≢false}
+use Rattle.tftp_rules.proofs.Common.{Contains-append_cases, DEFAULT_BLOCK, block, Fits, Holds, Endpoint, Elsewhere}
+use Rattle.tftp_rules.proofs.Common.{Packet, Request, Data, Ack, Error, Message, Party, Machine, with_end, start}
+use Rattle.tftp_rules.proofs.Common.{Network, Rule, Asks, Opens_plainly, Opens_with, Takes_oack, Takes_ack, Takes_data}
+use Rattle.tftp_rules.proofs.Common.{Appends, Sends_next, Completes, Fails, Fails_with, Fails_to_begin, Says_error}
+use Rattle.tftp_rules.proofs.Common.{Repeats, Strays, actor, party_after, Guard, after, IsLegal, run}
+use Rattle.std.proofs.Common.{rules as std_rules}
+use Rattle.tftp_rules.specs.Machine.{Oack}
+use Rattle.tftp_rules.specs.Rules.{HasText}
 use Rattle.tftp_rules.proofs.Endpoints.{cases_same}
 use Rattle.tftp_rules.proofs.Grows.{Grows, Grows-same, AllGrow, AllGrow-with, with_at, with_other}
 use Rattle.tftp_rules.proofs.Keeps.{keeps}

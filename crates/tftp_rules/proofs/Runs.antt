@@ -1,9 +1,8 @@
 -- Every run of the machine preserves the invariant, and the invariant implies that it is safe. For
 -- `every_run_is_safe`, four other files and the crate tftp_player.
-use Rattle.std.proofs.Common.{◌≡◌, List, [], ◌∷◌, ◌++◌, refl, rules as std_rules}
-use Rattle.tftp_rules.specs.Machine.{Machine, start, Network}
-use Rattle.tftp_rules.specs.Rules.{Rule, IsLegal, run, after}
-use Rattle.tftp_rules.specs.Facts.{Holds}
+use Rattle.tftp_rules.proofs.Common.{◌≡◌, List, [], ◌∷◌, ◌++◌, refl, Machine, start, Network, Rule, IsLegal, run, after}
+use Rattle.tftp_rules.proofs.Common.{Holds}
+use Rattle.std.proofs.Common.{rules as std_rules}
 use Rattle.tftp_rules.specs.MachineSafety.{IsSafeMachine}
 use Rattle.tftp_rules.proofs.Keeps.{keeps}
 

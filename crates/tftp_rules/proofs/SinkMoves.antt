@@ -1,43 +1,28 @@
 -- A receiver whose sink stores a block or commits. For BlamelessActions, PhaseMoves, WaitingMoves and the crate
 -- tftp_player.
-use Rattle.std.proofs.Common.{◌≡◌, ℕ, ◌^◌, ◌<◌, Bool, true, false, List, [], ◌∷◌, ◌++◌, length, set, Some, Result, Ok}
-use Rattle.std.proofs.Common.{Err, sym, refl, ap, ◌∙◌, subst, inl, inr, append_assoc, rules}
-use Rattle.std.specs.Prelude.{◌&&◌, if◌then◌else◌, not, nat_lt}
-use Rattle.std.proofs.lemmas.Bool.{true≢false, cases_Bool}
-use Rattle.std.proofs.lemmas.List.{append-nil}
-use Rattle.std.proofs.lemmas.Option.{same_Some}
-use Rattle.tftp_wire.specs.declared.mode.Mode.{Mode}
-use Rattle.tftp_wire.specs.declared.mode.Mode.TheVariants.{Octet, Netascii}
+use Rattle.tftp_rules.proofs.Common.{◌≡◌, ℕ, ◌^◌, ◌<◌, Bool, true, false, List, [], ◌∷◌, ◌++◌, length, set, Some}
+use Rattle.tftp_rules.proofs.Common.{Result, Ok, Err, sym, refl, ap, ◌∙◌, subst, inl, inr, append_assoc, rules, ◌&&◌}
+use Rattle.tftp_rules.proofs.Common.{if◌then◌else◌, nat_lt, true≢false, cases_Bool, append-nil, same_Some, Mode, Octet}
+use Rattle.tftp_rules.proofs.Common.{Netascii, StoreFault, Files, Source, Sink, IsPrefixOf, wire_text, Holding}
+use Rattle.tftp_rules.proofs.Common.{SinkMeaning, SourceMeaning, ErrorReply, Outcome, Fresh, Phase, Receiving, Dallying}
+use Rattle.tftp_rules.proofs.Common.{Terms, EndState, is_sender, is_complete, Turn, StoresIn, sent_turn, refused_turn}
+use Rattle.tftp_rules.proofs.Common.{is_readable, Endpoint, Error, Message, Network, Rule, message, EndView}
+use Rattle.tftp_rules.proofs.Common.{IsShownWithin, OpenEnd, files_of, end_after, goes_on, has_failed, open_view}
+use Rattle.tftp_rules.proofs.Common.{known_source, known_sink, EndKept, PhaseKept, Goes}
+use Rattle.std.specs.Prelude.{not}
 use Rattle.tftp_wire.specs.declared.packet.Packet.TheVariants.{Ack}
-use Rattle.tftp_file.specs.declared.fault.StoreFault.{StoreFault}
 use Rattle.tftp_file.specs.declared.fault.StoreFault.TheVariants as faults
-use Rattle.tftp_file.specs.declared.files.Files.{Files}
-use Rattle.tftp_file.specs.declared.files.Files.TheVariants.{Source, Sink}
-use Rattle.tftp_file.specs.Block.{IsPrefixOf}
-use Rattle.tftp_file.specs.Netascii.{wire_text}
-use Rattle.tftp_file.specs.Sink.{Holding, SinkMeaning, UnlessArmed, Appends, AppendsFreely, CommitsFreely, KeptPrefix}
+use Rattle.tftp_file.specs.Sink.{UnlessArmed, Appends, AppendsFreely, CommitsFreely, KeptPrefix}
 use Rattle.tftp_file.specs.Sink.{disarmed}
-use Rattle.tftp_file.specs.Source.{SourceMeaning}
-use Rattle.tftp_ends.specs.declared.error_reply.ErrorReply.{ErrorReply}
 use Rattle.tftp_ends.specs.declared.error_reply.ErrorReply.TheVariants as replies
-use Rattle.tftp_ends.specs.declared.outcome.Outcome.{Outcome}
 use Rattle.tftp_ends.specs.declared.outcome.Outcome.TheVariants as outcomes
-use Rattle.tftp_ends.specs.declared.phase.Dally.TheVariants.{Fresh}
-use Rattle.tftp_ends.specs.declared.phase.Phase.{Phase}
-use Rattle.tftp_ends.specs.declared.phase.Phase.TheVariants.{Receiving, Dallying}
-use Rattle.tftp_ends.specs.declared.phase.Terms.{Terms}
-use Rattle.tftp_ends.specs.End.{EndState, is_sender, is_complete, number_of}
-use Rattle.tftp_ends.specs.Step.{Done, Turn, Appended, Committed, GoesOn, Stores, StoresIn, sent_turn, refused_turn}
+use Rattle.tftp_ends.specs.End.{number_of}
+use Rattle.tftp_ends.specs.Step.{Done, Appended, Committed, GoesOn, Stores}
 use Rattle.tftp_ends.specs.Step.{committed_turn, commit_reply, holding, ack_bytes}
-use Rattle.tftp_ends.specs.Text.{Decoded, is_readable, ends_in_cr}
-use Rattle.tftp_rules.specs.Machine.{Endpoint, Ack as Says_ack, Error, Message, Network}
-use Rattle.tftp_rules.specs.Rules.{Rule, message}
-use Rattle.tftp_rules.specs.Shows.{EndView, IsShownWithin}
-use Rattle.tftp_rules.specs.OpenEnds.{OpenEnd, files_of, holding_of, end_after, goes_on, text_of as text_of_end}
-use Rattle.tftp_rules.specs.OpenEnds.{has_failed, open_view}
-use Rattle.tftp_rules.specs.KnownFiles.{known_source, known_sink}
-use Rattle.tftp_rules.specs.EndKept.{EndKept, HeldBackFits, PhaseKept}
-use Rattle.tftp_rules.specs.EndShown.{Goes}
+use Rattle.tftp_ends.specs.Text.{Decoded, ends_in_cr}
+use Rattle.tftp_rules.specs.Machine.{Ack as Says_ack}
+use Rattle.tftp_rules.specs.OpenEnds.{holding_of, text_of as text_of_end}
+use Rattle.tftp_rules.specs.EndKept.{HeldBackFits}
 use Rattle.tftp_rules.proofs.StoredTexts.{stored_more, stored_some}
 use Rattle.tftp_rules.proofs.SaidLemmas.{spells_own}
 use Rattle.tftp_rules.proofs.EndMoves.{error_says, going_live}

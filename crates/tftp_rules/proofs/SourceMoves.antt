@@ -1,39 +1,27 @@
 -- A sender whose source gives the next block. For BlamelessTurns, PhaseMoves, WaitingMoves and the crates tftp_player
 -- and tftp_promises.
-use Rattle.std.proofs.Common.{◌≡◌, ℕ, ◌+◌, ◌*◌, ◌-◌, ◌^◌, ◌<◌, ◌≤◌, Bool, true, false, List, [], ◌∷◌, length, take}
-use Rattle.std.proofs.Common.{drop, min, Some, Result, Ok, Err, sym, refl, ap, ◌∙◌, subst, arith, inl, inr, rules}
-use Rattle.std.specs.Prelude.{◌≢◌, ◌⊎◌, if◌then◌else◌}
-use Rattle.std.specs.List.{Contains}
-use Rattle.std.proofs.lemmas.Bool.{true≢false, eq-eqb}
-use Rattle.std.proofs.lemmas.List.{length-drop, length-take, take_min, drop_min, drop-drop}
-use Rattle.std.proofs.lemmas.Option.{same_Some}
-use Rattle.tftp_wire.specs.declared.limits.TheConstants.{MAX_BLOCK}
+use Rattle.tftp_rules.proofs.Common.{◌≡◌, ℕ, ◌+◌, ◌*◌, ◌-◌, ◌^◌, ◌<◌, ◌≤◌, Bool, true, false, List, [], ◌∷◌, length}
+use Rattle.tftp_rules.proofs.Common.{take, drop, Some, Result, Ok, Err, sym, refl, ap, ◌∙◌, subst, arith, inl, inr}
+use Rattle.tftp_rules.proofs.Common.{rules, ◌≢◌, ◌⊎◌, if◌then◌else◌, Contains, true≢false, eq-eqb, length-take}
+use Rattle.tftp_rules.proofs.Common.{same_Some, MAX_BLOCK, IsValid, SourceMeaning, Files, Source, Sink, block}
+use Rattle.tftp_rules.proofs.Common.{block_count, Fits, Holding, SinkMeaning, Sending, Terms, Complete, EndState}
+use Rattle.tftp_rules.proofs.Common.{is_sender, Turn, response_turn, SendsFrom, sent_turn, refused_turn, block_length}
+use Rattle.tftp_rules.proofs.Common.{after_turn, with_position, Endpoint, Message, Network, Rule, message, said}
+use Rattle.tftp_rules.proofs.Common.{EndView, OpenEnd, files_of, in_state, end_after, open_view, with_phase}
+use Rattle.tftp_rules.proofs.Common.{known_source, known_sink, EndKept, Stands, Goes}
+use Rattle.std.proofs.Common.{min}
+use Rattle.std.proofs.lemmas.List.{length-drop, take_min, drop_min, drop-drop}
 use Rattle.tftp_wire.specs.declared.packet.Packet.TheVariants.{Data}
-use Rattle.tftp_wire.specs.Spelling.{IsValid}
 use Rattle.tftp_file.specs.declared.fault.FileFault.{FileFault}
-use Rattle.tftp_file.specs.Source.{SourceMeaning, Fills}
+use Rattle.tftp_file.specs.Source.{Fills}
 use Rattle.tftp_file.specs.declared.fault.FileFault.TheVariants as file_faults
-use Rattle.tftp_file.specs.declared.files.Files.{Files}
-use Rattle.tftp_file.specs.declared.files.Files.TheVariants.{Source, Sink}
-use Rattle.tftp_file.specs.Block.{block, block_count, Fits}
-use Rattle.tftp_file.specs.Sink.{Holding, SinkMeaning}
 use Rattle.tftp_ends.specs.declared.error_reply.ErrorReply.TheVariants as replies
 use Rattle.tftp_ends.specs.declared.outcome.Outcome.TheVariants as outcomes
-use Rattle.tftp_ends.specs.declared.phase.Phase.TheVariants.{Sending}
-use Rattle.tftp_ends.specs.declared.phase.Terms.{Terms}
-use Rattle.tftp_ends.specs.declared.action.Response.TheVariants.{Complete}
-use Rattle.tftp_ends.specs.End.{EndState, is_sender}
-use Rattle.tftp_ends.specs.Step.{Turn, response_turn, after, Sends, SendsFrom, sent_turn, refused_turn, data_bytes}
-use Rattle.tftp_ends.specs.Step.{block_length, filled_turn, result_count_is, after_turn, with_position}
-use Rattle.tftp_rules.specs.Machine.{Endpoint, Ack as Says_ack, Message, Network}
-use Rattle.tftp_rules.specs.Rules.{Rule, message}
-use Rattle.tftp_rules.specs.Said.{said}
-use Rattle.tftp_rules.specs.Shows.{EndView}
-use Rattle.tftp_rules.specs.OpenEnds.{OpenEnd, files_of, holding_of, in_state, end_after, text_of as text_of_end}
-use Rattle.tftp_rules.specs.OpenEnds.{received_text, open_view, with_phase}
-use Rattle.tftp_rules.specs.KnownFiles.{known_source, known_sink}
-use Rattle.tftp_rules.specs.EndKept.{EndKept}
-use Rattle.tftp_rules.specs.EndShown.{Stands, Goes}
+use Rattle.tftp_ends.specs.Step.{after, Sends, data_bytes}
+use Rattle.tftp_ends.specs.Step.{filled_turn, result_count_is}
+use Rattle.tftp_rules.specs.Machine.{Ack as Says_ack}
+use Rattle.tftp_rules.specs.OpenEnds.{holding_of, text_of as text_of_end}
+use Rattle.tftp_rules.specs.OpenEnds.{received_text}
 use Rattle.tftp_rules.proofs.Actions.{sends, completes}
 use Rattle.tftp_rules.proofs.SaidLemmas.{spells_own}
 

@@ -1,9 +1,8 @@
 -- Examples of the standards, computed from the definitions; no proof cites them.
-use Rattle.std.proofs.Common.{◌≡◌, [], ◌∷◌, refl}
+use Rattle.tftp_rules.proofs.Common.{◌≡◌, [], ◌∷◌, refl, oack_size}
 use Rattle.std.specs.Prelude.{codes}
 use Rattle.std.specs.Fmt.{digits}
 use Rattle.tftp_negotiate.specs.Options.{name_of, number_of}
-use Rattle.tftp_rules.specs.Said.{oack_size}
 
 -- the block size of the standard's example, granted (RFC 2348, "Blocksize Option Specification")
 example_size : oack_size (record { name = codes "blksize"; value = codes "1428" } ∷ []) ≡ 1428

@@ -1,14 +1,11 @@
 -- Small facts on rules: whose datagram one is, and the hosts. For 13 other files and the crates tftp_player and
 -- tftp_promises.
-use Rattle.std.proofs.Common.{◌≡◌, ℕ, ◌+◌, ◌*◌, ◌<◌, ◌≤◌, Bool, true, false, not, List, [], ◌∷◌, length, take, Some}
-use Rattle.std.proofs.Common.{None, sym, refl, ap, ◌∙◌, arith, rules}
-use Rattle.std.specs.Prelude.{◌≢◌}
-use Rattle.std.specs.List.{Contains}
-use Rattle.std.proofs.lemmas.Bool.{true≢false}
-use Rattle.tftp_file.specs.Block.{block}
-use Rattle.tftp_rules.specs.Machine.{Endpoint, At_server, At_client, Elsewhere, Message, Party, Machine, Network}
+use Rattle.tftp_rules.proofs.Common.{◌≡◌, ℕ, ◌+◌, ◌*◌, ◌<◌, ◌≤◌, Bool, true, false, not, List, [], ◌∷◌, length, take}
+use Rattle.tftp_rules.proofs.Common.{Some, None, sym, refl, ap, ◌∙◌, arith, rules, ◌≢◌, Contains, true≢false, block}
+use Rattle.tftp_rules.proofs.Common.{Endpoint, At_server, At_client, Elsewhere, Message, Party, Machine, Network}
+use Rattle.tftp_rules.proofs.Common.{HasReceived, IsSoundParty, Holds}
 use Rattle.tftp_rules.specs.Rules.{IsNext}
-use Rattle.tftp_rules.specs.Facts.{home, HasReceived, IsSoundParty, Holds}
+use Rattle.tftp_rules.specs.Facts.{home}
 use Rattle.tftp_rules.specs.MachineSafety.{Established}
 
 -- twice negated is the same

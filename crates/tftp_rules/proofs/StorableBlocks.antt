@@ -1,17 +1,10 @@
 -- The next block of a text is stored: it is short enough, not the last but one, and readable.
 -- For BlamelessActions.
-use Rattle.std.proofs.Common.{◌≡◌, ℕ, ◌+◌, ◌*◌, ◌<◌, ◌≤◌, Bool, true, false, not, List, ◌++◌, length, take, drop, Some}
-use Rattle.std.proofs.Common.{refl, sym, ap, ◌∙◌, arith, inl, inr, rules}
-use Rattle.std.specs.Prelude.{◌≢◌, ◌==◌, nat_lt, ◌&&◌}
-use Rattle.std.proofs.lemmas.Bool.{true≢false, eq-eqb}
+use Rattle.tftp_rules.proofs.Common.{◌≡◌, ℕ, ◌+◌, ◌*◌, ◌<◌, ◌≤◌, Bool, true, false, not, List, ◌++◌, length, take, drop}
+use Rattle.tftp_rules.proofs.Common.{Some, refl, sym, ap, ◌∙◌, arith, inl, inr, rules, ◌≢◌, ◌==◌, nat_lt, ◌&&◌}
+use Rattle.tftp_rules.proofs.Common.{true≢false, eq-eqb, Mode, block, block_count, Fits, wire_text, Terms}
+use Rattle.tftp_rules.proofs.Common.{is_wrong_peer, is_readable, Endpoint}
 use Rattle.std.proofs.lemmas.List.{take-append-drop}
-use Rattle.tftp_wire.specs.declared.mode.Mode.{Mode}
-use Rattle.tftp_file.specs.Block.{block, block_count, Fits}
-use Rattle.tftp_file.specs.Netascii.{wire_text}
-use Rattle.tftp_ends.specs.declared.phase.Terms.{Terms}
-use Rattle.tftp_ends.specs.Action.{is_wrong_peer}
-use Rattle.tftp_ends.specs.Text.{is_readable}
-use Rattle.tftp_rules.specs.Machine.{Endpoint}
 use Rattle.tftp_rules.proofs.Blocks.{count_is_past, take-block}
 use Rattle.tftp_rules.proofs.NextBlocks.{less, piece_readable, block_within, never_long, last_rest}
 

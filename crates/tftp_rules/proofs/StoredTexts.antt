@@ -1,12 +1,9 @@
 -- The wire text of what a receiver has stored, after more was stored. For NextBlocks, SinkMoves and the crate
 -- tftp_player.
-use Rattle.std.proofs.lemmas.Grind.{common_steps}
-use Rattle.std.proofs.Common.{◌≡◌, ℕ, List, ◌++◌, sym, refl, ap, ◌∙◌, append_assoc, arith}
+use Rattle.tftp_rules.proofs.Common.{common_steps, ◌≡◌, ℕ, List, ◌++◌, sym, refl, ap, ◌∙◌, append_assoc, arith, Mode}
+use Rattle.tftp_rules.proofs.Common.{Octet, Netascii, IsPrefixOf, wire_text}
 use Rattle.std.proofs.lemmas.List.Concat.{flat_map-append}
-use Rattle.tftp_wire.specs.declared.mode.Mode.{Mode}
-use Rattle.tftp_wire.specs.declared.mode.Mode.TheVariants.{Octet, Netascii}
-use Rattle.tftp_file.specs.Block.{IsPrefixOf}
-use Rattle.tftp_file.specs.Netascii.{wire_byte, wire_text}
+use Rattle.tftp_file.specs.Netascii.{wire_byte}
 
 -- the wire text of two parts is that of the first and then that of the second
 pub wire_text-append : (mode : Mode) (xs ys : List ℕ) →

@@ -1,22 +1,12 @@
 -- The terms that an end has after a turn: its own, or those of an answer.
 -- For PlainPeers, and for the laws of worlds on blame (tftp_player).
-use Rattle.std.proofs.Common.{◌≡◌, ℕ, Bool, false, List, Option, Some, None, subst, rules}
-use Rattle.std.proofs.lemmas.Option.{same_Some}
+use Rattle.tftp_rules.proofs.Common.{◌≡◌, ℕ, Bool, false, List, Option, Some, None, subst, rules, same_Some, Known}
+use Rattle.tftp_rules.proofs.Common.{Holding, SinkMeaning, SourceMeaning, Files, Action, Respond, Send, Store, Response}
+use Rattle.tftp_rules.proofs.Common.{Refuse, Accept, Terms, EndState, terms_of, Decodes, is_wrong_peer, datagram_action}
+use Rattle.tftp_rules.proofs.Common.{Turn, response_turn, timeout_turn, default_terms, agreed_terms, Endpoint}
 use Rattle.tftp_wire.specs.declared.packet.Packet.{Packet}
-use Rattle.tftp_negotiate.specs.declared.known.Known.{Known}
-use Rattle.tftp_file.specs.Sink.{Holding, SinkMeaning}
-use Rattle.tftp_file.specs.Source.{SourceMeaning}
-use Rattle.tftp_file.specs.declared.files.Files.{Files}
-use Rattle.tftp_ends.specs.declared.action.Action.{Action}
-use Rattle.tftp_ends.specs.declared.action.Action.TheVariants.{Respond, Send, Store}
-use Rattle.tftp_ends.specs.declared.action.Response.{Response}
-use Rattle.tftp_ends.specs.declared.action.Response.TheVariants.{Refuse, Accept}
-use Rattle.tftp_ends.specs.declared.phase.Terms.{Terms}
-use Rattle.tftp_ends.specs.End.{EndState, terms_of, Position}
-use Rattle.tftp_ends.specs.Action.{Decodes, is_wrong_peer, datagram_action}
-use Rattle.tftp_ends.specs.Step.{Turn, DatagramStep, response_turn, timeout_turn}
-use Rattle.tftp_ends.specs.Waiting.{default_terms, agreed_terms}
-use Rattle.tftp_rules.specs.Machine.{Endpoint}
+use Rattle.tftp_ends.specs.End.{Position}
+use Rattle.tftp_ends.specs.Step.{DatagramStep}
 use Rattle.tftp_rules.proofs.ActionCases.{IsPlainAnswer, HasTerms, MayTake, datagram_takes}
 use Rattle.tftp_rules.proofs.TurnCases.{TurnBy, Responds, Sends_data, Cannot_read, Has_stored, Has_all, Cannot_append}
 use Rattle.tftp_rules.proofs.TurnCases.{Cannot_commit, acts_by}

@@ -1,24 +1,14 @@
 -- The turns by which an open end carries out an action.
 -- For TermsTaken, and for the laws of worlds (tftp_player).
-use Rattle.std.proofs.Common.{◌≡◌, ℕ, Bool, true, false, List, Result, Ok, Err, sym, subst, rules}
-use Rattle.std.specs.Prelude.{◌≢◌, if◌then◌else◌}
-use Rattle.tftp_file.specs.Sink.{Holding, SinkMeaning}
-use Rattle.tftp_file.specs.Source.{SourceMeaning}
-use Rattle.tftp_file.specs.declared.fault.StoreFault.{StoreFault}
-use Rattle.tftp_file.specs.declared.files.Files.{Files}
-use Rattle.tftp_file.specs.declared.files.Files.TheVariants.{Source, Sink}
-use Rattle.tftp_ends.specs.declared.action.Action.{Action}
-use Rattle.tftp_ends.specs.declared.action.Action.TheVariants.{Respond, Send, Store}
-use Rattle.tftp_ends.specs.declared.action.Response.{Response}
+use Rattle.tftp_rules.proofs.Common.{◌≡◌, ℕ, Bool, true, false, List, Result, Ok, Err, sym, subst, rules, ◌≢◌}
+use Rattle.tftp_rules.proofs.Common.{if◌then◌else◌, Holding, SinkMeaning, SourceMeaning, StoreFault, Files, Source}
+use Rattle.tftp_rules.proofs.Common.{Sink, Action, Respond, Send, Store, Response, Fresh, Sending, Receiving, Dallying}
+use Rattle.tftp_rules.proofs.Common.{Terms, EndState, Turn, Acts, SendsFrom, StoresIn, response_turn, sent_turn}
+use Rattle.tftp_rules.proofs.Common.{refused_turn, block_length, Endpoint}
 use Rattle.tftp_ends.specs.declared.error_reply.ErrorReply.TheVariants.{DiskFull, FileChanged}
 use Rattle.tftp_ends.specs.declared.outcome.Outcome.TheVariants as outcomes
-use Rattle.tftp_ends.specs.declared.phase.Dally.TheVariants.{Fresh}
-use Rattle.tftp_ends.specs.declared.phase.Phase.TheVariants.{Sending, Receiving, Dallying}
-use Rattle.tftp_ends.specs.declared.phase.Terms.{Terms}
-use Rattle.tftp_ends.specs.End.{EndState}
-use Rattle.tftp_ends.specs.Step.{Turn, Acts, SendsFrom, StoresIn, GoesOn, Done, response_turn, sent_turn, refused_turn}
-use Rattle.tftp_ends.specs.Step.{committed_turn, commit_reply, result_count_is, block_length, holding, ack_bytes, data_bytes}
-use Rattle.tftp_rules.specs.Machine.{Endpoint}
+use Rattle.tftp_ends.specs.Step.{GoesOn, Done}
+use Rattle.tftp_ends.specs.Step.{committed_turn, commit_reply, result_count_is, holding, ack_bytes, data_bytes}
 
 -- a turn of the end that carries out this action, on a datagram from there
 pub data TurnBy (from : Endpoint) (e : EndState) : Action → Turn → Type 0 where

@@ -1,38 +1,21 @@
 -- An end that has blamed no peer, and knows whether its peer was opened without options, does so after each turn.
 -- For the law on blame of programs (tftp_promises).
-use Rattle.std.proofs.Common.{◌≡◌, ℕ, true, false, List, ◌++◌, Option, Some, None, refl, sym, ap, ◌∙◌, subst}
+use Rattle.tftp_rules.proofs.Common.{◌≡◌, ℕ, true, false, List, ◌++◌, Option, Some, None, refl, sym, ap, ◌∙◌, subst}
+use Rattle.tftp_rules.proofs.Common.{◌≢◌, option_map, slice_get, Contains, true≢false, same_Some, Spells, Mode, Asked}
+use Rattle.tftp_rules.proofs.Common.{wire_text, Holding, Files, Outcome, Phase, Waiting, Terms, EndState, is_sender}
+use Rattle.tftp_rules.proofs.Common.{is_client, outcome_of, terms_of, Decodes, is_wrong_peer, same_address, Turn}
+use Rattle.tftp_rules.proofs.Common.{after_turn, timeout_turn, default_terms, EndKept, PhaseKept, IsFromServer, IsThere}
+use Rattle.tftp_rules.proofs.Common.{Attests, Holds, known_source, known_sink, Endpoint, Elsewhere, Machine, Message}
+use Rattle.tftp_rules.proofs.Common.{Network, Party, start, OpenEnd, files_of, open_view, Rule, message, run, said}
+use Rattle.tftp_rules.proofs.Common.{EndView, IsShownAt, Matches}
 use Rattle.std.proofs.Common.{rules as std_rules}
-use Rattle.std.specs.Prelude.{◌≢◌, ⊤, option_map, slice_get}
-use Rattle.std.specs.List.{Contains}
-use Rattle.std.proofs.lemmas.Bool.{true≢false}
-use Rattle.std.proofs.lemmas.Option.{same_Some}
-use Rattle.tftp_wire.specs.Spelling.{Spells}
-use Rattle.tftp_wire.specs.declared.mode.Mode.{Mode}
+use Rattle.std.specs.Prelude.{⊤}
 use Rattle.tftp_wire.specs.declared.packet.Packet.{Packet}
 use Rattle.tftp_wire.proofs.SpellingLemmas.{one_meaning}
-use Rattle.tftp_negotiate.specs.declared.asked.Asked.{Asked}
-use Rattle.tftp_file.specs.Netascii.{wire_text}
-use Rattle.tftp_file.specs.Sink.{Holding}
-use Rattle.tftp_file.specs.declared.files.Files.{Files}
-use Rattle.tftp_ends.specs.declared.outcome.Outcome.{Outcome}
 use Rattle.tftp_ends.specs.declared.outcome.Outcome.TheVariants as outcomes
-use Rattle.tftp_ends.specs.declared.phase.Phase.{Phase}
-use Rattle.tftp_ends.specs.declared.phase.Phase.TheVariants.{Waiting}
-use Rattle.tftp_ends.specs.declared.phase.Terms.{Terms}
 use Rattle.tftp_ends.specs.declared.role.Role.{Role}
-use Rattle.tftp_ends.specs.End.{EndState, is_sender, is_client, outcome_of, terms_of}
-use Rattle.tftp_ends.specs.Action.{Decodes, is_wrong_peer, same_address}
-use Rattle.tftp_ends.specs.Step.{Turn, DatagramStep, after_turn, timeout_turn}
-use Rattle.tftp_ends.specs.Waiting.{default_terms}
-use Rattle.tftp_rules.specs.EndKept.{EndKept, PhaseKept, IsAnswer, IsFromServer}
-use Rattle.tftp_rules.specs.EndShown.{IsThere}
-use Rattle.tftp_rules.specs.Facts.{Attests, Holds}
-use Rattle.tftp_rules.specs.KnownFiles.{known_source, known_sink}
-use Rattle.tftp_rules.specs.Machine.{Endpoint, Elsewhere, Machine, Message, Network, Party, start}
-use Rattle.tftp_rules.specs.OpenEnds.{OpenEnd, files_of, open_view}
-use Rattle.tftp_rules.specs.Rules.{Rule, message, run}
-use Rattle.tftp_rules.specs.Said.{said}
-use Rattle.tftp_rules.specs.Shows.{EndView, IsShownAt, Matches}
+use Rattle.tftp_ends.specs.Step.{DatagramStep}
+use Rattle.tftp_rules.specs.EndKept.{IsAnswer}
 use Rattle.tftp_rules.proofs.ActionCases.{IsPlainAnswer}
 use Rattle.tftp_rules.proofs.BlamelessActions.{datagram_fine}
 use Rattle.tftp_rules.proofs.BlamelessTurns.{Blameless, IsCalm, acts_blameless}

@@ -1,9 +1,8 @@
 -- Ends that are shown are safe, as the machine is. For `texts_go_on`, `what_is_shown_is_safe` and the crates
 -- tftp_player and tftp_promises.
-use Rattle.std.proofs.lemmas.Grind.{common_steps}
-use Rattle.std.proofs.Common.{◌≡◌, true, List, [], ◌∷◌, ◌++◌, Some, sym, refl, ◌∙◌, arith, rules}
-use Rattle.tftp_rules.specs.Machine.{Endpoint, Message, Machine, Network}
-use Rattle.tftp_rules.specs.Shows.{EndView, Matches, Shows, IsShown, AreApart}
+use Rattle.tftp_rules.proofs.Common.{common_steps, ◌≡◌, true, List, [], ◌∷◌, ◌++◌, Some, sym, refl, ◌∙◌, arith, rules}
+use Rattle.tftp_rules.proofs.Common.{Endpoint, Message, Machine, Network, EndView, Matches, Shows}
+use Rattle.tftp_rules.specs.Shows.{IsShown, AreApart}
 use Rattle.tftp_rules.specs.Texts.{PrefixesJoin, OnlyNothingBeginsNothing}
 use Rattle.tftp_rules.specs.MachineSafety.{party_view}
 use Rattle.tftp_rules.specs.Safety.{IsSenderAt}

@@ -1,53 +1,35 @@
 -- A waiting client with its first answer. For EndTurns and the crate tftp_player.
-use Rattle.std.proofs.Common.{◌≡◌, ℕ, ◌*◌, ◌<◌, ◌≤◌, true, false, List, [], ◌∷◌, ◌++◌, length, set, drop, Option, Some}
-use Rattle.std.proofs.Common.{None, Result, Ok, Err, sym, refl, ap, ◌∙◌, subst, arith, inl, inr, append_assoc, rules}
-use Rattle.std.specs.Prelude.{◌==◌, ◌&&◌, if◌then◌else◌, nat_lt, nat_le}
-use Rattle.std.specs.List.{Contains, AllByRecursion}
-use Rattle.std.proofs.lemmas.Bool.{leb-true, ltb-true, eqb-true}
-use Rattle.tftp_negotiate.specs.declared.limits.TheConstants.{DEFAULT_BLOCK}
-use Rattle.tftp_wire.specs.declared.limits.TheConstants.{MAX_BLOCK}
-use Rattle.tftp_wire.specs.declared.mode.Mode.{Mode}
-use Rattle.tftp_wire.specs.declared.options.RawOption.{RawOption}
+use Rattle.tftp_rules.proofs.Common.{◌≡◌, ℕ, ◌*◌, ◌<◌, ◌≤◌, true, false, List, [], ◌∷◌, ◌++◌, length, set, drop, Option}
+use Rattle.tftp_rules.proofs.Common.{Some, None, Result, Ok, Err, sym, refl, ap, ◌∙◌, subst, arith, inl, inr}
+use Rattle.tftp_rules.proofs.Common.{append_assoc, rules, ◌==◌, ◌&&◌, if◌then◌else◌, nat_lt, Contains, AllByRecursion}
+use Rattle.tftp_rules.proofs.Common.{ltb-true, eqb-true, DEFAULT_BLOCK, MAX_BLOCK, Mode, RawOption, Read, Write, Oack}
+use Rattle.tftp_rules.proofs.Common.{Spells, Asked, Kind, Known, Refusal, size, agreement, block, block_count, Fits}
+use Rattle.tftp_rules.proofs.Common.{wire_text, ErrorReply, Outcome, Waiting, Terms, Action, Respond, Send, Store}
+use Rattle.tftp_rules.proofs.Common.{Close, Refuse, Accept, is_sender, receiver_action, response_turn, after_turn}
+use Rattle.tftp_rules.proofs.Common.{with_position, is_readable, default_terms, agreed_terms, refusal_action}
+use Rattle.tftp_rules.proofs.Common.{accept_action, reader_action, writer_action, Endpoint, At_server, Message, Network}
+use Rattle.tftp_rules.proofs.Common.{Rule, message, said, oack_size, EndView, IsShownWithin, OpenEnd, in_state}
+use Rattle.tftp_rules.proofs.Common.{open_view, with_phase, EndKept, Stands, Goes}
+use Rattle.std.specs.Prelude.{nat_le}
+use Rattle.std.proofs.lemmas.Bool.{leb-true}
 use Rattle.tftp_wire.specs.declared.packet.Packet.{Packet as WirePacket}
-use Rattle.tftp_wire.specs.declared.packet.Packet.TheVariants.{Read, Write, Data, Ack, Error, Oack}
-use Rattle.tftp_wire.specs.Spelling.{Spells}
-use Rattle.tftp_negotiate.specs.declared.asked.Asked.{Asked}
-use Rattle.tftp_negotiate.specs.declared.known.Kind.{Kind}
+use Rattle.tftp_wire.specs.declared.packet.Packet.TheVariants.{Data, Ack, Error}
 use Rattle.tftp_negotiate.specs.declared.known.Kind.TheVariants as kinds
-use Rattle.tftp_negotiate.specs.declared.known.Known.{Known}
 use Rattle.tftp_negotiate.specs.declared.known.Known.TheVariants.{Blksize, Timeout, Tsize}
-use Rattle.tftp_negotiate.specs.declared.refusal.Refusal.{Refusal}
 use Rattle.tftp_negotiate.specs.declared.refusal.Refusal.TheVariants as refusals
-use Rattle.tftp_negotiate.specs.Agreed.{size, IsAgreeable}
-use Rattle.tftp_negotiate.specs.Agreement.{agreement}
+use Rattle.tftp_negotiate.specs.Agreed.{IsAgreeable}
 use Rattle.tftp_negotiate.specs.Asked.{IsAskable}
 use Rattle.tftp_negotiate.proofs.LawsLemmas.{taken_may_be_agreed}
-use Rattle.tftp_file.specs.Block.{block, block_count, Fits}
-use Rattle.tftp_file.specs.Netascii.{wire_text}
-use Rattle.tftp_ends.specs.declared.error_reply.ErrorReply.{ErrorReply}
 use Rattle.tftp_ends.specs.declared.error_reply.ErrorReply.TheVariants as replies
-use Rattle.tftp_ends.specs.declared.outcome.Outcome.{Outcome}
 use Rattle.tftp_ends.specs.declared.outcome.Outcome.TheVariants as outcomes
-use Rattle.tftp_ends.specs.declared.phase.Phase.TheVariants.{Waiting}
-use Rattle.tftp_ends.specs.declared.phase.Terms.{Terms}
-use Rattle.tftp_ends.specs.declared.action.Action.{Action}
-use Rattle.tftp_ends.specs.declared.action.Action.TheVariants.{Respond, Send, Store}
-use Rattle.tftp_ends.specs.declared.action.Response.TheVariants.{Close, Refuse, Accept}
-use Rattle.tftp_ends.specs.End.{is_sender}
-use Rattle.tftp_ends.specs.Receiver.{receiver_action}
 use Rattle.tftp_ends.specs.Sender.{illegal_action}
-use Rattle.tftp_ends.specs.Step.{response_turn, after, after_turn, with_position}
-use Rattle.tftp_ends.specs.Text.{is_readable}
-use Rattle.tftp_ends.specs.Waiting.{default_terms, agreed_terms, no_answer, refusal_action, accept_action, begin_action}
-use Rattle.tftp_ends.specs.Waiting.{begin_with_action, reader_action, writer_action}
-use Rattle.tftp_rules.specs.Machine.{Endpoint, At_server, Error as Says_error, Data as Says_data, Ack as Says_ack}
-use Rattle.tftp_rules.specs.Machine.{Oack as Says_oack, Message, Network}
-use Rattle.tftp_rules.specs.Rules.{Rule, message}
-use Rattle.tftp_rules.specs.Said.{said, oack_size}
-use Rattle.tftp_rules.specs.Shows.{EndView, IsShownWithin}
-use Rattle.tftp_rules.specs.OpenEnds.{OpenEnd, in_state, received_text, text_of as text_of_end, open_view, with_phase}
-use Rattle.tftp_rules.specs.EndKept.{EndKept, IsAnswer}
-use Rattle.tftp_rules.specs.EndShown.{Stands, Goes}
+use Rattle.tftp_ends.specs.Step.{after}
+use Rattle.tftp_ends.specs.Waiting.{no_answer, begin_action}
+use Rattle.tftp_ends.specs.Waiting.{begin_with_action}
+use Rattle.tftp_rules.specs.Machine.{Error as Says_error, Data as Says_data, Ack as Says_ack}
+use Rattle.tftp_rules.specs.Machine.{Oack as Says_oack}
+use Rattle.tftp_rules.specs.OpenEnds.{received_text, text_of as text_of_end}
+use Rattle.tftp_rules.specs.EndKept.{IsAnswer}
 use Rattle.tftp_rules.proofs.Actions.{IsWaiting, stores_first, refuses_first, accepts, sends_first, sends_first_with}
 use Rattle.tftp_rules.proofs.Actions.{refuses_to_begin}
 use Rattle.tftp_rules.proofs.SaidLemmas.{data_of, spells_own, taken_oack}

@@ -1,5 +1,5 @@
 -- The transfer whose record was read is the one that is removed.
-use Rattle.std.proofs.Common.{◌∙◌, sym}
+use Rattle.tftp_c.proofs.Common.{◌∙◌, sym}
 use Rattle.tftp_c.proofs.AbortLemmas.{aborts_at}
 use Rattle.tftp_c.proofs.aborting.abort_at.Goals as goal
 

@@ -1,5 +1,6 @@
 -- What is kept, and what is kept of the options that are left, is what is kept of all.
-use Rattle.std.proofs.Common.{◌≡◌, ◌++◌, length}
+use Rattle.tftp_c.proofs.Common.{◌≡◌, ◌++◌}
+use Rattle.std.proofs.Common.{length}
 use Rattle.tftp_c.specs.Answers.{without_timeout}
 use Rattle.tftp_c.proofs.answering.without_timeout.Given as goal
 

@@ -1,5 +1,6 @@
 -- The end that was held is that which serves the request; else the request is not served.
-use Rattle.std.proofs.Common.{ℕ, inl, subst, sym}
+use Rattle.tftp_c.proofs.Common.{inl, subst, sym}
+use Rattle.std.proofs.Common.{ℕ}
 use Rattle.tftp_c.specs.ServerOpens.{AnswersGet}
 use Rattle.tftp_c.proofs.HoldingLemmas.{opens_as}
 use Rattle.tftp_c.proofs.holding.get.Goals as goal

@@ -1,5 +1,6 @@
 -- The table has the end, for a request that the port admits.
-use Rattle.std.proofs.Common.{ℕ, Option, subst, sym}
+use Rattle.tftp_c.proofs.Common.{subst, sym}
+use Rattle.std.proofs.Common.{ℕ, Option}
 use Rattle.tftp_c.specs.Stated.{StatedBy}
 use Rattle.tftp_c.proofs.FaultLemmas.{hold_fails}
 use Rattle.tftp_c.proofs.HoldingLemmas.{opens_at}

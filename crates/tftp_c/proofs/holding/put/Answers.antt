@@ -1,5 +1,5 @@
 -- The end that was held is that which serves the request.
-use Rattle.std.proofs.Common.{inl, ◌∙◌}
+use Rattle.tftp_c.proofs.Common.{inl, ◌∙◌}
 use Rattle.tftp_c.proofs.HoldingLemmas.{opens_as}
 use Rattle.tftp_c.proofs.holding.put.Goals as goal
 

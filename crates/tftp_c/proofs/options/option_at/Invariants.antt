@@ -1,5 +1,6 @@
 -- The option is among those that are left, at the index that is left.
-use Rattle.std.proofs.Common.{◌≡◌, length}
+use Rattle.tftp_c.proofs.Common.{◌≡◌}
+use Rattle.std.proofs.Common.{length}
 use Rattle.tftp_c.specs.Listed.{option_at}
 use Rattle.tftp_c.proofs.options.option_at.Given as goal
 

@@ -1,5 +1,6 @@
 -- The option is the first of its name among those that are left.
-use Rattle.std.proofs.Common.{◌≡◌, length}
+use Rattle.tftp_c.proofs.Common.{◌≡◌}
+use Rattle.std.proofs.Common.{length}
 use Rattle.tftp_c.specs.Listed.{option_named}
 use Rattle.tftp_c.proofs.options.option_named.Given as goal
 

@@ -1,5 +1,6 @@
 -- The option that was found is written.
-use Rattle.tftp_wire.specs.Borrowed.{owned, owned_option}
+use Rattle.tftp_c.proofs.Common.{owned}
+use Rattle.tftp_wire.specs.Borrowed.{owned_option}
 use Rattle.tftp_c.specs.Listed.{option_at}
 use Rattle.tftp_c.proofs.ListedLemmas.{writes_option}
 use Rattle.tftp_c.proofs.options.write_at.Goals as goal

@@ -1,5 +1,5 @@
 -- A datagram that spells no read request is not served, and neither is one whose options are refused.
-use Rattle.std.proofs.Common.{inl, inr, refl, subst}
+use Rattle.tftp_c.proofs.Common.{inl, inr, refl, subst}
 use Rattle.tftp_wire.specs.Borrowed.{owned_request}
 use Rattle.tftp_negotiate.specs.declared.known.Kind.TheVariants as kinds
 use Rattle.tftp_negotiate.specs.declared.limits.Limits.{Limits}

@@ -1,5 +1,5 @@
 -- A datagram spells one packet, or none.
-use Rattle.std.proofs.Common.{◌∙◌, sym}
+use Rattle.tftp_c.proofs.Common.{◌∙◌, sym}
 use Rattle.tftp_c.proofs.StatedLemmas.{states_none}
 use Rattle.tftp_c.proofs.stated.stated_length.Goals as goal
 

@@ -1,4 +1,4 @@
-use Rattle.std.proofs.Common.{refl, sym}
+use Rattle.tftp_c.proofs.Common.{refl, sym}
 use Rattle.tftp_c.proofs.StoredLemmas.{stored_made}
 use Rattle.tftp_c.proofs.stepping.store_next.Goals as goal
 

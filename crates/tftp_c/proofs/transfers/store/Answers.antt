@@ -1,5 +1,5 @@
 -- The step over the buffer that the server is lent is one of the transfer.
-use Rattle.std.proofs.Common.{refl, sym}
+use Rattle.tftp_c.proofs.Common.{refl, sym}
 use Rattle.tftp_c.proofs.TransferLemmas.{stored_at}
 use Rattle.tftp_c.proofs.transfers.store.Goals as goal
 

@@ -1,5 +1,5 @@
 -- The transfer that had the timeout is reported.
-use Rattle.std.proofs.Common.{refl}
+use Rattle.tftp_c.proofs.Common.{refl}
 use Rattle.tftp_c.proofs.TransferLemmas.{lent_at, still_held, timed_out_at}
 use Rattle.tftp_c.proofs.transfers.time_out.Goals as goal
 

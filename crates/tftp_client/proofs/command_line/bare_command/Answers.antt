@@ -1,8 +1,6 @@
 -- Setting by setting.
-use Rattle.std.proofs.Common.{codes, refl, true}
-use Rattle.clap.specs.Simple.{App, Shape, new_app, on_top}
-use Rattle.tftp_arguments.specs.Rules.{IsApp}
-use Rattle.tftp_arguments.proofs.Commands.{commands_grow}
+use Rattle.tftp_client.proofs.Common.{codes, refl, true, App, new_app, IsApp, commands_grow}
+use Rattle.clap.specs.Simple.{Shape, on_top}
 use Rattle.tftp_client.proofs.command_line.bare_command.Goals as goal
 
 pub returns : goal.returns

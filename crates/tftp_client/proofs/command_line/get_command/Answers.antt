@@ -1,8 +1,5 @@
 -- Argument by argument.
-use Rattle.std.proofs.Common.{codes, refl}
-use Rattle.clap.specs.Simple.{new_app}
-use Rattle.tftp_arguments.specs.Rules.{IsApp}
-use Rattle.tftp_arguments.proofs.Commands.{commands_grow}
+use Rattle.tftp_client.proofs.Common.{codes, refl, new_app, IsApp, commands_grow}
 use Rattle.tftp_client.proofs.command_line.get_command.Goals as goal
 
 pub returns : goal.returns

@@ -1,11 +1,12 @@
 -- The matches are those of the words, and so is what the parse fails by.
-use Rattle.std.proofs.Common.{◌≡◌, IfOk, List, Option, map, subst, true}
+use Rattle.tftp_client.proofs.Common.{◌≡◌, List, Option, subst, true, App, tftp_app}
+use Rattle.std.proofs.Common.{IfOk, map}
 use Rattle.clap.specs.Faults.{fault_of, is_simple_and_free}
 use Rattle.clap.specs.Kinds.{HasKind}
-use Rattle.clap.specs.Simple.{App, HasMatchesOf}
+use Rattle.clap.specs.Simple.{HasMatchesOf}
 use Rattle.clap.specs.Walk.{Row, Text}
 use Rattle.tftp_client.specs.CommandLine.{IfRun}
-use Rattle.tftp_client.specs.Words.{NamesBy, tftp_app}
+use Rattle.tftp_client.specs.Words.{NamesBy}
 use Rattle.tftp_client.proofs.Commands.{free, simple}
 use Rattle.tftp_client.proofs.command_line.match_words.Goals as goal
 

@@ -1,5 +1,5 @@
 -- Argument by argument.
-use Rattle.tftp_arguments.proofs.Commands.{commands_grow}
+use Rattle.tftp_client.proofs.Common.{commands_grow}
 use Rattle.tftp_client.proofs.command_line.with_asked.Goals as goal
 
 pub returns : goal.returns

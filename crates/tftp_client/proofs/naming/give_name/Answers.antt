@@ -1,13 +1,7 @@
 -- The folder that was synced is that of the name.
-use Rattle.std.proofs.Common.{List, ℕ, ◌++◌, ◌≡◌, sym, ap, subst}
-use Rattle.std.proofs.Math.Logic.{∥∥₁_map}
-use Rattle.std.specs.String.{string_bytes}
-use Rattle.tftp_disk.specs.DiskTrace.{FileState, state_of}
-use Rattle.tftp_disk.specs.DiskTrace.DiskEvent.{Looked}
-use Rattle.tftp_disk.specs.DiskWriter.{calls_of, handed}
-use Rattle.tftp_disk.specs.NamedFolder.{SyncsFolder}
-use Rattle.tftp_client.specs.Fetched.{Keeps, NamesBytes}
-use Rattle.tftp_client.specs.Written.{paths_of}
+use Rattle.tftp_client.proofs.Common.{List, ℕ, ◌++◌, ◌≡◌, sym, ap, subst, ∥∥₁_map, string_bytes, FileState, Looked}
+use Rattle.tftp_client.proofs.Common.{calls_of, handed, SyncsFolder, Keeps, NamesBytes, paths_of}
+use Rattle.tftp_disk.specs.DiskTrace.{state_of}
 use Rattle.tftp_client.proofs.Changing.{and_then, own_change}
 use Rattle.tftp_client.proofs.NamedFile.{folder_later, on_ok, was_named}
 use Rattle.tftp_client.proofs.StillThere.{call_leaves, err_so, left_as, same_there}

@@ -1,9 +1,6 @@
 -- The folder was not synced, and then the name was removed.
-use Rattle.std.proofs.Common.{List, ◌∷◌, ap, ◌∙◌}
+use Rattle.tftp_client.proofs.Common.{List, ◌∷◌, ap, ◌∙◌, DiskEvent, Removed, path_in}
 use Rattle.std.specs.Prelude.{string_bytes}
-use Rattle.tftp_disk.specs.DiskTrace.{DiskEvent}
-use Rattle.tftp_disk.specs.DiskTrace.DiskEvent.{Removed}
-use Rattle.tftp_disk.specs.NamedFolder.{path_in}
 use Rattle.tftp_client.proofs.naming.keep_one.Goals as goal
 
 pub returns-in-Err-clause-err : goal.returns-in-Err-clause-err

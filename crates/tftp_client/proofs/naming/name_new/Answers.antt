@@ -1,12 +1,7 @@
 -- The file got its name by a link, or by a rename where the system made none.
-use Rattle.std.proofs.Common.{Err, inr}
-use Rattle.std.specs.String.{string_bytes}
-use Rattle.tftp_disk.specs.DiskTrace.{made_when, state_of}
-use Rattle.tftp_disk.specs.DiskTrace.DiskEvent.{Linked}
-use Rattle.tftp_disk.specs.DiskWriter.{calls_of, handed}
-use Rattle.tftp_disk.specs.NamedFolder.{SyncsFolder}
-use Rattle.tftp_disk.specs.declared.existing.Existing.TheVariants.{Refused}
-use Rattle.tftp_client.specs.Written.{paths_of}
+use Rattle.tftp_client.proofs.Common.{Err, inr, string_bytes, made_when, Linked, calls_of, handed, SyncsFolder, Refused}
+use Rattle.tftp_client.proofs.Common.{paths_of}
+use Rattle.tftp_disk.specs.DiskTrace.{state_of}
 use Rattle.tftp_client.proofs.Changing.{link_keeps, unlinked_keeps}
 use Rattle.tftp_client.proofs.NamedFile.{linked_named, on_ok}
 use Rattle.tftp_client.proofs.StillThere.{left_as, left_there, lost_there, on_err}

@@ -1,10 +1,6 @@
 -- By what becomes of an existing file.
-use Rattle.std.proofs.Common.{OnOk, subst, sym}
-use Rattle.tftp_disk.specs.DiskWriter.{handed}
-use Rattle.tftp_disk.specs.NamedFolder.{SyncsFolder}
+use Rattle.tftp_client.proofs.Common.{OnOk, subst, sym, handed, SyncsFolder, NamesBytes, paths_of}
 use Rattle.tftp_disk.specs.declared.existing.Existing.{Existing}
-use Rattle.tftp_client.specs.Fetched.{NamesBytes}
-use Rattle.tftp_client.specs.Written.{paths_of}
 use Rattle.tftp_client.proofs.naming.put_name.Goals as goal
 
 pub returns-in-Refused-clause-ok : goal.returns-in-Refused-clause-ok

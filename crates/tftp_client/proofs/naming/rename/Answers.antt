@@ -1,11 +1,8 @@
 -- The file has one name or the other.
-use Rattle.std.proofs.Common.{List, ◌∷◌, Err, ap, ◌∙◌}
-use Rattle.std.specs.String.{string_bytes}
-use Rattle.tftp_disk.specs.DiskTrace.{DiskEvent, made_when, state_of}
-use Rattle.tftp_disk.specs.DiskTrace.DiskEvent.{Folder_synced, Renamed}
-use Rattle.tftp_disk.specs.DiskWriter.{calls_of}
-use Rattle.tftp_disk.specs.NamedFolder.{path_in}
-use Rattle.tftp_client.specs.Written.{paths_of}
+use Rattle.tftp_client.proofs.Common.{List, ◌∷◌, Err, ap, ◌∙◌, string_bytes, DiskEvent, made_when, Folder_synced}
+use Rattle.tftp_client.proofs.Common.{calls_of, path_in, paths_of}
+use Rattle.tftp_disk.specs.DiskTrace.{state_of}
+use Rattle.tftp_disk.specs.DiskTrace.DiskEvent.{Renamed}
 use Rattle.tftp_client.proofs.StillThere.{left_as, left_there, moved_as}
 use Rattle.tftp_client.proofs.naming.rename.Goals as goal
 

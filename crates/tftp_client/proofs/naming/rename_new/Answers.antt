@@ -1,11 +1,6 @@
 -- Nothing was found at the name.
-use Rattle.std.proofs.Common.{ℕ, List, ◌∷◌, refl, ap, ◌∙◌}
-use Rattle.std.specs.String.{string_bytes}
-use Rattle.tftp_disk.specs.DiskTrace.{made_when}
-use Rattle.tftp_disk.specs.DiskTrace.DiskEvent.{Looked}
-use Rattle.tftp_disk.specs.DiskWriter.{calls_of}
-use Rattle.tftp_disk.specs.declared.existing.Existing.TheVariants.{Refused}
-use Rattle.tftp_client.specs.Written.{paths_of}
+use Rattle.tftp_client.proofs.Common.{ℕ, List, ◌∷◌, refl, ap, ◌∙◌, string_bytes, made_when, Looked, calls_of, Refused}
+use Rattle.tftp_client.proofs.Common.{paths_of}
 use Rattle.tftp_client.proofs.Changing.{renamed_keeps}
 use Rattle.tftp_client.proofs.StillThere.{left_as, left_there}
 use Rattle.tftp_client.proofs.naming.rename_new.Goals as goal

@@ -1,11 +1,7 @@
 -- The file was renamed over what had the name.
-use Rattle.std.proofs.Common.{inl, refl, sym, ◌∙◌}
-use Rattle.std.specs.String.{string_bytes}
+use Rattle.tftp_client.proofs.Common.{inl, refl, sym, ◌∙◌, string_bytes, Looked, calls_of, paths_of}
 use Rattle.tftp_disk.specs.DiskTrace.{state_of}
-use Rattle.tftp_disk.specs.DiskTrace.DiskEvent.{Looked}
-use Rattle.tftp_disk.specs.DiskWriter.{calls_of}
 use Rattle.tftp_disk.specs.declared.existing.Existing.TheVariants.{Replaced}
-use Rattle.tftp_client.specs.Written.{paths_of}
 use Rattle.tftp_client.proofs.Changing.{and_then, own_change}
 use Rattle.tftp_client.proofs.NamedFile.{on_ok}
 use Rattle.tftp_client.proofs.StillThere.{call_leaves, err_so, left_as, left_there, same_there}

@@ -1,9 +1,5 @@
 -- Nothing has its path but it.
-use Rattle.std.proofs.Common.{ℕ, List, ◌∷◌, Ok, ap, ◌∙◌}
-use Rattle.std.specs.String.{string_bytes}
-use Rattle.tftp_disk.specs.DiskTrace.{made_when}
-use Rattle.tftp_disk.specs.DiskTrace.DiskEvent.{Made}
-use Rattle.tftp_disk.specs.DiskWriter.{calls_of}
+use Rattle.tftp_client.proofs.Common.{ℕ, List, ◌∷◌, Ok, ap, ◌∙◌, string_bytes, made_when, Made, calls_of}
 use Rattle.tftp_client.proofs.StillThere.{just_made}
 use Rattle.tftp_client.proofs.part_file.make_part.Goals as goal
 

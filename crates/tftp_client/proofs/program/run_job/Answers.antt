@@ -1,6 +1,5 @@
 -- A transfer that is complete, or failed.
-use Rattle.std.proofs.Common.{arith, inl, inr, refl}
-use Rattle.tftp_client.specs.Written.{held_of}
+use Rattle.tftp_client.proofs.Common.{arith, inl, inr, refl, held_of}
 use Rattle.tftp_client.proofs.HeldBytes.{is_whole}
 use Rattle.tftp_client.proofs.ReadFile.{was_read}
 use Rattle.tftp_client.proofs.SameKind.{is_file_of}

@@ -1,5 +1,6 @@
 -- What moved is on the disk, or came from it; out of memory nothing was done.
-use Rattle.std.proofs.Common.{inl, inr, map, refl}
+use Rattle.tftp_client.proofs.Common.{inl, inr, refl}
+use Rattle.std.proofs.Common.{map}
 use Rattle.tftp_client.proofs.NamedOnDisk.{does_words}
 use Rattle.tftp_client.proofs.program.run_words.Goals as goal
 

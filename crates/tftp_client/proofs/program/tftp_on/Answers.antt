@@ -1,5 +1,5 @@
 -- Out of memory nothing was done.
-use Rattle.std.proofs.Common.{inl, inr, refl}
+use Rattle.tftp_client.proofs.Common.{inl, inr, refl}
 use Rattle.tftp_client.proofs.program.tftp_on.Goals as goal
 
 pub returns-in_default-clause-runs : goal.returns-in_default-clause-runs

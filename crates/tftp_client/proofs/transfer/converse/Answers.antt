@@ -1,7 +1,6 @@
 -- A run that is complete, and then its line; or one that stopped, and then its file was written.
-use Rattle.std.proofs.Common.{arith, refl, ap, ℕ}
-use Rattle.tftp_client.specs.Conversation.{state_of}
-use Rattle.tftp_client.specs.Runs.{line_by, printed}
+use Rattle.tftp_client.proofs.Common.{arith, refl, ap, ℕ, state_of, printed}
+use Rattle.tftp_client.specs.Runs.{line_by}
 use Rattle.tftp_client.proofs.LeftBytes.{written_out}
 use Rattle.tftp_client.proofs.NamedOnDisk.{kept, kept_then}
 use Rattle.tftp_client.proofs.Running.{goes_on}

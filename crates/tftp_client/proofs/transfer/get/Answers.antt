@@ -1,8 +1,5 @@
 -- The looks of its place, and then its calls.
-use Rattle.std.proofs.Common.{List, subst}
-use Rattle.tftp_disk.specs.DiskTrace.{DiskEvent}
-use Rattle.tftp_client.specs.Fetched.{Keeps}
-use Rattle.tftp_client.specs.OnDisk.{job_paths}
+use Rattle.tftp_client.proofs.Common.{List, subst, DiskEvent, Keeps, job_paths}
 use Rattle.tftp_client.proofs.Changing.{and_then}
 use Rattle.tftp_client.proofs.transfer.get.Goals as goal
 

@@ -1,10 +1,6 @@
 -- The run from its request on.
-use Rattle.std.proofs.Common.{Some, arith, ap, refl}
-use Rattle.std.proofs.lemmas.Result.{IfOk-weaker}
+use Rattle.tftp_client.proofs.Common.{Some, arith, ap, refl, IfOk-weaker, waits, State, job_paths}
 use Rattle.tftp_negotiate.specs.declared.known.Kind.TheVariants.{Read}
-use Rattle.tftp_sockets.specs.Quiet.{waits}
-use Rattle.tftp_client.specs.Converses.{State}
-use Rattle.tftp_client.specs.OnDisk.{job_paths}
 use Rattle.tftp_client.proofs.Concluding.{stores}
 use Rattle.tftp_client.proofs.LeftBytes.{leaves, leaves_none}
 use Rattle.tftp_client.proofs.NamedOnDisk.{has_calls, keeps_disk, received}

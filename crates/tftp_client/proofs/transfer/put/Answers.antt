@@ -1,6 +1,5 @@
 -- The length is that of the open file.
-use Rattle.std.proofs.Common.{ap, refl}
-use Rattle.tftp_negotiate.specs.declared.known.Kind.TheVariants.{Write}
+use Rattle.tftp_client.proofs.Common.{ap, refl, Write}
 use Rattle.tftp_lines.specs.ClientOutcome.{status_of}
 use Rattle.tftp_client.proofs.LeftBytes.{leaves_none}
 use Rattle.tftp_client.proofs.Running.{if_err}

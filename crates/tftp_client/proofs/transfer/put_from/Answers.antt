@@ -1,11 +1,5 @@
 -- The run from its request on.
-use Rattle.std.proofs.Common.{arith, ap, refl}
-use Rattle.std.proofs.lemmas.Result.{IfOk-weaker}
-use Rattle.tftp_negotiate.specs.declared.known.Kind.TheVariants.{Write}
-use Rattle.tftp_sockets.specs.Quiet.{waits}
-use Rattle.tftp_client.specs.Conversation.{state_of}
-use Rattle.tftp_client.specs.Converses.{State}
-use Rattle.tftp_client.specs.Runs.{opens}
+use Rattle.tftp_client.proofs.Common.{arith, ap, refl, IfOk-weaker, Write, waits, state_of, State, opens}
 use Rattle.tftp_client.proofs.Concluding.{concludes, sends_so}
 use Rattle.tftp_client.proofs.Conversing.{begun_open, begun_ready, opens_open}
 use Rattle.tftp_client.proofs.LeftBytes.{leaves, leaves_none}

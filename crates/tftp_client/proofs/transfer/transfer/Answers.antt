@@ -1,7 +1,5 @@
 -- Without options, once these were refused.
-use Rattle.std.proofs.Common.{sym, ◌∙◌}
-use Rattle.std.proofs.lemmas.Bool.{true≢false}
-use Rattle.std.proofs.lemmas.Result.{IfOk-weaker}
+use Rattle.tftp_client.proofs.Common.{sym, ◌∙◌, true≢false, IfOk-weaker}
 use Rattle.tftp_client.proofs.Concluding.{again_stores, first_stores}
 use Rattle.tftp_client.proofs.LeftBytes.{leaves_again, leaves_first}
 use Rattle.tftp_client.proofs.Running.{if_err}

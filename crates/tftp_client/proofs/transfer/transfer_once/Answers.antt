@@ -1,6 +1,5 @@
 -- A job of either kind.
-use Rattle.std.proofs.Common.{refl}
-use Rattle.std.proofs.lemmas.Result.{IfOk-weaker}
+use Rattle.tftp_client.proofs.Common.{refl, IfOk-weaker}
 use Rattle.tftp_client.proofs.Concluding.{end_job, keeps_got, keeps_none, put_stores}
 use Rattle.tftp_client.proofs.LeftBytes.{leaves_job}
 use Rattle.tftp_client.proofs.Running.{if_err}

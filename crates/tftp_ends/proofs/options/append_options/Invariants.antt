@@ -1,7 +1,6 @@
 -- The bytes so far are those of the options before the index.
-use Rattle.std.proofs.Common.{◌≡◌, ◌≤◌, ◌*◌, ◌++◌, length, take, vec_capacity}
-use Rattle.tftp_wire.specs.Options.{options_bytes}
-use Rattle.tftp_negotiate.specs.Agreed.{agreed_options}
+use Rattle.tftp_ends.proofs.Common.{◌≡◌, ◌≤◌, ◌*◌, ◌++◌, length, take, options_bytes, agreed_options}
+use Rattle.std.proofs.Common.{vec_capacity}
 use Rattle.tftp_ends.proofs.options.append_options.Given as goal
 
 abbrev pub invariant-loop-option : goal.invariant-loop-option

@@ -1,7 +1,6 @@
 -- The length so far is that of the options before the index.
-use Rattle.std.proofs.Common.{◌≡◌, ◌-◌, ◌^◌, min, length, take}
-use Rattle.tftp_wire.specs.Options.{options_bytes}
-use Rattle.tftp_negotiate.specs.Agreed.{agreed_options}
+use Rattle.tftp_ends.proofs.Common.{◌≡◌, length, take, options_bytes, agreed_options}
+use Rattle.std.proofs.Common.{◌-◌, ◌^◌, min}
 use Rattle.tftp_ends.proofs.options.options_len.Given as goal
 
 abbrev pub invariant-loop-option : goal.invariant-loop-option

@@ -1,6 +1,5 @@
 -- A piece is readable if the decoder accepts it.
-use Rattle.std.proofs.Common.{◌∙◌, arith, length}
-use Rattle.std.specs.Prelude.{nat_lt}
+use Rattle.tftp_ends.proofs.Common.{◌∙◌, arith, length, nat_lt}
 use Rattle.tftp_ends.proofs.TextLemmas.{readable_more, readable_last, wrong_unreadable}
 use Rattle.tftp_ends.proofs.receiver.is_readable.Goals as goal
 

@@ -1,5 +1,5 @@
 -- Options that may be requested are valid options of a packet.
-use Rattle.std.proofs.Common.{rules, arith}
+use Rattle.tftp_ends.proofs.Common.{rules, arith}
 use Rattle.tftp_negotiate.specs.declared.known.Kind.TheVariants.{Read}
 use Rattle.tftp_ends.proofs.request.may_get.Goals as goal
 

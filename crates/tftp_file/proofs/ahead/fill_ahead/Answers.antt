@@ -16,10 +16,8 @@ returns-then-want-held-clause-fills g c =
     let items = c.args.buffer.now.items in
     let taken = c.take_held.ensures in
     let long : c.len.result ≡ length items = search (rules, places) in
-    fills_or_keeps
-    (drop c.args.at.now items) _ c.args.want c.args.out.now.items c.take_held.new.out.items _ c.take_held.result
-    (omega (arith, long, c.if-want-held.true, length-drop c.args.at.now items)) taken.count taken.given taken.rest
-    taken.err taken.kept taken.fault
+    fills_or_keeps _ _ _ _ _ _ _ (omega (arith, long, c.if-want-held.true, length-drop c.args.at.now items)) taken.count
+    taken.given taken.rest taken.err taken.kept taken.fault
 
 pub returns-in-Err-clause-fills : goal.returns-in-Err-clause-fills
 returns-in-Err-clause-fills g c =

@@ -2,7 +2,6 @@
 use Rattle.std.proofs.Common.{rules, ◌≡◌, ◌++◌, ◌∷◌, [], ℕ, List, length, ap, ◌∙◌, inl, inr, refl, true, false}
 use Rattle.std.proofs.lemmas.Result.{err_from_is_err_and}
 use Rattle.std.proofs.lemmas.List.{nil_from_length}
-use Rattle.std.proofs.lemmas.Bool.{eq-eqb}
 use Rattle.tftp_file.specs.Netascii.{netascii_text}
 use Rattle.tftp_file.proofs.DecodingLemmas.{pair_taken, run_taken, wrong_taken}
 use Rattle.tftp_file.proofs.netascii.check.Goals as goal
@@ -46,16 +45,15 @@ returns-in-None-2-clause-ok c =
     let held = rw c.in-None-2.is at c.in_ok-remaining.ensures.ok in
     elim held [
       | inl e ↦
-          absurd (let f : false ≡ true =
-          c.if-is_empty.ensures ∙ eq-eqb (length c.split_run.result.1.now) 0 (ap length e) in
+          absurd (let f : false ≡ true = search rules in
           cc)
       | inr e ↦ (
         i.0 ++ c.split_run.result.0.now,
         (
           inr refl,
           run_taken c.args.text.now c.loop-remaining.left.now c.split_run.result.0.now c.split_run.result.1.now i.0 i.1
-              c.split_run.ensures.parts c.split_run.ensures.unescaped
-              ∙ ap (λ (t : List ℕ). netascii_text (i.0 ++ c.split_run.result.0.now) ++ t) e,
+              c.split_run.ensures.parts c.split_run.ensures.unescaped ∙ ap (λ (t : List ℕ). netascii_text (i.0 ++
+              c.split_run.result.0.now) ++ t) e,
         ),
       )
     ]

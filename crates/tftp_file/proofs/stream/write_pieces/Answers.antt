@@ -1,17 +1,13 @@
 -- One more write continues at the offset before it.
-use Rattle.std.proofs.Common.{◌≡◌, ℕ, ◌-◌, List, ◌++◌, length, take, drop, arith, take-append-drop}
+use Rattle.std.proofs.Common.{◌≡◌, ℕ, ◌-◌, List, ◌++◌, length, take, drop, arith}
 use Rattle.std.proofs.lemmas.Grind.{common_steps}
-use Rattle.std.proofs.lemmas.List.{take_rest}
 use Rattle.std.proofs.KnownBytes.{Appends-trans}
 use Rattle.tftp_file.proofs.stream.write_pieces.Goals as goal
 
 -- n more bytes are written, and the rest begins after them
 cut_later : (all done rest : List ℕ) (n : ℕ) → all ≡ done ++ rest
     → all ≡ (done ++ take n rest) ++ take (length rest - n) (drop n rest)
-cut_later all done rest n split =
-    let tail = take_rest rest n in
-    let whole = take-append-drop n rest in
-    grind (arith, common_steps)
+cut_later all done rest n split = grind (arith, common_steps)
 
 pub loop-rest-preserved : goal.loop-rest-preserved
 loop-rest-preserved g c =

@@ -1,4 +1,4 @@
-use Rattle.std.proofs.Common.{◌≡◌, ◌≤◌, ◌-◌, ◌+◌, arith}
+use Rattle.tftp_loop.proofs.Common.{◌≡◌, ◌≤◌, ◌-◌, ◌+◌, arith}
 use Rattle.tftp_loop.proofs.OrderLemmas.{next_listed, all_listed}
 use Rattle.tftp_loop.proofs.port_order.listed.Goals as goal
 

@@ -1,5 +1,4 @@
-use Rattle.std.proofs.Common.{◌≡◌, ◌≤◌, ◌-◌}
-use Rattle.std.specs.List.{range_with_len}
+use Rattle.tftp_loop.proofs.Common.{◌≡◌, ◌≤◌, ◌-◌, range_with_len}
 use Rattle.tftp_loop.proofs.port_order.listed.Given as goal
 
 abbrev pub invariant-loop-port : goal.invariant-loop-port

@@ -1,10 +1,8 @@
-use Rattle.std.proofs.Common.{arith, ◌≡◌, min, refl, sym, ap, subst, ◌∙◌, ◌++◌, ◌∷◌, [], Some}
+use Rattle.tftp_loop.proofs.Common.{arith, ◌≡◌, min, refl, sym, ap, subst, ◌∙◌, ◌++◌, ◌∷◌, [], Some, Start, IsOneOf}
+use Rattle.tftp_loop.proofs.Common.{coming, drawn_from, PortRange}
 use Rattle.std.proofs.lemmas.List.Sorted.{IsPermutation-refl}
-use Rattle.tftp_loop.specs.Run.Run.{Start}
-use Rattle.tftp_loop.specs.PortOrder.{IsOneOf, coming, drawn_from}
 use Rattle.tftp_loop.specs.PortPool.{after_bind}
 use Rattle.tftp_loop.specs.PortsInTurn.{Unused, Uses}
-use Rattle.tftp_loop.specs.declared.port_order.PortRange.{PortRange}
 use Rattle.tftp_loop.proofs.PoolLemmas.{all_missed, draws_few, in_vain, missed_more, tried_more}
 use Rattle.tftp_loop.proofs.PortUses.{drawn_last, long, nothing_after, rest_long}
 use Rattle.tftp_loop.proofs.port_pool.bind_next.Goals as goal

@@ -1,7 +1,6 @@
-use Rattle.std.proofs.Common.{◌≡◌, ◌≤◌, ◌+◌, List, ℕ, length}
-use Rattle.std.specs.Prelude.{Some, All}
-use Rattle.tftp_loop.specs.PortOrder.{HasPorts, coming, drawn_from}
-use Rattle.tftp_loop.specs.PortPool.{TriesPorts}
+use Rattle.tftp_loop.proofs.Common.{◌≡◌, ◌≤◌, ◌+◌, List, ℕ, length, All, coming, drawn_from, TriesPorts}
+use Rattle.std.specs.Prelude.{Some}
+use Rattle.tftp_loop.specs.PortOrder.{HasPorts}
 use Rattle.tftp_loop.specs.PortsInTurn.{UsesPorts}
 use Rattle.tftp_loop.proofs.PoolLemmas.{IsMissed}
 use Rattle.tftp_loop.proofs.PortUses.{ComesLast}

@@ -1,9 +1,6 @@
 -- What is left of the order once its first ports are mixed and one is used.
-use Rattle.std.proofs.Common.{◌≡◌, sym, subst, ◌∙◌, Some}
+use Rattle.tftp_loop.proofs.Common.{◌≡◌, sym, subst, ◌∙◌, Some, IfSome, IsOneOf, PortRange}
 use Rattle.std.proofs.lemmas.Option.{IfSome_then}
-use Rattle.std.specs.Prelude.{IfSome}
-use Rattle.tftp_loop.specs.PortOrder.{IsOneOf}
-use Rattle.tftp_loop.specs.declared.port_order.PortRange.{PortRange}
 use Rattle.tftp_loop.proofs.PoolLemmas.{mixed_within}
 use Rattle.tftp_loop.proofs.port_pool.draw_port.Goals as goal
 

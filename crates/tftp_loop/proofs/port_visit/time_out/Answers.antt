@@ -1,6 +1,4 @@
-use Rattle.std.proofs.Common.{ap}
-use Rattle.std.specs.Prelude.{option_map}
-use Rattle.tftp_ends.specs.Step.{lent}
+use Rattle.tftp_loop.proofs.Common.{ap, option_map, lent}
 use Rattle.tftp_loop.proofs.PortLemmas.{bytes_lent, found_timed, timed_out}
 use Rattle.tftp_loop.proofs.Unclosed.{open_timed}
 use Rattle.tftp_loop.proofs.port_visit.time_out.Goals as goal

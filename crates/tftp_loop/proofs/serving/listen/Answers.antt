@@ -1,11 +1,6 @@
-use Rattle.std.proofs.Common.{List, ◌∷◌, ap, inr, refl, subst, ◌∙◌}
-use Rattle.tftp_ends.specs.declared.endpoint.Endpoint.{Endpoint}
-use Rattle.tftp_lines.specs.Printed.{line_text}
+use Rattle.tftp_loop.proofs.Common.{List, ◌∷◌, ap, inr, refl, subst, ◌∙◌, Endpoint, line_text, SocketEvent, Printed}
+use Rattle.tftp_loop.proofs.Common.{Start, at_start}
 use Rattle.tftp_lines.specs.declared.printed.Printed.TheVariants.{Listening}
-use Rattle.tftp_sockets.specs.Trace.{SocketEvent}
-use Rattle.tftp_sockets.specs.Trace.SocketEvent.{Printed}
-use Rattle.tftp_loop.specs.Run.Run.{Start}
-use Rattle.tftp_loop.specs.Steps.{at_start}
 use Rattle.tftp_loop.specs.WholeRun.{RunsServerFrom, listening}
 use Rattle.tftp_loop.proofs.serving.listen.Goals as goal
 

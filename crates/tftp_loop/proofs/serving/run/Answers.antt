@@ -1,10 +1,6 @@
-use Rattle.std.proofs.Common.{inl, map, refl, ap, ◌∙◌, Option, ℕ}
-use Rattle.tftp_ends.specs.declared.endpoint.Endpoint.{Endpoint}
-use Rattle.tftp_sockets.specs.declared.watch.Watch.{Watch}
-use Rattle.tftp_loop.specs.Run.Run.{Start}
+use Rattle.tftp_loop.proofs.Common.{inl, map, refl, ap, ◌∙◌, Option, ℕ, Endpoint, Watch, Start, at_start, pending_in}
+use Rattle.tftp_loop.proofs.Common.{state_of, timer_of}
 use Rattle.tftp_loop.specs.declared.sockets.Sockets.{Sockets}
-use Rattle.tftp_loop.specs.Steps.{at_start}
-use Rattle.tftp_loop.specs.LoopStates.{pending_in, state_of, timer_of}
 use Rattle.tftp_loop.proofs.RunLemmas.{onward, idle}
 use Rattle.tftp_loop.proofs.LoopRuns.{same_state}
 use Rattle.tftp_loop.proofs.Receipts.{ends_by, starts_few, starts_settled}

@@ -1,4 +1,4 @@
-use Rattle.std.proofs.Common.{ℕ, List, ap, subst, refl}
+use Rattle.tftp_loop.proofs.Common.{ℕ, List, ap, subst, refl}
 use Rattle.tftp_loop.specs.PortPool.{PoolState}
 use Rattle.tftp_loop.specs.WholeRun.{RunsServerFrom, listening}
 use Rattle.tftp_loop.specs.WholeRun.RunsServer.{Bound, Unbound}

@@ -1,8 +1,6 @@
-use Rattle.std.proofs.Common.{arith, ◌≡◌, ◌-◌, ◌+◌, ◌<◌, ◌∷◌, ℕ, List, drop, length, map, sym, ap, subst, ◌∙◌}
+use Rattle.tftp_loop.proofs.Common.{arith, ◌≡◌, ◌-◌, ◌+◌, ◌<◌, ◌∷◌, ℕ, List, drop, length, map, sym, ap, subst, ◌∙◌}
+use Rattle.tftp_loop.proofs.Common.{Port, TransferSocket, timer_of}
 use Rattle.std.proofs.lemmas.List.{drop_more}
-use Rattle.tftp_sockets.specs.declared.port.Port.{Port}
-use Rattle.tftp_loop.specs.declared.transfer_port.TransferSocket.{TransferSocket}
-use Rattle.tftp_loop.specs.LoopStates.{timer_of}
 use Rattle.tftp_loop.specs.Steps.{open_of}
 use Rattle.tftp_loop.proofs.transfer_port.open_of.Goals as goal
 

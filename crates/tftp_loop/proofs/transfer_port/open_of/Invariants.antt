@@ -1,5 +1,4 @@
-use Rattle.std.proofs.Common.{◌≡◌, ◌≤◌, ◌+◌, drop, length, map}
-use Rattle.tftp_loop.specs.LoopStates.{timer_of}
+use Rattle.tftp_loop.proofs.Common.{◌≡◌, ◌≤◌, ◌+◌, drop, length, map, timer_of}
 use Rattle.tftp_loop.specs.Steps.{open_of}
 use Rattle.tftp_loop.proofs.transfer_port.open_of.Given as goal
 

@@ -1,5 +1,4 @@
-use Rattle.std.proofs.Common.{arith}
-use Rattle.tftp_loop.specs.MayWait.{woken_if}
+use Rattle.tftp_loop.proofs.Common.{arith, woken_if}
 use Rattle.tftp_loop.proofs.Waits.{changed_more}
 use Rattle.tftp_loop.proofs.transfer_port.wake_all.Goals as goal
 

@@ -1,5 +1,4 @@
-use Rattle.std.proofs.Common.{◌≡◌, ◌++◌, map, take, drop}
-use Rattle.tftp_loop.specs.MayWait.{woken_if}
+use Rattle.tftp_loop.proofs.Common.{◌≡◌, ◌++◌, map, take, drop, woken_if}
 use Rattle.tftp_loop.proofs.transfer_port.wake_all.Given as goal
 
 abbrev pub invariant-loop-port : goal.invariant-loop-port

@@ -1,11 +1,10 @@
 -- A text is a number exactly if it is the number's decimal digits.
+use Rattle.std.proofs.Common.{rules}
 use Rattle.tftp_negotiate.proofs.OptionsLemmas.{begins-decimal, number_of-read, number_of_none}
 use Rattle.tftp_negotiate.proofs.number.number_of.Goals as goal
 
 pub returns-then-not-begins_number : goal.returns-then-not-begins_number
-returns-then-not-begins_number c = number_of_none c.args.text.now (λ n small e.
-    let begins = c.begins_number.ensures.1 (begins-decimal c.args.text.now n small e) in
-    cc (begins, c.if-not-begins_number.true))
+returns-then-not-begins_number c = search (rules, number_of_none, begins-decimal)
 
 pub returns : goal.returns
 returns c =

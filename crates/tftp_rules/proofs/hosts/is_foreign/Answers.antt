@@ -1,8 +1,6 @@
 -- An endpoint with neither address is at neither host.
-use Rattle.std.proofs.Common.{Bool, ap, sym, ◌∙◌}
-use Rattle.std.specs.Prelude.{◌&&◌, not}
-use Rattle.tftp_rules.specs.Hosts.{client_ip}
-use Rattle.tftp_rules.specs.Machine.{is_same_ip}
+use Rattle.tftp_rules.proofs.Common.{Bool, ap, sym, ◌∙◌, ◌&&◌, client_ip, is_same_ip}
+use Rattle.std.specs.Prelude.{not}
 use Rattle.tftp_rules.proofs.HostLemmas.{foreign_by}
 use Rattle.tftp_rules.proofs.hosts.is_foreign.Goals as goal
 

@@ -1,13 +1,11 @@
 -- A read with a block size, by the rules.
-use Rattle.std.proofs.Common.{◌≡◌, Bool, true, false, sym, List, [], ◌∷◌, refl, rules}
-use Rattle.tftp_wire.specs.declared.mode.Mode.TheVariants.{Octet}
-use Rattle.std.specs.Prelude.{if◌then◌else◌}
-use Rattle.std.proofs.lemmas.Bool.{true≢false}
+use Rattle.tftp_rules.proofs.Common.{◌≡◌, Bool, true, false, sym, List, [], ◌∷◌, refl, rules, Octet, if◌then◌else◌}
+use Rattle.tftp_rules.proofs.Common.{true≢false, client_ip, Endpoint, is_same, At_server, At_client, start, Rule, Asks}
+use Rattle.tftp_rules.proofs.Common.{Opens_with, Takes_oack, Sends_next, Appends, Completes, IsLegal, asking, after}
 use Rattle.tftp_wire.specs.declared.packet.Request.{Request as WireRequest}
-use Rattle.tftp_rules.specs.Hosts.{client_ip, server_ip, host_of, two_hosts}
-use Rattle.tftp_rules.specs.Machine.{Endpoint, is_same, nobody, At_server, At_client, start}
-use Rattle.tftp_rules.specs.Rules.{Rule, Asks, Opens_with, Takes_oack, Sends_next, Appends, Completes, IsLegal}
-use Rattle.tftp_rules.specs.Rules.{IsOpenedBy, AreOver, asking, after}
+use Rattle.tftp_rules.specs.Hosts.{server_ip, host_of, two_hosts}
+use Rattle.tftp_rules.specs.Machine.{nobody}
+use Rattle.tftp_rules.specs.Rules.{IsOpenedBy, AreOver}
 use Rattle.tftp_rules.proofs.laws.some_run_completes.Goals as goal
 
 -- the client's end

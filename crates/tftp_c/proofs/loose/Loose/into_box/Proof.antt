@@ -1,37 +1,26 @@
 -- `into_box` calls `from_raw` with the two parts.
-use Rattle.std.proofs.Common.{◌≡◌, List, [], ◌∷◌, ◌++◌, refl, sym, ap, subst}
-use mir.Syntax.{a_type, dcons, dnil}
-use mir.Val.{Val, vptr}
+use Rattle.tftp_c.proofs.Common.{◌≡◌, List, [], ◌∷◌, ◌++◌, refl, sym, ap, subst, dnil, Val, vptr, SProp, ent, id⊢}
+use Rattle.tftp_c.proofs.Common.{ftrue, flft, WpFn, Item, ‵, raw, ◌⊛◌, some, later, at_ret, ◌$◌, ◌∵◌, !, qed, by, move}
+use Rattle.tftp_c.proofs.Common.{keep, drop, split, split3, join, fsplit, fjoin, pick, suffices, use1, await, rewrite}
+use Rattle.tftp_c.proofs.Common.{feq_i, stop, fld, of_opd, no_more, and_then, first, blocks, exec, returns, enter}
+use Rattle.tftp_c.proofs.Common.{alloc_all, pass_all, free_all, look_at, get, get_in, sets, env, sub, whole, fact}
+use Rattle.tftp_c.proofs.Common.{tables, no, RattleType, owns, types_at, plain, block_ptr, nothing, Stays, stay_dropped}
+use Rattle.tftp_c.proofs.Common.{walk_of, Goes-blank, proved_at, leaves}
+use mir.Syntax.{a_type, dcons}
 use mir.MapTy.{inst_fn}
-use base.Logic.{SProp, ent, id⊢}
-use base.Fml.{ftrue, flft}
-use prog.Wp.{WpFn}
-use types.Kit.{Item, ‵, raw, ◌⊛◌, some, later, at_ret, ◌$◌, ◌∵◌, !, qed, by, move, keep, drop}
-use types.Kit.{split, split3, join, fsplit, fjoin, pick, suffices, use1, await, rewrite, feq_i}
-use types.Run.{stop, fld, of_opd, no_more, and_then, first, blocks, exec, returns, enter}
-use types.ByLocal.{alloc_all, pass_all, free_all, look_at, get, get_in, sets, lands_last, env}
-use types.Part.{sub, whole}
-use contract.Monad.{fact}
+use types.ByLocal.{lands_last}
 use contract.BorrowLft.{◌⊑◌}
-use contract.Running.{tables}
-use denote.Exit.{no}
-use denote.RattleType.{RattleType, owns}
-use denote.Signature.{types_at, plain}
-use denote.RawPtr.{block_ptr}
-use denote.Steps.{nothing, only}
+use denote.Steps.{only}
 use denote.Param.{layout, bounded}
 use denote.Param.Laws.{param_laws}
 use denote.Triple.Clauses.{Lasts, lasts}
 use denote.Triple.Spec.{triple_of}
 use denote.Triple.Call.{calls_at_last}
-use denote.Triple.Walked.{Stays, stay_dropped, walk_of}
-use Rattle.core.proofs.alloc.Calls.{Goes-blank}
 use Rattle.core.proofs.alloc.Shapes.{after}
 use Rattle.core.proofs.atomic.Steps.{fm}
 use Rattle.core.proofs.cell.Inside.{Good}
 use Rattle.std_alloc.proofs.BoxSteps.Form as box
 use Rattle.std_alloc.proofs.BoxSteps.Steps.{box_out, box_in}
-use Rattle.std.proofs.raw_atomic.Walks.{proved_at, leaves}
 use Rattle.tftp_c.proofs.LooseValues.{Row, parts, typed, apart}
 use Rattle.std_alloc.specs.contracts.boxed.Box.from_raw as callee
 use Rattle.std_alloc.proofs.boxed.Box.from_raw.Met.{met}

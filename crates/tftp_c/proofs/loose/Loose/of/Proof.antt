@@ -1,37 +1,25 @@
 -- `of` calls `into_raw_with_allocator`, and pairs what it returns.
-use Rattle.std.proofs.Common.{◌≡◌, List, [], ◌∷◌, ◌++◌, refl, sym, ap, ◌∙◌, subst}
-use mir.Syntax.{a_type, dcons, dnil}
+use Rattle.tftp_c.proofs.Common.{◌≡◌, List, [], ◌∷◌, ◌++◌, refl, sym, ap, ◌∙◌, subst, dnil, Val, vptr, vstruct, of_list}
+use Rattle.tftp_c.proofs.Common.{SProp, ent, emp, never, id⊢, fst∗, ftrue, fsep, flft, WpFn, sem, Item, ‵, raw, ◌⊛◌}
+use Rattle.tftp_c.proofs.Common.{some, later, ◌$◌, ◌∵◌, !, qed, by, move, keep, drop, split, split3, join, fsplit}
+use Rattle.tftp_c.proofs.Common.{fjoin, fpick, pick, suffices, use0, use1, await, rewrite, feq_l, stop, fld, of_opd}
+use Rattle.tftp_c.proofs.Common.{no_more, and_then, returns, enter, alloc_all, pass_all, free_all, look_at, get, get_in}
+use Rattle.tftp_c.proofs.Common.{sets, agg, sub, whole, fact, fact_i, tables, no, RattleType, owns, types_at, plain}
+use Rattle.tftp_c.proofs.Common.{RawPtr, Ptr, block_ptr, null_ptr, ptr_val, in_a_block, nothing, heard, Stays}
+use Rattle.tftp_c.proofs.Common.{stay_dropped, walk_of, Goes-blank, handle_tells, proved_at, leaves}
+use mir.Syntax.{a_type, dcons}
 use mir.Raw.{raw as bare}
-use mir.Val.{Val, vptr, vstruct, of_list}
 use mir.MapTy.{inst_fn}
-use base.Logic.{SProp, ent, emp, never, id⊢, fst∗}
-use base.Fml.{ftrue, fsep, flft}
-use prog.Wp.{WpFn}
-use types.Logic.{sem}
-use types.Kit.{Item, ‵, raw, ◌⊛◌, some, later, ◌$◌, ◌∵◌, !, qed, by, move, keep, drop, split}
-use types.Kit.{split3, join, fsplit, fjoin, fpick, pick, suffices, use0, use1, await, rewrite, feq_l}
-use types.Run.{stop, fld, of_opd, no_more, and_then, returns, enter}
-use types.ByLocal.{alloc_all, pass_all, free_all, look_at, get, get_in, sets, lands_as}
-use types.Part.{agg, sub, whole}
-use contract.Monad.{fact, fact_i}
-use contract.Running.{tables}
-use denote.Exit.{no}
-use denote.RattleType.{RattleType, owns}
-use denote.Signature.{types_at, plain}
-use denote.Builtin.{RawPtr}
-use denote.RawPtr.{Ptr, block_ptr, null_ptr, ptr_val, in_a_block}
-use denote.Steps.{nothing, only, heard}
+use types.ByLocal.{lands_as}
+use denote.Steps.{only}
 use denote.Param.{bounded}
 use denote.Param.Laws.{param_laws}
 use denote.Struct.Tuple.{Tuple}
 use denote.Triple.Spec.{triple_of}
 use denote.Triple.Call.{calls_at}
-use denote.Triple.Walked.{Stays, stay_dropped, walk_of}
-use Rattle.core.proofs.alloc.Calls.{Goes-blank, handle_tells}
 use Rattle.core.proofs.atomic.Steps.{fm}
 use Rattle.std_alloc.proofs.BoxSteps.Form as box
 use Rattle.std_alloc.proofs.BoxSteps.Steps.{box_out, box_in}
-use Rattle.std.proofs.raw_atomic.Walks.{proved_at, leaves}
 use Rattle.tftp_c.proofs.LooseValues.{parts, block, typed, together}
 use Rattle.std_alloc.specs.contracts.boxed.Box.into_raw_with_allocator as callee
 use Rattle.std_alloc.proofs.boxed.Box.into_raw_with_allocator.Met.{met}

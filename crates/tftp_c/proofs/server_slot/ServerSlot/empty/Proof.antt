@@ -1,21 +1,10 @@
 -- `empty` owns nothing.
-use Rattle.std.proofs.Common.{◌≡◌, [], ◌∷◌, refl, lit<}
-use mir.Val.{Val}
-use base.Logic.{SProp, emp}
-use base.Fml.{ftrue}
-use types.Kit.{‵, raw, ◌⊛◌, ◌$◌, ◌∵◌, !, qed, by, keep, split, use0}
-use types.Run.{lit, no_more, and_then, returns, enter}
-use types.ByLocal.{alloc_all, pass_all, free_all, look_at, sets}
-use types.Part.{agg}
-use contract.Monad.{fact, fact_i}
-use contract.Running.{tables}
-use denote.RawPtr.{null_ptr}
-use denote.RattleType.{owns}
-use denote.Signature.{types_at}
-use denote.Steps.{nothing}
-use denote.Triple.Walked.{Stays, walk_of}
-use Rattle.std.specs.Prelude.{None, Option}
-use Rattle.std.proofs.raw_atomic.Walks.{proved_at, leaves}
+use Rattle.tftp_c.proofs.Common.{◌≡◌, [], ◌∷◌, refl, Val, SProp, emp, ftrue, ‵, raw, ◌⊛◌, ◌$◌, ◌∵◌, !, qed, by, keep}
+use Rattle.tftp_c.proofs.Common.{split, use0, no_more, and_then, returns, enter, alloc_all, pass_all, free_all, look_at}
+use Rattle.tftp_c.proofs.Common.{sets, agg, fact, fact_i, tables, null_ptr, owns, types_at, nothing, Stays, walk_of}
+use Rattle.tftp_c.proofs.Common.{None, Option, proved_at, leaves}
+use Rattle.std.proofs.Common.{lit<}
+use types.Run.{lit}
 use Rattle.tftp_c.proofs.ServerSlotValues.{lone, slot_in}
 use Rattle.tftp_c.specs.contracts.server_slot.ServerSlot.empty.{ended, clauses}
 use Rattle.tftp_c.specs.contracts.server_slot.ServerSlot.empty.Key.{name as #self}

@@ -1,30 +1,13 @@
 -- `seal` forgets the type of the pointer.
-use Rattle.std.proofs.Common.{◌≡◌, List, [], ◌∷◌, ◌++◌, refl, sym, subst}
-use mir.Val.{Val, vptr}
-use base.Logic.{SProp, ent, emp, id⊢}
-use base.Fml.{ftrue}
-use prog.Wp.{WpFn}
-use types.Kit.{‵, raw, ◌⊛◌, ◌$◌, ◌∵◌, !, qed, by, move, keep, split, fsplit, fjoin, suffices, use0, use1}
-use types.Run.{stop, fld, of_opd, no_more, and_then, returns, enter}
-use types.ByLocal.{alloc_all, pass_all, free_all, look_at, get, get_in, sets}
-use types.Part.{agg, sub, whole}
-use contract.Monad.{fact, fact_i}
-use contract.Running.{tables}
-use denote.Exit.{yes}
-use denote.RattleType.{RattleType, owns}
-use denote.RawPtr.{block_ptr}
-use denote.Signature.{types_at, plain}
-use denote.Steps.{nothing}
-use denote.Triple.Walked.{Stays, stay_dropped, walk_of}
-use Rattle.core.proofs.alloc.Calls.{Goes-blank}
-use Rattle.std.specs.Prelude.{Some, Option}
-use Rattle.std.proofs.raw_atomic.Walks.{proved_at, leaves}
+use Rattle.tftp_c.proofs.Common.{◌≡◌, List, [], ◌∷◌, ◌++◌, refl, sym, subst, Val, vptr, SProp, ent, emp, id⊢, ftrue}
+use Rattle.tftp_c.proofs.Common.{WpFn, ‵, raw, ◌⊛◌, ◌$◌, ◌∵◌, !, qed, by, move, keep, split, fsplit, fjoin, suffices}
+use Rattle.tftp_c.proofs.Common.{use0, use1, stop, fld, of_opd, no_more, and_then, returns, enter, alloc_all, pass_all}
+use Rattle.tftp_c.proofs.Common.{free_all, look_at, get, get_in, sets, agg, sub, whole, fact, fact_i, tables, yes}
+use Rattle.tftp_c.proofs.Common.{RattleType, owns, block_ptr, types_at, plain, nothing, Stays, stay_dropped, walk_of}
+use Rattle.tftp_c.proofs.Common.{Goes-blank, Some, Option, proved_at, leaves, the_row_laws, ghosts, owned_at}
 use Rattle.std_heap.specs.contracts.Global as heap
-use Rattle.std_heap.proofs.Global.TheLaws.{the_row_laws}
-use Rattle.std_heap.specs.contracts.GlobalAllocator.TheImpl.{ghosts}
 use Rattle.tftp_c.proofs.LooseValues.{Row, parts, typed, apart}
 use Rattle.tftp_c.proofs.ServerSlotValues.{lone, slot_in}
-use Rattle.tftp_c.specs.Owned.{owned_at}
 use Rattle.tftp_c.specs.contracts.server_slot.ServerSlot.seal.{ended, clauses}
 use Rattle.tftp_c.specs.contracts.server_slot.ServerSlot.seal.Key.{name as #self}
 use Rattle.tftp_c.proofs.server_slot.ServerSlot.seal.Statement.{statement}

@@ -1,35 +1,31 @@
 -- `server` lends what is behind the pointer, and the slot follows it.
-use Rattle.std.proofs.Common.{◌≡◌, ℕ, List, [], ◌∷◌, refl, sym, subst, MutBor}
+use Rattle.tftp_c.proofs.Common.{◌≡◌, List, [], ◌∷◌, refl, sym, subst, Val, vptr, Ura, ent, never, fst∗, id⊢, Fml}
+use Rattle.tftp_c.proofs.Common.{ftrue, fsep, flft, Logic, sem, ‵, raw, ◌⊛◌, some, later, at_ret, ◌$◌, ◌∵◌, !, qed}
+use Rattle.tftp_c.proofs.Common.{move, keep, use1, split, split3, join, fsplit, fjoin, fpack, pick, await, rewrite}
+use Rattle.tftp_c.proofs.Common.{suffices, whole, sub, stop, fld, of_opd, first, blocks, exec, returns, enter}
+use Rattle.tftp_c.proofs.Common.{alloc_all, pass_all, free_all, look_at, get, sets, env, fact, tables, no, RattleType}
+use Rattle.tftp_c.proofs.Common.{Ptr, block_ptr, null_ptr, in_a_block, plain, nothing, heard, Stays, stay_dropped}
+use Rattle.tftp_c.proofs.Common.{walk_of, Some, Option, IsSome, box_owns, owned_at}
+use Rattle.std.proofs.Common.{ℕ, MutBor}
 use mir.Syntax.{named}
 use mir.Raw.{raw as bare}
-use mir.Val.{Val, vptr}
-use seplogic.Ra.Ura.{Ura}
 use base.Fraction.{full_share}
-use base.Logic.{ent, sep, never, fst∗, id⊢}
-use base.Fml.{GName, Fml, ftrue, fsep, flft}
-use types.Logic.{Logic, sem}
-use types.Kit.{‵, raw, ◌⊛◌, some, later, at_ret, ◌$◌, ◌∵◌, !, qed, done, move, keep, use1, split, split3, join, fsplit, fsplit3, fjoin, fpack, pick, await, rewrite, suffices, frame, group}
-use types.Part.{whole, sub, look_in}
-use types.Run.{stop, fld, of_opd, load, addr, first, blocks, exec, returns, enter}
-use types.ByLocal.{alloc_all, pass_all, free_all, look_at, get, through, sets, sets_last, env}
-use contract.Monad.{fact}
-use contract.Running.{tables}
-use denote.Exit.{no}
+use base.Logic.{sep}
+use base.Fml.{GName}
+use types.Kit.{done, fsplit3, frame, group}
+use types.Part.{look_in}
+use types.Run.{load, addr}
+use types.ByLocal.{through, sets_last}
 use denote.Follow.{follows, Part, lends_Part}
 use denote.Memory.{lone as alone, part_at, part_of, mem, cell_at}
-use denote.RattleType.{RattleType}
-use denote.RawPtr.{Ptr, block_ptr, null_ptr, in_a_block}
 use denote.Ref.{MutRef, mut_vals, mut_Tells}
-use denote.Signature.{plain, mut_ref_to}
-use denote.Steps.{nothing, heard, opens}
-use denote.Triple.Walked.{Stays, stay_dropped, walk_of, says, ends_at, Goes-spent_ref}
+use denote.Signature.{mut_ref_to}
+use denote.Steps.{opens}
+use denote.Triple.Walked.{says, ends_at, Goes-spent_ref}
 use Rattle.std.proofs.raw_atomic.Walks.{proved}
 use Rattle.std.proofs.VecSteps.Shapes.{after}
-use Rattle.std.specs.Prelude.{Some, Option, IsSome}
-use Rattle.std_alloc.specs.Box.Ownership.{box_owns}
 use Rattle.libc.specs.Heap.{chunk}
 use Rattle.tftp_c.specs.Lending.{with_server}
-use Rattle.tftp_c.specs.Owned.{owned_at}
 use Rattle.tftp_c.proofs.ServerSlotValues.{lone, slot_in, slot_out, some_is}
 use Rattle.tftp_c.specs.contracts.server_slot.ServerSlot.server.{ended, clauses}
 use Rattle.tftp_c.specs.contracts.server_slot.ServerSlot.server.Key.{name as #self}

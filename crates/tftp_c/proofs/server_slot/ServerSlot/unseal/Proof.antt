@@ -1,35 +1,17 @@
 -- `unseal` gives the pointer its type back.
-use Rattle.std.proofs.Common.{◌≡◌, List, [], ◌∷◌, ◌++◌, refl, sym, subst}
-use mir.Syntax.{impl, tnil, dnil}
+use Rattle.tftp_c.proofs.Common.{◌≡◌, List, [], ◌∷◌, ◌++◌, refl, sym, subst, impl, tnil, dnil, Val, vptr, SProp, ent}
+use Rattle.tftp_c.proofs.Common.{emp, never, fst∗, id⊢, ftrue, WpFn, sem, ‵, raw, ◌⊛◌, ◌$◌, ◌∵◌, !, qed, by, move, keep}
+use Rattle.tftp_c.proofs.Common.{split, fsplit, fjoin, suffices, use0, rewrite, stop, fld, of_opd, no_more, and_then}
+use Rattle.tftp_c.proofs.Common.{returns, enter, alloc_all, pass_all, free_all, look_at, get, get_in, sets, agg, sub}
+use Rattle.tftp_c.proofs.Common.{whole, fact, fact_i, tables, yes, RattleType, owns, Ptr, block_ptr, null_ptr}
+use Rattle.tftp_c.proofs.Common.{in_a_block, types_at, plain, nothing, heard, Stays, stay_dropped, walk_of, Al}
+use Rattle.tftp_c.proofs.Common.{Goes-blank, handle_tells, Some, Option, IsSome, proved_at, leaves, box_owns}
+use Rattle.tftp_c.proofs.Common.{the_row_laws, ghosts, owned_at}
 use mir.Raw.{raw as bare}
-use mir.Val.{Val, vptr}
-use base.Logic.{SProp, ent, emp, never, fst∗, id⊢}
-use base.Fml.{ftrue}
-use prog.Wp.{WpFn}
-use types.Logic.{sem}
-use types.Kit.{‵, raw, ◌⊛◌, ◌$◌, ◌∵◌, !, qed, by, move, keep, split, fsplit, fjoin, suffices, use0, rewrite}
-use types.Run.{stop, fld, of_opd, no_more, and_then, returns, enter}
-use types.ByLocal.{alloc_all, pass_all, free_all, look_at, get, get_in, sets}
-use types.Part.{agg, sub, whole}
-use contract.Monad.{fact, fact_i}
-use contract.Running.{tables}
-use denote.Exit.{yes}
 use denote.Memory.{lone as alone}
-use denote.RattleType.{RattleType, owns}
-use denote.RawPtr.{Ptr, block_ptr, null_ptr, in_a_block}
-use denote.Signature.{types_at, plain}
-use denote.Steps.{nothing, heard}
-use denote.Triple.Walked.{Stays, stay_dropped, walk_of}
-use Rattle.core.proofs.alloc.Calls.{Al, Goes-blank, handle_tells}
-use Rattle.std.specs.Prelude.{Some, Option, IsSome}
-use Rattle.std.proofs.raw_atomic.Walks.{proved_at, leaves}
-use Rattle.std_alloc.specs.Box.Ownership.{box_owns}
 use Rattle.std_heap.specs.contracts.Global as heap
-use Rattle.std_heap.proofs.Global.TheLaws.{the_row_laws}
-use Rattle.std_heap.specs.contracts.GlobalAllocator.TheImpl.{ghosts}
 use Rattle.tftp_c.proofs.LooseValues.{parts, typed, together}
 use Rattle.tftp_c.proofs.ServerSlotValues.{lone, slot_out, some_is}
-use Rattle.tftp_c.specs.Owned.{owned_at}
 use Rattle.tftp_c.specs.contracts.server_slot.ServerSlot.unseal.{ended, clauses}
 use Rattle.tftp_c.specs.contracts.server_slot.ServerSlot.unseal.Key.{name as #self}
 use Rattle.tftp_c.proofs.server_slot.ServerSlot.unseal.Statement.{statement}

@@ -1,5 +1,5 @@
 -- What was handed to the file is the same, and so is its place.
-use Rattle.tftp_client.specs.Written.{paths_of}
+use Rattle.tftp_client.proofs.Common.{paths_of}
 use Rattle.tftp_client.proofs.TriedOnce.{written_given, written_left}
 use Rattle.tftp_client.proofs.local.LocalFile.write_out.Goals as goal
 

@@ -1,9 +1,9 @@
 -- An append leaves the name, and is refused once that was tried.
-use Rattle.std.proofs.Common.{◌≡◌, ◌≢◌, ℕ, false, List, [], append-nil, Option, Some, Err, refl, sym, ap, ◌∙◌, length}
-use Rattle.tftp_file.specs.Sink.{AppendsFreely, Holding, KeptPrefix}
-use Rattle.tftp_file.specs.declared.fault.StoreFault.{StoreFault}
-use Rattle.tftp_file.specs.declared.fault.StoreFault.TheVariants.{Missing, Exists, Full, Io, Memory}
-use Rattle.tftp_client.specs.Written.{bytes_in, held_of, paths_of}
+use Rattle.tftp_client.proofs.Common.{◌≡◌, ℕ, false, List, [], append-nil, Option, Some, Err, refl, sym, ap, ◌∙◌}
+use Rattle.tftp_client.proofs.Common.{length, AppendsFreely, Holding, StoreFault, Full, bytes_in, held_of, paths_of}
+use Rattle.std.proofs.Common.{◌≢◌}
+use Rattle.tftp_file.specs.Sink.{KeptPrefix}
+use Rattle.tftp_file.specs.declared.fault.StoreFault.TheVariants.{Missing, Exists, Io, Memory}
 use Rattle.tftp_client.proofs.Changing.{keeps_as}
 use Rattle.tftp_client.proofs.TriedOnce.{append_left, given_still, untried_left}
 use Rattle.tftp_client.proofs.local.LocalFileSink.append.Goals as goal

@@ -1,8 +1,6 @@
 -- What was named has what was appended, and stays so; what was not is left.
-use Rattle.std.proofs.Common.{ℕ, List, sym, ap, subst, ◌∙◌, length}
-use Rattle.std.proofs.Math.Logic.{∥∥₁_map}
-use Rattle.tftp_client.specs.Fetched.{Paths, WasNamed}
-use Rattle.tftp_client.specs.Written.{bytes_in, paths_of}
+use Rattle.tftp_client.proofs.Common.{ℕ, List, sym, ap, subst, ◌∙◌, length, ∥∥₁_map, Paths, WasNamed, bytes_in}
+use Rattle.tftp_client.proofs.Common.{paths_of}
 use Rattle.tftp_client.proofs.Changing.{keeps_as}
 use Rattle.tftp_client.proofs.TriedOnce.{given_still, left_still}
 use Rattle.tftp_client.proofs.local.LocalFileSink.commit.Goals as goal

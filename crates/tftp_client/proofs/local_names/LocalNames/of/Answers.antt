@@ -1,6 +1,6 @@
 -- The two names have other lengths.
-use Rattle.std.proofs.Common.{rules, arith, ◌≡◌, ◌++◌, length, length-append, codes, sym, ap, ◌∙◌}
-use Rattle.std.specs.String.{string_bytes}
+use Rattle.tftp_client.proofs.Common.{rules, arith, ◌≡◌, ◌++◌, length, codes, sym, ap, ◌∙◌, string_bytes}
+use Rattle.std.proofs.Common.{length-append}
 use Rattle.tftp_client.proofs.local_names.LocalNames.of.Goals as goal
 
 pub invariant_of-result : goal.invariant_of-result

@@ -1,12 +1,6 @@
 -- What was handed to the file is in it when it gets its name.
-use Rattle.std.proofs.Common.{rules, ◌≡◌, List, ℕ, true, sym, ◌∙◌, subst}
-use Rattle.std.specs.String.{string_bytes}
-use Rattle.std.proofs.Math.Logic.{∥∥₁_map}
-use Rattle.std.proofs.lemmas.Bool.{true≢false}
-use Rattle.tftp_disk.specs.DiskTrace.{made_when}
-use Rattle.tftp_disk.specs.DiskWriter.{calls_of, handed}
-use Rattle.tftp_client.specs.Fetched.{Keeps, Paths, WasNamed}
-use Rattle.tftp_client.specs.Written.{bytes_in, paths_of}
+use Rattle.tftp_client.proofs.Common.{rules, ◌≡◌, List, ℕ, true, sym, ◌∙◌, subst, string_bytes, ∥∥₁_map, true≢false}
+use Rattle.tftp_client.proofs.Common.{made_when, calls_of, handed, Keeps, Paths, WasNamed, bytes_in, paths_of}
 use Rattle.tftp_client.proofs.Changing.{and_then, untried_place}
 use Rattle.tftp_client.proofs.StillThere.{err_so, left_as, on_err, same_there, still_some}
 use Rattle.tftp_client.proofs.TriedOnce.{untried_left}

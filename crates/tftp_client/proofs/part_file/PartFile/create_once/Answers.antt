@@ -1,11 +1,8 @@
 -- The folder stays, and the file is made just now.
-use Rattle.std.proofs.Common.{◌≡◌, false, ℕ, List, Option, Some, None, sym, ◌∙◌}
+use Rattle.tftp_client.proofs.Common.{◌≡◌, false, ℕ, List, Option, Some, None, sym, ◌∙◌, true≢false, string_bytes}
+use Rattle.tftp_client.proofs.Common.{DiskEvent, Written, paths_of}
 use Rattle.std.specs.Prelude.{is_some}
-use Rattle.std.proofs.lemmas.Bool.{true≢false}
-use Rattle.std.specs.String.{string_bytes}
-use Rattle.tftp_disk.specs.DiskTrace.{DiskEvent}
-use Rattle.tftp_client.specs.declared.written.Written.{Written}
-use Rattle.tftp_client.specs.Written.{IsStillIn, paths_of}
+use Rattle.tftp_client.specs.Written.{IsStillIn}
 use Rattle.tftp_client.proofs.NamedFile.{folder_later}
 use Rattle.tftp_client.proofs.part_file.PartFile.create_once.Goals as goal
 

@@ -1,13 +1,10 @@
 -- By the looks at both names, and then their folder.
-use Rattle.std.proofs.Common.{◌≡◌, ℕ, List, ◌∷◌, ap, sym, ◌∙◌, subst, Result}
-use Rattle.std.specs.declared.io.Error.{Error}
-use Rattle.tftp_disk.specs.DiskTrace.{DiskEvent}
-use Rattle.tftp_disk.specs.declared.found.Found.{Found}
-use Rattle.tftp_disk.specs.DiskTrace.DiskEvent.{Folder_opened, Looked}
+use Rattle.tftp_client.proofs.Common.{◌≡◌, ℕ, List, ◌∷◌, ap, sym, ◌∙◌, subst, Result, Error, DiskEvent, Found, Looked}
+use Rattle.tftp_client.proofs.Common.{paths_of}
+use Rattle.tftp_disk.specs.DiskTrace.DiskEvent.{Folder_opened}
 use Rattle.tftp_disk.specs.Folder.{IsFolderOf}
 use Rattle.tftp_client.specs.Place.{FindsNone}
 use Rattle.tftp_client.specs.Place.FindsNone.{HasNoFolder, IsTaken, PartIsTaken}
-use Rattle.tftp_client.specs.Written.{paths_of}
 use Rattle.tftp_client.specs.declared.local_error.LocalError.TheVariants as errors
 use Rattle.tftp_client.proofs.part_file.Place.at.Goals as goal
 

@@ -1,5 +1,6 @@
 -- An empty path, and a lack of memory, are found first.
-use Rattle.std.proofs.Common.{arith, ◌≡◌, ℕ, List, [], ◌∷◌, length, eqb-true, refl, sym, ◌∙◌}
+use Rattle.tftp_client.proofs.Common.{arith, ◌≡◌, ℕ, List, [], ◌∷◌, length, refl, sym, ◌∙◌}
+use Rattle.std.proofs.Common.{eqb-true}
 use Rattle.tftp_client.specs.Place.FindsNone.{HasNoMemory, IsEmpty}
 use Rattle.tftp_client.proofs.part_file.Place.of.Goals as goal
 

@@ -1,10 +1,6 @@
 -- After its line the client returns, or dallies.
-use Rattle.std.proofs.Common.{refl, sym, ap, arith, ◌∙◌}
-use Rattle.std.proofs.lemmas.Bool.{true≢false}
-use Rattle.tftp_sockets.specs.Quiet.{waits}
-use Rattle.tftp_client.specs.Conversation.{state_of}
-use Rattle.tftp_client.specs.Converses.Converses.{Begins}
-use Rattle.tftp_client.specs.Runs.{line_by, printed}
+use Rattle.tftp_client.proofs.Common.{refl, sym, ap, arith, ◌∙◌, true≢false, waits, state_of, Begins, printed}
+use Rattle.tftp_client.specs.Runs.{line_by}
 use Rattle.tftp_client.proofs.Conversing.{state_is}
 use Rattle.tftp_client.proofs.Running.{goes_on}
 use Rattle.tftp_client.proofs.transfer.concluding.conclude.Goals as goal

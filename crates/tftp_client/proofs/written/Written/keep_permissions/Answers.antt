@@ -1,10 +1,8 @@
 -- What is set are permissions alone.
-use Rattle.std.proofs.Common.{◌≡◌, ℕ, List, ◌∷◌, sym, ap, ◌∙◌, subst}
-use Rattle.std.proofs.Math.Logic.{∥∥₁_map}
+use Rattle.tftp_client.proofs.Common.{◌≡◌, ℕ, List, ◌∷◌, sym, ap, ◌∙◌, subst, ∥∥₁_map, calls_of}
 use Rattle.std.proofs.lemmas.Nat.{and_le_r}
 use Rattle.std.specs.List.{AllByRecursion}
 use Rattle.tftp_disk.specs.DiskTrace.{modes_asked}
-use Rattle.tftp_disk.specs.DiskWriter.{calls_of}
 use Rattle.tftp_client.specs.Fetched.{ArePermissions}
 use Rattle.tftp_client.specs.Written.{permissions_of}
 use Rattle.tftp_client.proofs.written.Written.keep_permissions.Goals as goal

@@ -1,7 +1,5 @@
 -- The ACK of the newest DATA from the peer of a sender.
-use Rattle.std.proofs.Common.{◌∙◌, sym, subst, rules}
-use Rattle.tftp_ends.specs.declared.action.Action.{Action}
-use Rattle.tftp_ends.specs.Fits.{BytesFit}
+use Rattle.tftp_ends.proofs.Common.{◌∙◌, sym, subst, rules, Action, BytesFit}
 use Rattle.tftp_ends.proofs.ActionLemmas.{ack_acts, ack_acts_fit}
 use Rattle.tftp_ends.proofs.end.End.ack_step.Goals as goal
 

@@ -1,7 +1,5 @@
 -- A DATA from the peer of a receiver.
-use Rattle.std.proofs.Common.{◌∙◌, sym, subst, rules}
-use Rattle.tftp_ends.specs.declared.action.Action.{Action}
-use Rattle.tftp_ends.specs.Fits.{BytesFit}
+use Rattle.tftp_ends.proofs.Common.{◌∙◌, sym, subst, rules, Action, BytesFit}
 use Rattle.tftp_ends.proofs.ActionLemmas.{data_acts, data_acts_fit}
 use Rattle.tftp_ends.proofs.end.End.data_step.Goals as goal
 

@@ -1,15 +1,12 @@
 -- An action fits the end and the datagram.
-use Rattle.std.proofs.Common.{◌≡◌, ℕ, List, Option, Some, Result, Ok, Err, sym, subst, rules}
+use Rattle.tftp_ends.proofs.Common.{◌≡◌, ℕ, List, Option, Some, Result, Ok, Err, sym, subst, rules, Spells, Action}
+use Rattle.tftp_ends.proofs.Common.{Decodes, BytesFit}
 use Rattle.std.specs.Prelude.{IfOk, IfErr, option_map}
 use Rattle.std.specs.Result.{result_ok}
 use Rattle.tftp_wire.specs.declared.packet.PacketRef.{PacketRef}
 use Rattle.tftp_wire.specs.declared.fault.PacketFault.{PacketFault}
 use Rattle.tftp_wire.specs.Borrowed.{owned}
 use Rattle.tftp_wire.specs.Reading.{first_fault}
-use Rattle.tftp_wire.specs.Spelling.{Spells}
-use Rattle.tftp_ends.specs.declared.action.Action.{Action}
-use Rattle.tftp_ends.specs.Action.{Decodes}
-use Rattle.tftp_ends.specs.Fits.{BytesFit}
 use Rattle.tftp_ends.proofs.ActionLemmas.{packet_fits}
 use Rattle.tftp_ends.proofs.end.End.datagram_action.Goals as goal
 

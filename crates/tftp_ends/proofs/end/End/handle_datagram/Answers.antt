@@ -1,9 +1,7 @@
 -- A step over the one file of the end is the step over its files.
-use Rattle.tftp_ends.specs.declared.outgoing.Outgoing.{Outgoing}
-use Rattle.tftp_ends.specs.declared.record.Step.{Step}
+use Rattle.tftp_ends.proofs.Common.{Outgoing, Step, Lends}
 use Rattle.tftp_ends.specs.OneFile.{sender_step, sender_lacks, receiver_step, receiver_lacks}
 use Rattle.tftp_ends.specs.Shortage.{AppendsNothing}
-use Rattle.tftp_ends.specs.Step.{Lends}
 use Rattle.tftp_ends.proofs.OneFileLemmas.{steps_over}
 use Rattle.tftp_ends.proofs.end.End.handle_datagram.Goals as goal
 

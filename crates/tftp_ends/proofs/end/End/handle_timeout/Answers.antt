@@ -1,6 +1,5 @@
 -- The datagram that is lent after a timeout is that of the step.
-use Rattle.std.proofs.Common.{rules}
-use Rattle.tftp_ends.specs.Step.{Lends, timeout_turn}
+use Rattle.tftp_ends.proofs.Common.{rules, Lends, timeout_turn}
 use Rattle.tftp_ends.proofs.Lending.{reports_lent}
 use Rattle.tftp_ends.proofs.end.End.handle_timeout.Goals as goal
 

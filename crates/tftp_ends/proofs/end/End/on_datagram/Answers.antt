@@ -1,6 +1,6 @@
 -- A step over the one file of the end is the step over its files.
+use Rattle.tftp_ends.proofs.Common.{Step}
 use Rattle.std.specs.Prelude.{vec_capacity, vec_len}
-use Rattle.tftp_ends.specs.declared.record.Step.{Step}
 use Rattle.tftp_ends.specs.OneFile.{sender_step, sender_lacks, receiver_step, receiver_lacks}
 use Rattle.tftp_ends.specs.Shortage.{HasNoRoom}
 use Rattle.tftp_ends.specs.Step.{Carries}

@@ -1,6 +1,5 @@
 -- The datagram that is lent after a timeout is the one that the step appends.
-use Rattle.std.proofs.Common.{rules}
-use Rattle.tftp_ends.specs.Step.{Lends, timeout_turn}
+use Rattle.tftp_ends.proofs.Common.{rules, Lends, timeout_turn}
 use Rattle.tftp_ends.proofs.Lending.{carries_lent}
 use Rattle.tftp_ends.proofs.end.End.on_timeout.Goals as goal
 

@@ -1,5 +1,5 @@
 -- A whole block is sent, and a source that changed ends the transfer.
-use Rattle.std.proofs.Common.{rules}
+use Rattle.tftp_ends.proofs.Common.{rules}
 use Rattle.tftp_ends.proofs.Sending.{sent_whole, sent_error}
 use Rattle.tftp_ends.proofs.end.End.send.Goals as goal
 

@@ -1,7 +1,5 @@
 -- A whole block is sent, and a source that changed ends the transfer.
-use Rattle.std.proofs.Common.{◌≡◌, Option, Some, ap, rules}
-use Rattle.tftp_ends.specs.declared.phase.Terms.{Terms}
-use Rattle.tftp_ends.specs.End.{terms_of}
+use Rattle.tftp_ends.proofs.Common.{◌≡◌, Option, Some, ap, rules, Terms, terms_of}
 use Rattle.tftp_ends.proofs.Sending.{sent_whole, sent_error}
 use Rattle.tftp_ends.proofs.end.End.send_after.Goals as goal
 

@@ -1,5 +1,5 @@
 -- A source that does not give DATA 1 cannot start.
-use Rattle.std.proofs.Common.{rules}
+use Rattle.tftp_ends.proofs.Common.{rules}
 use Rattle.tftp_ends.proofs.end.End.serve_source.Goals as goal
 
 pub returns-then-is_empty-clause-source : goal.returns-then-is_empty-clause-source

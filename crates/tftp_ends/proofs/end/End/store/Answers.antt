@@ -1,7 +1,5 @@
 -- The result of storing the piece is that of the step.
-use Rattle.std.proofs.Common.{◌∙◌, ap, rules}
-use Rattle.tftp_ends.specs.End.{EndState}
-use Rattle.tftp_ends.specs.Step.{holding}
+use Rattle.tftp_ends.proofs.Common.{◌∙◌, ap, rules, EndState, holding}
 use Rattle.tftp_ends.proofs.Storing.{stored_more, stored_all, stored_not, not_committed}
 use Rattle.tftp_ends.proofs.end.End.store.Goals as goal
 

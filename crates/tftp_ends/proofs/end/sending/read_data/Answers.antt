@@ -1,5 +1,5 @@
 -- A block with fewer bytes than requested is not whole.
-use Rattle.std.proofs.Common.{rules}
+use Rattle.tftp_ends.proofs.Common.{rules}
 use Rattle.tftp_ends.proofs.ReadingBlocks.{reads_short}
 use Rattle.tftp_ends.proofs.end.sending.read_data.Goals as goal
 

@@ -1,5 +1,5 @@
 -- An OACK has at most three options.
-use Rattle.std.proofs.Common.{◌≡◌, rules}
+use Rattle.tftp_ends.proofs.Common.{◌≡◌, rules}
 use Rattle.tftp_ends.specs.Opening.{oack_bytes}
 use Rattle.tftp_ends.proofs.OackLemmas.{oack_short}
 use Rattle.tftp_ends.proofs.end.serving.oack.Goals as goal

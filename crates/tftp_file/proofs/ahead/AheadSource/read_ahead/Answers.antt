@@ -9,8 +9,5 @@ returns-clause-ahead g c =
     let read = c.read_block-self-inside.ensures in
     let inside = c.self.inside in
     let long : c.len.result ≡ length inside.buffer.items = search (rules, places) in
-    rw (← c.self.view_is)
-    (reads_ahead g.S.Source.meaning g.S.Source.is_same g.met.S.Source.joins g.met.S.Source.stays _ _ inside.size
-    c.if-self.false
-    (drop_all inside.at inside.buffer.items (omega (arith, long, c.if-self-len.false))) read.same read.left
-    read.read read.fails)
+    rw (← c.self.view_is) (reads_ahead _ _ g.met.S.Source.joins g.met.S.Source.stays _ _ _ c.if-self.false (drop_all
+    inside.at inside.buffer.items (omega (arith, long, c.if-self-len.false))) read.same read.left read.read read.fails)

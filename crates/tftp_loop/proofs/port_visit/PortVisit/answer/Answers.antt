@@ -1,10 +1,6 @@
-use Rattle.std.proofs.Common.{arith, ◌≡◌, ℕ, refl, sym, ap, subst, ◌∙◌, IsSome}
-use Rattle.std.specs.Prelude.{option_map, Err}
-use Rattle.tftp_ends.specs.Step.{lent}
-use Rattle.tftp_server.specs.State.{at, taken_of}
-use Rattle.tftp_loop.specs.Steps.{Timer}
-use Rattle.tftp_loop.specs.LoopStates.{timer_of}
-use Rattle.tftp_loop.specs.MayWait.{IsUnclosed, KeepsTries, LeavesTimer}
+use Rattle.tftp_loop.proofs.Common.{arith, ◌≡◌, ℕ, refl, sym, ap, subst, ◌∙◌, IsSome, option_map, Err, lent, at}
+use Rattle.tftp_loop.proofs.Common.{taken_of, Timer, timer_of, IsUnclosed, KeepsTries}
+use Rattle.tftp_loop.specs.MayWait.{LeavesTimer}
 use Rattle.tftp_loop.proofs.PortLemmas.{bytes_lent, closed_by, found_next, handled, lost}
 use Rattle.tftp_loop.proofs.PortRuns.{here, receives, receives_late, receives_lost, then_works}
 use Rattle.tftp_loop.proofs.PortStays.{after_port, after_received, replied_tries}

@@ -1,9 +1,5 @@
-use Rattle.std.proofs.Common.{arith, ℕ, refl, sym, ap, subst, inl, inr, ◌+◌, ◌∙◌}
-use Rattle.tftp_sockets.specs.Trace.QuietEvent.{Empty, Failed}
-use Rattle.tftp_loop.specs.declared.port_visit.TheConstants.{MOST_AT_ONCE}
-use Rattle.tftp_loop.specs.Steps.{Timer}
-use Rattle.tftp_loop.specs.LoopStates.{timer_of}
-use Rattle.tftp_loop.specs.MayWait.{IsUnclosed}
+use Rattle.tftp_loop.proofs.Common.{arith, ℕ, refl, sym, ap, subst, inl, inr, ◌+◌, ◌∙◌, Empty, Failed, MOST_AT_ONCE}
+use Rattle.tftp_loop.proofs.Common.{Timer, timer_of, IsUnclosed}
 use Rattle.tftp_loop.proofs.PortRuns.{finds_nothing, fails_to_receive}
 use Rattle.tftp_loop.proofs.VisitLemmas.{idles, receives_none, serves_onward, serves_received, tried_received}
 use Rattle.tftp_loop.proofs.Unclosed.{unless_map}

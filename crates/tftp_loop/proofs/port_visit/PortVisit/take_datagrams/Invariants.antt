@@ -1,4 +1,4 @@
-use Rattle.std.proofs.Common.{◌≡◌, ◌≤◌, ◌+◌, ◌⊎◌}
+use Rattle.tftp_loop.proofs.Common.{◌≡◌, ◌≤◌, ◌+◌, ◌⊎◌}
 use Rattle.tftp_loop.specs.MayWait.{StaysOpen}
 use Rattle.tftp_loop.specs.PortVisit.{IsTried, ServesVisit, at_visit}
 use Rattle.tftp_loop.proofs.port_visit.PortVisit.take_datagrams.Given as goal

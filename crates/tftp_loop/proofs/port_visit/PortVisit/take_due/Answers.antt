@@ -1,5 +1,4 @@
-use Rattle.std.proofs.Common.{arith}
-use Rattle.tftp_loop.specs.declared.port_visit.TheConstants.{MOST_AT_ONCE}
+use Rattle.tftp_loop.proofs.Common.{arith, MOST_AT_ONCE}
 use Rattle.tftp_loop.proofs.VisitLemmas.{serves_onward}
 use Rattle.tftp_loop.proofs.port_visit.PortVisit.take_due.Goals as goal
 

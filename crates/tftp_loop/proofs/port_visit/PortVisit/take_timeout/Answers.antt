@@ -1,10 +1,8 @@
-use Rattle.std.proofs.Common.{◌≡◌, ℕ, Bool, refl, sym, ap, subst, ◌∙◌}
-use Rattle.tftp_loop.specs.Steps.{Timer, restarted}
-use Rattle.tftp_loop.specs.LoopStates.{timer_of}
+use Rattle.tftp_loop.proofs.Common.{◌≡◌, ℕ, Bool, refl, sym, ap, subst, ◌∙◌, Timer, restarted, timer_of, IsTimed}
+use Rattle.tftp_loop.proofs.Common.{IsUnclosed}
 use Rattle.tftp_loop.proofs.PortEnds.{restarted_timed}
 use Rattle.tftp_loop.proofs.PortRuns.{elapses_either}
 use Rattle.tftp_loop.proofs.VisitLemmas.{elapses_none}
-use Rattle.tftp_loop.specs.MayWait.{IsTimed, IsUnclosed}
 use Rattle.tftp_loop.proofs.Unclosed.{timeout_open, unless_map}
 use Rattle.tftp_loop.proofs.port_visit.PortVisit.take_timeout.Goals as goal
 

@@ -1,7 +1,5 @@
-use Rattle.std.proofs.Common.{arith, map, refl, sym, ap, inl, ◌∙◌}
+use Rattle.tftp_loop.proofs.Common.{arith, map, refl, sym, ap, inl, ◌∙◌, length-map, loop_state, timer_of}
 use Rattle.std.specs.Prelude.{None, Some, vec_capacity}
-use Rattle.std.proofs.lemmas.List.{length-map}
-use Rattle.tftp_loop.specs.LoopStates.{loop_state, timer_of}
 use Rattle.tftp_loop.proofs.RequestRuns.{drops_as, loses_for_memory}
 use Rattle.tftp_loop.proofs.Reserving.{has_reserved}
 use Rattle.tftp_loop.proofs.server_loop.ServerLoop.answer_pending.Goals as goal

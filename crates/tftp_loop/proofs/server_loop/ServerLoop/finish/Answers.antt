@@ -1,7 +1,4 @@
-use Rattle.std.proofs.Common.{◌≡◌, ◌-◌, not, refl, sym, ap, subst, ◌∙◌}
-use Rattle.tftp_sockets.specs.declared.port.Port.{Port}
-use Rattle.tftp_loop.specs.declared.transfer_port.TransferSocket.{TransferSocket}
-use Rattle.tftp_loop.specs.declared.server_loop.ServerLoop.{ServerLoop}
+use Rattle.tftp_loop.proofs.Common.{◌≡◌, ◌-◌, not, refl, sym, ap, subst, ◌∙◌, Port, TransferSocket, ServerLoop}
 use Rattle.tftp_loop.specs.MayWait.{Finishes}
 use Rattle.tftp_loop.proofs.ListLemmas.{one_at}
 use Rattle.tftp_loop.proofs.Visits.{stays_by, goes_by}

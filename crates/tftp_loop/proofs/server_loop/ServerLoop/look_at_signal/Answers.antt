@@ -1,6 +1,4 @@
-use Rattle.std.proofs.Common.{refl, ap}
-use Rattle.tftp_loop.specs.Run.Run.{Start}
-use Rattle.tftp_loop.specs.LoopStates.{state_of}
+use Rattle.tftp_loop.proofs.Common.{refl, ap, Start, state_of}
 use Rattle.tftp_loop.proofs.Receipts.{drains_as, found_it, found_nothing}
 use Rattle.tftp_loop.proofs.RunLemmas.{idle}
 use Rattle.tftp_loop.proofs.server_loop.ServerLoop.look_at_signal.Goals as goal

@@ -1,7 +1,6 @@
-use Rattle.std.proofs.Common.{map, ap, ◌∙◌, rules}
+use Rattle.tftp_loop.proofs.Common.{map, ap, ◌∙◌, timer_of, woken_if}
+use Rattle.std.proofs.Common.{rules}
 use Rattle.std.proofs.lemmas.List.{with_items_is, places}
-use Rattle.tftp_loop.specs.LoopStates.{timer_of}
-use Rattle.tftp_loop.specs.MayWait.{woken_if}
 use Rattle.tftp_loop.proofs.Waits.{timers_woken}
 use Rattle.tftp_loop.proofs.server_loop.ServerLoop.mark.Goals as goal
 

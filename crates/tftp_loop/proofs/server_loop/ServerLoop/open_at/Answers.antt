@@ -1,8 +1,6 @@
-use Rattle.std.proofs.Common.{arith, refl, ap, subst, sym, ◌∙◌, ℕ}
-use Rattle.tftp_server.specs.State.{ServerState, at}
+use Rattle.tftp_loop.proofs.Common.{arith, refl, ap, subst, sym, ◌∙◌, ℕ, ServerState, at, loop_state}
 use Rattle.std.specs.Prelude.{Some, None}
 use Rattle.tftp_loop.specs.Longest.{IsBoundedFor}
-use Rattle.tftp_loop.specs.LoopStates.{loop_state}
 use Rattle.tftp_loop.proofs.AgreedLongest.{bounded_after, bounded_now}
 use Rattle.tftp_loop.proofs.LoopRuns.{same_state}
 use Rattle.tftp_loop.proofs.RequestRuns.{sets_and_answers, sets_and_loses, is_free, ok-err}

@@ -1,6 +1,5 @@
-use Rattle.std.proofs.Common.{refl, sym, ap, ◌∙◌}
-use Rattle.std.specs.Prelude.{None, Some, is_some}
-use Rattle.tftp_loop.specs.LoopStates.{loop_state}
+use Rattle.tftp_loop.proofs.Common.{refl, sym, ap, ◌∙◌, is_some, loop_state}
+use Rattle.std.specs.Prelude.{None, Some}
 use Rattle.tftp_loop.proofs.RequestRuns.{loses_too_many, may_open}
 use Rattle.tftp_loop.proofs.server_loop.ServerLoop.open_or_lose.Goals as goal
 

@@ -1,13 +1,11 @@
-use Rattle.std.proofs.Common.{◌≡◌, ◌==◌, true, refl, sym, ap, subst, ◌∙◌, ℕ}
-use Rattle.std.specs.Prelude.{None, Some, ◌||◌, is_some}
-use Rattle.tftp_server.specs.State.{at}
+use Rattle.tftp_loop.proofs.Common.{◌≡◌, ◌==◌, true, refl, sym, ap, subst, ◌∙◌, ℕ, is_some, at, LoopState, loop_state}
+use Rattle.tftp_loop.proofs.Common.{Concludes}
+use Rattle.std.specs.Prelude.{None, Some, ◌||◌}
 use Rattle.tftp_sockets.specs.Told.{and_told}
 use Rattle.tftp_sockets.specs.declared.entry.Entry.TheVariants.{Lost}
 use Rattle.tftp_loop.specs.Told.{IsToldOnce}
 use Rattle.tftp_loop.specs.declared.sockets.Sockets.{Sockets}
-use Rattle.tftp_loop.specs.Steps.{LoopState, is_taken}
-use Rattle.tftp_loop.specs.LoopStates.{loop_state}
-use Rattle.tftp_loop.specs.MayWait.{Concludes}
+use Rattle.tftp_loop.specs.Steps.{is_taken}
 use Rattle.tftp_loop.proofs.LoopRuns.{same_state}
 use Rattle.tftp_loop.proofs.RequestRuns.{binds_in_vain, bound_as, may_open, prepares_first, tries_in_vain}
 use Rattle.tftp_loop.proofs.server_loop.ServerLoop.open_request.Goals as goal

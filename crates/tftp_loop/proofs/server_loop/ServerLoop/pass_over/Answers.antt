@@ -1,7 +1,4 @@
-use Rattle.std.proofs.Common.{arith, refl, ◌∙◌}
-use Rattle.std.proofs.lemmas.List.{length-map}
-use Rattle.tftp_loop.specs.Run.Run.{Start}
-use Rattle.tftp_loop.specs.LoopStates.{timer_of}
+use Rattle.tftp_loop.proofs.Common.{arith, refl, ◌∙◌, length-map, Start, timer_of}
 use Rattle.tftp_loop.proofs.RunLemmas.{onward}
 use Rattle.tftp_loop.proofs.server_loop.ServerLoop.pass_over.Goals as goal
 

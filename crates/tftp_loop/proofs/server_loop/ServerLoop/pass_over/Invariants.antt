@@ -1,6 +1,5 @@
-use Rattle.std.proofs.Common.{◌≡◌}
+use Rattle.tftp_loop.proofs.Common.{◌≡◌, AwaitVisit, WereVisited, IsSettled}
 use Rattle.tftp_loop.specs.LoopStates.{HasRoom, OnlyWorks}
-use Rattle.tftp_loop.specs.MayWait.{AwaitVisit, WereVisited, IsSettled}
 use Rattle.tftp_loop.proofs.server_loop.ServerLoop.pass_over.Given as goal
 
 -- the ports from the index on were visited

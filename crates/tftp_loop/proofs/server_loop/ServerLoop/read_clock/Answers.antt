@@ -1,4 +1,4 @@
-use Rattle.std.proofs.Common.{arith, refl, ap, ◌∙◌, ℕ}
+use Rattle.tftp_loop.proofs.Common.{arith, refl, ap, ◌∙◌, ℕ}
 use Rattle.tftp_sockets.specs.Watch.{later_within}
 use Rattle.tftp_loop.proofs.server_loop.ServerLoop.read_clock.Goals as goal
 

@@ -1,5 +1,4 @@
-use Rattle.std.proofs.Common.{refl, true}
-use Rattle.tftp_loop.specs.declared.port_visit.TheConstants.{MOST_AT_ONCE}
+use Rattle.tftp_loop.proofs.Common.{refl, true, MOST_AT_ONCE}
 use Rattle.tftp_loop.proofs.Receipts.{handled_few, handled_run, handled_settled, handled_tried, finds_none}
 use Rattle.tftp_loop.proofs.Receipts.{fails_to_find}
 use Rattle.tftp_loop.proofs.server_loop.ServerLoop.receive_request.Goals as goal

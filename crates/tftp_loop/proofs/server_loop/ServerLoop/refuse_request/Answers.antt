@@ -1,8 +1,5 @@
-use Rattle.std.proofs.Common.{refl, sym, ap, ◌∙◌, ℕ, Option, List}
+use Rattle.tftp_loop.proofs.Common.{refl, sym, ap, ◌∙◌, ℕ, Option, List, ErrorReply, replied, loop_state}
 use Rattle.std.specs.Prelude.{Some, None}
-use Rattle.tftp_ends.specs.declared.error_reply.ErrorReply.{ErrorReply}
-use Rattle.tftp_sockets.specs.Trace.{replied}
-use Rattle.tftp_loop.specs.LoopStates.{loop_state}
 use Rattle.tftp_loop.proofs.LoopRuns.{same_state}
 use Rattle.tftp_loop.proofs.RequestRuns.{refuses_as, refused_to, refused_bytes}
 use Rattle.tftp_loop.proofs.server_loop.ServerLoop.refuse_request.Goals as goal

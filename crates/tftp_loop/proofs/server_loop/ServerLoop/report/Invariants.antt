@@ -1,4 +1,4 @@
-use Rattle.std.proofs.Common.{◌≡◌}
+use Rattle.tftp_loop.proofs.Common.{◌≡◌}
 use Rattle.tftp_loop.proofs.server_loop.ServerLoop.report.Given as goal
 
 -- no event, nothing is told, and the file stays

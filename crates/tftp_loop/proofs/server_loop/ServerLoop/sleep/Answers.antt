@@ -1,5 +1,5 @@
-use Rattle.std.proofs.Common.{arith, inl}
-use Rattle.tftp_loop.specs.MayWait.{HasRead, millis_of}
+use Rattle.tftp_loop.proofs.Common.{arith, inl, HasRead}
+use Rattle.tftp_loop.specs.MayWait.{millis_of}
 use Rattle.tftp_loop.proofs.Waits.{may_wait, read_settled, slept_settled, waits_as, woken_few, woken_settled}
 use Rattle.tftp_loop.proofs.server_loop.ServerLoop.sleep.Goals as goal
 

@@ -1,6 +1,4 @@
-use Rattle.std.proofs.Common.{◌<◌, length, arith}
-use Rattle.tftp_loop.specs.Run.Run.{Start}
-use Rattle.tftp_loop.specs.LoopStates.{state_of, timer_of}
+use Rattle.tftp_loop.proofs.Common.{◌<◌, length, arith, Start, state_of, timer_of}
 use Rattle.tftp_loop.proofs.ListLemmas.{map_is, map_within}
 use Rattle.tftp_loop.proofs.LoopRuns.{works}
 use Rattle.tftp_loop.proofs.Reserving.{room_same}

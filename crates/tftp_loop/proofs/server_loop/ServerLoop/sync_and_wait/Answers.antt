@@ -1,7 +1,6 @@
-use Rattle.std.proofs.Common.{arith, ap, inr, refl, sym, true, Bool, List, ℕ, ◌≡◌, ◌∙◌}
+use Rattle.tftp_loop.proofs.Common.{arith, ap, inr, refl, sym, true, Bool, List, ℕ, ◌≡◌, ◌∙◌, HasRead}
 use Rattle.tftp_sockets.specs.Trace.{polled}
 use Rattle.tftp_sockets.specs.declared.port_poll.Reports.{Reports}
-use Rattle.tftp_loop.specs.MayWait.{HasRead}
 use Rattle.tftp_loop.proofs.LoopRuns.{runs_as}
 use Rattle.tftp_loop.proofs.RunLemmas.{onward}
 use Rattle.tftp_loop.proofs.Waits.{may_wait, read_settled, waits_as, woken_few, woken_settled}

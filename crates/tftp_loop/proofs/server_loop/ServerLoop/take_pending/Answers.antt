@@ -1,6 +1,4 @@
-use Rattle.std.proofs.Common.{ap, take}
-use Rattle.tftp_loop.specs.declared.port_visit.TheConstants.{MOST_AT_ONCE}
-use Rattle.tftp_loop.specs.Run.Run.{Start}
+use Rattle.tftp_loop.proofs.Common.{ap, take, MOST_AT_ONCE, Start}
 use Rattle.tftp_loop.proofs.Receipts.{answered_asked, answered_few, answered_run, answered_settled}
 use Rattle.tftp_loop.proofs.server_loop.ServerLoop.take_pending.Goals as goal
 

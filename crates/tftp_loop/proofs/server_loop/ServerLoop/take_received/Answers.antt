@@ -1,8 +1,6 @@
-use Rattle.std.proofs.Common.{arith, map, take, refl, sym, ap, subst, inl, ◌∙◌}
+use Rattle.tftp_loop.proofs.Common.{arith, map, take, refl, sym, ap, subst, inl, ◌∙◌, length-map, loop_state, timer_of}
 use Rattle.std.specs.Prelude.{None, Some, vec_capacity}
-use Rattle.std.proofs.lemmas.List.{length-map}
 use Rattle.tftp_loop.specs.Steps.{No_answer}
-use Rattle.tftp_loop.specs.LoopStates.{loop_state, timer_of}
 use Rattle.tftp_loop.specs.MayWait.{Concluded}
 use Rattle.tftp_loop.specs.Told.{IsToldUnlessKept}
 use Rattle.tftp_loop.proofs.RequestRuns.{drops_as, loses_as, loses_for_memory}

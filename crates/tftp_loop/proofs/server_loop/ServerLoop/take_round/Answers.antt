@@ -1,6 +1,5 @@
-use Rattle.std.proofs.Common.{arith, ap, ◌∙◌}
+use Rattle.tftp_loop.proofs.Common.{arith, ap, ◌∙◌, ServerLoop}
 use Rattle.std.proofs.lemmas.Result.{on_ok_weaker}
-use Rattle.tftp_loop.specs.declared.server_loop.ServerLoop.{ServerLoop}
 use Rattle.tftp_loop.proofs.LoopStays.{work_keeps}
 use Rattle.tftp_loop.proofs.Receipts.{from_state, to_state}
 use Rattle.tftp_loop.proofs.RunLemmas.{onward}

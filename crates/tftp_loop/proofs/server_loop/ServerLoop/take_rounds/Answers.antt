@@ -1,5 +1,4 @@
-use Rattle.std.proofs.Common.{refl, ap, inl, ◌∙◌}
-use Rattle.tftp_loop.specs.LoopStates.{state_of}
+use Rattle.tftp_loop.proofs.Common.{refl, ap, inl, ◌∙◌, state_of}
 use Rattle.tftp_loop.proofs.LoopRuns.{runs_as}
 use Rattle.tftp_loop.proofs.Receipts.{found_it, found_nothing, printed_last, returned, stops_printing}
 use Rattle.tftp_loop.proofs.RunLemmas.{idle, onward}

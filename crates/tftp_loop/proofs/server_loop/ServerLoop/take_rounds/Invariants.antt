@@ -1,6 +1,5 @@
-use Rattle.std.proofs.Common.{◌≡◌, ◌≤◌}
+use Rattle.tftp_loop.proofs.Common.{◌≡◌, ◌≤◌, IsTended}
 use Rattle.tftp_loop.specs.LoopStates.{HasRoom, ServesRounds}
-use Rattle.tftp_loop.specs.MayWait.{IsTended}
 use Rattle.tftp_loop.proofs.server_loop.ServerLoop.take_rounds.Given as goal
 
 -- the run so far, and that a wait may follow

@@ -1,19 +1,12 @@
-use Rattle.std.proofs.Common.{List, arith, rules, ◌≡◌, ◌<◌, ℕ, length, refl, sym, subst, ◌∙◌}
-use Rattle.std.specs.Prelude.{slice_index_or}
+use Rattle.tftp_loop.proofs.Common.{List, arith, ◌≡◌, ◌<◌, ℕ, length, refl, sym, subst, ◌∙◌, slice_index_or}
+use Rattle.tftp_loop.proofs.Common.{SourceMeaning, StoreMeaning, ServerState, SocketEvent, Port, MOST_AT_ONCE}
+use Rattle.tftp_loop.proofs.Common.{ServerLoop, TransferSocket, Start, PortState, timer_of, IsHeld, ReceivedFew}
+use Rattle.tftp_loop.proofs.Common.{before_visit}
+use Rattle.std.proofs.Common.{rules}
 use Rattle.std.specs.Vec.{with_item}
-use Rattle.tftp_file.specs.Source.{SourceMeaning}
-use Rattle.tftp_store.specs.Store.{StoreMeaning}
-use Rattle.tftp_server.specs.State.{ServerState}
-use Rattle.tftp_sockets.specs.Trace.{SocketEvent}
-use Rattle.tftp_sockets.specs.declared.port.Port.{Port}
-use Rattle.tftp_loop.specs.declared.port_visit.TheConstants.{MOST_AT_ONCE}
-use Rattle.tftp_loop.specs.declared.server_loop.ServerLoop.{ServerLoop}
-use Rattle.tftp_loop.specs.declared.transfer_port.TransferSocket.{TransferSocket}
 use Rattle.tftp_loop.specs.Fair.{ReceivesAtMost}
-use Rattle.tftp_loop.specs.Run.Run.{Start}
-use Rattle.tftp_loop.specs.Steps.{PortState}
-use Rattle.tftp_loop.specs.LoopStates.{OnlyServesPort, at_port, timer_of}
-use Rattle.tftp_loop.specs.MayWait.{IsHeld, ReceivedFew, Stays, VisitsPort, before_visit, leaves_by}
+use Rattle.tftp_loop.specs.LoopStates.{OnlyServesPort, at_port}
+use Rattle.tftp_loop.specs.MayWait.{Stays, VisitsPort, leaves_by}
 use Rattle.tftp_loop.proofs.ListLemmas.{map_is, map_within}
 use Rattle.tftp_loop.proofs.PortEnds.{config_along}
 use Rattle.tftp_loop.proofs.Reserving.{room_same}

@@ -1,7 +1,5 @@
-use Rattle.std.proofs.Common.{◌≡◌, List, subst, sym}
-use Rattle.tftp_sockets.specs.Trace.{SocketEvent}
+use Rattle.tftp_loop.proofs.Common.{◌≡◌, List, subst, sym, SocketEvent, IsTended}
 use Rattle.tftp_loop.specs.LoopStates.{OnlyServes}
-use Rattle.tftp_loop.specs.MayWait.{IsTended}
 use Rattle.tftp_loop.proofs.server_loop.ServerLoop.wait.Goals as goal
 
 pub sync_and_wait-requires-clause-tended : goal.sync_and_wait-requires-clause-tended

@@ -1,7 +1,6 @@
-use Rattle.std.proofs.Common.{arith, ◌≡◌, ◌-◌, ◌+◌, ◌<◌, ◌∷◌, ℕ, List, drop, length, sym, ap, subst, ◌∙◌}
+use Rattle.tftp_loop.proofs.Common.{arith, ◌≡◌, ◌-◌, ◌+◌, ◌<◌, ◌∷◌, ℕ, List, drop, length, sym, ap, subst, ◌∙◌, Port}
+use Rattle.tftp_loop.proofs.Common.{TransferSocket}
 use Rattle.std.proofs.lemmas.List.{drop_more}
-use Rattle.tftp_sockets.specs.declared.port.Port.{Port}
-use Rattle.tftp_loop.specs.declared.transfer_port.TransferSocket.{TransferSocket}
 use Rattle.tftp_loop.specs.MayWait.{IsSurveyOf}
 use Rattle.tftp_loop.proofs.transfer_port.Survey.of.Goals as goal
 

@@ -1,4 +1,4 @@
-use Rattle.std.proofs.Common.{◌≤◌, drop, length}
+use Rattle.tftp_loop.proofs.Common.{◌≤◌, drop, length}
 use Rattle.tftp_loop.specs.MayWait.{IsSurveyOf}
 use Rattle.tftp_loop.proofs.transfer_port.Survey.of.Given as goal
 

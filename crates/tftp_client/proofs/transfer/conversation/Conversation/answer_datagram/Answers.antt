@@ -1,7 +1,6 @@
 -- A datagram was handled, and then the clock was read.
-use Rattle.std.proofs.Common.{◌∙◌, ap, Bool}
-use Rattle.tftp_client.specs.Conversation.{state_of}
-use Rattle.tftp_client.specs.Converses.{State, renewed}
+use Rattle.tftp_client.proofs.Common.{◌∙◌, ap, Bool, state_of, State}
+use Rattle.tftp_client.specs.Converses.{renewed}
 use Rattle.tftp_client.proofs.transfer.conversation.Conversation.answer_datagram.Goals as goal
 
 pub returns-clause-answers : goal.returns-clause-answers

@@ -1,6 +1,5 @@
 -- Wait by wait.
-use Rattle.std.proofs.Common.{arith, refl, ◌∙◌}
-use Rattle.tftp_client.specs.Converses.Converses.{Begins}
+use Rattle.tftp_client.proofs.Common.{arith, refl, ◌∙◌, Begins}
 use Rattle.tftp_client.proofs.Conversing.{onward_at}
 use Rattle.tftp_client.proofs.transfer.conversation.Conversation.dally.Goals as goal
 

@@ -1,10 +1,8 @@
 -- The file stays one of the end's side, the port the same, an open end may wait, and the client has
 -- done nothing but the steps of its end.
-use Rattle.std.specs.Prelude.{◌≡◌, ◌+◌}
-use Rattle.tftp_ends.specs.Files.{AreFilesOf}
-use Rattle.tftp_sockets.specs.Quiet.{waits}
-use Rattle.tftp_client.specs.Conversation.{IsReady, state_of}
-use Rattle.tftp_client.specs.Converses.{Converses}
+use Rattle.tftp_client.proofs.Common.{◌+◌, AreFilesOf, waits, state_of, Converses}
+use Rattle.std.specs.Prelude.{◌≡◌}
+use Rattle.tftp_client.specs.Conversation.{IsReady}
 use Rattle.tftp_client.proofs.transfer.conversation.Conversation.dally.Given as goal
 
 abbrev pub invariant-loop : goal.invariant-loop

@@ -1,11 +1,7 @@
 -- A timeout: its step, its note and its answer.
-use Rattle.std.proofs.Common.{◌∙◌, ap, inr, refl, ◌∷◌, ℕ, sym, subst}
-use Rattle.tftp_ends.specs.End.{EndState}
-use Rattle.tftp_ends.specs.Step.{timeout_turn}
+use Rattle.tftp_client.proofs.Common.{◌∙◌, ap, inr, refl, ◌∷◌, ℕ, sym, subst, EndState, timeout_turn, state_of, IsOpen}
+use Rattle.tftp_client.proofs.Common.{MayElapse, State, deadline_at, Stays, Elapses}
 use Rattle.tftp_sockets.specs.Watch.{deadline_of}
-use Rattle.tftp_client.specs.Conversation.{state_of}
-use Rattle.tftp_client.specs.Converses.{IsOpen, MayElapse, State, deadline_at}
-use Rattle.tftp_client.specs.Converses.MayElapse.{Stays, Elapses}
 use Rattle.tftp_sockets.specs.Trace.SocketEvent.{Elapsed}
 use Rattle.tftp_client.proofs.Conversing.{is_closed, not_refused, replies, state_is}
 use Rattle.tftp_client.proofs.transfer.conversation.Conversation.deliver_timeout.Goals as goal

@@ -1,11 +1,6 @@
 -- Wait by wait.
-use Rattle.std.proofs.Common.{arith, inl, inr, refl, sym, ap, subst, ◌∙◌, ◌≡◌, ◌≤◌}
-use Rattle.tftp_ends.specs.End.{EndState, is_complete}
-use Rattle.tftp_ends.specs.Files.{AreFilesOf}
-use Rattle.tftp_sockets.specs.declared.watch.Watch.{Watch}
-use Rattle.tftp_client.specs.Conversation.{state_of}
-use Rattle.tftp_client.specs.Converses.{Converses, IsOpen, State, deadline_at}
-use Rattle.tftp_client.specs.Converses.Converses.{Begins}
+use Rattle.tftp_client.proofs.Common.{arith, inl, inr, refl, sym, ap, subst, ◌∙◌, ◌≡◌, ◌≤◌, EndState, is_complete}
+use Rattle.tftp_client.proofs.Common.{AreFilesOf, Watch, state_of, Converses, IsOpen, State, deadline_at, Begins}
 use Rattle.tftp_client.proofs.Conversing.{none_open, onward_at, state_with}
 use Rattle.tftp_client.proofs.Running.{if_err}
 use Rattle.tftp_client.proofs.transfer.conversation.Conversation.run.Goals as goal

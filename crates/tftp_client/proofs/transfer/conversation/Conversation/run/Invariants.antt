@@ -1,11 +1,8 @@
 -- The file stays one of the end's side, the port the same, the end is open, not complete and may wait, each turn
 -- was one wait, and the client has done nothing but the steps of its end.
-use Rattle.std.specs.Prelude.{◌≡◌, ◌+◌, false}
-use Rattle.tftp_ends.specs.End.{is_complete}
-use Rattle.tftp_ends.specs.Files.{AreFilesOf}
-use Rattle.tftp_sockets.specs.Quiet.{waits}
-use Rattle.tftp_client.specs.Conversation.{IsReady, state_of}
-use Rattle.tftp_client.specs.Converses.{Converses, IsOpen}
+use Rattle.tftp_client.proofs.Common.{◌+◌, is_complete, AreFilesOf, waits, state_of, Converses, IsOpen}
+use Rattle.std.specs.Prelude.{◌≡◌, false}
+use Rattle.tftp_client.specs.Conversation.{IsReady}
 use Rattle.tftp_client.proofs.transfer.conversation.Conversation.run.Given as goal
 
 abbrev pub invariant-loop-made : goal.invariant-loop-made

@@ -1,9 +1,7 @@
 -- A datagram: its step and its answer, or none.
-use Rattle.std.proofs.Common.{◌∙◌, ap, refl, ℕ, false, List, take, sym, subst}
+use Rattle.tftp_client.proofs.Common.{◌∙◌, ap, refl, ℕ, false, List, take, sym, subst, state_of, State, Answers, Loses}
 use Rattle.tftp_ends.specs.declared.record.Step.{Step}
-use Rattle.tftp_client.specs.Conversation.{state_of}
-use Rattle.tftp_client.specs.Converses.{HandlesAs, State, turned}
-use Rattle.tftp_client.specs.Converses.HandlesReceived.{Answers, Loses}
+use Rattle.tftp_client.specs.Converses.{HandlesAs, turned}
 use Rattle.tftp_client.proofs.Conversing.{lost, not_refused, replies, state_is}
 use Rattle.tftp_client.proofs.transfer.conversation.Conversation.take_datagram.Goals as goal
 

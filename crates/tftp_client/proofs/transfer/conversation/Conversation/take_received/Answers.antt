@@ -1,10 +1,8 @@
 -- A wait: a datagram that was received, or none.
-use Rattle.std.proofs.Common.{rules, ◌∙◌, ap, refl, ◌∷◌, ℕ, List, take, sym, subst, inl, inr}
+use Rattle.tftp_client.proofs.Common.{rules, ◌∙◌, ap, refl, ◌∷◌, ℕ, List, take, sym, subst, inl, inr, state_of}
+use Rattle.tftp_client.proofs.Common.{Converses, AnswersReceived, MayWait, State, Begins, Receives, Waits, SocketEvent}
+use Rattle.tftp_client.proofs.Common.{QuietEvent}
 use Rattle.std.proofs.lemmas.List.{with_items_is, places}
-use Rattle.tftp_client.specs.Conversation.{state_of}
-use Rattle.tftp_client.specs.Converses.{Converses, AnswersReceived, MayWait, State}
-use Rattle.tftp_client.specs.Converses.Converses.{Begins, Receives, Waits}
-use Rattle.tftp_sockets.specs.Trace.{SocketEvent, QuietEvent}
 use Rattle.tftp_sockets.specs.Trace.SocketEvent.{Watched}
 use Rattle.tftp_sockets.specs.Trace.QuietEvent.{Empty, Failed}
 use Rattle.tftp_client.proofs.Conversing.{read_by, state_is}

@@ -1,8 +1,5 @@
 -- No timeout is due.
-use Rattle.std.proofs.Common.{inl, sym, ◌∙◌}
-use Rattle.std.proofs.Math.Nat.{lt_of_not-le}
-use Rattle.std.proofs.lemmas.Bool.{true≢false}
-use Rattle.tftp_client.specs.Converses.MayElapse.{Stays}
+use Rattle.tftp_client.proofs.Common.{inl, sym, ◌∙◌, lt_of_not-le, true≢false, Stays}
 use Rattle.tftp_client.proofs.transfer.conversation.Conversation.take_timeout.Goals as goal
 
 pub returns-then-not-is_due-clause-elapses : goal.returns-then-not-is_due-clause-elapses

@@ -1,8 +1,5 @@
 -- A wait, and then the file's work or the timeout that is due.
-use Rattle.std.proofs.Common.{ℕ, ◌∙◌, subst}
-use Rattle.tftp_client.specs.Conversation.{state_of}
-use Rattle.tftp_client.specs.Converses.{MayElapse, State}
-use Rattle.tftp_client.specs.Converses.Converses.{Rests, Times}
+use Rattle.tftp_client.proofs.Common.{ℕ, ◌∙◌, subst, state_of, MayElapse, State, Rests, Times}
 use Rattle.tftp_client.proofs.Conversing.{waits_elapsed}
 use Rattle.tftp_client.proofs.transfer.conversation.Conversation.turn.Goals as goal
 
