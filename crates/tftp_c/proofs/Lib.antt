@@ -1,3 +1,4 @@
+pub mod Common
 pub mod AbortLemmas
 pub mod FaultLemmas
 pub mod HoldingLemmas

@@ -1,3 +1,4 @@
+pub mod Common
 pub mod ByTheClock
 pub mod Changing
 pub mod Commands

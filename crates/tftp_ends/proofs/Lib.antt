@@ -1,3 +1,4 @@
+pub mod Common
 pub mod ActionLemmas
 pub mod Lending
 pub mod OneFileLemmas

@@ -1,3 +1,4 @@
+pub mod Common
 pub mod Stands
 pub mod StandsMore
 pub mod Spelled

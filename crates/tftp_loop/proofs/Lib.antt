@@ -1,3 +1,4 @@
+pub mod Common
 pub mod PortLemmas
 pub mod RunLemmas
 pub mod PortRuns

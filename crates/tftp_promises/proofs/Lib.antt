@@ -1,3 +1,4 @@
+pub mod Common
 pub mod ClientTraces
 pub mod Places
 pub mod OthersTaken

@@ -1,3 +1,4 @@
+pub mod Common
 pub mod Endpoints
 pub mod Grows
 pub mod Blocks
