@@ -1,9 +1,8 @@
 """What the tests share: a scene for each, and a second run of a test that failed while this host stalled.
 
-A test that takes `scene` has a folder and an address of its own. Where a module sets `OVER_SEVERAL`, each of its tests runs
-over two servers at one port, too, unless it is marked as `one_server`. TESTS_ONCE in the environment forbids second runs, as
-where a fault is to be noticed.
-"""
+A test that takes `scene` has a folder and an address of its own. Where a module sets `OVER_SEVERAL`, each of its
+tests runs over two servers at one port, too, unless it is marked as `one_server`. TESTS_ONCE in the environment
+forbids second runs, as where a fault is to be noticed. """
 import os
 import signal
 import time
@@ -74,7 +73,8 @@ def pytest_runtest_protocol(item: Any, nextitem: Any) -> bool:
         item._initrequest()
         why = next(report.longreprtext.splitlines()[-1] for report in reports if report.failed)
         reports = runtestprotocol(item, log=False, nextitem=nextitem)
-        reports[-1].sections.append(("once more", f"{item.nodeid}: once more, since the host stalled for {stall:.1f} s: {why}"))
+        said = f"{item.nodeid}: once more, since the host stalled for {stall:.1f} s: {why}"
+        reports[-1].sections.append(("once more", said))
     for report in reports:
         hook.pytest_runtest_logreport(report=report)
     hook.pytest_runtest_logfinish(nodeid=item.nodeid, location=item.location)
