@@ -12,8 +12,9 @@ from typing import Any, Sequence
 
 import pytest
 
+from lib.needs import needs
 from lib.programs import TOP
-from ported import EMULATOR, bare_archive, needs, run
+from ported import EMULATOR, bare_archive, run
 
 # what the archive may call
 CALLS = {"memcpy", "memmove", "memset", "tftp_alloc", "tftp_realloc", "tftp_free"}

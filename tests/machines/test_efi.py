@@ -12,11 +12,12 @@ from typing import Any, Iterator
 
 import pytest
 
+from lib.needs import needs
 from lib.process import Program
 from lib.programs import TOP, programs
 from lib.scene import Scene
 from lib.transfers import peers, started
-from ported import PARTS, bare_archive, needs, run
+from ported import PARTS, bare_archive, run
 
 LIFE, LENGTH = 240, 1_000_003
 OTHERS = ["in.tftpd", "atftpd"]

@@ -13,9 +13,10 @@ from concurrent.futures import ThreadPoolExecutor
 from pathlib import Path
 from typing import Any
 
+from lib.needs import needs
 from lib.process import Failure, Program, Server
 from lib.programs import programs
-from ported import COMPILER, PARTS, needs, run, static_programs
+from ported import COMPILER, PARTS, run, static_programs
 
 EMULATOR = "qemu-system-aarch64"
 LIFE, LENGTH, CLIENTS, PUTS = 180, 1_000_003, 8, 3

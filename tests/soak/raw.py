@@ -12,7 +12,6 @@ from typing import Any
 
 import model
 import ports
-from lib.packets import ack, data
 from lib.process import PATIENCE, Failure, Program, Server
 from mutations import mutated, random_bytes
 from ports import EARLY, HOST, LAST, LEAST, STALL, Port, Stalled, Timed, close_all, has_least, wait_for
