@@ -53,7 +53,7 @@ class Lossy(Stand):
         self.fails("too few", lossy.run, stand_in("giving_up_tftp"), stand_in("silent_tftpd"), 1)
 
     def test_nothing_is_done(self) -> None:
-        self.fails("the file differs", lossy.run, stand_in("idle"), stand_in("silent_tftpd"), 1)
+        self.fails("get 0: status 0", lossy.run, stand_in("idle"), stand_in("silent_tftpd"), 1)
 
     def test_a_read_is_reported_that_no_client_has(self) -> None:
         self.fails("reports a read as complete", lossy.run, stand_in("giving_up_tftp"), stand_in("lying_tftpd"), 1)

@@ -1,8 +1,6 @@
 """What a seed chooses does not follow what comes, or when; and what a trial's last get compares."""
 import random
-from unittest import mock
 
-import lossy
 import pytest
 import raw
 from lib.process import Failure
@@ -32,20 +30,6 @@ def kinds_of_steps(more: int) -> list[str]:
 def test_raw_clients_draw_in_each_step_anew() -> None:
     assert kinds_of_steps(0) == kinds_of_steps(3)
     assert len(set(kinds_of_steps(0))) > 10
-
-
-def test_a_lossy_network_draws_for_each_way() -> None:
-    """What is lost of each way is the same, whichever way sends first."""
-    def sent(order: str) -> list[bytes]:
-        with mock.patch.object(lossy, "Port"), mock.patch.object(lossy.threading, "Thread"):
-            network = lossy.Network(("192.0.2.1", 69), random.Random(3), lossy.RATES)
-        network.client = "c"
-        ports: dict[str, mock.Mock] = {way: mock.Mock() for way in "cs"}
-        for number, way in enumerate(order):
-            network.carry(f"{way}{order[:number].count(way)}".encode(), ports[way], way)
-        return [call.args[0] for way in "cs" for call in ports[way].send.mock_calls]
-
-    assert sent("cs" * 100) == sent("c" * 100 + "s" * 100)
 
 
 @pytest.mark.parametrize("modelled", [b"of a put", b"as it was"])

@@ -22,8 +22,6 @@ from lib.programs import programs
 from lib.seeds import commit_seed
 
 SECONDS, SEED = float(os.environ.get("SOAK_SECONDS", "30")), int(os.environ.get("SOAK_SEED") or commit_seed())
-# From this time on a file of 65,535 blocks is fetched over the bad network, too, in seconds
-LONG_TRIAL = 120
 # Where so many transfers were opened, each ERROR of a server has to have been seen; and the raw clients open some a second
 MANY, EACH_SECOND = 300, 1
 # Servers of raw clients: with what limits each of them is started
@@ -66,8 +64,3 @@ TRIALS = {"hostile servers": hostile.run, "hostile servers, second": hostile.run
 @pytest.mark.parametrize("name", TRIALS)
 def test_trial(name, tmp_path) -> None:
     tried(TRIALS[name], len(RAW) + [*TRIALS].index(name), tmp_path)
-
-
-if SECONDS >= LONG_TRIAL:
-    def test_65535_blocks(tmp_path) -> None:
-        tried(lossy.run, len(RAW) + len(TRIALS), tmp_path, is_long=True)
