@@ -1,6 +1,8 @@
 """The model agrees with worked examples: those of RFC 1350, RFC 2347 to 2349 and RFC 764, and others by hand."""
-from model import (Ack, Client, Data, Error, Fault, Oack, Refused, Request, RequestPort, ack, agrees, answer, data, decode, error,
-                   host_text, may_go_on, oack, path_of, wire_text)
+import pytest
+
+from model import (Ack, Client, Data, Error, Fault, Oack, Receiver, Refused, Request, RequestPort, Sender, ack, agrees, answer,
+                   data, decode, error, host_text, may_go_on, oack, path_of, wire_text)
 
 # datagrams as hexadecimal digits, and their packets or first faults
 PACKETS = [
@@ -104,3 +106,24 @@ def test_exchanges() -> None:
     assert (end.on_timeout(), end.outcome, end.on_timeout(), end.outcome) == (None, None, None, "Complete")
     reader = Client(client, "RRQ", b"octet", {}, 5)
     assert reader.on_datagram(stranger, data(1, b"A")) == ack(1) and reader.end.peer == stranger
+
+
+def gives_up(limit, slack, retries) -> bool:
+    """Whether a client gives up while its server goes on. Its datagram is received after so many timeouts of the client, the
+    answer is sent some timeouts later, and as many as at first pass until that is received."""
+    options = [(b"blksize", 8)]
+    server = Sender("client", options, retries, bytes(20), 0, oack(options))
+    client = Receiver("server", options, retries, b"octet", lambda _: None, ack(0), True)
+    for _ in range(limit):
+        client.on_timeout()
+    answer = server.on_datagram("client", ack(0))
+    for _ in range(slack + limit):
+        client.on_timeout()
+    return client.on_datagram("server", answer) is None and client.outcome == "TimedOut" and not server.outcome
+
+
+@pytest.mark.parametrize("limit", [1, 2, 3])
+@pytest.mark.parametrize("slack", [0, 1, 2])
+def test_the_bound_of_loss_is_tight(limit, slack) -> None:
+    """`2 * limit + slack` retries are enough (`an_end_outlasts_loss` of `tftp_lives`), and one fewer is not."""
+    assert gives_up(limit, slack, 2 * limit + slack - 1) and not gives_up(limit, slack, 2 * limit + slack)
