@@ -1,8 +1,9 @@
-"""Mutated lines, captures, scripts and command lines for the four programs. Each input is drawn from samples of examples/ and of
-this file, by the seed of the commit, or MUTATED_SEED; MUTATED_INPUTS is how many of each kind there are. A run has a limit of
-memory (`ulimit -v`), of files and of time. A program may refuse what it is given, in its own words and with the statuses of
-its manual: it never ends by a signal, writes nothing else to standard error, prints visible ASCII alone, and a line of
-tftp-show for each line. tftp asks a server of this test, and tftpd ends after one wait."""
+"""Mutated lines, captures, scripts and command lines for the four programs. Each input is drawn from samples of
+examples/ and of this file, by the seed of the commit, or MUTATED_SEED; MUTATED_INPUTS is how many of each kind there
+are. A run has a limit of memory (`ulimit -v`), of files and of time. A program may refuse what it is given, in its
+own words and with the statuses of its manual: it never ends by a signal, writes nothing else to standard error,
+prints visible ASCII alone, and a line of tftp-show for each line. tftp asks a server of this test, and tftpd ends
+after one wait."""
 import os
 import re
 import subprocess
