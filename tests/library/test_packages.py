@@ -19,7 +19,6 @@ from lib.ends import expect
 from lib.examples import Built, in_c, in_cpp, in_go, in_python, in_rust, run, rust_has_sanitizer
 from lib.needs import needs
 from lib.programs import NAMES, TOP, program
-from lib.scene import next_line
 
 COPIED = ["Makefile", "LICENSE", "SECURITY.md", "crates.txt", "completions", "debian", "docs/OPERATING.md", "ports",
           "examples", "include", "man", "packaging", "tools"]
@@ -306,12 +305,7 @@ def inside(copy: Copy, tmp_path_factory: pytest.TempPathFactory) -> Iterator[Ins
 
 def at_serve(scene: Any, built: Built, server: Built, lossy: bool) -> None:
     """The clients of a language get, put and, at a good network, are refused, at the server in C."""
-    for length in transfers.FEW:
-        scene.make(f"f{length}", transfers.content(length))
-    at = transfers.serving_port(scene)
-    words = server.command("serve", *at.address, *[f"f{length}=f{length}" for length in transfers.FEW])
-    process = scene.start(words[0], words[1:])
-    expect(next_line(process.stdout), "serving\n", "the first line of serve")
+    at, process = transfers.serves(scene, server)
     site, way = transfers.Site("serve", scene, at, lossy), at.word.split(":")
 
     def is_read_back(_: Any, name: str, length: int, what: str) -> None:
@@ -326,8 +320,7 @@ def at_serve(scene: Any, built: Built, server: Built, lossy: bool) -> None:
             for place, length in enumerate(transfers.FEW) for it in clients if place or not built.is_slow]
     jobs += [partial(transfers.refused, site, built, it) for it in clients if it.startswith("get") and not lossy]
     transfers.together(jobs)
-    process.terminate()
-    process.wait()
+    transfers.ended(process)
 
 
 @pytest.mark.timeout(1_200)
