@@ -15,18 +15,18 @@ from pathlib import Path
 from typing import Any, Iterator
 
 import pytest
-from hypothesis import HealthCheck, given, seed, settings, strategies as st
+from hypothesis import strategies as st
 
 from lib import frames as f
 from lib import others
 from lib.addresses import own_address
 from lib.ends import Port, wait_until
 from lib.examples import run as run_command
+from lib.mutated import many, mutated
 from lib.needs import needs
 from lib.packets import ack, data, error, oack, rrq, wrq
 from lib.process import Program
 from lib.programs import TOP, program
-from lib.seeds import commit_seed
 
 EXAMPLES = TOP / "examples"
 EXAMPLE_CAPTURES = ("wire", "netboot/uefi", "netboot/bios")
@@ -431,25 +431,7 @@ def test_transfers(tmp_path: Path) -> None:
 KEPT = [capture for _, capture in samples() if len(capture) < 5000] + [two_interfaces()]
 
 
-@st.composite
-def mutated(draw: Any) -> bytes:
-    capture = bytearray(draw(st.sampled_from(KEPT)))
-    for way in draw(st.lists(st.sampled_from(["byte", "cut", "repeat", "number"]), min_size=1, max_size=8)):
-        at, count = draw(st.integers(4, max(len(capture) - 1, 4))), draw(st.integers(1, 40))
-        if way == "byte":
-            capture[at:at + 1] = bytes([draw(st.sampled_from([0, 1, 0x7F, 0x80, 0xFF]) | st.integers(0, 255))])
-        elif way == "cut":
-            del capture[at:at + count]
-        elif way == "repeat":
-            capture[at:at] = capture[at:at + count]
-        else:
-            capture[at:at + 4] = struct.pack("<I", draw(st.sampled_from([0, 1, 2**31, 2**32 - 1, 262_144])))
-    return bytes(capture)
-
-
-@seed(commit_seed())
-@settings(max_examples=MUTATIONS, deadline=None, database=None, suppress_health_check=list(HealthCheck))
-@given(mutated(), st.sampled_from(["--flow", "--json", "--follow", ""]))
+@many(MUTATIONS, mutated(KEPT, False), st.sampled_from(["--flow", "--json", "--follow", ""]))
 def test_mutations(capture: bytes, words: str) -> None:
     """No crash, no more memory and no more time."""
     status, _, errors = run(words.split(), capture)
