@@ -19,6 +19,7 @@ sys.path[:0] = [str(TOP / "tools")]
 import wrong_bodies
 from lib import surface
 from lib.checks import CHECKS
+from lib.kit import listed
 
 MANIFEST = TOP / "tools/manifest.txt"
 # the order of the kinds of lines, each with the words of its name
@@ -28,13 +29,6 @@ PATIENCE = 300
 PACKAGES = "/usr/lib/python3/dist-packages"
 RUNNER = {"pytest-3": "/usr/bin/pytest-3", "python3-pytest-xdist": f"{PACKAGES}/xdist/__init__.py",
           "python3-pytest-timeout": f"{PACKAGES}/pytest_timeout.py", "python3-hypothesis": f"{PACKAGES}/hypothesis/__init__.py"}
-
-
-def crates() -> dict[str, str]:
-    """The crates of crates.txt with the libraries that each uses."""
-    lines = [line.partition("#")[0].strip() for line in (TOP / "crates.txt").read_text().splitlines()]
-    pairs = [line.partition(":") for line in lines if line]
-    return {name.split()[0]: " ".join([*name.split()[1:], *uses.split()]) for name, _, uses in pairs}
 
 
 def runner_lacks() -> list[str]:
@@ -68,9 +62,9 @@ def bodies_of(crate: str) -> list[str]:
 
 def made(checks: Iterable[str]) -> list[str]:
     """All lines: by their kinds, and in each by name; rows in the order of their checks."""
-    handles, known = TOP / "HANDLES", crates() if (TOP / "crates.txt").is_file() else {}
+    handles, known = TOP / "HANDLES", listed() if (TOP / "crates.txt").is_file() else {}
     lines = [f"handles {surface.digest_of(handles.read_text() if handles.is_file() else '')}",
-             *(f"crate {name}: {uses}".rstrip() for name, uses in known.items()),
+             *(f"crate {name}: {' '.join(uses)}".rstrip() for name, uses in known.items()),
              *(f"check {check}" for check in checks), *rows_of(checks)]
     # (crates on the disk that crates.txt does not have are of no gate)
     lines += sorted(line for crate in known for line in
