@@ -59,18 +59,18 @@ libtftp: $(LIBRARY)
 
 ifeq ($(ARCH)$(STATIC),amd64)
 # one run builds all four
-$(PROGRAMS) &: $(SOURCES) tools/build.sh
+$(PROGRAMS) &: $(SOURCES) tools/build.py
 	$(NEEDS_RT)
-	@tools/build.sh tftp_show_main tftp_play_main tftp_main tftpd_main
+	@tools/build.py tftp_show_main tftp_play_main tftp_main tftpd_main
 	@mkdir -p bin
 	@cp crates/tftp_show_main/out/tftp_show_main bin/tftp-show
 	@cp crates/tftp_play_main/out/tftp_play_main bin/tftp-play
 	@cp crates/tftp_main/out/tftp_main bin/tftp
 	@cp crates/tftpd_main/out/tftpd_main bin/tftpd
 
-$(LIBRARY): $(SOURCES) tools/build.sh tools/library.sh ports/heap.c ports/malloc.c
+$(LIBRARY): $(SOURCES) tools/build.py tools/library.sh ports/heap.c ports/malloc.c
 	$(NEEDS_RT)
-	@tools/build.sh tftp_c
+	@tools/build.py tftp_c
 	@tools/library.sh bin
 else
 PORTED := tools/modules.py tools/port.sh tools/library.sh ports/os.c ports/heap.c ports/malloc.c
@@ -91,7 +91,7 @@ endif
 
 tftp-show tftp-play tftp tftpd:
 	$(NEEDS_RT)
-	@tools/build.sh $(subst -,_,$@)_main
+	@tools/build.py $(subst -,_,$@)_main
 	@mkdir -p bin
 	@cp crates/$(subst -,_,$@)_main/out/$(subst -,_,$@)_main bin/$@
 

@@ -2,7 +2,7 @@
 """Proves and compiles the programs and the library for C for a processor, and keeps their modules: modules.py ARCH [NAME..]
 
 ARCH is amd64 (every processor of x86-64) or arm64, NAME a program or `libtftp`; without names it is all of them. Libraries
-below that are not built yet are built first (tools/build.sh). The prover then proves the functions of the crate itself, of
+below that are not built yet are built first (tools/build.py). The prover then proves the functions of the crate itself, of
 a program or of the library, for that target. A folder out/modules/ARCH/NAME has what comes of it:
 
 - `object.o`, or `archive.a` of the library;
@@ -151,7 +151,7 @@ def build_below(names: list[str]) -> None:
     lacking = [name for name in names if not has_libraries(crate_of(name))]
     below = sorted({it.name for name in lacking for it in crate_of(name).below()})
     if below:
-        subprocess.run([TOP / "tools/build.sh", *below], check=True)
+        subprocess.run([TOP / "tools/build.py", *below], check=True)
 
 
 def text_of(module: Path) -> str:

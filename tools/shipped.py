@@ -1,7 +1,7 @@
 #!/usr/bin/env python3
 """Puts into bin/ what `make` would build, over what `rt ci` has just proved: shipped.py [FOLDER]
 
-`make` builds tftp, tftpd and the library for C for every processor of x86-64 (tools/build.sh), and `rt ci` all programs
+`make` builds tftp, tftpd and the library for C for every processor of x86-64 (tools/build.py), and `rt ci` all programs
 for x86-64-v2. So these three are compiled here once more, over the libraries that `rt ci` left, by the prover, which
 proves the functions of their own crates again, and none below (tools/modules.py, which keeps their modules); tftp-show and
 tftp-play are those of `rt ci`. What comes out is the same, byte for byte, as what `make` builds. Where checks of this checkout have left libraries of their own,
@@ -55,14 +55,14 @@ def built(name: str, room: str) -> tuple[Path, str]:
         return of_crate(crate.name), "as rt ci built it"
     if has_libraries(crate):
         return compiled(name, room), OVER
-    subprocess.run([TOP / "tools/build.sh", crate.name], check=True)
-    return of_crate(crate.name), "by tools/build.sh"
+    subprocess.run([TOP / "tools/build.py", crate.name], check=True)
+    return of_crate(crate.name), "by tools/build.py"
 
 
 def main() -> None:
     folder = Path(sys.argv[1] if sys.argv[1:] else TOP / "bin")
     folder.mkdir(exist_ok=True)
-    # (tools/build.sh lets in one run at a time)
+    # (tools/build.py lets in one run at a time)
     workers = 3 if all(has_libraries(modules.crate_of(name)) for name in [*PLAIN, modules.LIBRARY]) else 1
     with tempfile.TemporaryDirectory(prefix="shipped-") as room, ThreadPoolExecutor(workers) as pool:
         library = pool.submit(archive)

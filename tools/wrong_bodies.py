@@ -359,7 +359,7 @@ def every(bodies: list[str], jobs: int) -> int:
     """Tries these, and records those that are refused."""
     known, before, began = crates(), recorded(), time.monotonic()
     lacking = sorted({name for name in map(crate_of, bodies) if not has_libraries(known[name])})
-    if lacking and subprocess.run(["tools/build.sh", *lacking], cwd=TOP).returncode:
+    if lacking and subprocess.run(["tools/build.py", *lacking], cwd=TOP).returncode:
         return 1
     end, found = began + PATIENCE * len(bodies), dict[str, Verdict]()
 

@@ -12,7 +12,7 @@ import sys
 from pathlib import Path
 from typing import NamedTuple, Optional
 
-from lib.kit import listed
+from lib.kit import below, listed
 from lib.programs import TOP
 
 # how a text says a small number
@@ -88,14 +88,9 @@ def uses() -> dict[str, set[str]]:
     return {name: set(words) & {*found} for name, words in found.items()}
 
 
-def below(name: str, used: dict[str, set[str]]) -> set[str]:
-    """All crates that this one is built on."""
-    return set().union(*({each} | below(each, used) for each in used[name]))
-
-
 def reduced(used: dict[str, set[str]]) -> dict[str, list[str]]:
     """The same without those that follow from others."""
-    return {name: sorted(each for each in words if not any(each in below(other, used) for other in words - {each}))
+    return {name: sorted(each for each in words if not any(each in below(other) for other in words - {each}))
             for name, words in used.items()}
 
 
