@@ -123,5 +123,7 @@ def test_wrong_bodies() -> None:
 def test_names_of_tests(name: str) -> None:
     rattle = "".join(path.read_text() for path in TOP.glob("crates/tests_*/src/*.rt"))
     python = "".join(path.read_text() for folder in ("tests", "tools") for path in TOP.glob(f"{folder}/**/*.py"))
+    rows = (TOP / "tests/tftp_play/scripts.txt").read_text()
     folders: Any = {path.name for path in TOP.glob("t*/*")}
-    assert name in set(re.findall(r"#\[test\][^{]*?fn (\w+)", rattle)) | set(re.findall(r"def test_(\w+)", python)) | folders
+    found = re.findall(r"#\[test\][^{]*?fn (\w+)", rattle) + re.findall(r"def test_(\w+)", python) + re.findall(r"(?m)^### (\w+)", rows)
+    assert name in {*found, *folders}

@@ -16,6 +16,7 @@ from lib import transfers
 from lib.chroot import Inside, furnish, is_possible
 from lib.ends import expect
 from lib.examples import Built, in_c, in_cpp, in_go, in_python, in_rust, run, rust_has_sanitizer
+from lib.needs import needs
 from lib.programs import NAMES, TOP, program
 from lib.scene import next_line
 
@@ -74,12 +75,6 @@ class Copy:
 
     def unpacked(self, package: str, root: Path) -> None:
         self.run("dpkg-deb", "-x", self.packages()[package], root)
-
-
-def needs(*commands: str) -> None:
-    absent = [it for it in commands if not shutil.which(it)]
-    if absent:
-        pytest.skip(f"no {', no '.join(absent)}")
 
 
 @pytest.fixture(scope="module")

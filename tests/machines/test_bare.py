@@ -8,12 +8,13 @@ import os
 import re
 from functools import lru_cache
 from pathlib import Path
-from typing import Any, Sequence
+from typing import Any, NamedTuple, Sequence
 
 import pytest
 
+from lib.needs import needs
 from lib.programs import TOP
-from ported import EMULATOR, bare_archive, needs, run
+from ported import EMULATOR, run
 
 # what the archive may call
 CALLS = {"memcpy", "memmove", "memset", "tftp_alloc", "tftp_realloc", "tftp_free"}
@@ -21,12 +22,14 @@ MANUAL, MAP = TOP / "man/tftp.3", TOP / "packaging/libtftp.map"
 LENGTH = 1_000_003
 
 
-class Processor:
+class Processor(NamedTuple):
     """How the code of a processor is read."""
-
-    def __init__(self, arch: str, prefix: str, compiler: str, registers: str, below: str, absolute: str) -> None:
-        self.arch, self.prefix, self.compiler = arch, prefix, compiler
-        self.registers, self.below, self.absolute = re.compile(registers), re.compile(below), absolute
+    arch: str
+    prefix: str
+    compiler: str
+    registers: str
+    below: str
+    absolute: str
 
 
 PROCESSORS = [
@@ -64,7 +67,7 @@ class Code:
             for line in lines:
                 # without comments, and the addresses of branches
                 code = re.sub(r"\b[0-9a-f]+ <.*", "", line.partition("#" if it.arch == "amd64" else "//")[0])
-                if it.registers.search(code) or it.below.search(code):
+                if re.search(it.registers, code) or re.search(it.below, code):
                     found.append(f"{it.arch}: {name}: {line}")
         listed = run(f"{it.prefix}readelf", "-rW", self.path)
         of_code = re.findall(r"(?ms)^Relocation section '\.rela\.text\S*' .*?(?=^Relocation section|\Z)", listed)
@@ -167,22 +170,15 @@ def test_what_the_manual_says(codes: Any) -> None:
 
 
 @pytest.fixture(scope="module")
-def archives(tmp_path_factory: pytest.TempPathFactory) -> Any:
-    """The archive for a processor, or a skip."""
-    room = tmp_path_factory.mktemp("bare")
-
-    @lru_cache(None)
-    def archive(it: Processor) -> Path:
-        needs(it.compiler, f"{it.prefix}objdump")
-        return bare_archive(it.arch, room / it.arch)
-
-    return archive
-
-
-@pytest.fixture(scope="module")
 def codes(archives: Any, tmp_path_factory: pytest.TempPathFactory) -> Any:
     room = tmp_path_factory.mktemp("code")
-    return lru_cache(None)(lambda it: Code(it, archives(it), room))
+
+    @lru_cache(None)
+    def code(it: Processor) -> Code:
+        needs(it.compiler, f"{it.prefix}objdump")
+        return Code(it, archives(it.arch), room)
+
+    return code
 
 
 @pytest.mark.parametrize("processor", PROCESSORS, ids=lambda it: it.arch)
@@ -193,9 +189,9 @@ def test_the_code(processor: Processor, codes: Any) -> None:
 @pytest.mark.parametrize("processor", PROCESSORS, ids=lambda it: it.arch)
 def test_a_get(processor: Processor, archives: Any, scene: Any) -> None:
     """The client of examples/c over the archive gets a file."""
-    needs(*EMULATORS[processor.arch])
+    needs(processor.compiler, *EMULATORS[processor.arch])
     client, content = scene.folder / "client", os.urandom(LENGTH)
-    run(processor.compiler, "-O1", "-static", "-I", "include", "examples/c/get.c", "ports/malloc.c", archives(processor), "-o", client)
+    run(processor.compiler, "-O1", "-static", "-I", "include", "examples/c/get.c", "ports/malloc.c", archives(processor.arch), "-o", client)
     scene.make("file", content)
     run(*EMULATORS[processor.arch], client, *scene.serve().word.split(":"), "file", "got", "1428", cwd=scene.folder)
     assert (scene.folder / "got").read_bytes() == content

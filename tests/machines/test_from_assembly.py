@@ -11,8 +11,9 @@ from typing import Iterator
 import pytest
 
 from lib.chroot import ROOM, Inside, furnish, is_possible
+from lib.needs import needs
 from lib.programs import NAMES, TOP
-from ported import COMPILER, EMULATOR, TESTS, VERSION, needs, run, run_over
+from ported import COMPILER, EMULATOR, TESTS, VERSION, run, run_over
 
 PACKAGES = ["coreutils", "dash", "gcc", "libc6-dev", "make", "musl-tools", "sed", "grep", "diffutils", "tar", "xz-utils"]
 # the processors, and what the nm of their objects is
