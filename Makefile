@@ -119,7 +119,7 @@ test:
 	@tools/gate.py
 
 quick:
-	@tools/quick.sh '$(CRATE)'
+	@tools/quick.py $(CRATE)
 
 manifest:
 	@tools/wrong_bodies.py --lines
