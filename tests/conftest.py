@@ -15,6 +15,7 @@ from _pytest.runner import runtestprotocol
 from lib.addresses import own_network
 from lib.programs import NAMES, found
 from lib.scene import Scene
+from lib.seeds import OTHERS
 from lib.stalls import LIMIT, Stalls
 
 # how many tests have addresses in one network, below those of second runs
@@ -89,9 +90,10 @@ def pytest_terminal_summary(terminalreporter: Any) -> None:
 
 
 def pytest_unconfigure(config: pytest.Config) -> None:
-    """Ends with a count, as each check of the gate does."""
+    """Ends with a count, as each check of the gate does (lib/checks.py)."""
     reporter: Any = config.pluginmanager.get_plugin("terminalreporter")
     if reporter and not config.option.collectonly and not hasattr(config, "workerinput"):
-        run, skipped = (sum(len(reporter.stats.get(kind, [])) for kind in kinds)
-                        for kinds in [("passed", "failed", "error"), ("skipped",)])
-        print(f"{run} run, {skipped} skipped")
+        run = sum(len(reporter.stats.get(kind, [])) for kind in ("passed", "failed", "error"))
+        skipped = reporter.stats.get("skipped", [])
+        left = sum(OTHERS in str(report.longrepr) for report in skipped)
+        print(f"{run} run{f', {left} at other commits' if left else ''}, {len(skipped) - left} skipped")
