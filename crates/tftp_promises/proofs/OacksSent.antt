@@ -13,9 +13,10 @@ use Rattle.tftp_ends.specs.declared.endpoint.Endpoint.{Endpoint}
 use Rattle.tftp_lives.proofs.NewestSaid.{IsPlain, datagram_plain, newest_said, timeout_plain}
 use Rattle.tftp_loop.specs.Steps.LoopStep.{At_port, Request_answered}
 use Rattle.tftp_promises.specs.Given.{StoreOpens}
-use Rattle.tftp_promises.proofs.SeenLives.{tells_sent}
-use Rattle.tftp_promises.proofs.TraceLives.{step_adds, transfers_noted}
+use Rattle.tftp_promises.proofs.StepEvents.{step_adds}
 use Rattle.tftp_promises.proofs.TransferLives.{run_config, transfers_live}
+use Rattle.tftp_promises.proofs.TransferTraces.{transfers_noted}
+use Rattle.tftp_promises.proofs.WhileOpen.{all_is, all_of, has_later, sent_in}
 use Rattle.tftp_loop.proofs.NewStates.{state_is, trace_is}
 
 -- nothing is sent
@@ -26,10 +27,6 @@ IsUnsent (Watched watch) = Unit {0}
 IsUnsent (Elapsed port time) = Unit {0}
 IsUnsent (Printed line) = Unit {0}
 IsUnsent (Quiet event) = Unit {0}
-
-has_later : {T : Type 0} (x : T) (more ys : List T) → Has x ys → Has x (more ++ ys)
-has_later x [] ys h = h
-has_later x (y ∷ more) ys h = inr (has_later x more ys h)
 
 -- of each OACK that was noted since the trace was so, this holds
 record AreSo (before : List SocketEvent) (Holds : Endpoint → List ℕ → Type 0) (events : List SocketEvent) : Type 0 where
@@ -149,7 +146,7 @@ module _ {S F D : Type 0} (stores : StoreMeaning S D) (sources : SourceMeaning F
       (does : LoopStep stores sources old new) (to : Endpoint) (bytes : List ℕ) → IsOpenedBy run to bytes →
       IsOpenedBy (Then run does) to bytes
   opened_still run does to bytes h =
-      let adds = step_adds stores sources does in
+      let adds = step_adds does in
       record {
         old = h.old;
         new = h.new;
@@ -203,13 +200,14 @@ module _ {S F D : Type 0} (stores : StoreMeaning S D) (sources : SourceMeaning F
         by_plain (inl differs) = absurd (true≢false (sym oack ∙ differs))
         by_plain (inr same) =
             let living = transfers_live stores sources run none max port transfer found in
-            let told = transfers_noted stores sources start run port in
+            let told = transfers_noted stores sources start none max port run in
             let said : Has (Said r.to r.bytes) (acts_at port run) =
             subst (λ (act : Act). Has act (acts_at port run)) (sym same)
             (newest_said sources (drafting_sink stores) living.life) in
-            let there = tells_sent port told.noted (acts_at port run) told.tells r.to r.bytes said in
-            let one : told.noted ≡ h.so.noted =
-            append_cancel_right told.noted h.so.noted start.events (sym told.is ∙ h.so.is) in
+            let there = sent_in port start.events told r.to r.bytes said in
+            let noted = all_of port start.events told in
+            let one : noted ≡ h.so.noted =
+            append_cancel_right noted h.so.noted start.events (sym (all_is port start.events told) ∙ h.so.is) in
             opened_still run does r.to r.bytes
             (h.so.sent port r.to r.bytes (subst (λ (es : List SocketEvent). Has (Sent port r.to r.bytes) es) one there)
             oack)
@@ -260,7 +258,7 @@ module _ {S F D : Type 0} (stores : StoreMeaning S D) (sources : SourceMeaning F
       so_says start.events (IsOpenedBy (Then run (Request_answered d))) old.requests d.from (error_bytes reply) old.events
       (λ oack. absurd (true≢false (sym oack))) (so_far run (Request_answered d) h)
   came_so {old} {new} run d h (A_transfer transfer store) is =
-      let adds = step_adds stores sources (Request_answered d) in
+      let adds = step_adds (Request_answered d) in
       let before = h.so in
       so_says start.events (IsOpenedBy (Then run (Request_answered d))) d.tid d.from transfer.end.position.last_sent
       old.events
@@ -318,7 +316,7 @@ module _ {S F D : Type 0} (stores : StoreMeaning S D) (sources : SourceMeaning F
       IsBlockSize start.server.config.limits.max_block → Known (Then run does)
   known_still {old} {new} run does h none max =
       let so = step_so run does h none max in
-      let adds = step_adds stores sources does in
+      let adds = step_adds does in
       let noted_is : so.noted ≡ adds.0 ++ h.so.noted =
       append_cancel_right so.noted (adds.0 ++ h.so.noted) start.events
       (sym so.is

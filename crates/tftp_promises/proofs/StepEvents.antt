@@ -88,6 +88,14 @@ module _ {S F D : Type 0} {stores : StoreMeaning S D} {sources : SourceMeaning F
   server_adds (Store_set r) = Silent (ap (λ (s : LoopState S F D). s.events) r.is)
   server_adds does = Notes _ [] tt (ap (λ (s : LoopState S F D). s.events) (state_is does))
 
+  -- so its trace goes on
+  pub step_adds : {old new : LoopState S F D} → LoopStep stores sources old new →
+      (added : List SocketEvent) × (new.events ≡ added ++ old.events)
+  step_adds does = elim (server_adds does) [
+    | Silent same ↦ ([], same)
+    | Notes e events own is ↦ (e ∷ events, is)
+  ]
+
 elapse_adds : {port : ℕ} {s next : State} → MayElapse port s next → Adds s.events next.events
 elapse_adds (Stays why) = Silent refl
 elapse_adds {port = port} {s = s} (Elapses due still) =

@@ -338,3 +338,8 @@ module _ {S F D : Type 0} (stores : StoreMeaning S D) (sources : SourceMeaning F
         (transfer : TransferState F D) → at port now.server.held ≡ Some transfer →
         IsLiving stores sources (acts_at port run) transfer
     transfers_live run none max port transfer there = (run_lives run none max).all port transfer there
+
+    -- and no port has two of them
+    pub keyed_once : {now : LoopState S F D} (run : Run (LoopStep stores sources) start now) →
+        start.server.held ≡ [] → IsBlockSize start.server.config.limits.max_block → AreKeyedOnce now.server.held
+    keyed_once run none max = (run_lives run none max).once
