@@ -31,7 +31,7 @@ processes() {
     tftp_sockets | tftp_lines) echo tftpd/test_server_loop.py tftpd/test_server_alone.py tftp ;;
     tftp_client) echo tftp tftpd/test_both_programs.py ;;
     tftp_daemon) echo tftpd/test_options.py tftpd/test_command_lines.py tftpd/test_server_alone.py tftpd/test_served_folder.py ;;
-    tftp_service) echo tftpd/test_several_servers.py tftpd/test_handed_over.py tftpd/test_draining.py ;;
+    tftp_service | tftp_supervisor) echo tftpd/test_several_servers.py tftpd/test_handed_over.py tftpd/test_draining.py ;;
     tftp_status) echo tftpd/test_status.py ;;
     tftp_folder | tftp_disk) echo tftpd/test_served_folder.py tftpd/test_served_disk.py tftp ;;
     esac

@@ -32,9 +32,10 @@ use tftp_folder::{FolderSource, FolderStore};
 use tftp_lines::{Reason, reason_of};
 use tftp_loop::{Ending, LoopConfig, LoopFault, PortRange};
 use tftp_server::{Config, Server, Store};
-use tftp_service::{HandedFault, HandedSocket, HandedUdp, Input, Supervise};
+use tftp_service::{HandedFault, HandedSocket, HandedUdp, Input};
 use tftp_sockets::{DrainSignal, ErrorLines, ServerUdp};
 use tftp_status::Counted;
+use tftp_supervisor::Supervise;
 
 /// The configuration of `tftpd`.
 #[derive(Drop)]

@@ -27,9 +27,10 @@ use tftp_folder::{FolderSource, FolderStore};
 use tftp_lines::Reason;
 use tftp_loop::LoopFault;
 use tftp_server::Store;
-use tftp_service::{HandedUdp, Input, Supervise};
+use tftp_service::{HandedUdp, Input};
 use tftp_sockets::{ErrorLines, ServerUdp, SystemUdp, WholeLines};
 use tftp_status::Counted;
+use tftp_supervisor::Supervise;
 
 /// Runs `tftpd` with the program's own command line, and this standard input, and returns its status.
 ///

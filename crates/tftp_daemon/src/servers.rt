@@ -21,8 +21,9 @@ use std::time::{Clock, Duration};
 use tftp_ends::{Backoff, Endpoint};
 use tftp_lines::reason_of;
 use tftp_loop::{LoopFault, PortRange};
-use tftp_service::{HandedSocket, Input, Place, Supervise, SupervisorFault};
+use tftp_service::{HandedSocket, Input};
 use tftp_sockets::address_of;
+use tftp_supervisor::{Place, Supervise, SupervisorFault};
 
 /// For how long a port that is in use is tried, in seconds: the servers of a supervisor that has just
 /// ended have it until they have ended, too. One that syncs a file, or waits for the reader of its log,
