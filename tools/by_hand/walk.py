@@ -19,9 +19,9 @@ LEFT_OUT = {"tftp_c", "tftp_play", "tftp_player", "tftp_script", "tftp_rules", "
 FIRST, LAST = "PortVisit::take_datagrams", "SystemUdp::send"
 # What tftpd has for a trait, a name without a type of its own, and an alias
 TYPES = {"Source": "FolderSource", "Store": "FolderStore", "ServedStore": "FolderStore", "transfer": "Transfer",
-         "terms": "Terms", "visit": "PortVisit", "before": "Phase", "TransferPort": "Port", "ServerUdp": "HandedUdp",
-         "N": "HandedUdp"}
-FIELDS = {("Port", "socket"): "TransferSocket", ("HandedUdp", "net"): "SystemUdp"}
+         "terms": "Terms", "visit": "PortVisit", "before": "Phase", "TransferPort": "Port",
+         "ServerUdp": "ServerDevice", "N": "ServerDevice"}
+FIELDS = {("Port", "socket"): "TransferSocket", ("ServerDevice", "net"): "SystemUdp"}
 # The arms of a `match` that such an ACK does not take
 OTHER_ARMS = ("Pass::Due", "Receipt::Nothing", "Receipt::Failed", "READ", "WRITE", "DATA", "ERROR", "OACK", "Err(", "_ ",
               "None", "Phase::Waiting", "Phase::Receiving", "Phase::Dallying", "Phase::Closed", "Action::Respond",

@@ -5,9 +5,9 @@ use Rattle.tftp_disk.specs.DiskTrace.{DiskEvent}
 use Rattle.tftp_folder.specs.Inside.{StaysInside}
 use Rattle.tftp_folder.specs.Opened.{IsRootOf, follows}
 use Rattle.tftp_folder.specs.declared.folder_store.FolderStore.{FolderStore}
-use Rattle.tftp_daemon.proofs.daemon.open_store.Goals as goal
-use Rattle.tftp_daemon.proofs.daemon.open_store.Goals.{then-config, else-config}
-use Rattle.tftp_daemon.proofs.daemon.open_store.Goals.{in-Some+in_default-admit_uploads, in_default}
+use Rattle.tftp_daemon.proofs.opening.open_store.Goals as goal
+use Rattle.tftp_daemon.proofs.opening.open_store.Goals.{then-config, else-config}
+use Rattle.tftp_daemon.proofs.opening.open_store.Goals.{in-Some+in_default-admit_uploads, in_default}
 
 same_root : {D G H W : Type 0} {a b : FolderStore D G H W} → a ≡ b
     → string_bytes a.folder.root ≡ string_bytes b.folder.root

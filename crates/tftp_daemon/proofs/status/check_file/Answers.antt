@@ -3,7 +3,7 @@ use Rattle.std.proofs.Common.{◌≡◌, List, subst}
 use Rattle.std.proofs.lemmas.Result.{on_ok_weaker}
 use Rattle.tftp_disk.specs.DiskTrace.{DiskEvent}
 use Rattle.tftp_daemon.specs.Reports.{LooksOutside, folder_of}
-use Rattle.tftp_daemon.proofs.daemon.check_file.Goals as goal
+use Rattle.tftp_daemon.proofs.status.check_file.Goals as goal
 
 pub returns-in-Ok-clause-place : goal.returns-in-Ok-clause-place
 returns-in-Ok-clause-place g c =

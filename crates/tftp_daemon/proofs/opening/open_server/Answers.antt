@@ -8,7 +8,7 @@ use Rattle.tftp_folder.specs.Inside.{StaysInside}
 use Rattle.tftp_folder.specs.Opened.{IsRootOf}
 use Rattle.tftp_folder.specs.declared.folder_store.FolderStore.{FolderStore}
 use Rattle.tftp_daemon.specs.Configured.{IsServerOf, IsUploads, drafts_in}
-use Rattle.tftp_daemon.proofs.daemon.open_server.Goals as goal
+use Rattle.tftp_daemon.proofs.opening.open_server.Goals as goal
 
 pub returns-in-Ok-new : goal.returns-in-Ok-new
 returns-in-Ok-new g c =
