@@ -1,12 +1,11 @@
 -- Each step notes events after those before, and the clock never goes back. For Expiring.
 use Rattle.tftp_loop.proofs.Common.{arith, ◌≡◌, ◌≤◌, ℕ, List, [], ◌∷◌, ◌++◌, Option, Some, None, refl, sym, ap, subst}
-use Rattle.tftp_loop.proofs.Common.{◌∙◌, append_assoc, SourceMeaning, Endpoint, Reply, StoreMeaning, SocketEvent}
-use Rattle.tftp_loop.proofs.Common.{answered, replied, Received, Watched, Elapsed, PortState, LoopState, PortStep}
-use Rattle.tftp_loop.proofs.Common.{LoopStep, port_state, A_datagram, A_lost_datagram, A_late_datagram, Nothing_found}
-use Rattle.tftp_loop.proofs.Common.{A_failed_receive, A_timeout, A_missed_timeout, Work, Waited, At_port}
-use Rattle.tftp_loop.proofs.Common.{Request_received, No_request_found, Request_not_received, Request_noted}
-use Rattle.tftp_loop.proofs.Common.{Request_answered, Request_lost, Clock_read, Store_set, Transfer_closed, Drain_begun}
+use Rattle.tftp_loop.proofs.Common.{◌∙◌, append_assoc, after_request, answering_port, Left, SourceMeaning, Endpoint}
+use Rattle.tftp_loop.proofs.Common.{Reply, StoreMeaning, SocketEvent, answered, replied, Received, Watched, Elapsed}
+use Rattle.tftp_loop.proofs.Common.{PortState, LoopState, PortStep, LoopStep, port_state, A_datagram, A_timeout, Work}
+use Rattle.tftp_loop.proofs.Common.{Waited, At_port, Request_answered, Request_lost, Clock_read, Store_set}
 use Rattle.tftp_sockets.specs.Trace.SocketEvent.{Sent}
+use Rattle.tftp_loop.proofs.NewStates.{state_is, trace_is}
 
 -- the later events are some more before the earlier ones
 pub record Adds (before after : List SocketEvent) : Type 0 where
@@ -41,6 +40,12 @@ replied_adds : (port : ℕ) (to : Option Endpoint) (bytes : List ℕ) (es : List
 replied_adds port None bytes es = adds_none es es refl
 replied_adds port (Some to) bytes es = adds_one (Sent port to bytes) es _ refl
 
+-- the answer to a request is noted, if there is one
+pub request_adds : {S F D : Type 0} (s : LoopState S F D) (from : Endpoint) (left : Left S F D)
+    → Adds s.events (after_request s from left).events
+request_adds s from left =
+    replied_adds (answering_port s.requests left.opened.tid) left.opened.to left.sent s.events
+
 module _ {S F D : Type 0} (meaning : StoreMeaning S D) (sources : SourceMeaning F) where
   port_adds : (now : ℕ) (old new : PortState S F D) → PortStep meaning sources now old new → Adds old.events new.events
   port_adds now old new (A_datagram d) =
@@ -48,19 +53,13 @@ module _ {S F D : Type 0} (meaning : StoreMeaning S D) (sources : SourceMeaning 
       adds_to old.events _ new.events d.handles.events
       (adds_more old.events received _ (adds_one (Received old.timer.port d.from d.bytes) old.events received refl)
       (answered_adds old.timer.port d.handles.takes.takes.turn.reply received))
-  port_adds now old new (A_lost_datagram d) = adds_one
-      (Received old.timer.port d.from d.bytes) old.events new.events d.events
-  port_adds now old new (A_late_datagram d) = adds_one
-      (Received old.timer.port d.from d.bytes) old.events new.events d.events
-  port_adds now old new (Nothing_found d) = adds_one _ old.events new.events d.events
-  port_adds now old new (A_failed_receive d) = adds_one _ old.events new.events d.events
   port_adds now old new (A_timeout d) =
       let elapsed = Elapsed old.timer.port now ∷ old.events in
       adds_to old.events _ new.events d.times_out.events
       (adds_more old.events elapsed _ (adds_one (Elapsed old.timer.port now) old.events elapsed refl)
       (answered_adds old.timer.port _ elapsed))
-  port_adds now old new (A_missed_timeout d) = adds_one (Elapsed old.timer.port now) old.events new.events d.events
   port_adds now old new (Work d) = adds_none old.events new.events d.events
+  port_adds now old new does = adds_one _ old.events new.events (trace_is does)
 
   -- a step of the loop only adds events
   pub step_adds : (s t : LoopState S F D) → LoopStep meaning sources s t → Adds s.events t.events
@@ -70,18 +69,11 @@ module _ {S F D : Type 0} (meaning : StoreMeaning S D) (sources : SourceMeaning 
       (adds_one _ _ t.events (ap (λ (u : LoopState S F D). u.events) d.is)))
   step_adds s t (At_port d) = adds_to s.events d.next.events t.events (ap (λ (u : LoopState S F D). u.events) d.is)
       (port_adds s.now (port_state s d.timer) d.next d.does)
-  step_adds s t (Request_received d) = adds_one _ s.events t.events (ap (λ (u : LoopState S F D). u.events) d.is)
-  step_adds s t (No_request_found d) = adds_one _ s.events t.events (ap (λ (u : LoopState S F D). u.events) d.is)
-  step_adds s t (Request_not_received d) = adds_one _ s.events t.events (ap (λ (u : LoopState S F D). u.events) d.is)
-  step_adds s t (Request_noted d) = adds_one _ s.events t.events (ap (λ (u : LoopState S F D). u.events) d.is)
   step_adds s t (Request_answered d) = adds_to s.events _ t.events (ap (λ (u : LoopState S F D). u.events) d.is)
-      (replied_adds _ d.left.opened.to d.left.sent s.events)
+      (request_adds s d.from d.left)
   step_adds s t (Request_lost d) = adds_none s.events t.events (ap (λ (u : LoopState S F D). u.events) d.is)
-  step_adds s t (Clock_read d) = adds_one (Watched d.watch) s.events t.events
-      (ap (λ (u : LoopState S F D). u.events) d.is)
   step_adds s t (Store_set d) = adds_none s.events t.events (ap (λ (u : LoopState S F D). u.events) d.is)
-  step_adds s t (Transfer_closed d) = adds_one _ s.events t.events (ap (λ (u : LoopState S F D). u.events) d.is)
-  step_adds s t (Drain_begun d) = adds_one _ s.events t.events (ap (λ (u : LoopState S F D). u.events) d.is)
+  step_adds s t does = adds_one _ s.events t.events (ap (λ (u : LoopState S F D). u.events) (state_is does))
 
   same_now : (now : ℕ) (t u : LoopState S F D) → t ≡ u → now ≤ u.now → now ≤ t.now
   same_now now t u e h = subst (λ (v : LoopState S F D). now ≤ v.now) (sym e) h
@@ -89,14 +81,5 @@ module _ {S F D : Type 0} (meaning : StoreMeaning S D) (sources : SourceMeaning 
   -- a step of the loop never turns the clock back
   pub step_forward : (s t : LoopState S F D) → LoopStep meaning sources s t → s.now ≤ t.now
   step_forward s t (Waited d) = same_now s.now t _ d.is d.by.forward
-  step_forward s t (At_port d) = same_now s.now t _ d.is (omega arith)
-  step_forward s t (Request_received d) = same_now s.now t _ d.is (omega arith)
-  step_forward s t (No_request_found d) = same_now s.now t _ d.is (omega arith)
-  step_forward s t (Request_not_received d) = same_now s.now t _ d.is (omega arith)
-  step_forward s t (Request_noted d) = same_now s.now t _ d.is (omega arith)
-  step_forward s t (Request_answered d) = same_now s.now t _ d.is (omega arith)
-  step_forward s t (Request_lost d) = same_now s.now t _ d.is (omega arith)
   step_forward s t (Clock_read d) = same_now s.now t _ d.is d.by.forward
-  step_forward s t (Store_set d) = same_now s.now t _ d.is (omega arith)
-  step_forward s t (Transfer_closed d) = same_now s.now t _ d.is (omega arith)
-  step_forward s t (Drain_begun d) = same_now s.now t _ d.is (omega arith)
+  step_forward s t does = same_now s.now t _ (state_is does) (omega arith)

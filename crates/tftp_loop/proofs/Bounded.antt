@@ -1,25 +1,25 @@
 -- In each state of a run a deadline is a wait away at most, and no end has more than its retries. For Expiring
 -- and PortCounts.
-use Rattle.tftp_loop.proofs.Common.{arith, ◌≡◌, ◌<◌, ◌≤◌, ℕ, true, false, List, [], ◌∷◌, length, map, Option, Some}
-use Rattle.tftp_loop.proofs.Common.{None, IsSome, refl, sym, ap, subst, ◌∙◌, inl, inr, All, slice_index_or, slice_set}
-use Rattle.tftp_loop.proofs.Common.{Result, Ok, Err, ⊤, swap_remove, length-map, same_Some, Mode, Known, SourceMeaning}
-use Rattle.tftp_loop.proofs.Common.{StoreFault, Backoff, EndState, ServesRead, serving_write, Endpoint, StoreMeaning}
-use Rattle.tftp_loop.proofs.Common.{Opening, Ask, Ignores, Refuses, Reads, Writes, Service, Silent, Refused, Sends}
-use Rattle.tftp_loop.proofs.Common.{Takes, Came, Goes, Left, Nothing, Error_reply, A_transfer, Sent, Taken, left_by}
-use Rattle.tftp_loop.proofs.Common.{TransferState, ServerState, at, with_new, without, Config, Run, Start, Then, Timer}
-use Rattle.tftp_loop.proofs.Common.{PortState, LoopState, PortStep, LoopStep, interval_at, marked_by, port_state}
-use Rattle.tftp_loop.proofs.Common.{set_by, started, with_timer, Waited, At_port, Request_received, No_request_found}
-use Rattle.tftp_loop.proofs.Common.{Request_not_received, Request_noted, Request_answered, Request_lost, Clock_read}
-use Rattle.tftp_loop.proofs.Common.{Store_set, Transfer_closed, Drain_begun, IsIdleAt, ReceivesNoneAt, AreKept}
+use Rattle.tftp_loop.proofs.Common.{arith, ◌≡◌, ◌<◌, ◌≤◌, ℕ, true, false, List, [], ◌∷◌, length, Option, Some, None}
+use Rattle.tftp_loop.proofs.Common.{IsSome, refl, sym, ap, subst, ◌∙◌, inl, inr, All, slice_index_or, slice_set, Result}
+use Rattle.tftp_loop.proofs.Common.{Ok, Err, ⊤, swap_remove, same_Some, Mode, Known, SourceMeaning, StoreFault, Backoff}
+use Rattle.tftp_loop.proofs.Common.{EndState, ServesRead, serving_write, Endpoint, StoreMeaning, Opening, Ask, Ignores}
+use Rattle.tftp_loop.proofs.Common.{Refuses, Reads, Writes, Service, Silent, Refused, Sends, Takes, Came, Goes, Left}
+use Rattle.tftp_loop.proofs.Common.{Nothing, Error_reply, A_transfer, Sent, Taken, left_by, TransferState, ServerState}
+use Rattle.tftp_loop.proofs.Common.{at, with_new, without, Config, Run, Start, Then, Timer, PortState, LoopState}
+use Rattle.tftp_loop.proofs.Common.{PortStep, LoopStep, interval_at, port_state, started, with_timer, Waited, At_port}
+use Rattle.tftp_loop.proofs.Common.{Request_answered, Clock_read, Store_set, Transfer_closed, IsIdleAt, ReceivesNoneAt}
+use Rattle.tftp_loop.proofs.Common.{AreKept}
 use Rattle.tftp_ends.specs.Opening.{serving_read}
-use Rattle.tftp_loop.proofs.LoopStays.{all_appended, all_removed, all_set, other_port, some_none}
-use Rattle.tftp_loop.proofs.PortEnds.{HasLimit, HasSpent, IsNear, at_transfer, changes_limit, changes_near, changes_spent}
-use Rattle.tftp_loop.proofs.PortEnds.{expiring_near, same_config, same_timer, set_near}
+use Rattle.tftp_loop.proofs.LoopStays.{all_appended, removed_all, replaced_all, other_port, some_none}
+use Rattle.tftp_loop.proofs.PortEnds.{HasLimit, HasSpent, IsNear, at_transfer, changes_limit, changes_near}
+use Rattle.tftp_loop.proofs.PortEnds.{changes_spent, expiring_near, same_config, same_timer, set_near}
 use Rattle.tftp_loop.proofs.EndSteps.{most_left}
 use Rattle.tftp_loop.proofs.PortStays.{stays_at}
 use Rattle.tftp_loop.proofs.Sleeping.{step_kept}
 use Rattle.tftp_loop.proofs.Tables.{inserted_apart, inserted_own, removed_apart}
-use Rattle.tftp_loop.proofs.Waits.{waited_at}
+use Rattle.tftp_loop.proofs.Waits.{all_waited}
+use Rattle.tftp_loop.proofs.NewStates.{state_is}
 
 -- an option that has a value is that value
 pub some_at : {T : Type 0} (o : Option T) → IsSome o → (x : T) × (o ≡ Some x)
@@ -134,9 +134,8 @@ module _ {S F D : Type 0} (meaning : StoreMeaning S D) (sources : SourceMeaning 
       let some = some_at (at timer.port s.server.held)
       (subst (λ (t : Timer). IsSome (at t.port s.server.held)) (sym is) (kept.each index timer within).there) in
       let changed = at_transfer meaning sources s.now (port_state s timer) next does some.0 some.1 in
-      λ k d h.
-      all_set Q s.timers 0 index next.timer within
-      (λ k d l h apart.
+      replaced_all Q s.timers index next.timer within
+      (λ k d h apart.
       same_bounded s.server next.server s.now (slice_index_or s.timers k d) config
       (stays.held.others (slice_index_or s.timers k d).port
       (other_port s.timers index timer k d kept.apart within is h apart)) (bounded k d h))
@@ -163,7 +162,7 @@ module _ {S F D : Type 0} (meaning : StoreMeaning S D) (sources : SourceMeaning 
             s.server.config.retries limit (own.spent some.0 some.1) in
             subst (λ (t : TransferState F D). HasSpent next.server.config.retries next.timer t.end) here
             (subst (λ (n : ℕ). HasSpent n next.timer changed.next.end) (sym (ap (λ (c : Config). c.retries) config)) spent);
-      }) k d (omega arith) h
+      })
 
   opened_bounded : (now : ℕ) (longest : Option ℕ) (backoff : Backoff) (from : Endpoint) (tid : ℕ) (old : ServerState S F D) (timers : List Timer)
       (came : Came S F D) → at tid old.held ≡ None → InCame old.config.retries came → AreKept old.held timers
@@ -199,12 +198,11 @@ module _ {S F D : Type 0} (meaning : StoreMeaning S D) (sources : SourceMeaning 
       (swap_remove timers index timer)
   removed_bounded old now timers index timer within is kept bounded =
       let new : ServerState S F D = record old { held = without timer.port old.held } in
-      λ k d h.
-      all_removed (IsBounded new now) timers 0 index timer (omega arith) within
-      (λ k d l h apart.
+      removed_all (IsBounded new now) timers index timer within
+      (λ k d h apart.
       let t = slice_index_or timers k d in
       same_bounded old new now t refl (removed_apart timer.port t.port old.held
-      (other_port timers index timer k d kept.apart within is h apart)) (bounded k d h)) k d (omega arith) h
+      (other_port timers index timer k d kept.apart within is h apart)) (bounded k d h))
 
   later_near : (now time : ℕ) (timer : Timer) → now ≤ time → IsNear now timer → IsNear time timer
   later_near now time timer forward near = omega (arith, forward, near)
@@ -216,14 +214,15 @@ module _ {S F D : Type 0} (meaning : StoreMeaning S D) (sources : SourceMeaning 
       → AreBounded t
   step_bounded s t (Waited d) kept bounded =
       subst AreBounded (sym d.is)
+      (all_waited (IsBounded s.server d.watch.now) d.watch.now d.ports s.timers
       (λ k e h.
-      let more = length-map (map (set_by d.watch.now) s.timers) (marked_by d.ports) in
-      let long = length-map s.timers (set_by d.watch.now) in
-      let h' : k < length s.timers = omega (arith, long, more, h) in
       let timer = slice_index_or s.timers k e in
-      let was = bounded k e h' in
-      subst (IsBounded s.server d.watch.now) (sym (waited_at d.watch.now d.ports s.timers k e h'))
-      (record { near = set_near s.now d.watch.now timer.provisional timer d.by.forward was.near; limit = was.limit; spent = was.spent }))
+      let was = bounded k e h in
+      record {
+        near = set_near s.now d.watch.now timer.provisional timer d.by.forward was.near;
+        limit = was.limit;
+        spent = was.spent;
+      }))
   step_bounded s t (Clock_read d) kept bounded =
       subst AreBounded (sym d.is)
       (λ k e h. let was = bounded k e h in record {
@@ -234,23 +233,18 @@ module _ {S F D : Type 0} (meaning : StoreMeaning S D) (sources : SourceMeaning 
       })
   step_bounded s t (At_port d) kept bounded = subst AreBounded (sym d.is)
       (set_bounded s d.index d.timer d.next d.within d.is_timer d.does kept bounded)
-  step_bounded s t (Request_received d) kept bounded = subst AreBounded (sym d.is) bounded
-  step_bounded s t (No_request_found d) kept bounded = subst AreBounded (sym d.is) bounded
-  step_bounded s t (Request_not_received d) kept bounded = subst AreBounded (sym d.is) bounded
-  step_bounded s t (Request_noted d) kept bounded = subst AreBounded (sym d.is) bounded
   step_bounded s t (Request_answered d) kept bounded =
       subst AreBounded (sym d.is)
       (subst (λ (left : Left S F D). All (IsBounded left.new s.now)
       (with_timer s.now s.longest s.backoff d.from left.opened.tid left.new.held s.timers)) (sym d.steps.left)
       (opened_bounded s.now s.longest s.backoff d.from d.tid s.server s.timers d.steps.came d.free
       (goes_limit s.server d.from d.bytes _ d.steps.came d.steps.goes) kept bounded))
-  step_bounded s t (Request_lost d) kept bounded = subst AreBounded (sym d.is) bounded
   step_bounded s t (Store_set d) kept bounded =
       subst AreBounded (sym d.is) (λ k e h. same_bounded s.server (record s.server { store = d.store }) s.now
       (slice_index_or s.timers k e) refl refl (bounded k e h))
   step_bounded s t (Transfer_closed d) kept bounded = subst AreBounded (sym d.is)
       (removed_bounded s.server s.now s.timers d.index d.timer d.within d.is_timer kept bounded)
-  step_bounded s t (Drain_begun d) kept bounded = subst AreBounded (sym d.is) bounded
+  step_bounded s t does kept bounded = subst AreBounded (sym (state_is does)) bounded
 
   -- ---- along a run
   -- each open transfer has its timer, and each timer is bounded

@@ -1,17 +1,14 @@
 -- The time of a server, by the readings of its clock. For `a_server_closes_by_the_clock`.
 use Rattle.tftp_loop.proofs.Common.{arith, ◌≡◌, ◌≤◌, ◌<◌, ◌+◌, ◌-◌, min, max, ℕ, Bool, true, false, refl, ap}
-use Rattle.tftp_loop.proofs.Common.{if◌then◌else◌, SourceMeaning, wait_of, StoreMeaning, last_moment, Watch}
-use Rattle.tftp_loop.proofs.Common.{LONGEST_WAIT, Run, Start, Then, LoopState, LoopStep, round_end, Waited, At_port}
-use Rattle.tftp_loop.proofs.Common.{Request_received, No_request_found, Request_not_received, Request_noted}
-use Rattle.tftp_loop.proofs.Common.{Request_answered, Request_lost, Clock_read, Store_set, Transfer_closed, Drain_begun}
-use Rattle.tftp_loop.proofs.Common.{in_millis, waits_of}
-use Rattle.std.specs.Prelude.{◌*◌}
+use Rattle.tftp_loop.proofs.Common.{if◌then◌else◌, SourceMeaning, wait_of, StoreMeaning, last_moment, Watch, Run, Start}
+use Rattle.tftp_loop.proofs.Common.{Then, LoopState, LoopStep, round_end, Waited, Clock_read, in_millis, waits_of}
 use Rattle.tftp_loop.specs.Steps.{IsReadBy}
 use Rattle.tftp_loop.specs.Expiry.{Idles}
 use Rattle.tftp_loop.specs.Expiry.Idles.{At_first, After}
 use Rattle.tftp_loop.specs.Seconds.{ClosesByTheClock, ClosesOverAgeByTheClock, PassesWithTheClock, TimesOutByTheClock}
 use Rattle.tftp_loop.specs.Seconds.{cut_along, cut_by, cut_in, cut_of}
 use Rattle.tftp_loop.proofs.Expiring.{closes_over_age, closes_without_progress, times_out_in_silence}
+use Rattle.tftp_loop.proofs.NewStates.{state_is}
 
 -- the time advances as much as the clock, but for what a round does not count
 abbrev Passes : {S F D : Type 0} → LoopState S F D → LoopState S F D → ℕ → Type 0
@@ -42,26 +39,9 @@ module _ {S F D : Type 0} (meaning : StoreMeaning S D) (sources : SourceMeaning 
       let reading : t.reading ≡ d.watch.reading = ap (λ (u : LoopState S F D). u.reading) d.is in
       let passes = read_passes s d.watch d.by in
       omega (arith, now, reading, passes)
-  step_passes s t (At_port d) =
-      still s t (ap (λ (u : LoopState S F D). u.now) d.is) (ap (λ (u : LoopState S F D). u.reading) d.is)
-  step_passes s t (Request_received d) =
-      still s t (ap (λ (u : LoopState S F D). u.now) d.is) (ap (λ (u : LoopState S F D). u.reading) d.is)
-  step_passes s t (No_request_found d) =
-      still s t (ap (λ (u : LoopState S F D). u.now) d.is) (ap (λ (u : LoopState S F D). u.reading) d.is)
-  step_passes s t (Request_not_received d) =
-      still s t (ap (λ (u : LoopState S F D). u.now) d.is) (ap (λ (u : LoopState S F D). u.reading) d.is)
-  step_passes s t (Request_noted d) =
-      still s t (ap (λ (u : LoopState S F D). u.now) d.is) (ap (λ (u : LoopState S F D). u.reading) d.is)
-  step_passes s t (Request_answered d) =
-      still s t (ap (λ (u : LoopState S F D). u.now) d.is) (ap (λ (u : LoopState S F D). u.reading) d.is)
-  step_passes s t (Request_lost d) =
-      still s t (ap (λ (u : LoopState S F D). u.now) d.is) (ap (λ (u : LoopState S F D). u.reading) d.is)
-  step_passes s t (Store_set d) =
-      still s t (ap (λ (u : LoopState S F D). u.now) d.is) (ap (λ (u : LoopState S F D). u.reading) d.is)
-  step_passes s t (Transfer_closed d) =
-      still s t (ap (λ (u : LoopState S F D). u.now) d.is) (ap (λ (u : LoopState S F D). u.reading) d.is)
-  step_passes s t (Drain_begun d) =
-      still s t (ap (λ (u : LoopState S F D). u.now) d.is) (ap (λ (u : LoopState S F D). u.reading) d.is)
+  step_passes s t does =
+      still s t (ap (λ (u : LoopState S F D). u.now) (state_is does))
+      (ap (λ (u : LoopState S F D). u.reading) (state_is does))
 
   passes : {port : ℕ} {first last : LoopState S F D} (idles : Idles meaning sources port first last)
       → Passes first last (cut_in meaning sources idles)

@@ -1,17 +1,15 @@
 -- How many datagrams are received at a port. For `a_server_receives_few_between_waits`, PortCounts and Visits.
-use Rattle.tftp_loop.proofs.Common.{arith, ◌≡◌, ◌≤◌, ◌<◌, ◌+◌, ℕ, Bool, false, List, [], ◌∷◌, map, Option, Some, None}
-use Rattle.tftp_loop.proofs.Common.{refl, sym, ap, subst, ◌∙◌, All, length-map, SourceMeaning, Backoff, Endpoint, Reply}
-use Rattle.tftp_loop.proofs.Common.{TransferState, at, StoreMeaning, SocketEvent, answered, Elapsed, Run, Start, Then}
-use Rattle.tftp_loop.proofs.Common.{Timer, PortState, LoopState, PortStep, LoopStep, interval_at, marked_by}
-use Rattle.tftp_loop.proofs.Common.{most_in_round, port_state, set_by, started, timer_after, with_timer, Waited}
-use Rattle.tftp_loop.proofs.Common.{At_port, Request_received, No_request_found, Request_not_received, Request_noted}
-use Rattle.tftp_loop.proofs.Common.{Request_answered, Request_lost, Clock_read, Store_set, Transfer_closed, Drain_begun}
-use Rattle.tftp_loop.proofs.Common.{A_datagram, A_lost_datagram, A_late_datagram, Nothing_found, A_failed_receive}
-use Rattle.tftp_loop.proofs.Common.{A_timeout, A_missed_timeout, Work}
+use Rattle.tftp_loop.proofs.Common.{arith, ◌≡◌, ◌≤◌, ◌<◌, ◌+◌, ℕ, Bool, false, List, [], ◌∷◌, Option, Some, None, refl}
+use Rattle.tftp_loop.proofs.Common.{sym, ap, subst, ◌∙◌, All, SourceMeaning, Reply, StoreMeaning, SocketEvent, answered}
+use Rattle.tftp_loop.proofs.Common.{Elapsed, Run, Start, Then, Timer, PortState, LoopState, PortStep, LoopStep}
+use Rattle.tftp_loop.proofs.Common.{most_in_round, port_state, timer_after, Waited, At_port, Request_answered}
+use Rattle.tftp_loop.proofs.Common.{Transfer_closed, A_datagram, A_lost_datagram, A_late_datagram, A_timeout}
 use Rattle.tftp_loop.specs.Fair.{received_in}
-use Rattle.tftp_loop.proofs.LoopStays.{all_appended, all_removed, all_set}
+use Rattle.tftp_loop.proofs.LoopStays.{removed_all, replaced_all}
 use Rattle.tftp_loop.proofs.PortStays.{after_received}
-use Rattle.tftp_loop.proofs.Waits.{waited_at}
+use Rattle.tftp_loop.proofs.Opened.{with_few}
+use Rattle.tftp_loop.proofs.Waits.{all_waited}
+use Rattle.tftp_loop.proofs.NewStates.{state_is, trace_is, timer_is}
 
 answered_in : (port : ℕ) (reply : Option Reply) (es : List SocketEvent) → received_in (answered port reply es) ≡ received_in es
 answered_in port None es = refl
@@ -27,33 +25,13 @@ module _ {S F D : Type 0} (meaning : StoreMeaning S D) (sources : SourceMeaning 
       let timer = ap (λ (u : Timer). u.received) d.timer ∙ after_received now d.step.progress s.timer in
       let events = ap received_in d.handles.events ∙ answered_in s.timer.port d.handles.takes.takes.turn.reply _ in
       omega (arith, timer, events)
-  counts now s t (A_lost_datagram d) =
-      let timer = ap (λ (u : Timer). u.received) d.timer in
-      let events = ap received_in d.events in
-      omega (arith, timer, events)
-  counts now s t (A_late_datagram d) =
-      let timer = ap (λ (u : Timer). u.received) d.timer in
-      let events = ap received_in d.events in
-      omega (arith, timer, events)
-  counts now s t (Nothing_found d) =
-      let timer = ap (λ (u : Timer). u.received) d.timer in
-      let events = ap received_in d.events in
-      omega (arith, timer, events)
-  counts now s t (A_failed_receive d) =
-      let timer = ap (λ (u : Timer). u.received) d.timer in
-      let events = ap received_in d.events in
-      omega (arith, timer, events)
   counts now s t (A_timeout d) =
       let timer = ap (λ (u : Timer). u.received) d.timer in
       let events = ap received_in d.times_out.events ∙ answered_in s.timer.port _ (Elapsed s.timer.port now ∷ s.events) in
       omega (arith, timer, events)
-  counts now s t (A_missed_timeout d) =
-      let timer = ap (λ (u : Timer). u.received) d.timer in
-      let events = ap received_in d.events in
-      omega (arith, timer, events)
-  counts now s t (Work d) =
-      let timer = ap (λ (u : Timer). u.received) d.timer in
-      let events = ap received_in d.events in
+  counts now s t does =
+      let timer = ap (λ (u : Timer). u.received) (timer_is does) in
+      let events = ap received_in (trace_is does) in
       omega (arith, timer, events)
 
   -- along a run at a port each datagram received there is counted once
@@ -86,50 +64,24 @@ module _ {S F D : Type 0} (meaning : StoreMeaning S D) (sources : SourceMeaning 
   port_few now s t (A_datagram d) few = counted_few now d.step.progress s.timer t.timer d.few d.timer
   port_few now s t (A_lost_datagram d) few = counted_few now false s.timer t.timer d.few d.timer
   port_few now s t (A_late_datagram d) few = counted_few now false s.timer t.timer d.few d.timer
-  port_few now s t (Nothing_found d) few = same_few s.timer t.timer (ap (λ (u : Timer). u.received) d.timer) few
-  port_few now s t (A_failed_receive d) few = same_few s.timer t.timer (ap (λ (u : Timer). u.received) d.timer) few
-  port_few now s t (A_timeout d) few = same_few s.timer t.timer (ap (λ (u : Timer). u.received) d.timer) few
-  port_few now s t (A_missed_timeout d) few = same_few s.timer t.timer (ap (λ (u : Timer). u.received) d.timer) few
-  port_few now s t (Work d) few = same_few s.timer t.timer (ap (λ (u : Timer). u.received) d.timer) few
-
-  with_few : (now : ℕ) (longest : Option ℕ) (backoff : Backoff) (from : Endpoint) (opened : Option ℕ)
-      (held : List (ℕ × TransferState F D)) (timers : List Timer) → All IsFew timers
-      → All IsFew (with_timer now longest backoff from opened held timers)
-  with_few now longest backoff from None held timers few = few
-  with_few now longest backoff from (Some port) held timers few =
-      all_appended IsFew timers (started now longest backoff port from (interval_at (at port held)))
-      (λ k d h. few k d h) (omega arith)
-
-  waited_few : (time : ℕ) (ports : List ℕ) (timers : List Timer)
-      → All IsFew (map (marked_by ports) (map (set_by time) timers))
-  waited_few time ports timers k d h =
-      let e = length-map (map (set_by time) timers) (marked_by ports) in
-      let f = length-map timers (set_by time) in
-      subst IsFew (sym (waited_at time ports timers k d (omega (arith, e, f, h)))) (omega arith)
+  port_few now s t does few = same_few s.timer t.timer (ap (λ (u : Timer). u.received) (timer_is does)) few
 
   step_few : (s t : LoopState S F D) → LoopStep meaning sources s t → AreFew s → AreFew t
-  step_few s t (Waited d) few = subst AreFew (sym d.is) (waited_few d.watch.now d.ports s.timers)
+  step_few s t (Waited d) few =
+      subst AreFew (sym d.is) (all_waited IsFew d.watch.now d.ports s.timers (λ k e h. omega arith))
   step_few s t (At_port d) few =
       subst AreFew (sym d.is)
-      (λ k e h.
-      all_set IsFew s.timers 0 d.index d.next.timer d.within (λ k e l h apart. few k e h)
+      (replaced_all IsFew s.timers d.index d.next.timer d.within (λ k e h apart. few k e h)
       (port_few s.now (port_state s d.timer) d.next d.does
-      (subst IsFew (sym d.is_timer) (few d.index d.timer d.within))) k e (omega arith) h)
-  step_few s t (Request_received d) few = subst AreFew (sym d.is) few
-  step_few s t (No_request_found d) few = subst AreFew (sym d.is) few
-  step_few s t (Request_not_received d) few = subst AreFew (sym d.is) few
-  step_few s t (Request_noted d) few = subst AreFew (sym d.is) few
+      (subst IsFew (sym d.is_timer) (few d.index d.timer d.within))))
   step_few s t (Request_answered d) few =
-      subst AreFew (sym d.is) (with_few s.now s.longest s.backoff d.from d.left.opened.tid d.left.new.held s.timers few)
-  step_few s t (Request_lost d) few = subst AreFew (sym d.is) few
-  step_few s t (Clock_read d) few = subst AreFew (sym d.is) few
-  step_few s t (Store_set d) few = subst AreFew (sym d.is) few
+      subst AreFew (sym d.is)
+      (with_few meaning sources most_in_round s.now s.longest s.backoff d.from d.left.opened.tid d.left.new.held s.timers
+      few)
   step_few s t (Transfer_closed d) few =
       subst AreFew (sym d.is)
-      (λ k e h.
-      all_removed IsFew s.timers 0 d.index d.timer (omega arith) d.within (λ k e l h apart. few k e h) k e
-      (omega arith) h)
-  step_few s t (Drain_begun d) few = subst AreFew (sym d.is) few
+      (removed_all IsFew s.timers d.index d.timer d.within (λ k e h apart. few k e h))
+  step_few s t does few = subst AreFew (sym (state_is does)) few
 
   -- nor does a run of the loop, at any port
   pub few_along : (start now : LoopState S F D) → start.timers ≡ [] → Run (LoopStep meaning sources) start now → AreFew now

@@ -2,8 +2,8 @@
 use Rattle.tftp_loop.proofs.Common.{◌≡◌, ◌==◌, ◌||◌, ◌&&◌, not, ℕ, Bool, true, false, List, ◌∷◌, Option, Some, None}
 use Rattle.tftp_loop.proofs.Common.{refl, sym, ap, subst, ◌∙◌, ne_eqb, SourceMeaning, Endpoint, Reply, StoreMeaning}
 use Rattle.tftp_loop.proofs.Common.{SocketEvent, answered, replied, Received, Elapsed, is_drained, PortState, PortStep}
-use Rattle.tftp_loop.proofs.Common.{A_datagram, A_lost_datagram, A_late_datagram, Nothing_found, A_failed_receive}
-use Rattle.tftp_loop.proofs.Common.{A_timeout, A_missed_timeout, Work}
+use Rattle.tftp_loop.proofs.Common.{A_datagram, Nothing_found, A_timeout, A_missed_timeout, Work}
+use Rattle.tftp_loop.proofs.NewStates.{trace_is}
 
 -- an answer receives nothing
 pub answered_drained : (r port : ℕ) (reply : Option Reply) (es : List SocketEvent) → is_drained r es ≡ true
@@ -36,18 +36,9 @@ module _ {S F D : Type 0} (meaning : StoreMeaning S D) (sources : SourceMeaning 
       let still : is_drained r received ≡ true = other_drained old.timer.port r (is_drained r old.events) apart h in
       subst (λ (es : List SocketEvent). is_drained r es ≡ true) (sym d.handles.events)
       (answered_drained r old.timer.port d.handles.takes.takes.turn.reply received still)
-  port_drained r now old new (A_lost_datagram d) apart h =
-      subst (λ (es : List SocketEvent). is_drained r es ≡ true) (sym d.events)
-      (other_drained old.timer.port r (is_drained r old.events) apart h)
-  port_drained r now old new (A_late_datagram d) apart h =
-      subst (λ (es : List SocketEvent). is_drained r es ≡ true) (sym d.events)
-      (other_drained old.timer.port r (is_drained r old.events) apart h)
   port_drained r now old new (Nothing_found d) apart h =
       subst (λ (es : List SocketEvent). is_drained r es ≡ true) (sym d.events)
       (either_drained (old.timer.port == r) (is_drained r old.events) h)
-  port_drained r now old new (A_failed_receive d) apart h =
-      subst (λ (es : List SocketEvent). is_drained r es ≡ true) (sym d.events)
-      (other_drained old.timer.port r (is_drained r old.events) apart h)
   port_drained r now old new (A_timeout d) apart h =
       let elapsed = Elapsed old.timer.port now ∷ old.events in
       subst (λ (es : List SocketEvent). is_drained r es ≡ true) (sym d.times_out.events)
@@ -55,3 +46,6 @@ module _ {S F D : Type 0} (meaning : StoreMeaning S D) (sources : SourceMeaning 
   port_drained r now old new (A_missed_timeout d) apart h = subst (λ (es : List SocketEvent). is_drained r es ≡ true)
       (sym d.events) h
   port_drained r now old new (Work d) apart h = subst (λ (es : List SocketEvent). is_drained r es ≡ true) (sym d.events) h
+  port_drained r now old new does apart h =
+      subst (λ (es : List SocketEvent). is_drained r es ≡ true) (sym (trace_is does))
+      (other_drained old.timer.port r (is_drained r old.events) apart h)

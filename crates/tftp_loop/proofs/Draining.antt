@@ -1,13 +1,13 @@
 -- A server that drains receives nothing at its request port. For `a_server_that_drains_only_finishes`.
 use Rattle.tftp_loop.proofs.Common.{◌≡◌, ◌∙◌, ℕ, false, List, sym, ap, true≢false, SourceMeaning, StoreMeaning}
 use Rattle.tftp_loop.proofs.Common.{ServerState, SocketEvent, LoopConfig, Run, Start, Then, LoopState, LoopStep}
-use Rattle.tftp_loop.proofs.Common.{at_start, is_draining, Waited, At_port, Request_received, No_request_found}
-use Rattle.tftp_loop.proofs.Common.{Request_not_received, Request_noted, Request_answered, Request_lost, Clock_read}
-use Rattle.tftp_loop.proofs.Common.{Store_set, Transfer_closed, Drain_begun}
+use Rattle.tftp_loop.proofs.Common.{at_start, is_draining, Request_received, No_request_found, Request_not_received}
+use Rattle.tftp_loop.proofs.Common.{Drain_begun}
 use Rattle.tftp_loop.specs.declared.drain.Drain.{Drain}
 use Rattle.tftp_loop.specs.declared.drain.Drain.TheVariants.{Awaited, Begun, Never}
 use Rattle.tftp_loop.specs.Draining.{FinishesWork, Finishes_by, IsFinishing}
 use Rattle.tftp_loop.specs.Steps.{BeginsDrain, drain_of}
+use Rattle.tftp_loop.proofs.NewStates.{state_is}
 
 -- a server that drains does not go on
 no_longer : {P : Type 0} (drain : Drain) → drain ≡ Begun → is_draining drain ≡ false → P
@@ -17,18 +17,11 @@ module _ {S F D : Type 0} (meaning : StoreMeaning S D) (sources : SourceMeaning 
   -- ---- once it drains
   step_finishes : (s t : LoopState S F D) (does : LoopStep meaning sources s t) → s.drain ≡ Begun
       → IsFinishing meaning sources does × (t.drain ≡ Begun)
-  step_finishes s t (Waited d) begun = (tt, ap (λ (u : LoopState S F D). u.drain) d.is ∙ begun)
-  step_finishes s t (At_port d) begun = (tt, ap (λ (u : LoopState S F D). u.drain) d.is ∙ begun)
   step_finishes s t (Request_received d) begun = no_longer s.drain begun d.goes_on
   step_finishes s t (No_request_found d) begun = no_longer s.drain begun d.goes_on
   step_finishes s t (Request_not_received d) begun = no_longer s.drain begun d.goes_on
-  step_finishes s t (Request_noted d) begun = (tt, ap (λ (u : LoopState S F D). u.drain) d.is ∙ begun)
-  step_finishes s t (Request_answered d) begun = (tt, ap (λ (u : LoopState S F D). u.drain) d.is ∙ begun)
-  step_finishes s t (Request_lost d) begun = (tt, ap (λ (u : LoopState S F D). u.drain) d.is ∙ begun)
-  step_finishes s t (Clock_read d) begun = (tt, ap (λ (u : LoopState S F D). u.drain) d.is ∙ begun)
-  step_finishes s t (Store_set d) begun = (tt, ap (λ (u : LoopState S F D). u.drain) d.is ∙ begun)
-  step_finishes s t (Transfer_closed d) begun = (tt, ap (λ (u : LoopState S F D). u.drain) d.is ∙ begun)
   step_finishes s t (Drain_begun d) begun = no_longer s.drain begun (ap is_draining d.awaited)
+  step_finishes s t does begun = (tt, ap (λ (u : LoopState S F D). u.drain) (state_is does) ∙ begun)
 
   finishes_along : (s t : LoopState S F D) → s.drain ≡ Begun → Run (LoopStep meaning sources) s t
       → Run (FinishesWork meaning sources) s t × (t.drain ≡ Begun)
@@ -47,18 +40,8 @@ module _ {S F D : Type 0} (meaning : StoreMeaning S D) (sources : SourceMeaning 
 
   -- ---- without a signal
   step_never : (s t : LoopState S F D) → LoopStep meaning sources s t → s.drain ≡ Never → t.drain ≡ Never
-  step_never s t (Waited d) never = ap (λ (u : LoopState S F D). u.drain) d.is ∙ never
-  step_never s t (At_port d) never = ap (λ (u : LoopState S F D). u.drain) d.is ∙ never
-  step_never s t (Request_received d) never = ap (λ (u : LoopState S F D). u.drain) d.is ∙ never
-  step_never s t (No_request_found d) never = ap (λ (u : LoopState S F D). u.drain) d.is ∙ never
-  step_never s t (Request_not_received d) never = ap (λ (u : LoopState S F D). u.drain) d.is ∙ never
-  step_never s t (Request_noted d) never = ap (λ (u : LoopState S F D). u.drain) d.is ∙ never
-  step_never s t (Request_answered d) never = ap (λ (u : LoopState S F D). u.drain) d.is ∙ never
-  step_never s t (Request_lost d) never = ap (λ (u : LoopState S F D). u.drain) d.is ∙ never
-  step_never s t (Clock_read d) never = ap (λ (u : LoopState S F D). u.drain) d.is ∙ never
-  step_never s t (Store_set d) never = ap (λ (u : LoopState S F D). u.drain) d.is ∙ never
-  step_never s t (Transfer_closed d) never = ap (λ (u : LoopState S F D). u.drain) d.is ∙ never
   step_never s t (Drain_begun d) never = absurd (let e : Never ≡ Awaited = sym never ∙ d.awaited in cc)
+  step_never s t does never = ap (λ (u : LoopState S F D). u.drain) (state_is does) ∙ never
 
   -- without the option to drain no run begins to
   pub drains_by_a_signal : (config : LoopConfig) (port reading : ℕ) (server : ServerState S F D) (before : List SocketEvent)

@@ -3,14 +3,12 @@
 use Rattle.tftp_loop.proofs.Common.{◌≡◌, ◌∙◌, ◌⊎◌, ℕ, true, false, List, inl, inr, refl, sym, ap, true≢false, Read}
 use Rattle.tftp_loop.proofs.Common.{Write, Request, SourceMeaning, Endpoint, StoreMeaning, ServerState, SocketEvent}
 use Rattle.tftp_loop.proofs.Common.{Run, Start, Then, LoopState, LoopStep, AnswersRequest, LosesRequest, at_start}
-use Rattle.tftp_loop.proofs.Common.{Waited, At_port, Request_received, No_request_found, Request_not_received}
-use Rattle.tftp_loop.proofs.Common.{Request_noted, Request_answered, Request_lost, Clock_read, Store_set}
-use Rattle.tftp_loop.proofs.Common.{Transfer_closed, Drain_begun, LoopConfig}
+use Rattle.tftp_loop.proofs.Common.{Waited, LoopConfig}
 use Rattle.tftp_wire.specs.Spelling.{Spells}
 use Rattle.tftp_loop.specs.Dropped.{IsDropped}
 use Rattle.tftp_loop.specs.OnlyRequests.{begins_as_request}
-use Rattle.tftp_loop.specs.Steps.{RequestLoss}
-use Rattle.tftp_loop.specs.Steps.{No_answer, No_request, No_memory_to_open, No_port, Same_port, Too_many}
+use Rattle.tftp_loop.specs.Steps.{RequestLoss, No_answer, No_request, No_memory_to_open, No_port, Same_port, Too_many}
+use Rattle.tftp_loop.proofs.NewStates.{state_is}
 
 -- an RRQ and a WRQ begin as requests
 spelled_begins : (request : Request) (bytes : List ℕ)
@@ -41,17 +39,7 @@ module _ {S F D : Type 0} (meaning : StoreMeaning S D) (sources : SourceMeaning 
   -- no step changes whether it has the option
   step_only : (s t : LoopState S F D) → LoopStep meaning sources s t → t.requests_only ≡ s.requests_only
   step_only s t (Waited d) = ap (λ (u : LoopState S F D). u.requests_only) d.is
-  step_only s t (At_port d) = ap (λ (u : LoopState S F D). u.requests_only) d.is
-  step_only s t (Request_received d) = ap (λ (u : LoopState S F D). u.requests_only) d.is
-  step_only s t (No_request_found d) = ap (λ (u : LoopState S F D). u.requests_only) d.is
-  step_only s t (Request_not_received d) = ap (λ (u : LoopState S F D). u.requests_only) d.is
-  step_only s t (Request_noted d) = ap (λ (u : LoopState S F D). u.requests_only) d.is
-  step_only s t (Request_answered d) = ap (λ (u : LoopState S F D). u.requests_only) d.is
-  step_only s t (Request_lost d) = ap (λ (u : LoopState S F D). u.requests_only) d.is
-  step_only s t (Clock_read d) = ap (λ (u : LoopState S F D). u.requests_only) d.is
-  step_only s t (Store_set d) = ap (λ (u : LoopState S F D). u.requests_only) d.is
-  step_only s t (Transfer_closed d) = ap (λ (u : LoopState S F D). u.requests_only) d.is
-  step_only s t (Drain_begun d) = ap (λ (u : LoopState S F D). u.requests_only) d.is
+  step_only s t does = ap (λ (u : LoopState S F D). u.requests_only) (state_is does)
 
   stays_only : (s t : LoopState S F D) → Run (LoopStep meaning sources) s t → t.requests_only ≡ s.requests_only
   stays_only s t Start = refl

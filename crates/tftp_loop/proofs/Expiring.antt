@@ -1,24 +1,21 @@
 -- A transfer that makes no progress is closed in time, and its line is printed. For
 -- `a_server_closes_what_makes_no_progress` and ByTheClock.
-use Rattle.tftp_loop.proofs.Common.{arith, ◌≡◌, ◌<◌, ◌≤◌, ◌+◌, ◌*◌, ◌⊎◌, max, ℕ, Bool, true, false, List, [], ◌∷◌, ◌++◌}
-use Rattle.tftp_loop.proofs.Common.{length, map, Option, Some, None, IsSome, refl, sym, ap, subst, ◌∙◌, inl, inr}
-use Rattle.tftp_loop.proofs.Common.{slice_index_or, slice_set, if◌then◌else◌, cases_eq, append_assoc, length-map}
-use Rattle.tftp_loop.proofs.Common.{none-some, SourceMeaning, Endpoint, Outcome, Record, EndState, is_complete}
-use Rattle.tftp_loop.proofs.Common.{outcome_of, record_of, StoreMeaning, TransferState, at, draft_of, is_closed}
-use Rattle.tftp_loop.proofs.Common.{taken_of, with_new, Came, Left, Nothing, Error_reply, A_transfer, left_by}
-use Rattle.tftp_loop.proofs.Common.{deadline_of, last_moment, LONGEST_WAIT, line_text, SocketEvent, replied, Printed}
-use Rattle.tftp_loop.proofs.Common.{Run, Start, Then, Timer, PortState, LoopState, PortStep, LoopStep, Waits}
-use Rattle.tftp_loop.proofs.Common.{answering_port, deadline_by, interval_at, marked_by, port_state, set_by, started}
-use Rattle.tftp_loop.proofs.Common.{wait_in, with_timer, A_datagram, A_lost_datagram, A_late_datagram, Nothing_found}
-use Rattle.tftp_loop.proofs.Common.{A_failed_receive, A_timeout, A_missed_timeout, Work, Waited, At_port}
-use Rattle.tftp_loop.proofs.Common.{Request_received, No_request_found, Request_not_received, Request_noted}
-use Rattle.tftp_loop.proofs.Common.{Request_answered, Request_lost, Clock_read, Store_set, Transfer_closed, Drain_begun}
-use Rattle.tftp_loop.proofs.Common.{IsNoWait, ClosesInSilence, IsIdleAt, ReceivesNoneAt, AreKept}
+use Rattle.tftp_loop.proofs.Common.{after_request, arith, ◌≡◌, ◌<◌, ◌≤◌, ◌+◌, ◌*◌, ◌⊎◌, max, ℕ, Bool, true, false, List}
+use Rattle.tftp_loop.proofs.Common.{[], ◌∷◌, ◌++◌, length, map, Option, Some, None, IsSome, refl, sym, ap, subst, ◌∙◌}
+use Rattle.tftp_loop.proofs.Common.{inl, inr, slice_index_or, slice_set, if◌then◌else◌, cases_eq, append_assoc}
+use Rattle.tftp_loop.proofs.Common.{length-map, none-some, SourceMeaning, Endpoint, Outcome, Record, EndState}
+use Rattle.tftp_loop.proofs.Common.{is_complete, outcome_of, record_of, StoreMeaning, TransferState, at, draft_of}
+use Rattle.tftp_loop.proofs.Common.{is_closed, taken_of, with_new, Came, Left, A_transfer, left_by, deadline_of}
+use Rattle.tftp_loop.proofs.Common.{last_moment, LONGEST_WAIT, line_text, SocketEvent, Printed, Run, Start, Then, Timer}
+use Rattle.tftp_loop.proofs.Common.{PortState, LoopState, PortStep, LoopStep, Waits, deadline_by, interval_at}
+use Rattle.tftp_loop.proofs.Common.{marked_by, port_state, set_by, started, wait_in, A_datagram, A_lost_datagram}
+use Rattle.tftp_loop.proofs.Common.{Waited, At_port, Request_answered, Transfer_closed, IsNoWait, ClosesInSilence}
+use Rattle.tftp_loop.proofs.Common.{IsIdleAt, ReceivesNoneAt, AreKept}
 use Rattle.std.specs.List.{Contains}
 use Rattle.tftp_lines.specs.declared.printed.Printed.TheVariants.{Closed}
-use Rattle.tftp_loop.specs.Expiry.{After, At_first, Idles, IsIdle, NoneReceived}
-use Rattle.tftp_loop.specs.Expiry.{PrintsClose, ReceivesNone, closing_time, counted_from}
-use Rattle.tftp_loop.proofs.Adding.{Adds, adds_more, step_adds, step_forward}
+use Rattle.tftp_loop.specs.Expiry.{After, At_first, Idles, IsIdle, NoneReceived, PrintsClose, ReceivesNone}
+use Rattle.tftp_loop.specs.Expiry.{closing_time, counted_from}
+use Rattle.tftp_loop.proofs.Adding.{Adds, adds_more, request_adds, step_adds, step_forward}
 use Rattle.tftp_loop.proofs.Bounded.{some_at, sound_along}
 use Rattle.tftp_loop.proofs.EndSteps.{open_left, timeouts_left}
 use Rattle.tftp_loop.proofs.InTime.{InTime, at_last, changes_closes, changes_complete, changes_in_time, first_time}
@@ -28,9 +25,10 @@ use Rattle.tftp_loop.proofs.PortEnds.{HasSpent, SameTimer, at_transfer, same_tim
 use Rattle.tftp_loop.proofs.PortStays.{stays_at}
 use Rattle.tftp_loop.proofs.Rounds.{InRound, begins_round, next_round, step_round, wait_or_work}
 use Rattle.tftp_loop.proofs.Sleeping.{step_kept}
-use Rattle.tftp_loop.proofs.Tables.{any_default, appended_at, appended_long, inserted_apart, removed_apart}
-use Rattle.tftp_loop.proofs.Tables.{not_taken, removed_index, set_other, set_own, taken_by}
+use Rattle.tftp_loop.proofs.Tables.{any_default, appended_at, appended_long, inserted_apart, removed_apart, not_taken}
+use Rattle.tftp_loop.proofs.Tables.{removed_index, set_other, set_own, taken_by}
 use Rattle.tftp_loop.proofs.Waits.{deadline_later, waited_at}
+use Rattle.tftp_loop.proofs.NewStates.{state_is}
 
 module _ {S F D : Type 0} (meaning : StoreMeaning S D) (sources : SourceMeaning F) (first : LoopState S F D)
     (timer : Timer) (e0 : EndState) where
@@ -81,22 +79,33 @@ module _ {S F D : Type 0} (meaning : StoreMeaning S D) (sources : SourceMeaning 
     why = λ quiet. gone.why (fewer quiet);
   }
 
-  -- nothing happened to the transfer
-  same_lasts : (Quiet More : Type 0) (since : ℕ) (s t : LoopState S F D) → (More → Quiet) → Adds s.events t.events
-      → t.timers ≡ s.timers → t.server.held ≡ s.server.held → Lasts Quiet since s → Lasts More since t
-  same_lasts Quiet More since s t fewer adds timers held lasts = record {
-    index = lasts.index;
+  -- the transfer is as it was, and its timer is at this index
+  still_lasts : (Quiet More : Type 0) (since : ℕ) (s t : LoopState S F D) (index : ℕ) → (More → Quiet)
+      → Adds s.events t.events → (lasts : Lasts Quiet since s) → index < length t.timers
+      → ((d : Timer) → slice_index_or t.timers index d ≡ lasts.here)
+      → at timer.port t.server.held ≡ Some lasts.transfer → Lasts More since t
+  still_lasts Quiet More since s t index fewer adds lasts within is found = record {
+    index = index;
     here = lasts.here;
-    within = subst (λ (ts : List Timer). lasts.index < length ts) (sym timers) lasts.within;
-    is = λ d. ap (λ (ts : List Timer). slice_index_or ts lasts.index d) timers ∙ lasts.is d;
+    within = within;
+    is = is;
     same = lasts.same;
     transfer = lasts.transfer;
-    found = ap (λ (h : List (ℕ × TransferState F D)). at timer.port h) held ∙ lasts.found;
+    found = found;
     counts = lasts.counts;
     complete = λ quiet. lasts.complete (fewer quiet);
     closes = λ quiet. lasts.closes (fewer quiet);
     adds = adds_more first.events s.events t.events lasts.adds adds;
   }
+
+  -- nothing happened to the transfer
+  same_lasts : (Quiet More : Type 0) (since : ℕ) (s t : LoopState S F D) → (More → Quiet) → Adds s.events t.events
+      → t.timers ≡ s.timers → t.server.held ≡ s.server.held → Lasts Quiet since s → Lasts More since t
+  same_lasts Quiet More since s t fewer adds timers held lasts =
+      still_lasts Quiet More since s t lasts.index fewer adds lasts
+      (subst (λ (ts : List Timer). lasts.index < length ts) (sym timers) lasts.within)
+      (λ d. ap (λ (ts : List Timer). slice_index_or ts lasts.index d) timers ∙ lasts.is d)
+      (ap (λ (h : List (ℕ × TransferState F D)). at timer.port h) held ∙ lasts.found)
 
   -- a step at a port
   step_at : (Quiet More : Type 0) (since : ℕ) (s : LoopState S F D) (index : ℕ) (own : Timer) (next : PortState S F D)
@@ -157,55 +166,27 @@ module _ {S F D : Type 0} (meaning : StoreMeaning S D) (sources : SourceMeaning 
             let apart : timer.port ≡ own.port → ⊥ =
             λ e. other (kept.apart lasts.index index own own lasts.within within
             (ap (λ (t : Timer). t.port) (lasts.is own) ∙ (lasts.same.port ∙ (e ∙ ap (λ (t : Timer). t.port) is)))) in
-            record {
-              index = lasts.index;
-              here = lasts.here;
-              within = omega (arith, long, inside);
-              is = λ d. set_other s.timers index next.timer lasts.index d other ∙ lasts.is d;
-              same = lasts.same;
-              transfer = lasts.transfer;
-              found = stays.held.others timer.port apart ∙ lasts.found;
-              counts = lasts.counts;
-              complete = λ quiet. lasts.complete (fewer quiet);
-              closes = λ quiet. lasts.closes (fewer quiet);
-              adds = adds_more first.events s.events next.events lasts.adds adds;
-            }
+            still_lasts Quiet More since s _ lasts.index fewer adds lasts (omega (arith, long, inside))
+            (λ d. set_other s.timers index next.timer lasts.index d other ∙ lasts.is d)
+            (stays.held.others timer.port apart ∙ lasts.found)
       ]
 
   -- another transfer opens
-  opens_lasts : (Quiet More : Type 0) (since : ℕ) (from : Endpoint) (tid : ℕ) (s : LoopState S F D) (es : List SocketEvent)
-      (came : Came S F D) → at tid s.server.held ≡ None → AreKept s.server.held s.timers
-      → (More → Quiet) → Adds s.events es → Lasts Quiet since s
-      → Lasts More since (record s {
-        server = (left_by came s.server from tid).new;
-        pending = None;
-        timers = with_timer s.now s.longest s.backoff from (left_by came s.server from tid).opened.tid
-            (left_by came s.server from tid).new.held s.timers;
-        events = es;
-      })
-  opens_lasts Quiet More since from tid s es Nothing free kept fewer adds lasts =
-      same_lasts Quiet More since s _ fewer adds refl refl lasts
-  opens_lasts Quiet More since from tid s es (Error_reply reply store) free kept fewer adds lasts =
-      same_lasts Quiet More since s _ fewer adds refl refl lasts
-  opens_lasts Quiet More since from tid s es (A_transfer transfer store) free kept fewer adds lasts =
+  opens_lasts : (Quiet More : Type 0) (since : ℕ) (from : Endpoint) (tid : ℕ) (s : LoopState S F D) (came : Came S F D)
+      → at tid s.server.held ≡ None → (More → Quiet) → Lasts Quiet since s
+      → Lasts More since (after_request s from (left_by came s.server from tid))
+  opens_lasts Quiet More since from tid s (A_transfer transfer store) free fewer lasts =
+      let adds = request_adds s from (left_by (A_transfer transfer store) s.server from tid) in
       let opened = started s.now s.longest s.backoff tid from (interval_at (at tid (with_new tid transfer s.server.held))) in
       let long = appended_long s.timers opened in
       let inside = lasts.within in
       let apart : timer.port ≡ tid → ⊥ = λ e. none-some lasts.transfer
       (sym free ∙ (ap (λ (p : ℕ). at p s.server.held) (sym e) ∙ lasts.found)) in
-      record {
-        index = lasts.index;
-        here = lasts.here;
-        within = omega (arith, long, inside);
-        is = λ d. appended_at s.timers opened lasts.index d lasts.within ∙ lasts.is d;
-        same = lasts.same;
-        transfer = lasts.transfer;
-        found = inserted_apart tid timer.port transfer s.server.held apart ∙ lasts.found;
-        counts = lasts.counts;
-        complete = λ quiet. lasts.complete (fewer quiet);
-        closes = λ quiet. lasts.closes (fewer quiet);
-        adds = adds_more first.events s.events es lasts.adds adds;
-      }
+      still_lasts Quiet More since s _ lasts.index fewer adds lasts (omega (arith, long, inside))
+      (λ d. appended_at s.timers opened lasts.index d lasts.within ∙ lasts.is d)
+      (inserted_apart tid timer.port transfer s.server.held apart ∙ lasts.found)
+  opens_lasts Quiet More since from tid s came free fewer lasts =
+      same_lasts Quiet More since s _ fewer (request_adds s from (left_by came s.server from tid)) refl refl lasts
 
   -- ---- one step
   -- that leaves each timer and each transfer
@@ -228,33 +209,10 @@ module _ {S F D : Type 0} (meaning : StoreMeaning S D) (sources : SourceMeaning 
       (step_at Quiet More since s d.index d.timer d.next d.within d.is_timer d.does kept fewer idle silent
       (subst (λ (u : LoopState S F D). u.now ≤ since + LONGEST_WAIT) d.is soon)
       (subst (λ (u : LoopState S F D). Adds s.events u.events) d.is adds) lasts))
-  step_lives Quiet More since s t (Request_received d) is idle fewer silent soon kept lasts =
-      passes Quiet More since s t _ (Request_received d) fewer d.is refl refl lasts
-  step_lives Quiet More since s t (No_request_found d) is idle fewer silent soon kept lasts =
-      passes Quiet More since s t _ (No_request_found d) fewer d.is refl refl lasts
-  step_lives Quiet More since s t (Request_not_received d) is idle fewer silent soon kept lasts =
-      passes Quiet More since s t _ (Request_not_received d) fewer d.is refl refl lasts
-  step_lives Quiet More since s t (Request_noted d) is idle fewer silent soon kept lasts =
-      passes Quiet More since s t _ (Request_noted d) fewer d.is refl refl lasts
   step_lives Quiet More since s t (Request_answered d) is idle fewer silent soon kept lasts =
-      let fs = replied (answering_port s.requests d.left.opened.tid) d.left.opened.to d.left.sent s.events in
-      let adds = subst (λ (u : LoopState S F D). Adds s.events u.events) d.is
-      (step_adds meaning sources s t (Request_answered d)) in
       inr (subst (Lasts More since) (sym d.is)
-      (subst (λ (left : Left S F D). Lasts More since (record s {
-        server = left.new;
-        pending = None;
-        timers =
-            with_timer s.now s.longest s.backoff d.from left.opened.tid left.new.held s.timers;
-        events = fs;
-      })) (sym d.steps.left)
-      (opens_lasts Quiet More since d.from d.tid s fs d.steps.came d.free kept fewer adds lasts)))
-  step_lives Quiet More since s t (Request_lost d) is idle fewer silent soon kept lasts =
-      passes Quiet More since s t _ (Request_lost d) fewer d.is refl refl lasts
-  step_lives Quiet More since s t (Clock_read d) is idle fewer silent soon kept lasts =
-      passes Quiet More since s t _ (Clock_read d) fewer d.is refl refl lasts
-  step_lives Quiet More since s t (Store_set d) is idle fewer silent soon kept lasts =
-      passes Quiet More since s t _ (Store_set d) fewer d.is refl refl lasts
+      (subst (λ (left : Left S F D). Lasts More since (after_request s d.from left)) (sym d.steps.left)
+      (opens_lasts Quiet More since d.from d.tid s d.steps.came d.free fewer lasts)))
   step_lives Quiet More since s t (Transfer_closed d) is idle fewer silent soon kept lasts =
       elim (cases_eq lasts.index d.index) [
         | inl here ↦
@@ -292,22 +250,12 @@ module _ {S F D : Type 0} (meaning : StoreMeaning S D) (sources : SourceMeaning 
             let index = removed_index s.timers d.index d.timer lasts.index d.within lasts.within other in
             let adds = subst (λ (u : LoopState S F D). Adds s.events u.events) d.is
             (step_adds meaning sources s t (Transfer_closed d)) in
-            inr (subst (Lasts More since) (sym d.is) (record {
-              index = index.0;
-              here = lasts.here;
-              within = index.1;
-              is = λ e. index.2 e ∙ lasts.is e;
-              same = lasts.same;
-              transfer = lasts.transfer;
-              found = removed_apart d.timer.port timer.port s.server.held apart ∙ lasts.found;
-              counts = lasts.counts;
-              complete = λ quiet. lasts.complete (fewer quiet);
-              closes = λ quiet. lasts.closes (fewer quiet);
-              adds = adds_more first.events s.events _ lasts.adds adds;
-            }))
+            inr (subst (Lasts More since) (sym d.is)
+            (still_lasts Quiet More since s _ index.0 fewer adds lasts index.1 (λ e. index.2 e ∙ lasts.is e)
+            (removed_apart d.timer.port timer.port s.server.held apart ∙ lasts.found)))
       ]
-  step_lives Quiet More since s t (Drain_begun d) is idle fewer silent soon kept lasts =
-      passes Quiet More since s t _ (Drain_begun d) fewer d.is refl refl lasts
+  step_lives Quiet More since s t does is idle fewer silent soon kept lasts =
+      passes Quiet More since s t _ does fewer (state_is does) refl refl lasts
 
   -- ---- at a wait
   due_later : (now : ℕ) (here : Timer) → (now < here.deadline) ⊎ (here.deadline ≡ deadline_of now (wait_in here))
@@ -421,12 +369,7 @@ module _ {S F D : Type 0} (meaning : StoreMeaning S D) (sources : SourceMeaning 
       → old.timer.age_limit < now → IsIdleAt meaning sources does × ReceivesNoneAt meaning sources does
   late_at now old new (A_datagram d) late = let in_time = d.in_time in absurd (omega (arith, in_time, late))
   late_at now old new (A_lost_datagram d) late = let in_time = d.in_time in absurd (omega (arith, in_time, late))
-  late_at now old new (A_late_datagram d) late = (tt, tt)
-  late_at now old new (Nothing_found d) late = (tt, tt)
-  late_at now old new (A_failed_receive d) late = (tt, tt)
-  late_at now old new (A_timeout d) late = (tt, tt)
-  late_at now old new (A_missed_timeout d) late = (tt, tt)
-  late_at now old new (Work d) late = (tt, tt)
+  late_at now old new does late = (tt, tt)
 
   late_idle : (Quiet : Type 0) (since : ℕ) (s t : LoopState S F D) (does : LoopStep meaning sources s t)
       → AreKept s.server.held s.timers → timer.age_limit < s.now → Lasts Quiet since s
@@ -445,17 +388,7 @@ module _ {S F D : Type 0} (meaning : StoreMeaning S D) (sources : SourceMeaning 
       let age : d.timer.age_limit ≡ timer.age_limit = ap (λ (u : Timer). u.age_limit) (own_is e) ∙ lasts.same.age in
       late_at s.now (port_state s d.timer) d.next d.does (omega (arith, age, late)) in
       (λ e. (both e).0, λ e. (both e).1)
-  late_idle Quiet since s t (Waited d) kept late lasts = (tt, tt)
-  late_idle Quiet since s t (Request_received d) kept late lasts = (tt, tt)
-  late_idle Quiet since s t (No_request_found d) kept late lasts = (tt, tt)
-  late_idle Quiet since s t (Request_not_received d) kept late lasts = (tt, tt)
-  late_idle Quiet since s t (Request_noted d) kept late lasts = (tt, tt)
-  late_idle Quiet since s t (Request_answered d) kept late lasts = (tt, tt)
-  late_idle Quiet since s t (Request_lost d) kept late lasts = (tt, tt)
-  late_idle Quiet since s t (Clock_read d) kept late lasts = (tt, tt)
-  late_idle Quiet since s t (Store_set d) kept late lasts = (tt, tt)
-  late_idle Quiet since s t (Transfer_closed d) kept late lasts = (tt, tt)
-  late_idle Quiet since s t (Drain_begun d) kept late lasts = (tt, tt)
+  late_idle Quiet since s t does kept late lasts = (tt, tt)
 
   -- what was printed stays so
   gone_lives : (s t : LoopState S F D) → LoopStep meaning sources s t → LivesOn (Unit {0}) s → Gone (Unit {0}) s

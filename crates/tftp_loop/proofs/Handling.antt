@@ -5,17 +5,17 @@ use Rattle.tftp_loop.proofs.Common.{list_any, ne_eqb, none-some, same_Some, Sour
 use Rattle.tftp_loop.proofs.Common.{StoreMeaning, SocketEvent, answered, replied, Received, Elapsed, is_among}
 use Rattle.tftp_loop.proofs.Common.{was_tried, ServerState, LoopConfig, Run, Start, Then, Timer, PortState, LoopState}
 use Rattle.tftp_loop.proofs.Common.{PortStep, LoopStep, Waits, port_state, at_start, set_by, until_look, A_datagram}
-use Rattle.tftp_loop.proofs.Common.{A_lost_datagram, A_late_datagram, Nothing_found, A_failed_receive, A_timeout}
-use Rattle.tftp_loop.proofs.Common.{A_missed_timeout, Work, Waited, At_port, Request_received, No_request_found}
-use Rattle.tftp_loop.proofs.Common.{Request_not_received, Request_noted, Request_answered, Request_lost, Clock_read}
-use Rattle.tftp_loop.proofs.Common.{Store_set, Transfer_closed, Drain_begun, is_draining, reads_requests, IsNoWait}
+use Rattle.tftp_loop.proofs.Common.{A_timeout, A_missed_timeout, Work, Waited, At_port, Request_received}
+use Rattle.tftp_loop.proofs.Common.{No_request_found, Request_not_received, Request_noted, Request_answered}
+use Rattle.tftp_loop.proofs.Common.{Request_lost, is_draining, reads_requests, IsNoWait}
 use Rattle.tftp_loop.specs.Steps.{ReceivesRequest}
 use Rattle.tftp_loop.specs.Reported.{GoesOn, Goes_by}
-use Rattle.tftp_loop.specs.Handled.{By_answer, By_loss, IsResolved}
+use Rattle.tftp_loop.specs.Handled.{By_answer, By_loss, IsResolved, Resolves}
 use Rattle.tftp_loop.proofs.OwnPorts.{HasItsOwnPort, own_from}
 use Rattle.tftp_loop.proofs.NoteLemmas.{note_tried}
 use Rattle.tftp_loop.proofs.PortStays.{or_left, or_right, own_receive, replied_tries, stays_at}
 use Rattle.tftp_loop.proofs.RunLemmas.{onward}
+use Rattle.tftp_loop.proofs.NewStates.{state_is, trace_is}
 
 -- a wait with a pending datagram takes no time
 no_time : (a p c : Bool) (n m : ℕ) → p ≡ true → m ≤ cond (a || (p || c)) 0 n → m ≤ 0
@@ -47,46 +47,40 @@ module _ {S F D : Type 0} (meaning : StoreMeaning S D) (sources : SourceMeaning 
   abbrev IsPending : Endpoint → List ℕ → LoopState S F D → LoopState S F D → Type 0
   IsPending from bytes first s = (s.pending ≡ Some (from, bytes)) ⊎ IsResolved meaning sources from bytes first s
 
+  -- a step resolves it
+  resolved : (from : Endpoint) (bytes : List ℕ) (first s t : LoopState S F D) → Run (LoopStep meaning sources) first s
+      → Resolves meaning sources from bytes s t → IsPending from bytes first t
+  resolved from bytes first s t run resolves =
+      inr (record { old = s; new = t; earlier = run; resolves = resolves; later = Start })
+
+  -- and it stays so
+  still_resolved : (from : Endpoint) (bytes : List ℕ) (first s t : LoopState S F D) → LoopStep meaning sources s t
+      → IsResolved meaning sources from bytes first s → IsResolved meaning sources from bytes first t
+  still_resolved from bytes first s t does done = record {
+    old = done.old;
+    new = done.new;
+    earlier = done.earlier;
+    resolves = done.resolves;
+    later = Then done.later does;
+  }
+
   step_pending : (from : Endpoint) (bytes : List ℕ) (first s t : LoopState S F D) → Run (LoopStep meaning sources) first s
       → LoopStep meaning sources s t → s.pending ≡ Some (from, bytes) → IsPending from bytes first t
-  step_pending from bytes first s t run (Waited d) pending =
-      inl (ap (λ (u : LoopState S F D). u.pending) d.is ∙ pending)
-  step_pending from bytes first s t run (At_port d) pending =
-      inl (ap (λ (u : LoopState S F D). u.pending) d.is ∙ pending)
   step_pending from bytes first s t run (Request_received d) pending =
       absurd (none-some (from, bytes) (sym d.none ∙ pending))
   step_pending from bytes first s t run (No_request_found d) pending =
       absurd (none-some (from, bytes) (sym d.none ∙ pending))
   step_pending from bytes first s t run (Request_not_received d) pending =
       absurd (none-some (from, bytes) (sym d.none ∙ pending))
-  step_pending from bytes first s t run (Request_noted d) pending =
-      inl (ap (λ (u : LoopState S F D). u.pending) d.is ∙ pending)
   step_pending from bytes first s t run (Request_answered d) pending =
       let same = same_Some (d.from, d.bytes) (from, bytes) (sym d.pending ∙ pending) in
-      inr (record {
-        old = s;
-        new = t;
-        earlier = run;
-        resolves = By_answer d (ap (λ (p : Endpoint × List ℕ). p.0) same) (ap (λ (p : Endpoint × List ℕ). p.1) same);
-        later = Start;
-      })
+      resolved from bytes first s t run
+      (By_answer d (ap (λ (p : Endpoint × List ℕ). p.0) same) (ap (λ (p : Endpoint × List ℕ). p.1) same))
   step_pending from bytes first s t run (Request_lost d) pending =
       let same = same_Some (d.from, d.bytes) (from, bytes) (sym d.pending ∙ pending) in
-      inr (record {
-        old = s;
-        new = t;
-        earlier = run;
-        resolves = By_loss d (ap (λ (p : Endpoint × List ℕ). p.0) same) (ap (λ (p : Endpoint × List ℕ). p.1) same);
-        later = Start;
-      })
-  step_pending from bytes first s t run (Clock_read d) pending =
-      inl (ap (λ (u : LoopState S F D). u.pending) d.is ∙ pending)
-  step_pending from bytes first s t run (Store_set d) pending =
-      inl (ap (λ (u : LoopState S F D). u.pending) d.is ∙ pending)
-  step_pending from bytes first s t run (Transfer_closed d) pending =
-      inl (ap (λ (u : LoopState S F D). u.pending) d.is ∙ pending)
-  step_pending from bytes first s t run (Drain_begun d) pending =
-      inl (ap (λ (u : LoopState S F D). u.pending) d.is ∙ pending)
+      resolved from bytes first s t run
+      (By_loss d (ap (λ (p : Endpoint × List ℕ). p.0) same) (ap (λ (p : Endpoint × List ℕ). p.1) same))
+  step_pending from bytes first s t run does pending = inl (ap (λ (u : LoopState S F D). u.pending) (state_is does) ∙ pending)
 
   pending_along : (from : Endpoint) (bytes : List ℕ) (first s : LoopState S F D) → Run (LoopStep meaning sources) first s
       → first.pending ≡ Some (from, bytes) → IsPending from bytes first s
@@ -94,14 +88,7 @@ module _ {S F D : Type 0} (meaning : StoreMeaning S D) (sources : SourceMeaning 
   pending_along from bytes first s (Then {middle} run does) pending =
       elim (pending_along from bytes first middle run pending) [
         | inl still ↦ step_pending from bytes first middle s run does still
-        | inr done ↦ inr (record {
-          old = done.old;
-          new = done.new;
-          earlier = done.earlier;
-          resolves =
-              done.resolves;
-          later = Then done.later does;
-        })
+        | inr done ↦ inr (still_resolved from bytes first middle s does done)
       ]
 
   -- before the server may sleep a datagram of the request port is answered or lost
@@ -131,19 +118,13 @@ module _ {S F D : Type 0} (meaning : StoreMeaning S D) (sources : SourceMeaning 
       let received = Received old.timer.port d.from d.bytes ∷ old.events in
       ap (was_tried r) d.handles.events ∙ answered_untried r old.timer.port d.handles.takes.takes.turn.reply received
       (other_untried old.timer.port r (was_tried r old.events) apart h)
-  port_untried r now old new (A_lost_datagram d) apart h =
-      ap (was_tried r) d.events ∙ other_untried old.timer.port r (was_tried r old.events) apart h
-  port_untried r now old new (A_late_datagram d) apart h =
-      ap (was_tried r) d.events ∙ other_untried old.timer.port r (was_tried r old.events) apart h
-  port_untried r now old new (Nothing_found d) apart h =
-      ap (was_tried r) d.events ∙ other_untried old.timer.port r (was_tried r old.events) apart h
-  port_untried r now old new (A_failed_receive d) apart h =
-      ap (was_tried r) d.events ∙ other_untried old.timer.port r (was_tried r old.events) apart h
   port_untried r now old new (A_timeout d) apart h =
       ap (was_tried r) d.times_out.events ∙ answered_untried r old.timer.port _
       (Elapsed old.timer.port now ∷ old.events) h
   port_untried r now old new (A_missed_timeout d) apart h = ap (was_tried r) d.events ∙ h
   port_untried r now old new (Work d) apart h = ap (was_tried r) d.events ∙ h
+  port_untried r now old new does apart h =
+      ap (was_tried r) (trace_is does) ∙ other_untried old.timer.port r (was_tried r old.events) apart h
 
   abbrev Untried : LoopState S F D → Type 0
   Untried s = was_tried s.requests s.events ≡ false
@@ -167,11 +148,7 @@ module _ {S F D : Type 0} (meaning : StoreMeaning S D) (sources : SourceMeaning 
       subst Untried (sym d.is) (note_tried s.requests (was_tried s.requests s.events) d.note ∙ h)
   step_untried from bytes s t (Request_answered d) is own pending h =
       subst Untried (sym d.is) (replied_untried s.requests _ d.left.opened.to d.left.sent s.events h)
-  step_untried from bytes s t (Request_lost d) is own pending h = subst Untried (sym d.is) h
-  step_untried from bytes s t (Clock_read d) is own pending h = subst Untried (sym d.is) h
-  step_untried from bytes s t (Store_set d) is own pending h = subst Untried (sym d.is) h
-  step_untried from bytes s t (Transfer_closed d) is own pending h = subst Untried (sym d.is) h
-  step_untried from bytes s t (Drain_begun d) is own pending h = subst Untried (sym d.is) h
+  step_untried from bytes s t does is own pending h = subst Untried (sym (state_is does)) h
 
   abbrev Stays_pending : Endpoint → List ℕ → LoopState S F D → LoopState S F D → Type 0
   Stays_pending from bytes first s = ((s.pending ≡ Some (from, bytes)) × Untried s)
@@ -198,14 +175,7 @@ module _ {S F D : Type 0} (meaning : StoreMeaning S D) (sources : SourceMeaning 
               )
               | inr done ↦ inr done
             ]
-        | inr done ↦ inr (record {
-          old = done.old;
-          new = done.new;
-          earlier = done.earlier;
-          resolves =
-              done.resolves;
-          later = Then done.later does;
-        })
+        | inr done ↦ inr (still_resolved from bytes first middle s does done)
       ]
 
   -- it is so by the next wait, whether or not the server may sleep
@@ -263,11 +233,7 @@ module _ {S F D : Type 0} (meaning : StoreMeaning S D) (sources : SourceMeaning 
       same_reads s t (ap (λ (u : LoopState S F D). u.marked) d.is) (ap (λ (u : LoopState S F D). u.requests) d.is)
       (λ h. kept_tries s.requests _ t.events (ap (λ (u : LoopState S F D). u.events) d.is)
       (replied_tries _ d.left.opened.to d.left.sent s.events s.requests h)) reads
-  step_reads s t (Request_lost d) is reads = subst Reads (sym d.is) reads
-  step_reads s t (Clock_read d) is reads = subst Reads (sym d.is) reads
-  step_reads s t (Store_set d) is reads = subst Reads (sym d.is) reads
-  step_reads s t (Transfer_closed d) is reads = subst Reads (sym d.is) reads
-  step_reads s t (Drain_begun d) is reads = subst Reads (sym d.is) reads
+  step_reads s t does is reads = subst Reads (sym (state_is does)) reads
 
   reads_along : (s t : LoopState S F D) → Run (GoesOn meaning sources) s t → Reads s → Reads t
   reads_along s t Start reads = reads

@@ -9,10 +9,9 @@ use Rattle.tftp_loop.proofs.Common.{Store, Endpoint, Known, Limits, StoreMeaning
 use Rattle.tftp_loop.proofs.Common.{Error_reply, A_transfer, Left, left_by, TransferState, ServerState, at, with_new}
 use Rattle.tftp_loop.proofs.Common.{with_next, without, KeepsHeld, with_end, WorksAt, SocketEvent, answered, Received}
 use Rattle.tftp_loop.proofs.Common.{Elapsed, An_ack, A_block, Run, Start, Then, PortState, LoopState, PortStep}
-use Rattle.tftp_loop.proofs.Common.{LoopStep, after_request, port_state, A_datagram, A_lost_datagram, A_late_datagram}
-use Rattle.tftp_loop.proofs.Common.{Nothing_found, A_failed_receive, A_timeout, A_missed_timeout, Work, Waited, At_port}
-use Rattle.tftp_loop.proofs.Common.{Request_received, No_request_found, Request_not_received, Request_noted}
-use Rattle.tftp_loop.proofs.Common.{Request_answered, Request_lost, Clock_read, Store_set, Transfer_closed, Drain_begun}
+use Rattle.tftp_loop.proofs.Common.{LoopStep, after_request, port_state, A_datagram, A_lost_datagram, A_timeout, Work}
+use Rattle.tftp_loop.proofs.Common.{Waited, At_port, Request_received, Request_answered, Request_lost, Store_set}
+use Rattle.tftp_loop.proofs.Common.{Transfer_closed}
 use Rattle.std.proofs.Common.{Ok}
 use Rattle.std.specs.Prelude.{max}
 use Rattle.std.specs.List.{Contains}
@@ -23,7 +22,6 @@ use Rattle.tftp_ends.specs.Files.{AreSame, KeepsFiles}
 use Rattle.tftp_negotiate.specs.Agreed.{size}
 use Rattle.tftp_negotiate.specs.Laws.{AnswersWithinRequest, IsWithinRequest}
 use Rattle.tftp_negotiate.specs.declared.known.Kind.{Kind}
-use Rattle.tftp_negotiate.specs.declared.known.Kind.TheVariants as kinds
 use Rattle.tftp_negotiate.specs.declared.known.Known.TheVariants.{Blksize, Timeout, Tsize}
 use Rattle.tftp_negotiate.specs.declared.limits.TheConstants.{DEFAULT_BLOCK}
 use Rattle.tftp_server.specs.Draft.{Drafting, files_in}
@@ -31,8 +29,8 @@ use Rattle.tftp_server.specs.Port.{asks}
 use Rattle.tftp_server.specs.Steps.{StepIn}
 use Rattle.tftp_server.specs.Work.{FilesWork}
 use Rattle.tftp_sockets.specs.Trace.SocketEvent.{Sent}
-use Rattle.tftp_loop.specs.Leaving.{AskedFor, HasRoot, HasWritten, IsSaid, LeavesOnly, At_first, And_then}
-use Rattle.tftp_loop.specs.Leaving.{An_error, An_oack, MayHappen, MayLeave, largest_block}
+use Rattle.tftp_loop.specs.Leaving.{AskedFor, HasRoot, HasWritten, IsSaid, LeavesOnly, At_first, And_then, An_error}
+use Rattle.tftp_loop.specs.Leaving.{An_oack, MayHappen, MayLeave, largest_block}
 use Rattle.tftp_loop.proofs.AnsweringEnds.{AnswersOne, GivesOnly, IsAt, NoBlock, SendsTo, To_other, To_peer}
 use Rattle.tftp_loop.proofs.AnsweringEnds.{datagram_answers, timeout_answers}
 use Rattle.tftp_loop.proofs.AskedFiles.{reads_by}
@@ -40,6 +38,8 @@ use Rattle.tftp_loop.proofs.HeldLemmas.{held_at, held_new, held_next, held_witho
 use Rattle.tftp_loop.proofs.OpenedEnds.{BeginsAt, OpensFor, OpensIn, To_read, To_write, opens_for, serves_begins}
 use Rattle.tftp_loop.proofs.OpenedEnds.{write_begins}
 use Rattle.tftp_loop.proofs.PortEnds.{same_config}
+use Rattle.tftp_loop.proofs.NewStates.{state_is, trace_is, server_is}
+use Rattle.tftp_negotiate.specs.declared.known.Kind.TheVariants as kinds
 
 -- ---- what a list contains
 contains_first : {T : Type 0} (x : T) (xs : List T) → Contains (x ∷ xs) x
@@ -93,8 +93,8 @@ module _ {S F D : Type 0} (meaning : StoreMeaning S D) (sources : SourceMeaning 
   abbrev Asked : Endpoint → List SocketEvent → List ℕ → Type 0
   Asked peer events = AskedFor sources root requests largest peer events
 
-  -- the endpoint asked for the file of this source
-  record ReadsFor (peer : Endpoint) (events : List SocketEvent) (source : F) : Type 0 where
+  -- the endpoint asked for a file, which was opened
+  record Asks (peer : Endpoint) (events : List SocketEvent) : Type 0 where
     request : Request
     bytes : List ℕ
     spells : Spells (Read request) bytes
@@ -104,8 +104,12 @@ module _ {S F D : Type 0} (meaning : StoreMeaning S D) (sources : SourceMeaning 
     first : F
     stated : ℕ
     opened : sources.opens root path request.mode stated first
+
+  -- this source is left of it after so many calls
+  record ReadsFor (peer : Endpoint) (events : List SocketEvent) (source : F) : Type 0 where
+    asks : Asks peer events
     text : List ℕ
-    given : GivesInTurn sources first text source
+    given : GivesInTurn sources asks.first text source
 
   abbrev OfFiles : Endpoint → List SocketEvent → Files F D → Type 0
   OfFiles peer events (Source source) = ReadsFor peer events source
@@ -115,36 +119,27 @@ module _ {S F D : Type 0} (meaning : StoreMeaning S D) (sources : SourceMeaning 
   gives_asked : (peer : Endpoint) (events : List SocketEvent) (source source' : F) (piece : List ℕ)
       → ReadsFor peer events source → sources.gives source piece source' → Fits (length piece)
       → Asked peer events piece
-  gives_asked peer events source source' piece reads gives long = record {
-    request = reads.request;
-    bytes = reads.bytes;
-    spells = reads.spells;
-    received = reads.received;
-    path = reads.path;
-    named = reads.named;
-    first = reads.first;
-    stated = reads.stated;
-    opened = reads.opened;
-    gave = record { text = reads.text; before = source; after = source'; earlier = reads.given; gave = gives };
-    long = long;
-  }
+  gives_asked peer events source source' piece reads gives long =
+      let asks = reads.asks in
+      record {
+        request = asks.request;
+        bytes = asks.bytes;
+        spells = asks.spells;
+        received = asks.received;
+        path = asks.path;
+        named = asks.named;
+        first = asks.first;
+        stated = asks.stated;
+        opened = asks.opened;
+        gave = record { text = reads.text; before = source; after = source'; earlier = reads.given; gave = gives };
+        long = long;
+      }
 
   -- after a call
   reads_on : (peer : Endpoint) (events : List SocketEvent) (source source' : F) (piece : List ℕ)
       → ReadsFor peer events source → sources.gives source piece source' → ReadsFor peer events source'
-  reads_on peer events source source' piece reads gives = record {
-    request = reads.request;
-    bytes = reads.bytes;
-    spells = reads.spells;
-    received = reads.received;
-    path = reads.path;
-    named = reads.named;
-    first = reads.first;
-    stated = reads.stated;
-    opened = reads.opened;
-    text = reads.text ++ piece;
-    given = Gave_more reads.given gives;
-  }
+  reads_on peer events source source' piece reads gives =
+      record { asks = reads.asks; text = reads.text ++ piece; given = Gave_more reads.given gives }
 
   asked_later : (event : SocketEvent) (events : List SocketEvent) (peer : Endpoint) (piece : List ℕ)
       → Asked peer events piece → Asked peer (event ∷ events) piece
@@ -164,19 +159,23 @@ module _ {S F D : Type 0} (meaning : StoreMeaning S D) (sources : SourceMeaning 
 
   reads_later : (event : SocketEvent) (events : List SocketEvent) (peer : Endpoint) (source : F)
       → ReadsFor peer events source → ReadsFor peer (event ∷ events) source
-  reads_later event events peer source reads = record {
-    request = reads.request;
-    bytes = reads.bytes;
-    spells = reads.spells;
-    received = contains_later event (Received requests peer reads.bytes) events reads.received;
-    path = reads.path;
-    named = reads.named;
-    first = reads.first;
-    stated = reads.stated;
-    opened = reads.opened;
-    text = reads.text;
-    given = reads.given;
-  }
+  reads_later event events peer source reads =
+      let asks = reads.asks in
+      record {
+        asks = record {
+          request = asks.request;
+          bytes = asks.bytes;
+          spells = asks.spells;
+          received = contains_later event (Received requests peer asks.bytes) events asks.received;
+          path = asks.path;
+          named = asks.named;
+          first = asks.first;
+          stated = asks.stated;
+          opened = asks.opened;
+        };
+        text = reads.text;
+        given = reads.given;
+      }
 
   files_later : (event : SocketEvent) (events : List SocketEvent) (peer : Endpoint) (files : Files F D)
       → OfFiles peer events files → OfFiles peer (event ∷ events) files
@@ -400,16 +399,6 @@ module _ {S F D : Type 0} (meaning : StoreMeaning S D) (sources : SourceMeaning 
       (lost before s.timer.port (at s.timer.port s.server.held) s.server t.server
       (Received s.timer.port d.from d.bytes ∷ s.events) refl d.loses.keeps
       (leaves_event before s.server.held (Received s.timer.port d.from d.bytes) s.events tt leaves))
-  port_leaves before now s t (A_late_datagram d) leaves =
-      subst (Leaves before t.server.held) (sym d.events)
-      (leaves_same before s.server t.server _ d.server
-      (leaves_event before s.server.held (Received s.timer.port d.from d.bytes) s.events tt leaves))
-  port_leaves before now s t (Nothing_found d) leaves =
-      subst (Leaves before t.server.held) (sym d.events)
-      (leaves_same before s.server t.server _ d.server (leaves_event before s.server.held _ s.events tt leaves))
-  port_leaves before now s t (A_failed_receive d) leaves =
-      subst (Leaves before t.server.held) (sym d.events)
-      (leaves_same before s.server t.server _ d.server (leaves_event before s.server.held _ s.events tt leaves))
   port_leaves before now s t (A_timeout d) leaves =
       let times_out = d.times_out.times_out in
       let transfer = times_out.transfer in
@@ -422,12 +411,12 @@ module _ {S F D : Type 0} (meaning : StoreMeaning S D) (sources : SourceMeaning 
       transfer.end.position.last_sent_to (timeout_turn transfer.end) own times_out.carries.state own.files times_out.held
       (subst (λ (p : Endpoint). HasWritten p es) (sym own.at_peer.to) own.written)
       (To_peer refl (timeout_answers Fits (Asked own.peer es) transfer.end (at_own own.peer es transfer.end own.at_peer))))
-  port_leaves before now s t (A_missed_timeout d) leaves =
-      subst (Leaves before t.server.held) (sym d.events)
-      (leaves_same before s.server t.server _ d.server (leaves_event before s.server.held _ s.events tt leaves))
   port_leaves before now s t (Work d) leaves =
       subst (Leaves before t.server.held) (sym d.events)
       (worked before s.timer.port (at s.timer.port s.server.held) s.server t.server s.events refl d.works.works leaves)
+  port_leaves before now s t does leaves =
+      subst (Leaves before t.server.held) (sym (trace_is does))
+      (leaves_same before s.server t.server _ (server_is does) (leaves_event before s.server.held _ s.events tt leaves))
 
   -- ---- at the request port
   abbrev PendingIn : List SocketEvent → Option (Endpoint × List ℕ) → Type 0
@@ -452,22 +441,14 @@ module _ {S F D : Type 0} (meaning : StoreMeaning S D) (sources : SourceMeaning 
       subst (λ (es : List SocketEvent). PendingIn es pending) (sym d.handles.events)
       (answered_pending s.timer.port d.handles.takes.takes.turn.reply _ pending
       (pending_later _ s.events pending in_it))
-  port_pending now s t (A_lost_datagram d) pending in_it =
-      subst (λ (es : List SocketEvent). PendingIn es pending) (sym d.events) (pending_later _ s.events pending in_it)
-  port_pending now s t (A_late_datagram d) pending in_it =
-      subst (λ (es : List SocketEvent). PendingIn es pending) (sym d.events) (pending_later _ s.events pending in_it)
-  port_pending now s t (Nothing_found d) pending in_it =
-      subst (λ (es : List SocketEvent). PendingIn es pending) (sym d.events) (pending_later _ s.events pending in_it)
-  port_pending now s t (A_failed_receive d) pending in_it =
-      subst (λ (es : List SocketEvent). PendingIn es pending) (sym d.events) (pending_later _ s.events pending in_it)
   port_pending now s t (A_timeout d) pending in_it =
       subst (λ (es : List SocketEvent). PendingIn es pending) (sym d.times_out.events)
       (answered_pending s.timer.port (timeout_turn d.times_out.times_out.transfer.end).reply
       (Elapsed s.timer.port now ∷ s.events) pending (pending_later (Elapsed s.timer.port now) s.events pending in_it))
-  port_pending now s t (A_missed_timeout d) pending in_it =
-      subst (λ (es : List SocketEvent). PendingIn es pending) (sym d.events) (pending_later _ s.events pending in_it)
   port_pending now s t (Work d) pending in_it =
       subst (λ (es : List SocketEvent). PendingIn es pending) (sym d.events) in_it
+  port_pending now s t does pending in_it =
+      subst (λ (es : List SocketEvent). PendingIn es pending) (sym (trace_is does)) (pending_later _ s.events pending in_it)
 
   record AreLeaving (before : List SocketEvent) (s : LoopState S F D) : Type 0 where
     requests_at : s.requests ≡ requests
@@ -475,20 +456,29 @@ module _ {S F D : Type 0} (meaning : StoreMeaning S D) (sources : SourceMeaning 
     pending : PendingIn s.events s.pending
     leaves : Leaves before s.server.held s.events
 
+  -- the request port and the largest block are as before
+  still : {before : List SocketEvent} {s t : LoopState S F D} → AreLeaving before s → t.requests ≡ s.requests
+      → t.server.config ≡ s.server.config → PendingIn t.events t.pending → Leaves before t.server.held t.events
+      → AreLeaving before t
+  still are port config pending leaves = record {
+    requests_at = port ∙ are.requests_at;
+    block = ap largest_block config ∙ are.block;
+    pending = pending;
+    leaves = leaves;
+  }
+
   -- an event that is no datagram sent, after which transfers and pending datagram are as before
   next_event : (before : List SocketEvent) (s t : LoopState S F D) (event : SocketEvent)
       → MayHappen (AskedFor sources root requests largest) event s.events → t.requests ≡ s.requests → t.server.config ≡ s.server.config → t.pending ≡ s.pending
       → t.server.held ≡ s.server.held → t.events ≡ event ∷ s.events → AreLeaving before s → AreLeaving before t
-  next_event before s t event may same_port same_config_is same_pending same_held is are = record {
-    requests_at = same_port ∙ are.requests_at;
-    block = ap largest_block same_config_is ∙ are.block;
-    pending = subst (PendingIn t.events) (sym same_pending)
-        (subst (λ (es : List SocketEvent). PendingIn es s.pending) (sym is)
-        (pending_later event s.events s.pending are.pending));
-    leaves = subst (λ (es : List SocketEvent). Leaves before t.server.held es) (sym is)
-        (subst (λ (held : List (ℕ × TransferState F D)). Leaves before held (event ∷ s.events)) (sym same_held)
-        (leaves_event before s.server.held event s.events may are.leaves));
-  }
+  next_event before s t event may same_port same_config_is same_pending same_held is are =
+      still are same_port same_config_is
+      (subst (PendingIn t.events) (sym same_pending)
+      (subst (λ (es : List SocketEvent). PendingIn es s.pending) (sym is)
+      (pending_later event s.events s.pending are.pending)))
+      (subst (λ (es : List SocketEvent). Leaves before t.server.held es) (sym is)
+      (subst (λ (held : List (ℕ × TransferState F D)). Leaves before held (event ∷ s.events)) (sym same_held)
+      (leaves_event before s.server.held event s.events may are.leaves)))
 
   next_three : (before : List SocketEvent) (s t : LoopState S F D) (one two three : SocketEvent)
       → MayHappen (AskedFor sources root requests largest) three s.events
@@ -543,7 +533,7 @@ module _ {S F D : Type 0} (meaning : StoreMeaning S D) (sources : SourceMeaning 
           subst (λ (m : Mode). sources.opens root path m file.length file.source) (sym asked.same_mode)
           (subst (λ (r : List ℕ). sources.opens r path mode file.length file.source) root_is opened) in
           let given = served_given agreed mode file.length old.config.retries file.source rest transfer.end serves in
-          let reads : ReadsFor from es rest = record {
+          let asks : Asks from es = record {
             request = asked.request;
             bytes = bytes;
             spells = spells;
@@ -553,29 +543,13 @@ module _ {S F D : Type 0} (meaning : StoreMeaning S D) (sources : SourceMeaning 
             first = file.source;
             stated = file.length;
             opened = opens;
-            text = given.0;
-            given = given.1;
           } in
+          let reads : ReadsFor from es rest = record { asks = asks; text = given.0; given = given.1 } in
+          let opened_now : ReadsFor from es file.source = record { asks = asks; text = []; given = Gave_nothing } in
           let begins = serves_begins Fits (Asked from es) old.config.retries from sources agreed mode file.length file.source
-          rest transfer.end fits (λ piece gave long. record {
-            request = asked.request;
-            bytes = bytes;
-            spells = spells;
-            received = received;
-            path = path;
-            named = asked.same_path;
-            first = file.source;
-            stated = file.length;
-            opened = opens;
-            gave = record {
-              text = [];
-              before = file.source;
-              after = rest;
-              earlier = Gave_nothing;
-              gave = gave;
-            };
-            long = omega (arith, long, fits);
-          }) serves in (
+          rest transfer.end fits
+          (λ piece gave long. gives_asked from es file.source rest piece opened_now gave (omega (arith, long, fits)))
+          serves in (
             record {
               peer = from;
               at_peer = begins.at;
@@ -606,28 +580,20 @@ module _ {S F D : Type 0} (meaning : StoreMeaning S D) (sources : SourceMeaning 
         → OpensIn meaning sources s.server from bytes
         (ask s.server from bytes s.events received root_is are.block within repeated decoded says) came
         → AreLeaving before (after_request s from (left_by came s.server from tid))
-    by_came Nothing opened = record { requests_at = are.requests_at; block = are.block; pending = tt; leaves = are.leaves }
-    by_came (Error_reply reply store) opened = record {
-      requests_at = are.requests_at;
-      block = are.block;
-      pending = tt;
-      leaves = leaves_event before s.server.held (Sent s.requests from (error_bytes reply)) s.events
-          (record { said = An_error reply refl; written = (requests, bytes, received) }) are.leaves;
-    }
+    by_came Nothing opened = still are refl refl tt are.leaves
+    by_came (Error_reply reply store) opened =
+        still are refl refl tt
+        (leaves_event before s.server.held (Sent s.requests from (error_bytes reply)) s.events
+        (record { said = An_error reply refl; written = (requests, bytes, received) }) are.leaves)
     by_came (A_transfer transfer store) opened =
         let own = opened_for s.server from bytes s.events received root_is are.block within repeated decoded says transfer opened in
         let held : Leaves before (with_new tid transfer s.server.held) s.events = record {
           transfers = held_new (IsFor s.events) tid s.server.held transfer are.leaves.transfers own.0;
           only = are.leaves.only;
         } in
-        record {
-          requests_at = are.requests_at;
-          block = are.block;
-          pending = tt;
-          leaves = leaves_event before (with_new tid transfer s.server.held)
-              (Sent tid from transfer.end.position.last_sent) s.events
-              (record { said = own.2; written = (requests, bytes, received) }) held;
-        }
+        still are refl refl tt
+        (leaves_event before (with_new tid transfer s.server.held) (Sent tid from transfer.end.position.last_sent) s.events
+        (record { said = own.2; written = (requests, bytes, received) }) held)
 
   -- ---- in a run
   step_leaves : (before : List SocketEvent) (s t : LoopState S F D) → LoopStep meaning sources s t → AnswersWithinRequest
@@ -635,27 +601,16 @@ module _ {S F D : Type 0} (meaning : StoreMeaning S D) (sources : SourceMeaning 
   step_leaves before s t (Waited d) within root_is are =
       subst (AreLeaving before) (sym d.is) (next_three before s _ _ _ _ tt tt tt refl refl refl refl refl are)
   step_leaves before s t (At_port d) within root_is are =
-      subst (AreLeaving before) (sym d.is) (record {
-        requests_at = are.requests_at;
-        block = ap largest_block (same_config meaning sources s.now (port_state s d.timer) d.next d.does) ∙ are.block;
-        pending = port_pending s.now (port_state s d.timer) d.next d.does s.pending are.pending;
-        leaves = port_leaves before s.now (port_state s d.timer) d.next d.does are.leaves;
-      })
+      subst (AreLeaving before) (sym d.is)
+      (still are refl (same_config meaning sources s.now (port_state s d.timer) d.next d.does)
+      (port_pending s.now (port_state s d.timer) d.next d.does s.pending are.pending)
+      (port_leaves before s.now (port_state s d.timer) d.next d.does are.leaves))
   step_leaves before s t (Request_received d) within root_is are =
-      subst (AreLeaving before) (sym d.is) (record {
-        requests_at = are.requests_at;
-        block = are.block;
-        pending = subst (λ (port : ℕ). Contains (Received port d.from d.bytes ∷ s.events)
-            (Received requests d.from d.bytes)) (sym are.requests_at)
-            (contains_first (Received requests d.from d.bytes) s.events);
-        leaves = leaves_event before s.server.held (Received s.requests d.from d.bytes) s.events tt are.leaves;
-      })
-  step_leaves before s t (No_request_found d) within root_is are =
-      subst (AreLeaving before) (sym d.is) (next_event before s _ _ tt refl refl refl refl refl are)
-  step_leaves before s t (Request_not_received d) within root_is are =
-      subst (AreLeaving before) (sym d.is) (next_event before s _ _ tt refl refl refl refl refl are)
-  step_leaves before s t (Request_noted d) within root_is are =
-      subst (AreLeaving before) (sym d.is) (next_event before s _ _ tt refl refl refl refl refl are)
+      subst (AreLeaving before) (sym d.is)
+      (still are refl refl
+      (subst (λ (port : ℕ). Contains (Received port d.from d.bytes ∷ s.events) (Received requests d.from d.bytes))
+      (sym are.requests_at) (contains_first (Received requests d.from d.bytes) s.events))
+      (leaves_event before s.server.held (Received s.requests d.from d.bytes) s.events tt are.leaves))
   step_leaves before s t (Request_answered d) within root_is are =
       let received : Contains s.events (Received requests d.from d.bytes) =
       subst (PendingIn s.events) d.pending are.pending in
@@ -664,25 +619,18 @@ module _ {S F D : Type 0} (meaning : StoreMeaning S D) (sources : SourceMeaning 
       (by_came before s d.from d.bytes d.tid are received root_is within d.steps.repeated d.steps.decoded d.steps.says
       d.steps.came (opens_for meaning sources s.server d.from d.bytes _ d.steps.came d.steps.goes)))
   step_leaves before s t (Request_lost d) within root_is are =
-      subst (AreLeaving before) (sym d.is)
-      (record { requests_at = are.requests_at; block = are.block; pending = tt; leaves = are.leaves })
-  step_leaves before s t (Clock_read d) within root_is are =
-      subst (AreLeaving before) (sym d.is) (next_event before s _ _ tt refl refl refl refl refl are)
+      subst (AreLeaving before) (sym d.is) (still are refl refl tt are.leaves)
   step_leaves before s t (Store_set d) within root_is are =
-      subst (AreLeaving before) (sym d.is)
-      (record { requests_at = are.requests_at; block = are.block; pending = are.pending; leaves = are.leaves })
+      subst (AreLeaving before) (sym d.is) (still are refl refl are.pending are.leaves)
   step_leaves before s t (Transfer_closed d) within root_is are =
-      subst (AreLeaving before) (sym d.is) (record {
-        requests_at = are.requests_at;
-        block = are.block;
-        pending = pending_later _ s.events s.pending are.pending;
-        leaves = leaves_event before (without d.timer.port s.server.held) _ s.events tt (record {
-          transfers = held_without (IsFor s.events) d.timer.port s.server.held are.leaves.transfers;
-          only = are.leaves.only;
-        });
-      })
-  step_leaves before s t (Drain_begun d) within root_is are =
-      subst (AreLeaving before) (sym d.is) (next_event before s _ _ tt refl refl refl refl refl are)
+      subst (AreLeaving before) (sym d.is)
+      (still are refl refl (pending_later _ s.events s.pending are.pending)
+      (leaves_event before (without d.timer.port s.server.held) _ s.events tt (record {
+        transfers = held_without (IsFor s.events) d.timer.port s.server.held are.leaves.transfers;
+        only = are.leaves.only;
+      })))
+  step_leaves before s t does within root_is are =
+      subst (AreLeaving before) (sym (state_is does)) (next_event before s _ _ tt refl refl refl refl refl are)
 
   leaves_along : (before : List SocketEvent) (s t : LoopState S F D) → AnswersWithinRequest
       → HasRoot meaning sources root s

@@ -1,6 +1,7 @@
 pub mod Common
 pub mod PortLemmas
 pub mod RunLemmas
+pub mod NewStates
 pub mod PortRuns
 pub mod BackoffLemmas
 pub mod ListLemmas

@@ -3,24 +3,22 @@ use Rattle.tftp_loop.proofs.Common.{arith, ◌≡◌, ◌≤◌, ◌<◌, ◌==�
 use Rattle.tftp_loop.proofs.Common.{◌∷◌, length, map, Option, Some, None, inl, inr, refl, sym, ap, subst, ◌∙◌}
 use Rattle.tftp_loop.proofs.Common.{slice_index_or, All, ◌≢◌, is_some, swap_remove, length-map, SourceMeaning, wait_of}
 use Rattle.tftp_loop.proofs.Common.{Backoff, Endpoint, StoreMeaning, TransferState, at, deadline_of, SocketEvent, Watch}
-use Rattle.tftp_loop.proofs.Common.{Received, Elapsed, Watched, Quiet, Empty, Failed, is_among, is_drained, Timer}
-use Rattle.tftp_loop.proofs.Common.{PortState, LoopState, PortStep, LoopStep, answering_port, interval_at, deadline_by}
-use Rattle.tftp_loop.proofs.Common.{marked_by, port_state, restarted, set_by, started, timeouts_after, timer_after}
-use Rattle.tftp_loop.proofs.Common.{wait_in, with_timer, A_datagram, A_lost_datagram, A_late_datagram, Nothing_found}
-use Rattle.tftp_loop.proofs.Common.{A_failed_receive, A_timeout, A_missed_timeout, Work, Waited, At_port}
-use Rattle.tftp_loop.proofs.Common.{Request_received, No_request_found, Request_not_received, Request_noted}
-use Rattle.tftp_loop.proofs.Common.{Request_answered, Request_lost, Clock_read, Store_set, Transfer_closed, Drain_begun}
-use Rattle.tftp_loop.proofs.Common.{HavePortsApart}
+use Rattle.tftp_loop.proofs.Common.{Elapsed, Watched, Quiet, is_among, is_drained, Timer, PortState, LoopState}
+use Rattle.tftp_loop.proofs.Common.{PortStep, LoopStep, interval_at, deadline_by, marked_by, port_state, restarted}
+use Rattle.tftp_loop.proofs.Common.{set_by, started, timeouts_after, timer_after, wait_in, with_timer, A_datagram}
+use Rattle.tftp_loop.proofs.Common.{Nothing_found, A_timeout, A_missed_timeout, Work, Waited, At_port, Request_received}
+use Rattle.tftp_loop.proofs.Common.{No_request_found, Request_not_received, Request_noted, Request_answered, Clock_read}
+use Rattle.tftp_loop.proofs.Common.{Transfer_closed, HavePortsApart}
 use Rattle.std.specs.Prelude.{◌*◌}
 use Rattle.tftp_sockets.specs.Trace.QuietEvent.{Slept, Woke}
-use Rattle.tftp_loop.specs.Steps.{look_after}
-use Rattle.tftp_loop.specs.Steps.{next_look}
+use Rattle.tftp_loop.specs.Steps.{look_after, next_look}
 use Rattle.tftp_loop.proofs.BackoffLemmas.{wait_least, wait_most}
 use Rattle.tftp_loop.proofs.Drained.{answered_drained, either_drained, other_drained, port_drained, replied_drained}
-use Rattle.tftp_loop.proofs.LoopStays.{all_appended, all_removed, all_set, other_port}
+use Rattle.tftp_loop.proofs.LoopStays.{all_appended, other_port, removed_all, replaced_all}
 use Rattle.tftp_loop.proofs.NoteLemmas.{note_drained}
 use Rattle.tftp_loop.proofs.PortStays.{or_left, or_right, own_receive}
 use Rattle.tftp_loop.proofs.Waits.{mapped_at}
+use Rattle.tftp_loop.proofs.NewStates.{state_is, timer_is}
 
 -- the port is left for a while after an opening or progress: it is read again soon, and if that is at its deadline,
 -- the interval is as short
@@ -69,6 +67,11 @@ still : (es fs : List SocketEvent) (now : ℕ) (timer : Timer)
 still es fs now timer on (Marked m) = Marked m
 still es fs now timer on (Drained d) = Drained (on d)
 still es fs now timer on (Left l) = Left l
+
+all_still : (es fs : List SocketEvent) (now : ℕ) (timers : List Timer)
+    → All (λ (timer : Timer). is_drained timer.port es ≡ true → is_drained timer.port fs ≡ true) timers
+    → All (IsLooked es now) timers → All (IsLooked fs now) timers
+all_still es fs now timers on looked k d h = still es fs now (slice_index_or timers k d) (on k d h) (looked k d h)
 
 later : (es : List SocketEvent) (now n : ℕ) (timer : Timer) → now ≤ n → IsLooked es now timer → IsLooked es n timer
 later es now n timer h (Marked m) = Marked m
@@ -146,13 +149,10 @@ module _ {S F D : Type 0} (meaning : StoreMeaning S D) (sources : SourceMeaning 
       → IsLooked old.events now old.timer → IsLooked new.events now new.timer
   at_own now old new (A_datagram d) h = subst (IsLooked new.events now) (sym d.timer)
       (after_datagram new.events now d.step.progress old.timer)
-  at_own now old new (A_lost_datagram d) h = subst (IsLooked new.events now) (sym d.timer) (Marked refl)
-  at_own now old new (A_late_datagram d) h = subst (IsLooked new.events now) (sym d.timer) (Marked refl)
   at_own now old new (Nothing_found d) h =
       subst (IsLooked new.events now) (sym d.timer)
       (Drained (subst (λ (es : List SocketEvent). is_drained old.timer.port es ≡ true) (sym d.events)
       (own_receive old.timer.port (is_drained old.timer.port old.events))))
-  at_own now old new (A_failed_receive d) h = subst (IsLooked new.events now) (sym d.timer) (Marked refl)
   at_own now old new (A_timeout d) h =
       let elapsed = Elapsed old.timer.port now ∷ old.events in
       subst (IsLooked new.events now) (sym d.timer)
@@ -165,6 +165,7 @@ module _ {S F D : Type 0} (meaning : StoreMeaning S D) (sources : SourceMeaning 
       (λ k. subst (λ (es : List SocketEvent). is_drained old.timer.port es ≡ true) (sym d.events) k) h)
   at_own now old new (Work d) h = subst (IsLooked new.events now) (sym d.timer)
       (subst (λ (es : List SocketEvent). IsLooked es now old.timer) (sym d.events) h)
+  at_own now old new does h = subst (IsLooked new.events now) (sym (timer_is does)) (Marked refl)
 
   with_looked : (es : List SocketEvent) (now : ℕ) (longest : Option ℕ) (backoff : Backoff) (from : Endpoint) (tid : Option ℕ) (held : List (ℕ × TransferState F D))
       (timers : List Timer)
@@ -173,6 +174,14 @@ module _ {S F D : Type 0} (meaning : StoreMeaning S D) (sources : SourceMeaning 
   with_looked es now longest backoff from (Some port) held timers h =
       let timer = started now longest backoff port from (interval_at (at port held)) in
       all_appended (IsLooked es now) timers timer h (Left (left_now now timer refl refl))
+
+  -- what comes at the request port drains no other and leaves each drained that was
+  at_requests : (s : LoopState S F D) → All (λ (timer : Timer). timer.port ≢ s.requests) s.timers
+      → All (λ (timer : Timer). is_drained timer.port s.events ≡ true
+      → (not (s.requests == timer.port) && is_drained timer.port s.events) ≡ true) s.timers
+  at_requests s own k d h =
+      let port = (slice_index_or s.timers k d).port in
+      other_drained s.requests port (is_drained port s.events) (λ same. own k d h (sym same))
 
   -- a step of the loop leaves each port marked, drained or left for a while
   pub step_looked : (s t : LoopState S F D) → LoopStep meaning sources s t
@@ -197,59 +206,35 @@ module _ {S F D : Type 0} (meaning : StoreMeaning S D) (sources : SourceMeaning 
       (later s.events s.now d.watch.now timer d.by.forward (looked k e h)))
   step_looked s t (At_port d) own apart looked =
       subst AreLooked (sym d.is)
-      (λ k e h.
-      all_set (IsLooked d.next.events s.now) s.timers 0 d.index d.next.timer d.within
-      (λ k e l h other.
+      (replaced_all (IsLooked d.next.events s.now) s.timers d.index d.next.timer d.within
+      (λ k e h other.
       let timer = slice_index_or s.timers k e in
       still s.events d.next.events s.now timer
       (port_drained meaning sources timer.port s.now (port_state s d.timer) d.next d.does
       (λ same. other_port s.timers d.index d.timer k e apart d.within d.is_timer h other (sym same)))
       (looked k e h))
       (at_own s.now (port_state s d.timer) d.next d.does
-      (subst (IsLooked s.events s.now) (sym d.is_timer) (looked d.index d.timer d.within)))
-      k e (omega arith) h)
-  step_looked s t (Request_received d) own apart looked =
-      subst AreLooked (sym d.is)
-      (λ k e h.
-      let timer = slice_index_or s.timers k e in
-      still s.events (Received s.requests d.from d.bytes ∷ s.events) s.now timer
-      (other_drained s.requests timer.port (is_drained timer.port s.events) (λ same. own k e h (sym same)))
-      (looked k e h))
-  step_looked s t (No_request_found d) own apart looked =
-      subst AreLooked (sym d.is)
-      (λ k e h.
-      let timer = slice_index_or s.timers k e in
-      still s.events (Quiet (Empty s.requests) ∷ s.events) s.now timer
-      (either_drained (s.requests == timer.port) (is_drained timer.port s.events)) (looked k e h))
-  step_looked s t (Request_not_received d) own apart looked =
-      subst AreLooked (sym d.is)
-      (λ k e h.
-      let timer = slice_index_or s.timers k e in
-      still s.events (Quiet (Failed s.requests) ∷ s.events) s.now timer
-      (other_drained s.requests timer.port (is_drained timer.port s.events) (λ same. own k e h (sym same)))
-      (looked k e h))
+      (subst (IsLooked s.events s.now) (sym d.is_timer) (looked d.index d.timer d.within))))
   step_looked s t (Request_noted d) own apart looked =
       subst AreLooked (sym d.is)
-      (λ k e h.
-      let timer = slice_index_or s.timers k e in
-      still s.events _ s.now timer
-      (λ was. note_drained timer.port (is_drained timer.port s.events) d.note ∙ was) (looked k e h))
+      (all_still s.events _ s.now s.timers
+      (λ k e h was. note_drained _ (is_drained _ s.events) d.note ∙ was) looked)
   step_looked s t (Request_answered d) own apart looked =
-      let port = answering_port s.requests d.left.opened.tid in
       subst AreLooked (sym d.is)
       (with_looked _ s.now s.longest s.backoff d.from d.left.opened.tid d.left.new.held s.timers
-      (λ k e h.
-      let timer = slice_index_or s.timers k e in
-      still s.events _ s.now timer (replied_drained timer.port port d.left.opened.to d.left.sent s.events)
-      (looked k e h)))
-  step_looked s t (Request_lost d) own apart looked = subst AreLooked (sym d.is) looked
-  step_looked s t (Store_set d) own apart looked = subst AreLooked (sym d.is) looked
+      (all_still s.events _ s.now s.timers
+      (λ k e h. replied_drained _ _ d.left.opened.to d.left.sent s.events) looked))
   step_looked s t (Transfer_closed d) own apart looked =
       subst AreLooked (sym d.is)
-      (λ k e h.
-      still s.events _ s.now (slice_index_or (swap_remove s.timers d.index d.timer) k e) (λ was. was)
-      (all_removed (IsLooked s.events s.now) s.timers 0 d.index d.timer (omega arith) d.within
-      (λ k e l h other. looked k e h) k e (omega arith) h))
-  step_looked s t (Drain_begun d) own apart looked =
+      (all_still s.events _ s.now (swap_remove s.timers d.index d.timer) (λ k e h was. was)
+      (removed_all (IsLooked s.events s.now) s.timers d.index d.timer d.within (λ k e h other. looked k e h)))
+  step_looked s t (No_request_found d) own apart looked =
       subst AreLooked (sym d.is)
-      (λ k e h. still s.events _ s.now (slice_index_or s.timers k e) (λ was. was) (looked k e h))
+      (all_still s.events _ s.now s.timers
+      (λ k e h. either_drained (s.requests == (slice_index_or s.timers k e).port) _) looked)
+  step_looked s t (Request_received d) own apart looked =
+      subst AreLooked (sym d.is) (all_still s.events _ s.now s.timers (at_requests s own) looked)
+  step_looked s t (Request_not_received d) own apart looked =
+      subst AreLooked (sym d.is) (all_still s.events _ s.now s.timers (at_requests s own) looked)
+  step_looked s t does own apart looked =
+      subst AreLooked (sym (state_is does)) (all_still s.events _ s.now s.timers (λ k e h was. was) looked)

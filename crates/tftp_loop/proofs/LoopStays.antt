@@ -140,6 +140,19 @@ module _ (Q : Timer → Type 0) (timers : List Timer) where
       subst Q (sym (w.is d)) (rest w.index d (later low i k w.index (length timers) within first hl w.which) w.within
       w.other)
 
+  -- the same of all timers
+  pub replaced_all : (i : ℕ) (next : Timer) → i < length timers →
+      ((k : ℕ) (d : Timer) → k < length timers → (k ≡ i → ⊥) → Q (slice_index_or timers k d)) → Q next →
+      All Q (slice_set timers i next)
+  replaced_all i next within rest own k d h =
+      all_set 0 i next within (λ k d l h apart. rest k d h apart) own k d (omega arith) h
+
+  pub removed_all : (i : ℕ) (timer : Timer) → i < length timers →
+      ((k : ℕ) (d : Timer) → k < length timers → (k ≡ i → ⊥) → Q (slice_index_or timers k d)) →
+      All Q (swap_remove timers i timer)
+  removed_all i timer within rest k d h =
+      all_removed 0 i timer (omega arith) within (λ k d l h apart. rest k d h apart) k d (omega arith) h
+
   -- and of all with one more of which it holds
   pub all_appended : (timer : Timer) → ((k : ℕ) (d : Timer) → k < length timers → Q (slice_index_or timers k d)) →
       Q timer
@@ -176,7 +189,6 @@ module _ {S F D : Type 0} (meaning : StoreMeaning S D) (sources : SourceMeaning 
       (stays : StaysAt meaning sources (port_state s timer) next) where
     pub set_kept : AreKept s.server.held s.timers → AreKept next.server.held (slice_set s.timers index next.timer)
     set_kept kept =
-        let H = IsHeld next.server.held in
         let own : IsHeld s.server.held timer = subst (IsHeld s.server.held) (sym is) (kept.each index timer within) in
         let own_next : IsHeld next.server.held next.timer = record {
           there =
@@ -186,38 +198,33 @@ module _ {S F D : Type 0} (meaning : StoreMeaning S D) (sources : SourceMeaning 
         } in
         record {
           apart = set_apart s.timers index timer next.timer within is stays.port kept.apart;
-          each = λ k d h.
-              all_set H s.timers 0 index next.timer within
-              (λ k d l h apart. other_held s.server.held next.server.held (slice_index_or s.timers k d)
-              (stays.held.there (slice_index_or s.timers k d).port) (kept.each k d h))
-              own_next k d (omega arith) h;
+          each =
+              replaced_all (IsHeld next.server.held) s.timers index next.timer within
+              (λ k d h apart. other_held s.server.held next.server.held (slice_index_or s.timers k d)
+              (stays.held.there (slice_index_or s.timers k d).port) (kept.each k d h)) own_next;
         }
 
     pub set_read : All (IsRead s.events) s.timers → All (IsRead next.events) (slice_set s.timers index next.timer)
     set_read read =
-        let R = IsRead next.events in
-        λ k d h.
-        all_set R s.timers 0 index next.timer within
-        (λ k d l h apart. other_read s.events next.events (slice_index_or s.timers k d) stays.tries (read k d h))
-        (stays.read (subst (IsRead s.events) (sym is) (read index timer within))) k d (omega arith) h
+        replaced_all (IsRead next.events) s.timers index next.timer within
+        (λ k d h apart. other_read s.events next.events (slice_index_or s.timers k d) stays.tries (read k d h))
+        (stays.read (subst (IsRead s.events) (sym is) (read index timer within)))
 
   -- a transfer that closed is removed
   pub removed_held : (held : List (ℕ × TransferState F D)) (timers : List Timer) (index : ℕ) (timer : Timer) →
       index < length timers → timer ≡ slice_index_or timers index timer
       → AreKept held timers → AreKept (without timer.port held) (swap_remove timers index timer)
-  removed_held held timers index timer within is kept =
-      let H = IsHeld (without timer.port held) in
-      record {
-        apart = removed_apart_timers timers index timer within kept.apart;
-        each = λ k d h.
-            all_removed H timers 0 index timer (omega arith) within
-            (λ k d l h apart.
-            let t = slice_index_or timers k d in
-            other_held held (without timer.port held) t
-            (λ some. ap is_some (removed_apart timer.port t.port held
-            (other_port timers index timer k d kept.apart within is h apart)) ∙ some)
-            (kept.each k d h)) k d (omega arith) h;
-      }
+  removed_held held timers index timer within is kept = record {
+    apart = removed_apart_timers timers index timer within kept.apart;
+    each =
+        removed_all (IsHeld (without timer.port held)) timers index timer within
+        (λ k d h apart.
+        let t = slice_index_or timers k d in
+        other_held held (without timer.port held) t
+        (λ some. ap is_some (removed_apart timer.port t.port held
+        (other_port timers index timer k d kept.apart within is h apart)) ∙ some)
+        (kept.each k d h));
+  }
 
   -- a transfer opens
   opened_kept : (held : List (ℕ × TransferState F D)) (timers : List Timer) (timer : Timer)
@@ -344,10 +351,7 @@ module _ {S F D : Type 0} (meaning : StoreMeaning S D) (sources : SourceMeaning 
       subst (Keeps s) (sym d.is) (record {
         tries = λ q h. h;
         kept = removed_held s.server.held s.timers d.index d.timer d.within d.is_timer;
-        read = λ read.
-            let R = IsRead s.events in
-            λ k e h. all_removed R s.timers 0 d.index d.timer (omega arith) d.within (λ k e l h apart. read k e h) k e
-            (omega arith) h;
+        read = λ read. removed_all (IsRead s.events) s.timers d.index d.timer d.within (λ k e h apart. read k e h);
         tried = λ h. h;
       })
   step_keeps s t (Drain_begun d) work =

@@ -1,4 +1,4 @@
--- A transfer that opens has not closed. For Receipts.
+-- A transfer that opens has not closed. For Receipts and Counting.
 use Rattle.tftp_loop.proofs.Common.{◌≡◌, ◌⊎◌, ℕ, Bool, false, List, [], ◌∷◌, length, Option, Some, None, refl, sym, ap}
 use Rattle.tftp_loop.proofs.Common.{subst, arith, ◌∙◌, inl, inr, Result, Ok, Err, slice_index_or, is_some, All}
 use Rattle.tftp_loop.proofs.Common.{if◌then◌else◌, Mode, Known, SourceMeaning, StoreFault, Backoff, Endpoint, EndState}
@@ -9,8 +9,7 @@ use Rattle.tftp_loop.proofs.Common.{Reads, Writes, Service, Silent, Refused, Sen
 use Rattle.tftp_loop.proofs.Common.{LoopState, AnswersRequest, LosesRequest, interval_at, started, with_timer, AreKept}
 use Rattle.tftp_loop.proofs.Common.{AreSettled, Concludes, IsOpen, ReceivedFew}
 use Rattle.tftp_server.specs.Request.{StartsSending}
-use Rattle.tftp_loop.specs.MayWait.{Notes_it, Prepares}
-use Rattle.tftp_loop.specs.MayWait.{Sets_store}
+use Rattle.tftp_loop.specs.MayWait.{Notes_it, Prepares, Sets_store}
 use Rattle.tftp_loop.proofs.LoopStays.{all_appended, some_none, work_keeps}
 use Rattle.tftp_loop.proofs.RequestRuns.{concludes_run}
 use Rattle.tftp_loop.proofs.Tables.{inserted_apart, inserted_own}
@@ -158,7 +157,8 @@ module _ {S F D : Type 0} (meaning : StoreMeaning S D) (sources : SourceMeaning 
     prepared_few s t (Then {middle} run (Sets_store d)) few =
         subst few_in (sym d.is) (prepared_few s middle run few)
 
-    with_few : (now : ℕ) (longest : Option ℕ) (backoff : Backoff) (from : Endpoint) (opened : Option ℕ)
+    -- nor has a port that opens received anything
+    pub with_few : (now : ℕ) (longest : Option ℕ) (backoff : Backoff) (from : Endpoint) (opened : Option ℕ)
         (held : List (ℕ × TransferState F D)) (timers : List Timer) → All (ReceivedFew most) timers
         → All (ReceivedFew most) (with_timer now longest backoff from opened held timers)
     with_few now longest backoff from None held timers few = few
@@ -166,6 +166,7 @@ module _ {S F D : Type 0} (meaning : StoreMeaning S D) (sources : SourceMeaning 
         all_appended (ReceivedFew most) timers (started now longest backoff port from (interval_at (at port held)))
         (λ k d h. few k d h) (omega arith)
 
+    -- so few stay few
     pub concludes_few : (s t : LoopState S F D) → Concludes meaning sources s t → few_in s → few_in t
     concludes_few s t c few = elim c.ends [
       | inl d ↦

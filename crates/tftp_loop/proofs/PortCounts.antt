@@ -6,16 +6,15 @@ use Rattle.tftp_loop.proofs.Common.{Endpoint, Reply, TransferState, at, StoreMea
 use Rattle.tftp_loop.proofs.Common.{Received, Elapsed, AreKept, Run, Start, Then, Timer, PortState, LoopState, PortStep}
 use Rattle.tftp_loop.proofs.Common.{LoopStep, RequestNote, Found_no_port, Found_port, Found_no_memory, interval_at}
 use Rattle.tftp_loop.proofs.Common.{most_in_round, note_event, port_state, started, with_timer, Waited, At_port}
-use Rattle.tftp_loop.proofs.Common.{Request_received, No_request_found, Request_not_received, Request_noted}
-use Rattle.tftp_loop.proofs.Common.{Request_answered, Request_lost, Clock_read, Store_set, Drain_begun, Transfer_closed}
-use Rattle.tftp_loop.proofs.Common.{A_datagram, A_lost_datagram, A_late_datagram, Nothing_found, A_failed_receive}
-use Rattle.tftp_loop.proofs.Common.{A_timeout, A_missed_timeout, Work}
+use Rattle.tftp_loop.proofs.Common.{Request_received, Request_noted, Request_answered, Request_lost, Transfer_closed}
+use Rattle.tftp_loop.proofs.Common.{A_datagram, A_lost_datagram, A_late_datagram, A_timeout}
 use Rattle.tftp_loop.specs.Fair.{received_since, since_by}
 use Rattle.tftp_loop.proofs.Bounded.{sound_along}
 use Rattle.tftp_loop.proofs.Counting.{AreFew, IsFew, few_along, port_few}
-use Rattle.tftp_loop.proofs.LoopStays.{all_appended, all_removed, all_set, other_port}
+use Rattle.tftp_loop.proofs.LoopStays.{all_appended, other_port, removed_all, replaced_all}
 use Rattle.tftp_loop.proofs.PortEnds.{same_timer}
 use Rattle.tftp_loop.proofs.PortStays.{after_received}
+use Rattle.tftp_loop.proofs.NewStates.{state_is, trace_is, timer_is}
 
 abbrev one : Bool → ℕ
 one true = 1
@@ -86,14 +85,12 @@ module _ {S F D : Type 0} (meaning : StoreMeaning S D) (sources : SourceMeaning 
         adds_one s t d.from d.bytes (received_of t.timer _ d.timer) (ap (received_since port) d.events)
     adds now s t (A_late_datagram d) =
         adds_one s t d.from d.bytes (received_of t.timer _ d.timer) (ap (received_since port) d.events)
-    adds now s t (Nothing_found d) = adds_none s t (received_of t.timer _ d.timer) (ap (received_since port) d.events)
-    adds now s t (A_failed_receive d) = adds_none s t (received_of t.timer _ d.timer) (ap (received_since port) d.events)
     adds now s t (A_timeout d) =
         adds_none s t (received_of t.timer _ d.timer)
         (ap (received_since port) d.times_out.events
         ∙ answered_since port s.timer.port _ (Elapsed s.timer.port now ∷ s.events))
-    adds now s t (A_missed_timeout d) = adds_none s t (received_of t.timer _ d.timer) (ap (received_since port) d.events)
-    adds now s t (Work d) = adds_none s t (received_of t.timer _ d.timer) (ap (received_since port) d.events)
+    adds now s t does =
+        adds_none s t (received_of t.timer _ (timer_is does)) (ap (received_since port) (trace_is does))
 
     -- ---- the steps of the loop
     module _ (base : ℕ) where
@@ -152,11 +149,10 @@ module _ {S F D : Type 0} (meaning : StoreMeaning S D) (sources : SourceMeaning 
                   few = c.few;
                   all = omega (arith, now, short);
                   each =
-                      λ k d h.
-                      all_set (Counts n c.opened) s.timers 0 index next.timer within
-                      (λ k d l h apart there.
+                      replaced_all (Counts n c.opened) s.timers index next.timer within
+                      (λ k d h apart there.
                       absurd (other_port s.timers index timer k d kept.apart within is h apart (there ∙ sym at)))
-                      (λ there. now) k d (omega arith) h;
+                      (λ there. now);
                 }
             | inr apart ↦
                 let unchanged = added.other apart in
@@ -166,10 +162,9 @@ module _ {S F D : Type 0} (meaning : StoreMeaning S D) (sources : SourceMeaning 
                   few = c.few;
                   all = omega (arith, unchanged, all);
                   each =
-                      λ k d h.
-                      all_set (Counts n c.opened) s.timers 0 index next.timer within
-                      (λ k d l h other there. let was = c.each k d h there in omega (arith, unchanged, was))
-                      (λ there. absurd (apart (sym same.port ∙ there))) k d (omega arith) h;
+                      replaced_all (Counts n c.opened) s.timers index next.timer within
+                      (λ k d h other there. let was = c.each k d h there in omega (arith, unchanged, was))
+                      (λ there. absurd (apart (sym same.port ∙ there)));
                 }
           ]
 
@@ -212,10 +207,6 @@ module _ {S F D : Type 0} (meaning : StoreMeaning S D) (sources : SourceMeaning 
             all = omega (arith, events, all);
             each = λ k e h there. let was = c.each k e h there in omega (arith, events, was);
           })
-      step_counted s t (No_request_found d) own kept few c =
-          subst Counted (sym d.is) (as_before s _ refl refl refl refl c)
-      step_counted s t (Request_not_received d) own kept few c =
-          subst Counted (sym d.is) (as_before s _ refl refl refl refl c)
       step_counted s t (Request_noted d) own kept few c =
           subst Counted (sym d.is)
           (as_before s _ refl refl refl (note_since (received_since port s.events) d.note) c)
@@ -238,35 +229,22 @@ module _ {S F D : Type 0} (meaning : StoreMeaning S D) (sources : SourceMeaning 
       step_counted s t (Request_lost d) own kept few c =
           let before = c.few in
           subst Counted (sym d.is) (record { opened = c.opened; few = omega (arith, before); all = c.all; each = c.each })
-      step_counted s t (Clock_read d) own kept few c = subst Counted (sym d.is) (as_before s _ refl refl refl refl c)
-      step_counted s t (Store_set d) own kept few c = subst Counted (sym d.is) (as_before s _ refl refl refl refl c)
-      step_counted s t (Drain_begun d) own kept few c = subst Counted (sym d.is) (as_before s _ refl refl refl refl c)
       step_counted s t (Transfer_closed d) own kept few c =
           subst Counted (sym d.is) (record {
             opened = c.opened;
             few = c.few;
             all = c.all;
             each =
-                λ k e h.
-                all_removed (Counts (received_since port s.events) c.opened) s.timers 0 d.index d.timer (omega arith) d.within
-                (λ k e l h apart. c.each k e h) k e (omega arith) h;
+                removed_all (Counts (received_since port s.events) c.opened) s.timers d.index d.timer d.within
+                (λ k e h apart. c.each k e h);
           })
+      step_counted s t does own kept few c = subst Counted (sym (state_is does)) (as_before s _ refl refl refl refl c)
 
     -- ---- along a run
     -- the request port stays
     same_requests : (s t : LoopState S F D) → LoopStep meaning sources s t → t.requests ≡ s.requests
     same_requests s t (Waited d) = ap (λ (u : LoopState S F D). u.requests) d.is
-    same_requests s t (At_port d) = ap (λ (u : LoopState S F D). u.requests) d.is
-    same_requests s t (Request_received d) = ap (λ (u : LoopState S F D). u.requests) d.is
-    same_requests s t (No_request_found d) = ap (λ (u : LoopState S F D). u.requests) d.is
-    same_requests s t (Request_not_received d) = ap (λ (u : LoopState S F D). u.requests) d.is
-    same_requests s t (Request_noted d) = ap (λ (u : LoopState S F D). u.requests) d.is
-    same_requests s t (Request_answered d) = ap (λ (u : LoopState S F D). u.requests) d.is
-    same_requests s t (Request_lost d) = ap (λ (u : LoopState S F D). u.requests) d.is
-    same_requests s t (Clock_read d) = ap (λ (u : LoopState S F D). u.requests) d.is
-    same_requests s t (Store_set d) = ap (λ (u : LoopState S F D). u.requests) d.is
-    same_requests s t (Transfer_closed d) = ap (λ (u : LoopState S F D). u.requests) d.is
-    same_requests s t (Drain_begun d) = ap (λ (u : LoopState S F D). u.requests) d.is
+    same_requests s t does = ap (λ (u : LoopState S F D). u.requests) (state_is does)
 
     requests_along : (start now : LoopState S F D) → Run (LoopStep meaning sources) start now → now.requests ≡ start.requests
     requests_along start now Start = refl

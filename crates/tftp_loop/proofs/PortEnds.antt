@@ -5,16 +5,17 @@ use Rattle.tftp_loop.proofs.Common.{ap, subst, ◌∙◌, inl, inr, ⊤, is_some
 use Rattle.tftp_loop.proofs.Common.{SourceMeaning, wait_of, EndState, is_progress, after_turn, timeout_turn, Step}
 use Rattle.tftp_loop.proofs.Common.{StoreMeaning, drafting_sink, TransferState, ServerState, at, is_closed, with_next}
 use Rattle.tftp_loop.proofs.Common.{KeepsHeld, with_end, WorksAt, deadline_of, Run, Start, Then, IsTimed, Timer}
-use Rattle.tftp_loop.proofs.Common.{PortState, PortStep, deadline_by, marked_as, restarted, timeouts_after, timer_after}
-use Rattle.tftp_loop.proofs.Common.{wait_in, A_datagram, A_lost_datagram, A_late_datagram, Nothing_found}
-use Rattle.tftp_loop.proofs.Common.{A_failed_receive, A_timeout, A_missed_timeout, Work, IsIdleAt, ReceivesNoneAt}
+use Rattle.tftp_loop.proofs.Common.{PortState, PortStep, deadline_by, restarted, timeouts_after, timer_after, wait_in}
+use Rattle.tftp_loop.proofs.Common.{A_datagram, A_lost_datagram, A_timeout, A_missed_timeout, Work, IsIdleAt}
+use Rattle.tftp_loop.proofs.Common.{ReceivesNoneAt}
 use Rattle.std.specs.Prelude.{max}
 use Rattle.tftp_ends.specs.declared.role.Role.{Role}
 use Rattle.tftp_server.specs.State.{is_open}
 use Rattle.tftp_loop.specs.Steps.{expiring}
-use Rattle.tftp_loop.proofs.EndSteps.{Moves, closed_left, datagram_left, datagram_moves, most_left, moves_limit, open_left, timeout_spends}
-use Rattle.tftp_loop.proofs.EndSteps.{timeouts_left}
+use Rattle.tftp_loop.proofs.EndSteps.{Moves, closed_left, datagram_left, datagram_moves, most_left, moves_limit}
+use Rattle.tftp_loop.proofs.EndSteps.{open_left, timeout_spends, timeouts_left}
 use Rattle.tftp_loop.proofs.PortLemmas.{set_found}
+use Rattle.tftp_loop.proofs.NewStates.{timer_is, server_is}
 
 -- an end handled a datagram, with or without progress
 pub record HandledSo (e e' : EndState) (progress : Bool) : Type 0 where
@@ -172,20 +173,8 @@ module _ {S F D : Type 0} (meaning : StoreMeaning S D) (sources : SourceMeaning 
       → SameTimer old.timer new.timer
   same_timer now old new (A_datagram d) = same_by old.timer new.timer
       (timer_after now d.step.progress old.timer) d.timer (after_same now d.step.progress old.timer)
-  same_timer now old new (A_lost_datagram d) = same_by old.timer new.timer (timer_after now false old.timer) d.timer
-      (record { port = refl; peer = refl; interval = refl; backoff = refl; age = refl })
-  same_timer now old new (A_late_datagram d) = same_by old.timer new.timer (timer_after now false old.timer) d.timer
-      (record { port = refl; peer = refl; interval = refl; backoff = refl; age = refl })
-  same_timer now old new (Nothing_found d) = same_by old.timer new.timer (marked_as false old.timer) d.timer
-      (record { port = refl; peer = refl; interval = refl; backoff = refl; age = refl })
-  same_timer now old new (A_failed_receive d) = same_by old.timer new.timer (marked_as true old.timer) d.timer
-      (record { port = refl; peer = refl; interval = refl; backoff = refl; age = refl })
-  same_timer now old new (A_timeout d) = same_by old.timer new.timer
-      (restarted now (is_some d.step.to) old.timer) d.timer
-      (record { port = refl; peer = refl; interval = refl; backoff = refl; age = refl })
-  same_timer now old new (A_missed_timeout d) = same_by old.timer new.timer (restarted now false old.timer) d.timer
-      (record { port = refl; peer = refl; interval = refl; backoff = refl; age = refl })
-  same_timer now old new (Work d) = same_by old.timer new.timer old.timer d.timer
+  same_timer now old new does =
+      same_by old.timer new.timer _ (timer_is does)
       (record { port = refl; peer = refl; interval = refl; backoff = refl; age = refl })
 
   -- the configuration never changes
@@ -193,12 +182,9 @@ module _ {S F D : Type 0} (meaning : StoreMeaning S D) (sources : SourceMeaning 
       → new.server.config ≡ old.server.config
   same_config now old new (A_datagram d) = d.handles.config
   same_config now old new (A_lost_datagram d) = d.loses.config
-  same_config now old new (A_late_datagram d) = ap (λ (s : ServerState S F D). s.config) d.server
-  same_config now old new (Nothing_found d) = ap (λ (s : ServerState S F D). s.config) d.server
-  same_config now old new (A_failed_receive d) = ap (λ (s : ServerState S F D). s.config) d.server
   same_config now old new (A_timeout d) = ap (λ (s : ServerState S F D). s.config) d.times_out.rest
-  same_config now old new (A_missed_timeout d) = ap (λ (s : ServerState S F D). s.config) d.server
   same_config now old new (Work d) = d.works.config
+  same_config now old new does = ap (λ (s : ServerState S F D). s.config) (server_is does)
 
   -- a run at a port leaves the configuration of the server
   pub config_along : (now : ℕ) (old new : PortState S F D) → Run (PortStep meaning sources now) old new
@@ -259,24 +245,6 @@ module _ {S F D : Type 0} (meaning : StoreMeaning S D) (sources : SourceMeaning 
         changes = By_nothing keeps.1.end (ap (λ (t : Timer). t.deadline) d.timer)
             (ap (λ (t : Timer). wait_in t) d.timer) (ap (λ (t : Timer). t.timeouts) d.timer) (ap (λ (t : Timer). t.provisional) d.timer);
       }
-  at_transfer now old new (A_late_datagram d) transfer found = record {
-    next = transfer;
-    found = ap (λ (s : ServerState S F D). at old.timer.port s.held) d.server ∙ found;
-    changes = By_nothing refl (ap (λ (t : Timer). t.deadline) d.timer) (ap (λ (t : Timer). wait_in t) d.timer) (ap (λ (t : Timer). t.timeouts) d.timer)
-        (ap (λ (t : Timer). t.provisional) d.timer);
-  }
-  at_transfer now old new (Nothing_found d) transfer found = record {
-    next = transfer;
-    found = ap (λ (s : ServerState S F D). at old.timer.port s.held) d.server ∙ found;
-    changes = By_nothing refl (ap (λ (t : Timer). t.deadline) d.timer) (ap (λ (t : Timer). wait_in t) d.timer) (ap (λ (t : Timer). t.timeouts) d.timer)
-        (ap (λ (t : Timer). t.provisional) d.timer);
-  }
-  at_transfer now old new (A_failed_receive d) transfer found = record {
-    next = transfer;
-    found = ap (λ (s : ServerState S F D). at old.timer.port s.held) d.server ∙ found;
-    changes = By_nothing refl (ap (λ (t : Timer). t.deadline) d.timer) (ap (λ (t : Timer). wait_in t) d.timer) (ap (λ (t : Timer). t.timeouts) d.timer)
-        (ap (λ (t : Timer). t.provisional) d.timer);
-  }
   at_transfer now old new (A_timeout d) transfer found =
       let t = d.times_out.times_out in
       let own = same_transfer old.timer.port old.server.held t.transfer transfer t.found found in
@@ -307,3 +275,10 @@ module _ {S F D : Type 0} (meaning : StoreMeaning S D) (sources : SourceMeaning 
             (ap (λ (t : Timer). t.deadline) d.timer) (ap (λ (t : Timer). wait_in t) d.timer) (ap (λ (t : Timer). t.timeouts) d.timer)
             (ap (λ (t : Timer). t.provisional) d.timer);
       }
+  at_transfer now old new does transfer found = record {
+    next = transfer;
+    found = ap (λ (s : ServerState S F D). at old.timer.port s.held) (server_is does) ∙ found;
+    changes = By_nothing refl (ap (λ (t : Timer). t.deadline) (timer_is does))
+        (ap (λ (t : Timer). wait_in t) (timer_is does)) (ap (λ (t : Timer). t.timeouts) (timer_is does))
+        (ap (λ (t : Timer). t.provisional) (timer_is does));
+  }

@@ -3,12 +3,12 @@ use Rattle.tftp_loop.proofs.Common.{arith, ◌≡◌, ◌≤◌, ◌==◌, ◌||
 use Rattle.tftp_loop.proofs.Common.{IsSome, ◌+◌, refl, sym, ap, subst, ◌∙◌, is_at, nat_cmp, eq-eqb, SourceMeaning}
 use Rattle.tftp_loop.proofs.Common.{Endpoint, is_some, wait_of, Reply, StoreMeaning, TransferState, ServerState, at}
 use Rattle.tftp_loop.proofs.Common.{with_next, KeepsHeld, WorksAt, deadline_of, SocketEvent, answered, replied}
-use Rattle.tftp_loop.proofs.Common.{Received, Elapsed, Quiet, Empty, Failed, was_tried, Run, Start, Then, Timer}
-use Rattle.tftp_loop.proofs.Common.{PortState, PortStep, marked_as, restarted, timer_after, A_datagram, A_lost_datagram}
-use Rattle.tftp_loop.proofs.Common.{A_late_datagram, Nothing_found, A_failed_receive, A_timeout, A_missed_timeout, Work}
-use Rattle.tftp_loop.proofs.Common.{IsRead, KeepsTries}
+use Rattle.tftp_loop.proofs.Common.{Received, Elapsed, was_tried, Run, Start, Then, Timer, PortState, PortStep}
+use Rattle.tftp_loop.proofs.Common.{restarted, timer_after, A_datagram, A_lost_datagram, A_timeout, A_missed_timeout}
+use Rattle.tftp_loop.proofs.Common.{Work, IsRead, KeepsTries}
 use Rattle.tftp_loop.specs.Steps.{next_look}
 use Rattle.tftp_loop.proofs.Tables.{set_apart, set_there}
+use Rattle.tftp_loop.proofs.NewStates.{trace_is, timer_is, server_is, new_trace}
 
 -- a disjunction is true by its second part
 pub or_right : (a b : Bool) → b ≡ true → (a || b) ≡ true
@@ -134,11 +134,11 @@ module _ {S F D : Type 0} (meaning : StoreMeaning S D) (sources : SourceMeaning 
   read_by timer after es same tried marked = subst (λ (p : ℕ). was_tried p es ≡ true) (sym same) tried
 
   -- a step that begins with a receive at its port
-  receives_at : (old new : PortState S F D) (event : SocketEvent)
-      → ((q : ℕ) → was_tried q (event ∷ old.events) ≡ ((old.timer.port == q) || was_tried q old.events))
-      → KeepsTries (event ∷ old.events) new.events → new.timer.port ≡ old.timer.port
-      → StaysHeld old.timer.port old.server.held new.server.held → (Looks old.timer → Looks new.timer) → StaysAt old new
-  receives_at old new event reads more port held look = record {
+  receives_at : (old new : PortState S F D) (noted : List SocketEvent) → KeepsTries noted new.events
+      → ((q : ℕ) → was_tried q noted ≡ ((old.timer.port == q) || was_tried q old.events))
+      → new.timer.port ≡ old.timer.port → StaysHeld old.timer.port old.server.held new.server.held
+      → (Looks old.timer → Looks new.timer) → StaysAt old new
+  receives_at old new noted more reads port held look = record {
     port = port;
     held = held;
     look = look;
@@ -151,31 +151,20 @@ module _ {S F D : Type 0} (meaning : StoreMeaning S D) (sources : SourceMeaning 
   -- a step at a port keeps the rest of the server
   pub stays_at : (now : ℕ) (old new : PortState S F D) → PortStep meaning sources now old new → StaysAt old new
   stays_at now old new (A_datagram d) =
-      let received = Received old.timer.port d.from d.bytes in
-      receives_at old new received (λ q. refl)
-      (subst (KeepsTries (received ∷ old.events)) (sym d.handles.events)
-      (answered_tries old.timer.port d.handles.takes.takes.turn.reply (received ∷ old.events)))
+      let received = Received old.timer.port d.from d.bytes ∷ old.events in
+      receives_at old new received
+      (subst (KeepsTries received) (sym d.handles.events)
+      (answered_tries old.timer.port d.handles.takes.takes.turn.reply received)) (λ q. refl)
       (ap (λ (t : Timer). t.port) d.timer ∙ after_port now d.step.progress old.timer)
       (next_held old.timer.port old.server.held new.server.held d.handles.takes.next d.handles.takes.held)
       (λ h. looks_by (timer_after now d.step.progress old.timer) new.timer d.timer
       (after_looks now d.step.progress old.timer))
   stays_at now old new (A_lost_datagram d) =
-      receives_at old new (Received old.timer.port d.from d.bytes) (λ q. refl) (same_tries _ new.events d.events)
+      receives_at old new (Received old.timer.port d.from d.bytes ∷ old.events) (same_tries _ new.events d.events)
+      (λ q. refl)
       (ap (λ (t : Timer). t.port) d.timer)
       (keeps_held old.timer.port (at old.timer.port old.server.held) old.server new.server d.loses.keeps)
       (λ h. looks_by (timer_after now false old.timer) new.timer d.timer (omega arith))
-  stays_at now old new (A_late_datagram d) =
-      receives_at old new (Received old.timer.port d.from d.bytes) (λ q. refl) (same_tries _ new.events d.events)
-      (ap (λ (t : Timer). t.port) d.timer) (same_server old.timer.port old.server new.server d.server)
-      (λ h. looks_by (timer_after now false old.timer) new.timer d.timer (omega arith))
-  stays_at now old new (Nothing_found d) =
-      receives_at old new (Quiet (Empty old.timer.port)) (λ q. refl) (same_tries _ new.events d.events)
-      (ap (λ (t : Timer). t.port) d.timer) (same_server old.timer.port old.server new.server d.server)
-      (λ h. looks_by (marked_as false old.timer) new.timer d.timer (omega arith))
-  stays_at now old new (A_failed_receive d) =
-      receives_at old new (Quiet (Failed old.timer.port)) (λ q. refl) (same_tries _ new.events d.events)
-      (ap (λ (t : Timer). t.port) d.timer) (same_server old.timer.port old.server new.server d.server)
-      (λ h. looks_by (marked_as true old.timer) new.timer d.timer (omega arith))
   stays_at now old new (A_timeout d) =
       let port = ap (λ (t : Timer). t.port) d.timer in
       let elapsed = Elapsed old.timer.port now ∷ old.events in
@@ -207,6 +196,11 @@ module _ {S F D : Type 0} (meaning : StoreMeaning S D) (sources : SourceMeaning 
         tries = more;
         read = λ h. subst (IsRead new.events) (sym d.timer) (λ m. more old.timer.port (h m));
       }
+  stays_at now old new does =
+      let noted = (new_trace does).0 in
+      receives_at old new noted (same_tries noted new.events (trace_is does)) (λ q. refl)
+      (ap (λ (t : Timer). t.port) (timer_is does)) (same_server old.timer.port old.server new.server (server_is does))
+      (λ h. looks_by _ new.timer (timer_is does) (omega arith))
 
   stays_onward : (a b c : PortState S F D) → StaysAt a b → StaysAt b c → StaysAt a c
   stays_onward a b c x y = record {

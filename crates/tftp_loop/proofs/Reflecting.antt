@@ -10,10 +10,8 @@ use Rattle.tftp_loop.proofs.Common.{Closed, Terms, line_text, StoreMeaning, draf
 use Rattle.tftp_loop.proofs.Common.{A_transfer, Left, left_by, TransferState, ServerState, at, with_new, with_next}
 use Rattle.tftp_loop.proofs.Common.{KeepsHeld, with_end, WorksAt, Ask, Config, SocketEvent, answered, Received, Elapsed}
 use Rattle.tftp_loop.proofs.Common.{Printed, Run, Start, Then, PortState, LoopState, PortStep, LoopStep, after_request}
-use Rattle.tftp_loop.proofs.Common.{port_state, A_datagram, A_lost_datagram, A_late_datagram, Nothing_found}
-use Rattle.tftp_loop.proofs.Common.{A_failed_receive, A_timeout, A_missed_timeout, Work, At_port, Request_received}
-use Rattle.tftp_loop.proofs.Common.{No_request_found, Request_not_received, Request_noted, Request_answered}
-use Rattle.tftp_loop.proofs.Common.{Request_lost, Clock_read, Store_set, Transfer_closed, Drain_begun}
+use Rattle.tftp_loop.proofs.Common.{port_state, A_datagram, A_lost_datagram, A_late_datagram, A_timeout, Work, At_port}
+use Rattle.tftp_loop.proofs.Common.{Request_received, Request_answered, Request_lost, Transfer_closed}
 use Rattle.std.proofs.Common.{le-ltb, zero-add}
 use Rattle.std.proofs.Math.Nat.{mul-suc}
 use Rattle.std.specs.Prelude.{◌==◌}
@@ -24,12 +22,10 @@ use Rattle.std.specs.declared.cmp.Ordering.{Ordering}
 use Rattle.std.specs.declared.cmp.Ordering.TheVariants.{Less, Equal, Greater}
 use Rattle.tftp_ends.specs.Action.{same_endpoint, timeout_response}
 use Rattle.tftp_ends.specs.Phase.{closed}
-use Rattle.tftp_ends.specs.declared.outcome.Outcome.TheVariants as outcomes
 use Rattle.tftp_ends.specs.declared.phase.Dally.TheVariants.{Waited}
 use Rattle.tftp_lines.specs.declared.printed.Printed.TheVariants.{Closed as Closed_line}
 use Rattle.tftp_sockets.specs.Trace.SocketEvent.{Sent}
 use Rattle.tftp_loop.specs.Reflected.{SendsAtMost, received_from, sent_to}
-use Rattle.tftp_loop.specs.Steps.LoopStep.{Waited as Has_waited}
 use Rattle.tftp_loop.proofs.AnsweringEnds.{AnswersOne, IsAt, NoBlock, SendsTo, To_other, To_peer, datagram_answers}
 use Rattle.tftp_loop.proofs.AnsweringEnds.{timeout_answers}
 use Rattle.tftp_loop.proofs.EndSteps.{datagram_moves, moves_limit, timeout_spends}
@@ -37,6 +33,8 @@ use Rattle.tftp_loop.proofs.HeldLemmas.{held_at, held_new, held_next, held_witho
 use Rattle.tftp_loop.proofs.OpenedEnds.{BeginsAt, OpensFor, OpensIn, To_read, To_write, opens_for, serves_begins}
 use Rattle.tftp_loop.proofs.OpenedEnds.{write_begins}
 use Rattle.tftp_loop.proofs.PortEnds.{HasLimit, same_config}
+use Rattle.tftp_loop.proofs.NewStates.{state_is, trace_is, server_is}
+use Rattle.tftp_ends.specs.declared.outcome.Outcome.TheVariants as outcomes
 
 -- ---- the sum over a table
 module _ {T : Type 0} (weight : T → ℕ) where
@@ -444,12 +442,6 @@ module _ {S F D : Type 0} (meaning : StoreMeaning S D) (sources : SourceMeaning 
   port_fair now s t (A_late_datagram d) serve =
       fair_held s.server t.server s.events t.events d.server
       (fair_received s.timer.port d.from d.bytes s.server.held s.events t.events d.events serve)
-  port_fair now s t (Nothing_found d) serve =
-      quiet s.server t.server s.events t.events d.server (λ peer. ap (sent_to peer) d.events)
-      (λ peer. ap (received_from peer) d.events) serve
-  port_fair now s t (A_failed_receive d) serve =
-      quiet s.server t.server s.events t.events d.server (λ peer. ap (sent_to peer) d.events)
-      (λ peer. ap (received_from peer) d.events) serve
   port_fair now s t (A_timeout d) serve =
       let times_out = d.times_out.times_out in
       let transfer = times_out.transfer in
@@ -470,12 +462,12 @@ module _ {S F D : Type 0} (meaning : StoreMeaning S D) (sources : SourceMeaning 
       let costs = subst (λ (e : EndState). answer_to peer turn.reply + owed peer e ≤ owed peer transfer.end)
       (sym times_out.carries.state) (timeout_costs peer transfer.end transfer.end.position.phase) in
       omega (arith, costs))
-  port_fair now s t (A_missed_timeout d) serve =
-      quiet s.server t.server s.events t.events d.server (λ peer. ap (sent_to peer) d.events)
-      (λ peer. ap (received_from peer) d.events) serve
   port_fair now s t (Work d) serve =
       worked s.timer.port (at s.timer.port s.server.held) s.server t.server s.events t.events refl d.works.works
       d.events serve
+  port_fair now s t does serve =
+      quiet s.server t.server s.events t.events (server_is does) (λ peer. ap (sent_to peer) (trace_is does))
+      (λ peer. ap (received_from peer) (trace_is does)) serve
 
   -- ---- at all ports
   -- what a pending datagram may bring
@@ -599,7 +591,6 @@ module _ {S F D : Type 0} (meaning : StoreMeaning S D) (sources : SourceMeaning 
       subst (IsFair s) (sym is) (quiet_step s u serving config held pending sent received)
 
   step_fair : (s t : LoopState S F D) → LoopStep meaning sources s t → AreServing s → IsFair s t
-  step_fair s t (Has_waited d) serving = quietly s t _ d.is serving refl refl refl (λ peer. refl) (λ peer. refl)
   step_fair s t (At_port d) serving =
       let fair = port_fair s.now (port_state s d.timer) d.next d.does serving.serve in
       let config = same_config meaning sources s.now (port_state s d.timer) d.next d.does in
@@ -620,12 +611,6 @@ module _ {S F D : Type 0} (meaning : StoreMeaning S D) (sources : SourceMeaning 
             (allowed peer (Received s.requests d.from d.bytes ∷ s.events)) more in
             omega (arith, none, fits);
       })
-  step_fair s t (No_request_found d) serving =
-      quietly s t _ d.is serving refl refl refl (λ peer. refl) (λ peer. refl)
-  step_fair s t (Request_not_received d) serving =
-      quietly s t _ d.is serving refl refl refl (λ peer. refl) (λ peer. refl)
-  step_fair s t (Request_noted d) serving =
-      quietly s t _ d.is serving refl refl refl (λ peer. refl) (λ peer. refl)
   step_fair s t (Request_answered d) serving =
       subst (IsFair s) (sym d.is)
       (subst (λ (left : Left S F D). IsFair s (after_request s d.from left)) (sym d.steps.left)
@@ -638,8 +623,6 @@ module _ {S F D : Type 0} (meaning : StoreMeaning S D) (sources : SourceMeaning 
         balance = λ peer. dropped (sent_to peer s.events) (owed_by peer s.server.held) (awaited peer s.pending)
             (allowed peer s.events);
       })
-  step_fair s t (Clock_read d) serving = quietly s t _ d.is serving refl refl refl (λ peer. refl) (λ peer. refl)
-  step_fair s t (Store_set d) serving = quietly s t _ d.is serving refl refl refl (λ peer. refl) (λ peer. refl)
   step_fair s t (Transfer_closed d) serving =
       subst (IsFair s) (sym d.is) (record {
         config = serving.config;
@@ -651,7 +634,8 @@ module _ {S F D : Type 0} (meaning : StoreMeaning S D) (sources : SourceMeaning 
             (Printed (line_text (Closed_line d.timer.port d.timer.peer.port d.outcome)) ∷ s.events) refl in
             omega (arith, fewer, same);
       })
-  step_fair s t (Drain_begun d) serving = quietly s t _ d.is serving refl refl refl (λ peer. refl) (λ peer. refl)
+  step_fair s t does serving =
+      quietly s t _ (state_is does) serving refl refl refl (λ peer. refl) (λ peer. refl)
 
   -- ---- along a run
   fair_along : (s t : LoopState S F D) → AreServing s → Run (LoopStep meaning sources) s t → IsFair s t

@@ -1,16 +1,13 @@
 -- A port that a wait reported is read by the next wait. For `a_server_reads_what_is_reported`.
-use Rattle.tftp_loop.proofs.Common.{arith, ◌≡◌, ◌<◌, ◌==◌, ◌⊎◌, ℕ, true, List, [], ◌∷◌, length, map, Option, None, refl}
-use Rattle.tftp_loop.proofs.Common.{sym, ap, subst, ◌∙◌, inl, inr, slice_set, slice_index_or, cases_eq, none-some}
-use Rattle.tftp_loop.proofs.Common.{length-map, SourceMeaning, Backoff, Endpoint, StoreMeaning, TransferState}
-use Rattle.tftp_loop.proofs.Common.{ServerState, at, taken_of, with_new, Came, Left, Nothing, Error_reply, A_transfer}
-use Rattle.tftp_loop.proofs.Common.{left_by, SocketEvent, replied, Received, Quiet, Empty, Failed, is_among, was_tried}
-use Rattle.tftp_loop.proofs.Common.{Run, Start, Then, LoopConfig, Timer, PortState, LoopState, PortStep, LoopStep}
-use Rattle.tftp_loop.proofs.Common.{Waits, answering_port, at_start, interval_at, marked_by, port_state, started}
-use Rattle.tftp_loop.proofs.Common.{with_timer, set_by, A_datagram, A_lost_datagram, A_late_datagram, Nothing_found}
-use Rattle.tftp_loop.proofs.Common.{A_failed_receive, A_timeout, A_missed_timeout, Work, Waited, At_port}
-use Rattle.tftp_loop.proofs.Common.{Request_received, No_request_found, Request_not_received, Request_noted}
-use Rattle.tftp_loop.proofs.Common.{Request_answered, Request_lost, Clock_read, Store_set, Transfer_closed, Drain_begun}
-use Rattle.tftp_loop.proofs.Common.{IsNoWait, HavePortsApart, AreKept, KeepsTries}
+use Rattle.tftp_loop.proofs.Common.{after_request, arith, ◌≡◌, ◌<◌, ◌==◌, ◌⊎◌, ℕ, true, List, [], ◌∷◌, length, map}
+use Rattle.tftp_loop.proofs.Common.{Option, None, refl, sym, ap, subst, ◌∙◌, inl, inr, slice_set, slice_index_or}
+use Rattle.tftp_loop.proofs.Common.{cases_eq, none-some, length-map, SourceMeaning, Endpoint, StoreMeaning}
+use Rattle.tftp_loop.proofs.Common.{TransferState, ServerState, at, taken_of, with_new, Came, Left, A_transfer, left_by}
+use Rattle.tftp_loop.proofs.Common.{SocketEvent, Received, is_among, was_tried, Run, Start, Then, LoopConfig, Timer}
+use Rattle.tftp_loop.proofs.Common.{PortState, LoopState, PortStep, LoopStep, Waits, at_start, interval_at, marked_by}
+use Rattle.tftp_loop.proofs.Common.{port_state, started, set_by, A_datagram, A_timeout, A_missed_timeout, Work, Waited}
+use Rattle.tftp_loop.proofs.Common.{At_port, Request_received, No_request_found, Request_not_received, Request_noted}
+use Rattle.tftp_loop.proofs.Common.{Request_answered, Transfer_closed, IsNoWait, HavePortsApart, AreKept, KeepsTries}
 use Rattle.tftp_ends.specs.declared.backoff.Backoff.TheVariants.{Constant}
 use Rattle.tftp_loop.specs.Reported.{GoesOn, Goes_by, HasTimer}
 use Rattle.tftp_loop.proofs.ListLemmas.{map_at, set_long}
@@ -22,6 +19,7 @@ use Rattle.tftp_loop.proofs.Tables.{any_default, appended_at, appended_long, ins
 use Rattle.tftp_loop.proofs.Tables.{removed_index, set_other, set_own}
 use Rattle.tftp_loop.proofs.Visits.{works_unclosed}
 use Rattle.tftp_loop.proofs.Waits.{waited_at}
+use Rattle.tftp_loop.proofs.NewStates.{state_is, new_trace, trace_is}
 
 -- ---- at the port
 module _ {S F D : Type 0} (meaning : StoreMeaning S D) (sources : SourceMeaning F) where
@@ -38,32 +36,6 @@ module _ {S F D : Type 0} (meaning : StoreMeaning S D) (sources : SourceMeaning 
 
   due_at : (now : ℕ) (old new : PortState S F D) → PortStep meaning sources now old new → old.timer.marked ≡ true →
       taken_of (at old.timer.port old.server.held) ≡ None → IsDueAt new
-  due_at now old new (A_datagram d) marked unclosed =
-      let received = Received old.timer.port d.from d.bytes ∷ old.events in
-      tried_at old new (stays_at meaning sources now old new (A_datagram d)) received
-      (subst (KeepsTries received) (sym d.handles.events)
-      (answered_tries old.timer.port d.handles.takes.takes.turn.reply received))
-      (own_receive old.timer.port (was_tried old.timer.port old.events))
-  due_at now old new (A_lost_datagram d) marked unclosed =
-      let received = Received old.timer.port d.from d.bytes ∷ old.events in
-      tried_at old new (stays_at meaning sources now old new (A_lost_datagram d)) received
-      (subst (KeepsTries received) (sym d.events) (λ q h. h))
-      (own_receive old.timer.port (was_tried old.timer.port old.events))
-  due_at now old new (A_late_datagram d) marked unclosed =
-      let received = Received old.timer.port d.from d.bytes ∷ old.events in
-      tried_at old new (stays_at meaning sources now old new (A_late_datagram d)) received
-      (subst (KeepsTries received) (sym d.events) (λ q h. h))
-      (own_receive old.timer.port (was_tried old.timer.port old.events))
-  due_at now old new (Nothing_found d) marked unclosed =
-      let found = Quiet (Empty old.timer.port) ∷ old.events in
-      tried_at old new (stays_at meaning sources now old new (Nothing_found d)) found
-      (subst (KeepsTries found) (sym d.events) (λ q h. h))
-      (own_receive old.timer.port (was_tried old.timer.port old.events))
-  due_at now old new (A_failed_receive d) marked unclosed =
-      let found = Quiet (Failed old.timer.port) ∷ old.events in
-      tried_at old new (stays_at meaning sources now old new (A_failed_receive d)) found
-      (subst (KeepsTries found) (sym d.events) (λ q h. h))
-      (own_receive old.timer.port (was_tried old.timer.port old.events))
   due_at now old new (A_timeout d) marked unclosed =
       let stays = stays_at meaning sources now old new (A_timeout d) in
       tried_at old new stays old.events stays.tries d.tried
@@ -82,6 +54,17 @@ module _ {S F D : Type 0} (meaning : StoreMeaning S D) (sources : SourceMeaning 
             ∙ works_unclosed meaning sources old.timer.port (at old.timer.port old.server.held) old.server new.server
             refl d.works.works unclosed,
       )
+  due_at now old new (A_datagram d) marked unclosed =
+      let received = Received old.timer.port d.from d.bytes ∷ old.events in
+      tried_at old new (stays_at meaning sources now old new (A_datagram d)) received
+      (subst (KeepsTries received) (sym d.handles.events)
+      (answered_tries old.timer.port d.handles.takes.takes.turn.reply received))
+      (own_receive old.timer.port (was_tried old.timer.port old.events))
+  due_at now old new does marked unclosed =
+      let noted = (new_trace does).0 in
+      tried_at old new (stays_at meaning sources now old new does) noted
+      (subst (KeepsTries noted) (sym (trace_is does)) (λ q h. h))
+      (own_receive old.timer.port (was_tried old.timer.port old.events))
 
   -- ---- at all ports
   -- the timer of the port is marked, and its transfer is open
@@ -155,21 +138,12 @@ module _ {S F D : Type 0} (meaning : StoreMeaning S D) (sources : SourceMeaning 
             })
       ]
 
-  opens_due : (port now : ℕ) (longest : Option ℕ) (backoff : Backoff) (from : Endpoint) (tid : ℕ) (s : LoopState S F D) (es : List SocketEvent) (came : Came S F D) →
+  opens_due : (port : ℕ) (from : Endpoint) (tid : ℕ) (s : LoopState S F D) (came : Came S F D) →
       at tid s.server.held ≡ None → AreKept s.server.held s.timers → IsDue port s
-      → IsDue port (record s {
-        server = (left_by came s.server from tid).new;
-        pending = None;
-        timers =
-            with_timer now longest backoff from (left_by came s.server from tid).opened.tid (left_by came s.server from tid).new.held
-            s.timers;
-        events = es;
-      })
-  opens_due port now longest backoff from tid s es Nothing free kept due = same_due port s _ refl refl due
-  opens_due port now longest backoff from tid s es (Error_reply reply store) free kept due = same_due port s _ refl refl due
-  opens_due port now longest backoff from tid s es (A_transfer transfer store) free kept due =
+      → IsDue port (after_request s from (left_by came s.server from tid))
+  opens_due port from tid s (A_transfer transfer store) free kept due =
       let held = with_new tid transfer s.server.held in
-      let timer = started now longest backoff tid from (interval_at (at tid held)) in
+      let timer = started s.now s.longest s.backoff tid from (interval_at (at tid held)) in
       let long = appended_long s.timers timer in
       let apart : port ≡ tid → ⊥ =
       λ e. some_none (at (slice_index_or s.timers due.index timer).port s.server.held)
@@ -184,6 +158,7 @@ module _ {S F D : Type 0} (meaning : StoreMeaning S D) (sources : SourceMeaning 
             ap (λ (o : Option (TransferState F D)). taken_of o) (inserted_apart tid port transfer s.server.held apart)
             ∙ due.unclosed;
       }
+  opens_due port from tid s came free kept due = same_due port s _ refl refl due
 
   step_reads : (port : ℕ) (s t : LoopState S F D) (does : LoopStep meaning sources s t) → IsNoWait meaning sources does →
       AreKept s.server.held s.timers → Reads port s → Reads port t
@@ -195,43 +170,18 @@ module _ {S F D : Type 0} (meaning : StoreMeaning S D) (sources : SourceMeaning 
       subst (Reads port) (sym d.is) (step_at port s d.index d.timer d.next d.within d.is_timer d.does kept.apart due)
   step_reads port s t (Request_received d) is kept (inl tried) =
       subst (Reads port) (sym d.is) (inl (or_right (s.requests == port) (was_tried port s.events) tried))
-  step_reads port s t (Request_received d) is kept (inr due) =
-      subst (Reads port) (sym d.is) (inr (same_due port s _ refl refl due))
   step_reads port s t (No_request_found d) is kept (inl tried) =
       subst (Reads port) (sym d.is) (inl (or_right (s.requests == port) (was_tried port s.events) tried))
-  step_reads port s t (No_request_found d) is kept (inr due) =
-      subst (Reads port) (sym d.is) (inr (same_due port s _ refl refl due))
   step_reads port s t (Request_not_received d) is kept (inl tried) =
       subst (Reads port) (sym d.is) (inl (or_right (s.requests == port) (was_tried port s.events) tried))
-  step_reads port s t (Request_not_received d) is kept (inr due) =
-      subst (Reads port) (sym d.is) (inr (same_due port s _ refl refl due))
   step_reads port s t (Request_noted d) is kept (inl tried) =
       subst (Reads port) (sym d.is) (inl (note_tried port (was_tried port s.events) d.note ∙ tried))
-  step_reads port s t (Request_noted d) is kept (inr due) =
-      subst (Reads port) (sym d.is) (inr (same_due port s _ refl refl due))
   step_reads port s t (Request_answered d) is kept (inl tried) =
       subst (Reads port) (sym d.is) (inl (replied_tries _ d.left.opened.to d.left.sent s.events port tried))
   step_reads port s t (Request_answered d) is kept (inr due) =
-      let fs = replied (answering_port s.requests d.left.opened.tid) d.left.opened.to d.left.sent s.events in
       subst (Reads port) (sym d.is) (inr
-      (subst (λ (left : Left S F D). IsDue port
-      (record s {
-        server = left.new;
-        pending = None;
-        timers = with_timer s.now s.longest s.backoff d.from left.opened.tid left.new.held s.timers;
-        events = fs;
-      })) (sym d.steps.left)
-      (opens_due port s.now s.longest s.backoff d.from d.tid s fs d.steps.came d.free kept due)))
-  step_reads port s t (Request_lost d) is kept (inl tried) = subst (Reads port) (sym d.is) (inl tried)
-  step_reads port s t (Request_lost d) is kept (inr due) =
-      subst (Reads port) (sym d.is) (inr (same_due port s _ refl refl due))
-  step_reads port s t (Clock_read d) is kept (inl tried) = subst (Reads port) (sym d.is) (inl tried)
-  step_reads port s t (Clock_read d) is kept (inr due) =
-      subst (Reads port) (sym d.is) (inr (same_due port s _ refl refl due))
-  step_reads port s t (Store_set d) is kept (inl tried) = subst (Reads port) (sym d.is) (inl tried)
-  step_reads port s t (Store_set d) is kept (inr due) =
-      subst (Reads port) (sym d.is) (inr (same_due port s _ refl refl due))
-  step_reads port s t (Transfer_closed d) is kept (inl tried) = subst (Reads port) (sym d.is) (inl tried)
+      (subst (λ (left : Left S F D). IsDue port (after_request s d.from left)) (sym d.steps.left)
+      (opens_due port d.from d.tid s d.steps.came d.free kept due)))
   step_reads port s t (Transfer_closed d) is kept (inr due) =
       let other : due.index ≡ d.index → ⊥ =
       λ e. none-some d.taken
@@ -251,9 +201,9 @@ module _ {S F D : Type 0} (meaning : StoreMeaning S D) (sources : SourceMeaning 
             ap (λ (o : Option (TransferState F D)). taken_of o) (removed_apart d.timer.port port s.server.held apart)
             ∙ due.unclosed;
       }))
-  step_reads port s t (Drain_begun d) is kept (inl tried) = subst (Reads port) (sym d.is) (inl tried)
-  step_reads port s t (Drain_begun d) is kept (inr due) =
-      subst (Reads port) (sym d.is) (inr (same_due port s _ refl refl due))
+  step_reads port s t does is kept (inl tried) = subst (Reads port) (sym (state_is does)) (inl tried)
+  step_reads port s t does is kept (inr due) =
+      subst (Reads port) (sym (state_is does)) (inr (same_due port s _ refl refl due))
 
   record ReadsKept (port : ℕ) (s : LoopState S F D) : Type 0 where
     pub kept : AreKept s.server.held s.timers

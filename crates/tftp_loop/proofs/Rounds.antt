@@ -1,26 +1,14 @@
 -- A round lasts a second at most, by the clock of the program. For Expiring.
 use Rattle.tftp_loop.proofs.Common.{arith, ◌≡◌, ◌≤◌, ◌+◌, ◌⊎◌, ℕ, ap, inl, inr, SourceMeaning, StoreMeaning}
-use Rattle.tftp_loop.proofs.Common.{LONGEST_WAIT, LoopState, LoopStep, Waits, round_end, Waited, At_port}
-use Rattle.tftp_loop.proofs.Common.{Request_received, No_request_found, Request_not_received, Request_noted}
-use Rattle.tftp_loop.proofs.Common.{Request_answered, Request_lost, Clock_read, Store_set, Transfer_closed, Drain_begun}
-use Rattle.tftp_loop.proofs.Common.{IsNoWait}
+use Rattle.tftp_loop.proofs.Common.{LONGEST_WAIT, LoopState, LoopStep, Waits, round_end, Waited, Clock_read, IsNoWait}
+use Rattle.tftp_loop.proofs.NewStates.{state_is}
 
 module _ {S F D : Type 0} (meaning : StoreMeaning S D) (sources : SourceMeaning F) where
   -- a step is a wait or not
   pub wait_or_work : (s t : LoopState S F D) (does : LoopStep meaning sources s t)
       → Waits meaning sources s t ⊎ IsNoWait meaning sources does
   wait_or_work s t (Waited d) = inl d
-  wait_or_work s t (At_port d) = inr tt
-  wait_or_work s t (Request_received d) = inr tt
-  wait_or_work s t (No_request_found d) = inr tt
-  wait_or_work s t (Request_not_received d) = inr tt
-  wait_or_work s t (Request_noted d) = inr tt
-  wait_or_work s t (Request_answered d) = inr tt
-  wait_or_work s t (Request_lost d) = inr tt
-  wait_or_work s t (Clock_read d) = inr tt
-  wait_or_work s t (Store_set d) = inr tt
-  wait_or_work s t (Transfer_closed d) = inr tt
-  wait_or_work s t (Drain_begun d) = inr tt
+  wait_or_work s t does = inr tt
 
   -- the time since the round before the newest wait began, or since the beginning: a second at most
   pub record InRound (since : ℕ) (s : LoopState S F D) : Type 0 where
@@ -61,26 +49,6 @@ module _ {S F D : Type 0} (meaning : StoreMeaning S D) (sources : SourceMeaning 
   pub step_round : (since : ℕ) (s t : LoopState S F D) (does : LoopStep meaning sources s t)
       → IsNoWait meaning sources does → InRound since s → InRound since t
   step_round since s t (Waited d) is round = absurd is
-  step_round since s t (At_port d) is round =
-      same_round since s t (ap (λ (u : LoopState S F D). u.now) d.is) (ap (λ (u : LoopState S F D). u.limit) d.is) round
-  step_round since s t (Request_received d) is round =
-      same_round since s t (ap (λ (u : LoopState S F D). u.now) d.is) (ap (λ (u : LoopState S F D). u.limit) d.is) round
-  step_round since s t (No_request_found d) is round =
-      same_round since s t (ap (λ (u : LoopState S F D). u.now) d.is) (ap (λ (u : LoopState S F D). u.limit) d.is) round
-  step_round since s t (Request_not_received d) is round =
-      same_round since s t (ap (λ (u : LoopState S F D). u.now) d.is) (ap (λ (u : LoopState S F D). u.limit) d.is) round
-  step_round since s t (Request_noted d) is round =
-      same_round since s t (ap (λ (u : LoopState S F D). u.now) d.is) (ap (λ (u : LoopState S F D). u.limit) d.is) round
-  step_round since s t (Request_answered d) is round =
-      same_round since s t (ap (λ (u : LoopState S F D). u.now) d.is) (ap (λ (u : LoopState S F D). u.limit) d.is) round
-  step_round since s t (Request_lost d) is round =
-      same_round since s t (ap (λ (u : LoopState S F D). u.now) d.is) (ap (λ (u : LoopState S F D). u.limit) d.is) round
-  step_round since s t (Store_set d) is round =
-      same_round since s t (ap (λ (u : LoopState S F D). u.now) d.is) (ap (λ (u : LoopState S F D). u.limit) d.is) round
-  step_round since s t (Transfer_closed d) is round =
-      same_round since s t (ap (λ (u : LoopState S F D). u.now) d.is) (ap (λ (u : LoopState S F D). u.limit) d.is) round
-  step_round since s t (Drain_begun d) is round =
-      same_round since s t (ap (λ (u : LoopState S F D). u.now) d.is) (ap (λ (u : LoopState S F D). u.limit) d.is) round
   step_round since s t (Clock_read d) is round =
       let now : t.now ≡ d.watch.now = ap (λ (u : LoopState S F D). u.now) d.is in
       let limit = ap (λ (u : LoopState S F D). u.limit) d.is in
@@ -94,3 +62,6 @@ module _ {S F D : Type 0} (meaning : StoreMeaning S D) (sources : SourceMeaning 
         limit = omega (arith, limit, most);
         from = omega (arith, now, forward, from);
       }
+  step_round since s t does is round =
+      same_round since s t (ap (λ (u : LoopState S F D). u.now) (state_is does))
+      (ap (λ (u : LoopState S F D). u.limit) (state_is does)) round

@@ -5,9 +5,8 @@ use Rattle.tftp_loop.proofs.Common.{slice_index_or, is_some, All, ◌≢◌, lis
 use Rattle.tftp_loop.proofs.Common.{ServerState, LONGEST_WAIT, SocketEvent, Watched, is_among, is_drained, Run, Start}
 use Rattle.tftp_loop.proofs.Common.{Then, LoopConfig, Timer, LoopState, LoopStep, Waits, at_start, port_state, set_by}
 use Rattle.tftp_loop.proofs.Common.{until_look, Waited, At_port, Request_received, No_request_found}
-use Rattle.tftp_loop.proofs.Common.{Request_not_received, Request_noted, Request_answered, Request_lost, Clock_read}
-use Rattle.tftp_loop.proofs.Common.{Store_set, Transfer_closed, Drain_begun, is_draining, reads_requests, Work_by}
-use Rattle.tftp_loop.proofs.Common.{AreKept}
+use Rattle.tftp_loop.proofs.Common.{Request_not_received, Request_noted, Request_answered, Clock_read, is_draining}
+use Rattle.tftp_loop.proofs.Common.{reads_requests, Work_by, AreKept}
 use Rattle.tftp_loop.specs.Steps.{is_busy, read_at}
 use Rattle.tftp_loop.specs.Sleeps.{MaySleep}
 use Rattle.tftp_loop.proofs.OwnPorts.{HasItsOwnPort, has_its_own_port}
@@ -17,12 +16,17 @@ use Rattle.tftp_loop.proofs.LoopStays.{work_keeps}
 use Rattle.tftp_loop.proofs.NoteLemmas.{note_drained}
 use Rattle.tftp_loop.proofs.PortStays.{own_receive}
 use Rattle.tftp_loop.proofs.Waits.{set_kept, waited_kept}
+use Rattle.tftp_loop.proofs.NewStates.{state_is}
 
 module _ {S F D : Type 0} (meaning : StoreMeaning S D) (sources : SourceMeaning F) where
   -- ---- along a run
-  -- the request port was drained unless it is marked, and each timer is of its transfer
+  -- the request port was drained unless it is marked
+  abbrev IsDrained : LoopState S F D → Type 0
+  IsDrained s = s.marked ≡ false → is_drained s.requests s.events ≡ true
+
+  -- and each timer is of its transfer
   record IsQuiet (s : LoopState S F D) : Type 0 where
-    pub drained : s.marked ≡ false → is_drained s.requests s.events ≡ true
+    pub drained : IsDrained s
     pub kept : AreKept s.server.held s.timers
     pub looked : AreLooked s
 
@@ -34,42 +38,28 @@ module _ {S F D : Type 0} (meaning : StoreMeaning S D) (sources : SourceMeaning 
   both_false false true drained e f = not_marked e
   both_false false false drained e f = f refl
 
-  step_drained : (s t : LoopState S F D) → LoopStep meaning sources s t →
-      All (λ (timer : Timer). timer.port ≢ s.requests) s.timers
-      → (s.marked ≡ false → is_drained s.requests s.events ≡ true) → t.marked ≡ false →
-      is_drained t.requests t.events ≡ true
+  step_drained : (s t : LoopState S F D) → LoopStep meaning sources s t
+      → All (λ (timer : Timer). timer.port ≢ s.requests) s.timers → IsDrained s → IsDrained t
   step_drained s t (Waited d) own h =
-      subst (λ (u : LoopState S F D). u.marked ≡ false → is_drained u.requests u.events ≡ true) (sym d.is)
+      subst IsDrained (sym d.is)
       (λ m. both_false s.marked (is_among s.requests d.ports) (is_drained s.requests s.events) m h)
-  step_drained s t (Clock_read d) own h =
-      subst (λ (u : LoopState S F D). u.marked ≡ false → is_drained u.requests u.events ≡ true) (sym d.is) h
   step_drained s t (At_port d) own h =
-      subst (λ (u : LoopState S F D). u.marked ≡ false → is_drained u.requests u.events ≡ true) (sym d.is)
+      subst IsDrained (sym d.is)
       (λ m. port_drained meaning sources s.requests s.now (port_state s d.timer) d.next d.does
       (λ e. own d.index d.timer d.within (ap (λ (u : Timer). u.port) (sym d.is_timer) ∙ e)) (h m))
   step_drained s t (Request_received d) own h =
-      subst (λ (u : LoopState S F D). u.marked ≡ false → is_drained u.requests u.events ≡ true) (sym d.is)
-      (λ m. not_marked m)
+      subst IsDrained (sym d.is) (λ m. not_marked m)
   step_drained s t (No_request_found d) own h =
-      subst (λ (u : LoopState S F D). u.marked ≡ false → is_drained u.requests u.events ≡ true) (sym d.is)
-      (λ m. own_receive s.requests (is_drained s.requests s.events))
+      subst IsDrained (sym d.is) (λ m. own_receive s.requests (is_drained s.requests s.events))
   step_drained s t (Request_not_received d) own h =
-      subst (λ (u : LoopState S F D). u.marked ≡ false → is_drained u.requests u.events ≡ true) (sym d.is)
-      (λ m. not_marked m)
+      subst IsDrained (sym d.is) (λ m. not_marked m)
   step_drained s t (Request_noted d) own h =
-      subst (λ (u : LoopState S F D). u.marked ≡ false → is_drained u.requests u.events ≡ true) (sym d.is)
+      subst IsDrained (sym d.is)
       (λ m. note_drained s.requests (is_drained s.requests s.events) d.note ∙ h m)
   step_drained s t (Request_answered d) own h =
-      subst (λ (u : LoopState S F D). u.marked ≡ false → is_drained u.requests u.events ≡ true) (sym d.is)
+      subst IsDrained (sym d.is)
       (λ m. replied_drained s.requests _ d.left.opened.to d.left.sent s.events (h m))
-  step_drained s t (Request_lost d) own h =
-      subst (λ (u : LoopState S F D). u.marked ≡ false → is_drained u.requests u.events ≡ true) (sym d.is) h
-  step_drained s t (Store_set d) own h =
-      subst (λ (u : LoopState S F D). u.marked ≡ false → is_drained u.requests u.events ≡ true) (sym d.is) h
-  step_drained s t (Transfer_closed d) own h =
-      subst (λ (u : LoopState S F D). u.marked ≡ false → is_drained u.requests u.events ≡ true) (sym d.is) h
-  step_drained s t (Drain_begun d) own h =
-      subst (λ (u : LoopState S F D). u.marked ≡ false → is_drained u.requests u.events ≡ true) (sym d.is) h
+  step_drained s t does own h = subst IsDrained (sym (state_is does)) h
 
   -- a step keeps a timer for each open transfer
   pub step_kept : (s t : LoopState S F D) → LoopStep meaning sources s t → AreKept s.server.held s.timers →
@@ -78,24 +68,7 @@ module _ {S F D : Type 0} (meaning : StoreMeaning S D) (sources : SourceMeaning 
       subst (λ (u : LoopState S F D). AreKept u.server.held u.timers) (sym d.is)
       (waited_kept s.server.held d.watch.now d.ports s.timers kept)
   step_kept s t (Clock_read d) kept = subst (λ (u : LoopState S F D). AreKept u.server.held u.timers) (sym d.is) kept
-  step_kept s t (At_port d) kept = (work_keeps meaning sources s t (Then Start (Work_by (At_port d) tt))).kept kept
-  step_kept s t (Request_received d) kept =
-      (work_keeps meaning sources s t (Then Start (Work_by (Request_received d) tt))).kept kept
-  step_kept s t (No_request_found d) kept =
-      (work_keeps meaning sources s t (Then Start (Work_by (No_request_found d) tt))).kept kept
-  step_kept s t (Request_not_received d) kept =
-      (work_keeps meaning sources s t (Then Start (Work_by (Request_not_received d) tt))).kept kept
-  step_kept s t (Request_noted d) kept =
-      (work_keeps meaning sources s t (Then Start (Work_by (Request_noted d) tt))).kept kept
-  step_kept s t (Request_answered d) kept =
-      (work_keeps meaning sources s t (Then Start (Work_by (Request_answered d) tt))).kept kept
-  step_kept s t (Request_lost d) kept =
-      (work_keeps meaning sources s t (Then Start (Work_by (Request_lost d) tt))).kept kept
-  step_kept s t (Store_set d) kept = (work_keeps meaning sources s t (Then Start (Work_by (Store_set d) tt))).kept kept
-  step_kept s t (Transfer_closed d) kept =
-      (work_keeps meaning sources s t (Then Start (Work_by (Transfer_closed d) tt))).kept kept
-  step_kept s t (Drain_begun d) kept =
-      (work_keeps meaning sources s t (Then Start (Work_by (Drain_begun d) tt))).kept kept
+  step_kept s t does kept = (work_keeps meaning sources s t (Then Start (Work_by does tt))).kept kept
 
   -- each state of a run has them
   pub kept_along : (config : LoopConfig) (port reading : ℕ) (server : ServerState S F D) (before : List SocketEvent)

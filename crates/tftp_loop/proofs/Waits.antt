@@ -11,11 +11,8 @@ use Rattle.tftp_loop.proofs.Common.{IsSettled, IsTended, ReceivedFew, timers_of,
 use Rattle.std.proofs.Common.{get_or, set}
 use Rattle.tftp_sockets.specs.Watch.{later_within, wait_of}
 use Rattle.tftp_sockets.specs.Trace.QuietEvent.{Slept, Woke}
-use Rattle.tftp_loop.specs.Steps.{MayWait, IsServed, most_millis}
-use Rattle.tftp_loop.specs.Steps.{read_at}
-use Rattle.tftp_loop.specs.MayWait.{HasSlept, HasWoken}
-use Rattle.tftp_loop.specs.MayWait.{HasFew}
-use Rattle.tftp_loop.specs.MayWait.{millis_of, reads_of}
+use Rattle.tftp_loop.specs.Steps.{MayWait, IsServed, most_millis, read_at}
+use Rattle.tftp_loop.specs.MayWait.{HasSlept, HasWoken, HasFew, millis_of, reads_of}
 use Rattle.tftp_loop.specs.declared.drain.Drain.{Drain}
 use Rattle.tftp_loop.proofs.ListLemmas.{map_at}
 use Rattle.tftp_loop.proofs.LoopRuns.{same_state}
@@ -165,6 +162,16 @@ waited_at time ports timers k d h =
     let e = length-map timers (set_by time) in
     mapped_at (marked_by ports) (map (set_by time) timers) k d (omega (arith, e, h))
     ∙ ap (marked_by ports) (mapped_at (set_by time) timers k d h)
+
+-- what holds of each timer after a wait holds of all
+pub all_waited : (Q : Timer → Type 0) (time : ℕ) (ports : List ℕ) (timers : List Timer) →
+    All (λ (timer : Timer). Q (marked_by ports (set_by time timer))) timers →
+    All Q (map (marked_by ports) (map (set_by time) timers))
+all_waited Q time ports timers each k d h =
+    let e = length-map (map (set_by time) timers) (marked_by ports) in
+    let f = length-map timers (set_by time) in
+    let within : k < length timers = omega (arith, e, f, h) in
+    subst Q (sym (waited_at time ports timers k d within)) (each k d within)
 
 -- a timer that was changed so has its port, and is read at its deadline at the latest
 record Changes (f : Timer → Timer) : Type 0 where
@@ -338,8 +345,5 @@ module _ {S F D : Type 0} (meaning : StoreMeaning S D) (sources : SourceMeaning 
   pub woken_few : (noted new : ServerLoop S F D) (ports : List ℕ) {before after : List SocketEvent} →
       HasWoken ports noted before new after → HasFew 0 new
   woken_few noted new ports woken =
-      let set = map (set_by noted.sockets.watch.now) (timers_of noted) in
       subst (λ (ts : List Timer). All (ReceivedFew 0) ts) (sym woken.timers)
-      (λ k d h.
-      let e = length-map set (marked_by ports) in
-      subst (ReceivedFew 0) (sym (mapped_at (marked_by ports) set k d (omega (arith, e, h)))) (omega arith))
+      (all_waited (ReceivedFew 0) noted.sockets.watch.now ports (timers_of noted) (λ k d h. omega arith))

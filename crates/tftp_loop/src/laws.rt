@@ -66,9 +66,11 @@ pub fn a_server_drops_no_request<T: Store>()
 /// 4.2.3.2). If nothing came to the port, it was not complete, unless it was before. A transfer that
 /// is over age is closed so whatever it receives (RFC 1350, section 2).
 pub fn a_server_closes_what_makes_no_progress<T: Store>()
+    // When it closes.
     ensures closes { ClosesWithoutProgress T.meaning T.Source.meaning }
     ensures silent { TimesOutInSilence T.meaning T.Source.meaning }
     ensures over_age { ClosesOverAge T.meaning T.Source.meaning }
+    // How long its waits are together.
     ensures intervals { ClosesAfterIntervals }
     ensures doubling { ClosesAfterDoubling }
 {}

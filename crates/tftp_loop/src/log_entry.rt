@@ -177,9 +177,11 @@ impl LogEntry {
 
     /// The open transfer at this port, at this reading of the clock.
     pub(crate) fn open_transfer(&self, port: u16, reading: u64) -> OpenTransfer<'_>
+        // Which transfer it is.
         ensures port { result.port ≡ port }
         ensures peer { result.peer ≡ self.now.peer }
         ensures direction { result.direction ≡ self.now.direction }
+        // How far it is.
         ensures bytes { result.bytes ≡ self.now.bytes }
         ensures length { result.length ≡ self.now.length }
         ensures millis { result.millis ≡ reading - self.now.opened_at }

@@ -69,9 +69,11 @@ impl PortPool {
     /// `None` if that fails: each port of the order was tried, and each failure is noted. If no transfer opens there the
     /// port counts as one that was used.
     pub(crate) fn bind_port<N: ServerUdp>(&mut self, net: &mut N) -> Option<ServerSocket>
+        // Which port is bound, and how each try is noted.
         ensures same { self.new ≡ self.old }
         ensures port { IfSome result (IsOfPool self.old) }
         ensures tries { Tries self.old.range (N.log net.old) (N.log net.new) result }
+        // What stays.
         ensures told { N.told net.new ≡ N.told net.old }
         ensures file { N.file net.new ≡ N.file net.old }
     {
@@ -135,12 +137,15 @@ fn bind_next<N: ServerUdp>(
     order: &mut PortOrder,
     bind_error: &mut Option<Reason>,
 ) -> Option<ServerSocket>
+    // The order has ports before and after, and is of the same range.
     requires { HasPorts order.old }
     ensures range { order.new.range ≡ order.old.range }
     ensures ports { HasPorts order.new }
+    // Which port is bound, and how each try is noted.
     ensures bound { IfSome result (IsOfPool (record { ip = ip; range = Some order.old.range })) }
     ensures tries { Tries (Some order.old.range) (N.log net.old) (N.log net.new) result }
     ensures turns { TriesInTurn ip order.old order.new result }
+    // What stays.
     ensures told { N.told net.new ≡ N.told net.old }
     ensures file { N.file net.new ≡ N.file net.old }
 {
@@ -161,9 +166,11 @@ fn bind_next<N: ServerUdp>(
 /// The next port of the order, drawn from so many, which is then the last one. `None` if there are
 /// none.
 fn draw_port(order: &mut PortOrder, among: usize) -> Option<u16>
+    // The order has ports before and after, and is of the same range.
     requires { HasPorts order.old }
     ensures range { order.new.range ≡ order.old.range }
     ensures ports { HasPorts order.new }
+    // Which port is drawn, and that there is one.
     ensures port { IfSome result (IsOneOf (Some order.old.range)) }
     ensures draws { IfSome result (λ port. (mixed : PortOrder) × Mixes among order.old mixed
         × UsesNext mixed order.new port) }
@@ -175,9 +182,11 @@ fn draw_port(order: &mut PortOrder, among: usize) -> Option<u16>
 
 /// The next port of the order, which is then the last one. `None` if there are none.
 fn next_port(order: &mut PortOrder) -> Option<u16>
+    // The order has ports before and after, and is of the same range.
     requires { HasPorts order.old }
     ensures range { order.new.range ≡ order.old.range }
     ensures ports { HasPorts order.new }
+    // Which port is the next, and that there is one.
     ensures port { IfSome result (IsOneOf (Some order.old.range)) }
     ensures uses { IfSome result (UsesNext order.old order.new) }
     ensures some { IsSome result }

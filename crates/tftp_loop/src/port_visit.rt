@@ -95,15 +95,18 @@ pub(crate) fn visit_port<N: ServerUdp, S: Store>(
     pass: Pass,
     buffer: &mut [u8],
 ) -> PortStatus
+    // The port before the visit.
     requires long { DATAGRAM_BUFFER ≤ length buffer.old }
     requires due { port.old.look_at ≤ port.old.socket.deadline }
     requires few { port.old.socket.received ≤ MOST_AT_ONCE }
+    // What happens at the port, and what the next wait may rest on.
     ensures serves { OnlyServesPort S.meaning S.Source.meaning moment.now server.old port.old
         (N.log net.old) server.new port.new (N.log net.new) }
     ensures leaves { leaves_by pass (at_port server.new port.new (N.log net.new)) moment.now }
     ensures received { ReceivesAtMost MOST_AT_ONCE (N.log net.old) (N.log net.new) }
     ensures open { UnlessClosed result (StaysOpen (at_port server.old port.old (N.log net.old))
         (at_port server.new port.new (N.log net.new))) }
+    // What stays.
     ensures file { N.file net.new ≡ N.file net.old }
 {
     let mut visit = PortVisit {
@@ -134,8 +137,10 @@ struct PortVisit<'a, N, S: Store> {
 impl<N: ServerUdp, S: Store> PortVisit<'_, N, S> {
     /// Handles the datagrams at the port. Without progress, delivers the timeout if that is due.
     fn take_due(&mut self, buffer: &mut [u8]) -> PortStatus
+        // The port before the visit.
         requires few { self.old.port.now.socket.received ≤ MOST_AT_ONCE }
         requires long { DATAGRAM_BUFFER ≤ length buffer.old }
+        // What happens at the port, and what the next wait may rest on.
         ensures serves { ServesVisit N.log S.meaning S.Source.meaning MOST_AT_ONCE self.old
             self.new }
         ensures timed { leaves_timed (at_visit N.log self.new) self.new.now }
@@ -155,14 +160,17 @@ impl<N: ServerUdp, S: Store> PortVisit<'_, N, S> {
 
     /// Receives datagrams and handles them, until the transfer advances or closes, or none is left.
     fn take_datagrams(&mut self, buffer: &mut [u8]) -> PortStatus
+        // The port before the visit.
         requires few { self.old.port.now.socket.received ≤ MOST_AT_ONCE }
         requires long { DATAGRAM_BUFFER ≤ length buffer.old }
+        // What happens at the port, and what the next wait may rest on.
         ensures serves { ServesVisit N.log S.meaning S.Source.meaning MOST_AT_ONCE self.old
             self.new }
         ensures status { HasStatus result self.new }
         ensures tried { IsTried N.log self.new }
         ensures open { UnlessClosed result (StaysOpen (at_visit N.log self.old)
             (at_visit N.log self.new)) }
+        // What stays.
         ensures file { N.file self.new.net.now ≡ N.file self.old.net.now }
     {
         for count in 0..MOST_AT_ONCE {
@@ -191,12 +199,14 @@ impl<N: ServerUdp, S: Store> PortVisit<'_, N, S> {
     /// reads ahead or is written back. Once the transfer is over age the datagram is dropped: so
     /// its timeouts run out. It is lost when out of memory, or if no transfer is open.
     fn answer(&mut self, datagram: Datagram<'_>) -> PortStatus
+        // What happens to the datagram.
         requires { self.old.port.now.socket.received < most_in_round }
         ensures answers { AnswersReceived N.log S.meaning S.Source.meaning datagram.entry self.old
             self.new }
         ensures status { HasStatus result self.new }
         ensures counted { self.new.port.now.socket.received
             ≡ self.old.port.now.socket.received + 1 }
+        // What stays.
         ensures open { UnlessClosed result (StaysOpen (at_visit N.log self.old)
             (at_visit N.log self.new)) }
         ensures file { N.file self.new.net.now ≡ N.file self.old.net.now }
@@ -223,8 +233,10 @@ impl<N: ServerUdp, S: Store> PortVisit<'_, N, S> {
 
     /// Delivers the timeout, if it is due.
     fn time_out_if_due(&mut self) -> PortStatus
+        // The port was read, and is not left for a while.
         requires tried { IsTried N.log self.old }
         requires look { self.old.port.now.look_at ≡ self.old.port.now.socket.deadline }
+        // What happens at the port, and what the next wait may rest on.
         ensures serves { ServesVisit N.log S.meaning S.Source.meaning 0 self.old self.new }
         ensures timed { IsTimed self.new.now (timer_of self.new.port.now) }
         ensures open { UnlessClosed result (StaysOpen (at_visit N.log self.old)
@@ -240,9 +252,11 @@ impl<N: ServerUdp, S: Store> PortVisit<'_, N, S> {
 
     /// Delivers the timeout, and sends the datagram of its step.
     fn take_timeout(&mut self) -> PortStatus
+        // The timeout is due, and the port was read and is not left for a while.
         requires due { self.old.port.now.socket.deadline ≤ self.old.now }
         requires tried { IsTried N.log self.old }
         requires look { self.old.port.now.look_at ≡ self.old.port.now.socket.deadline }
+        // What happens at the port, and what the next wait may rest on.
         ensures serves { ServesVisit N.log S.meaning S.Source.meaning 0 self.old self.new }
         ensures timed { IsTimed self.new.now (timer_of self.new.port.now) }
         ensures open { UnlessClosed result (StaysOpen (at_visit N.log self.old)

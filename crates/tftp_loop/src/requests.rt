@@ -50,15 +50,19 @@ impl<S: ServedStore<Reason> + Drop> ServerLoop<S> {
     /// the server does not drain. It is the only one of its round, since an opening asks the store
     /// while transfers wait.
     pub(crate) fn take_request<N: ServerUdp + Eprint>(&mut self, net: &mut N, request: &mut [u8])
+        // The loop before the call.
         requires long { DATAGRAM_BUFFER ≤ length request.old }
         requires settled { IsSettled self.old }
         requires room { HasRoom self.old }
         requires first { self.old.sockets.has_received ≡ false }
+        // What it does, as steps of the loop.
         ensures works { WorksRound S.meaning S.Source.meaning request.old self.old
             (N.log net.old) request.new self.new (N.log net.new) }
+        // What holds for the next wait.
         ensures settled { IsSettled self.old → IsSettled self.new }
         ensures tried { HasTriedRequests self.new (N.log net.new) }
         ensures few { HasFew MOST_AT_ONCE self.old → HasFew MOST_AT_ONCE self.new }
+        // What stays.
         ensures rounds { self.new.rounds ≡ self.old.rounds }
         ensures room { HasRoom self.new }
         ensures file { N.file net.new ≡ N.file net.old }
@@ -72,13 +76,17 @@ impl<S: ServedStore<Reason> + Drop> ServerLoop<S> {
 
     /// Handles the pending datagram of the request port, if there is one.
     fn take_pending<N: ServerUdp + Eprint>(&mut self, net: &mut N, request: &[u8])
+        // The loop before the call.
         requires settled { IsSettled self.old }
         requires room { HasRoom self.old }
+        // What it does, as steps of the loop.
         ensures works { WorksRound S.meaning S.Source.meaning request.now self.old
             (N.log net.old) request.now self.new (N.log net.new) }
+        // What holds for the next wait.
         ensures settled { IsSettled self.old → IsSettled self.new }
         ensures pending { self.new.pending ≡ None }
         ensures few { HasFew MOST_AT_ONCE self.old → HasFew MOST_AT_ONCE self.new }
+        // What stays.
         ensures asked { self.new.sockets.has_received ≡ self.old.sockets.has_received }
         ensures rounds { self.new.rounds ≡ self.old.rounds }
         ensures room { HasRoom self.new }
@@ -94,11 +102,14 @@ impl<S: ServedStore<Reason> + Drop> ServerLoop<S> {
 
     /// Answers the pending datagram of the request port.
     fn answer_pending<N: ServerUdp + Eprint>(&mut self, net: &mut N, datagram: Datagram<'_>)
+        // The loop before the call.
         requires settled { IsSettled self.old }
         requires room { HasRoom self.old }
+        // What happens to the datagram.
         ensures answers { AnswersPending S.meaning S.Source.meaning datagram.entry.from
             datagram.entry.bytes.now self.old (N.log net.old) self.new (N.log net.new) }
         ensures told { IsToldOnce (N.told net.old) (N.told net.new) }
+        // What stays.
         ensures rounds { self.new.rounds ≡ self.old.rounds }
         ensures room { HasRoom self.new }
         ensures file { N.file net.new ≡ N.file net.old }
@@ -120,17 +131,22 @@ impl<S: ServedStore<Reason> + Drop> ServerLoop<S> {
 
     /// Receives a datagram at the request port, and handles it.
     fn receive_request<N: ServerUdp + Eprint>(&mut self, net: &mut N, request: &mut [u8])
+        // The loop before the call.
         requires long { DATAGRAM_BUFFER ≤ length request.old }
         requires settled { IsSettled self.old }
         requires room { HasRoom self.old }
+        // The request port is to be read.
         requires pending { self.old.pending ≡ None }
         requires reads { reads_of self.old ≡ true }
         requires first { self.old.sockets.has_received ≡ false }
+        // What it does, as steps of the loop.
         ensures works { WorksRound S.meaning S.Source.meaning request.old self.old
             (N.log net.old) request.new self.new (N.log net.new) }
+        // What holds for the next wait.
         ensures settled { IsSettled self.old → IsSettled self.new }
         ensures tried { HasTriedRequests self.new (N.log net.new) }
         ensures few { HasFew MOST_AT_ONCE self.old → HasFew MOST_AT_ONCE self.new }
+        // What stays.
         ensures rounds { self.new.rounds ≡ self.old.rounds }
         ensures room { HasRoom self.new }
         ensures file { N.file net.new ≡ N.file net.old }
@@ -171,13 +187,16 @@ impl<S: ServedStore<Reason> + Drop> ServerLoop<S> {
         count: usize,
         request: &[u8],
     )
+        // The loop before the call.
         requires settled { IsSettled self.old }
         requires room { HasRoom self.old }
         requires count { count ≤ length request.now }
         requires pending { self.old.pending ≡ None }
+        // What happens to the datagram.
         ensures handles { HandlesReceived S.meaning S.Source.meaning from count request.now
             self.old (N.log net.old) self.new (N.log net.new) }
         ensures told { IsToldUnlessKept self.new.pending (N.told net.old) (N.told net.new) }
+        // What stays.
         ensures rounds { self.new.rounds ≡ self.old.rounds }
         ensures room { HasRoom self.new }
         ensures file { N.file net.new ≡ N.file net.old }
@@ -255,14 +274,18 @@ impl<S: ServedStore<Reason> + Drop> ServerLoop<S> {
         datagram: Datagram<'_>,
         admission: Admission<'_>,
     )
+        // The datagram and its admission.
         requires admitted { IsAdmission self.old.server datagram.from datagram.bytes.now admission }
         requires may_open { asks_store admission.ask ≡ true }
         requires handled { IsHandledBy self.old.requests_only datagram.bytes.now }
+        // The loop before the call.
         requires room { HasRoom self.old }
         requires reserved { vec_len self.old.ports < vec_capacity self.old.ports }
+        // What happens to the datagram.
         ensures answers { AnswersPending S.meaning S.Source.meaning datagram.entry.from
             datagram.entry.bytes.now self.old (N.log net.old) self.new (N.log net.new) }
         ensures told { IsToldOnce (N.told net.old) (N.told net.new) }
+        // What stays.
         ensures rounds { self.new.rounds ≡ self.old.rounds }
         ensures room { HasRoom self.new }
         ensures file { N.file net.new ≡ N.file net.old }
@@ -282,15 +305,19 @@ impl<S: ServedStore<Reason> + Drop> ServerLoop<S> {
         datagram: Datagram<'_>,
         admission: Admission<'_>,
     )
+        // The datagram and its admission.
         requires admitted { IsAdmission self.old.server datagram.from datagram.bytes.now admission }
         requires may_open { asks_store admission.ask ≡ true }
         requires handled { IsHandledBy self.old.requests_only datagram.bytes.now }
         requires few { has_most self.old.per_client datagram.from (timers_of self.old) ≡ false }
+        // The loop before the call.
         requires room { HasRoom self.old }
         requires reserved { vec_len self.old.ports < vec_capacity self.old.ports }
+        // What happens to the datagram.
         ensures answers { AnswersPending S.meaning S.Source.meaning datagram.entry.from
             datagram.entry.bytes.now self.old (N.log net.old) self.new (N.log net.new) }
         ensures told { IsToldOnce (N.told net.old) (N.told net.new) }
+        // What stays.
         ensures rounds { self.new.rounds ≡ self.old.rounds }
         ensures room { HasRoom self.new }
         ensures file { N.file net.new ≡ N.file net.old }
@@ -316,18 +343,23 @@ impl<S: ServedStore<Reason> + Drop> ServerLoop<S> {
         admission: Admission<'_>,
         bound: ServerSocket,
     )
+        // The datagram and its admission.
         requires admitted { IsAdmission self.old.server datagram.from datagram.bytes.now admission }
         requires may_open { asks_store admission.ask ≡ true }
         requires handled { IsHandledBy self.old.requests_only datagram.bytes.now }
         requires few { has_most self.old.per_client datagram.from (timers_of self.old) ≡ false }
+        // The port is of the pool, and nobody has it.
         requires port { IsOfPool self.old.sockets.pool bound }
         requires own { bound.port ≢ self.old.sockets.requests.port }
         requires free { at bound.port self.old.server.held ≡ None }
+        // The loop before the call.
         requires room { HasRoom self.old }
         requires reserved { vec_len self.old.ports < vec_capacity self.old.ports }
+        // What happens to the datagram.
         ensures answers { AnswersPending S.meaning S.Source.meaning datagram.entry.from
             datagram.entry.bytes.now self.old (N.log net.old) self.new (N.log net.new) }
         ensures told { IsToldOnce (N.told net.old) (N.told net.new) }
+        // What stays.
         ensures rounds { self.new.rounds ≡ self.old.rounds }
         ensures room { HasRoom self.new }
         ensures file { N.file net.new ≡ N.file net.old }
@@ -356,10 +388,12 @@ impl<S: ServedStore<Reason> + Drop> ServerLoop<S> {
         opened: Opened,
         reason: Option<Reason>,
     )
+        // The port is of the pool, and that of the transfer.
         requires reserved { vec_len self.old.ports < vec_capacity self.old.ports }
         requires port { IsOfPool self.old.sockets.pool bound }
         requires own { bound.port ≢ self.old.sockets.requests.port }
         requires tid { IfSome opened.tid (λ tid. tid ≡ bound.port) }
+        // What is sent and told.
         ensures answers { HasAnswered datagram.entry.from opened self.old.out.items self.old
             (N.log net.old) self.new (N.log net.new) }
         ensures told { IsToldOnce (N.told net.old) (N.told net.new) }
@@ -378,12 +412,15 @@ impl<S: ServedStore<Reason> + Drop> ServerLoop<S> {
         datagram: Datagram<'_>,
         admission: Admission<'_>,
     )
+        // The datagram and its admission.
         requires admitted { IsAdmission self.old.server datagram.from datagram.bytes.now admission }
         requires opens_none { asks_store admission.ask ≡ false }
         requires handled { IsHandledBy self.old.requests_only datagram.bytes.now }
+        // What happens to the datagram.
         ensures answers { AnswersPending S.meaning S.Source.meaning datagram.entry.from
             datagram.entry.bytes.now self.old (N.log net.old) self.new (N.log net.new) }
         ensures told { IsToldOnce (N.told net.old) (N.told net.new) }
+        // What stays.
         ensures rounds { self.new.rounds ≡ self.old.rounds }
         ensures room { HasRoom self.old → HasRoom self.new }
         ensures file { N.file net.new ≡ N.file net.old }
@@ -481,9 +518,11 @@ impl<S: ServedStore<Reason> + Drop> ServerLoop<S> {
         bound: ServerSocket,
         to: Option<Endpoint>,
     )
+        // The port is of the pool, and there is room for it.
         requires port { IsOneOf self.old.sockets.pool.range bound.port }
         requires own { bound.port ≢ self.old.sockets.requests.port }
         requires reserved { vec_len self.old.ports < vec_capacity self.old.ports }
+        // What is sent and told.
         ensures answers { HasAnswered datagram.entry.from (record { tid = Some bound.port; to = to })
             self.old.out.items self.old (N.log net.old) self.new (N.log net.new) }
         ensures told { N.told net.new
@@ -582,9 +621,11 @@ fn set_store<S: ServedStore<Reason> + Drop>(
     admission: &Admission<'_>,
     tid: u16,
 )
+    // Only the store changes, and none of its files.
     ensures rest { server.new ≡ record server.old { store = server.new.store } }
     ensures same { S.meaning.stored server.new.store ≡ S.meaning.stored server.old.store }
     ensures behind { IsSet S.meaning server.old.store server.new.store }
+    // For which port and length it is set.
     ensures set { S.meaning.is_set_to server.new.store tid }
     ensures longest { S.is_bounded server.new.store
         (longest_in (granted_size server.old.config.limits admission.now.ask)) }

@@ -109,18 +109,24 @@ impl<S: ServedStore<Reason> + Drop> ServerLoop<S> {
         config: &LoopConfig,
         reserved: Reserved,
     ) -> ServerLoop<S>
+        // What it is made of.
         requires { IsReserved server.config.cap reserved }
         ensures server { result.server ≡ server }
         ensures sockets { result.sockets ≡ sockets }
+        // It has no transfers yet.
         ensures ports { result.ports.items ≡ [] }
         ensures pending { result.pending ≡ None }
+        // When it ends.
         ensures left { result.left ≡ config.now.ending.transfers }
         ensures rounds { result.rounds ≡ config.now.ending.rounds }
+        // How it treats transfers.
         ensures longest { result.longest ≡ config.now.longest }
         ensures backoff { result.backoff ≡ config.now.backoff }
+        // How it treats requests.
         ensures requests_only { result.requests_only ≡ config.now.requests_only }
         ensures per_client { result.per_client ≡ config.now.per_client }
         ensures drain { result.drain ≡ drain_of config.now.drains }
+        // There is room for the ports.
         ensures room { HasRoom result }
     {
         let Reserved { ports, answer } = reserved;
@@ -155,16 +161,20 @@ impl<S: ServedStore<Reason> + Drop> ServerLoop<S> {
         request: &mut [u8],
         datagram: &mut [u8],
     ) -> Result<(), LoopFault>
+        // The buffers are long enough.
         requires long_request { DATAGRAM_BUFFER ≤ length request.old }
         requires long_datagram { DATAGRAM_BUFFER ≤ length datagram.old }
+        // The loop before the call.
         requires room { HasRoom self.old }
         requires settled { IsSettled self.old }
         requires few { HasFew 0 self.old }
         requires first { self.old.sockets.has_received ≡ false }
+        // What it does, as steps of the loop.
         ensures serves { EndsRounds S.meaning S.Source.meaning result request.old self.old
             (N.log net.old) request.new self.new (N.log net.new) }
         ensures end { OnOk result ((self.new.left ≡ 0) ⊎ ((self.new.rounds ≡ 0)
             ⊎ IsEmptied self.new)) }
+        // What stays.
         ensures file { N.file net.new ≡ N.file net.old }
     {
         self.take_round(net, signal, request, datagram)?;
@@ -194,15 +204,19 @@ impl<S: ServedStore<Reason> + Drop> ServerLoop<S> {
         request: &mut [u8],
         datagram: &mut [u8],
     ) -> Result<(), LoopFault>
+        // The buffers are long enough.
         requires long_request { DATAGRAM_BUFFER ≤ length request.old }
         requires long_datagram { DATAGRAM_BUFFER ≤ length datagram.old }
+        // The loop before the call.
         requires room { HasRoom self.old }
         requires settled { IsSettled self.old }
         requires few { HasFew 0 self.old }
         requires first { self.old.sockets.has_received ≡ false }
+        // What it does, as steps of the loop.
         ensures works { WorksRound S.meaning S.Source.meaning request.old self.old
             (N.log net.old) request.new self.new (N.log net.new) }
         ensures tended { OnOk result (1 ≤ self.new.left → IsTended self.new (N.log net.new)) }
+        // What stays.
         ensures rounds { self.new.rounds ≡ self.old.rounds }
         ensures fault { IfErr result (λ fault. FailsToPrint fault (N.log net.new)) }
         ensures room { HasRoom self.new }
@@ -277,14 +291,18 @@ impl<S: ServedStore<Reason> + Drop> ServerLoop<S> {
     /// draft that is to be synced is synced before, if no datagram has arrived: all other transfers
     /// wait for it.
     fn wait<N: ServerUdp>(&mut self, net: &mut N, reports: &mut Reports)
+        // The loop before the call.
         requires tended { IsTended self.old (N.log net.old) }
         requires left { 1 ≤ self.old.left }
         requires rounds { 1 ≤ self.old.rounds }
+        // What it does, as steps of the loop.
         ensures serves { OnlyServes S.meaning S.Source.meaning self.old (N.log net.old) self.new
             (N.log net.new) }
+        // What holds after it.
         ensures settled { IsSettled self.new }
         ensures few { HasFew 0 self.new }
         ensures first { self.new.sockets.has_received ≡ false }
+        // What stays.
         ensures rounds { self.new.rounds + 1 ≡ self.old.rounds }
         ensures room { HasRoom self.old → HasRoom self.new }
         ensures file { N.file net.new ≡ N.file net.old }
@@ -331,15 +349,19 @@ impl<S: ServedStore<Reason> + Drop> ServerLoop<S> {
         survey: Survey,
         tid: u16,
     )
+        // The loop before the call.
         requires surveyed { IsSurveyOf self.old.ports.items survey }
         requires tended { IsTended self.old (N.log net.old) }
         requires left { 1 ≤ self.old.left }
         requires rounds { 1 ≤ self.old.rounds }
+        // What it does, as steps of the loop.
         ensures serves { OnlyServes S.meaning S.Source.meaning self.old (N.log net.old) self.new
             (N.log net.new) }
+        // What holds after it.
         ensures settled { IsSettled self.new }
         ensures few { HasFew 0 self.new }
         ensures first { self.new.sockets.has_received ≡ false }
+        // What stays.
         ensures rounds { self.new.rounds + 1 ≡ self.old.rounds }
         ensures room { HasRoom self.old → HasRoom self.new }
         ensures file { N.file net.new ≡ N.file net.old }
@@ -375,15 +397,19 @@ impl<S: ServedStore<Reason> + Drop> ServerLoop<S> {
 
     /// Waits until a datagram has arrived or a port is to be read, for at most a second.
     fn sleep<N: ServerUdp>(&mut self, net: &mut N, reports: &mut Reports, survey: Survey)
+        // The loop before the call.
         requires surveyed { IsSurveyOf self.old.ports.items survey }
         requires tended { IsTended self.old (N.log net.old) }
         requires left { 1 ≤ self.old.left }
         requires rounds { 1 ≤ self.old.rounds }
+        // What it does, as steps of the loop.
         ensures serves { OnlyServes S.meaning S.Source.meaning self.old (N.log net.old) self.new
             (N.log net.new) }
+        // What holds after it.
         ensures settled { IsSettled self.new }
         ensures few { HasFew 0 self.new }
         ensures first { self.new.sockets.has_received ≡ false }
+        // What stays.
         ensures rounds { self.new.rounds + 1 ≡ self.old.rounds }
         ensures room { HasRoom self.old → HasRoom self.new }
         ensures file { N.file net.new ≡ N.file net.old }
@@ -484,16 +510,21 @@ impl<S: ServedStore<Reason> + Drop> ServerLoop<S> {
         pass: Pass,
         buffer: &mut [u8],
     ) -> Result<(), LoopFault>
+        // The loop before the call.
         requires long { DATAGRAM_BUFFER ≤ length buffer.old }
         requires settled { IsSettled self.old }
         requires few { HasFew (before_visit pass) self.old }
+        // What it does, as steps of the loop.
         ensures works { OnlyWorks S.meaning S.Source.meaning self.old (N.log net.old) self.new
             (N.log net.new) }
+        // What holds for the next wait.
         ensures settled { IsSettled self.new }
         ensures visited { OnOk result (1 ≤ self.new.left → WereVisited pass 0 self.new
             (N.log net.new)) }
+        // What stays.
         ensures asked { self.new.sockets.has_received ≡ self.old.sockets.has_received }
         ensures rounds { self.new.rounds ≡ self.old.rounds }
+        // What a fault says, and what stays in any case.
         ensures fault { IfErr result (λ fault. FailsToPrint fault (N.log net.new)) }
         ensures room { HasRoom self.old → HasRoom self.new }
         ensures file { N.file net.new ≡ N.file net.old }
@@ -519,18 +550,23 @@ impl<S: ServedStore<Reason> + Drop> ServerLoop<S> {
         index: usize,
         buffer: &mut [u8],
     ) -> Result<(), LoopFault>
+        // The loop before the call.
         requires long { DATAGRAM_BUFFER ≤ length buffer.old }
         requires left { 1 ≤ self.old.left }
         requires settled { IsSettled self.old }
         requires waiting { AwaitVisit pass (index + 1) self.old }
+        // What it does, as steps of the loop.
         ensures works { OnlyWorks S.meaning S.Source.meaning self.old (N.log net.old) self.new
             (N.log net.new) }
+        // What holds for the next wait.
         ensures settled { IsSettled self.new }
         ensures visited { WereVisited pass (index + 1) self.old (N.log net.old)
             → WereVisited pass index self.new (N.log net.new) }
         ensures waiting { AwaitVisit pass index self.new }
+        // What stays.
         ensures asked { self.new.sockets.has_received ≡ self.old.sockets.has_received }
         ensures rounds { self.new.rounds ≡ self.old.rounds }
+        // What a fault says, and what stays in any case.
         ensures fault { IfErr result (λ fault. FailsToPrint fault (N.log net.new)) }
         ensures room { HasRoom self.old → HasRoom self.new }
         ensures file { N.file net.new ≡ N.file net.old }
@@ -557,12 +593,16 @@ impl<S: ServedStore<Reason> + Drop> ServerLoop<S> {
     /// Removes the transfer at this index with its port, if it has closed, and prints its outcome:
     /// it is one less to close.
     fn finish<N: ServerUdp + Eprint>(&mut self, net: &mut N, index: usize) -> Result<(), LoopFault>
+        // The loop before the call.
         requires left { 1 ≤ self.old.left }
         requires within { index < length self.old.ports.items }
+        // What it does, as steps of the loop.
         ensures finishes { Finishes S.meaning S.Source.meaning index self.old (N.log net.old)
             self.new (N.log net.new) }
+        // What stays.
         ensures asked { self.new.sockets.has_received ≡ self.old.sockets.has_received }
         ensures rounds { self.new.rounds ≡ self.old.rounds }
+        // What a fault says, and what stays in any case.
         ensures fault { IfErr result (λ fault. FailsToPrint fault (N.log net.new)) }
         ensures room { HasRoom self.old → HasRoom self.new }
         ensures file { N.file net.new ≡ N.file net.old }
@@ -583,8 +623,10 @@ impl<S: ServedStore<Reason> + Drop> ServerLoop<S> {
         index: usize,
         closed: Option<Record>,
     ) -> Result<(), LoopFault>
+        // The loop before the call.
         requires left { 1 ≤ self.old.left }
         requires within { index < length self.old.ports.items }
+        // What it does, as steps of the loop.
         ensures closes { ClosesPort index closed self.old (N.log net.old) self.new
             (N.log net.new) }
         ensures fault { IfErr result (λ fault. FailsToPrint fault (N.log net.new)) }

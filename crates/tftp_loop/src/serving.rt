@@ -109,11 +109,14 @@ fn listen<N: ServerUdp + Eprint, S: ServedStore<Reason> + Drop, D: DrainSignal>(
     config: &LoopConfig,
     signal: &D,
 ) -> Result<(), LoopFault>
+    // The sockets are as they were bound.
     requires time { sockets.watch.now ≡ 0 }
     requires limit { sockets.limit ≡ LONGEST_WAIT }
     requires marked { sockets.is_ready ≡ true }
     requires asked { sockets.has_received ≡ false }
+    // They are those of the configuration.
     requires range { sockets.pool.range ≡ config.now.ports }
+    // What the server does.
     ensures runs { RunsServerFrom S.meaning S.Source.meaning config.now sockets.requests.port server
         result (listening sockets.requests.ip sockets.requests.port (N.log net.old))
         (N.log net.new) }
@@ -138,11 +141,14 @@ fn run<N: ServerUdp + Eprint, S: ServedStore<Reason> + Drop, D: DrainSignal>(
     config: &LoopConfig,
     signal: &D,
 ) -> Result<(), LoopFault>
+    // The sockets are as they were bound.
     requires time { sockets.watch.now ≡ 0 }
     requires limit { sockets.limit ≡ LONGEST_WAIT }
     requires marked { sockets.is_ready ≡ true }
     requires asked { sockets.has_received ≡ false }
+    // They are those of the configuration.
     requires range { sockets.pool.range ≡ config.now.ports }
+    // What the server does.
     ensures runs { RunsServerFrom S.meaning S.Source.meaning config.now sockets.requests.port server
         result (N.log net.old) (N.log net.new) }
     ensures file { N.file net.new ≡ N.file net.old }

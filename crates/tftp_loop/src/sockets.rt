@@ -42,12 +42,15 @@ impl Sockets {
         alloc: Global,
         config: &LoopConfig,
     ) -> io::Result<Sockets>
+        // The watch starts.
         ensures time { IfOk result (λ sockets. sockets.watch.now ≡ 0) }
         ensures limit { IfOk result (λ sockets. sockets.limit ≡ LONGEST_WAIT) }
+        // Which ports are bound.
         ensures bound { IfOk result (λ sockets.
             IsBoundTo config.now.listen sockets.requests.ip sockets.requests.port) }
         ensures pool { IfOk result (λ sockets. sockets.pool
             ≡ record { ip = config.now.listen.ip; range = config.now.ports }) }
+        // The request port may have a datagram, and is in the poll.
         ensures marked { IfOk result (λ sockets. sockets.is_ready ≡ true) }
         ensures asked { IfOk result (λ sockets. sockets.has_received ≡ false) }
         ensures registered { IfOk result (λ sockets. sockets.requests.is_registered ≡ true) }
@@ -111,10 +114,12 @@ impl Sockets {
         net: &mut N,
         _admission: &Admission<'_>,
     ) -> Option<ServerSocket>
+        // Which port is bound, and how each try is noted.
         requires { asks_store _admission.now.ask ≡ true }
         ensures same { self.new ≡ self.old }
         ensures port { IfSome result (IsOfPool self.old.pool) }
         ensures tries { Tries self.old.pool.range (N.log net.old) (N.log net.new) result }
+        // What stays.
         ensures told { N.told net.new ≡ N.told net.old }
         ensures file { N.file net.new ≡ N.file net.old }
     {

@@ -1,4 +1,4 @@
-use Rattle.tftp_loop.proofs.Common.{arith, ap, inr, refl, sym, true, Bool, List, ℕ, ◌≡◌, ◌∙◌, HasRead}
+use Rattle.tftp_loop.proofs.Common.{arith, ap, inr, refl, sym, true, Bool, List, ℕ, ◌≡◌, ◌∙◌}
 use Rattle.tftp_sockets.specs.Trace.{polled}
 use Rattle.tftp_sockets.specs.declared.port_poll.Reports.{Reports}
 use Rattle.tftp_loop.proofs.LoopRuns.{runs_as}
@@ -11,34 +11,14 @@ returns-then-poll_now-clause-serves g c =
     let ports = c.note_poll.new.reports.ports.items in
     let same : ports ≡ c.poll_now.new.reports.ports.items =
     ap (λ (r : Reports). r.ports.items) c.note_poll.ensures.once in
-    let old = c.args.self.now in
     let read = c.read_clock.new.self in
-    let reads : HasRead old (g.N.Udp.log c.args.net.now) read (g.N.Udp.log c.read_clock.new.net) =
-    record {
-      requests = c.read_clock.ensures.reads.requests;
-      range = c.read_clock.ensures.reads.range;
-      longest = c.read_clock.ensures.reads.longest;
-      backoff = c.read_clock.ensures.reads.backoff;
-      requests_only = c.read_clock.ensures.reads.requests_only;
-      per_client = c.read_clock.ensures.reads.per_client;
-      server = c.read_clock.ensures.reads.server;
-      pending = c.read_clock.ensures.reads.pending;
-      ports = c.read_clock.ensures.reads.ports;
-      reading = c.read_clock.ensures.reads.reading;
-      forward = c.read_clock.ensures.reads.forward;
-      soon = c.read_clock.ensures.reads.soon;
-      limit = c.read_clock.ensures.reads.limit;
-      marked = c.read_clock.ensures.reads.marked;
-      asked = c.read_clock.ensures.reads.asked;
-      drain = c.read_clock.ensures.reads.drain;
-      left = c.read_clock.ensures.reads.left;
-      rounds = c.read_clock.ensures.reads.rounds;
-      room = c.read_clock.ensures.reads.room;
-      events = c.read_clock.ensures.reads.events;
-    } in
+    let reads = c.read_clock.ensures.reads in
+    let own = c.requires.tended in
     λ buffer.
-    waits_as g.S.Store.meaning g.S.Source.Source.meaning buffer old read _ c.wake.new.self 0 ports reads
-    (may_wait buffer old read (g.N.Udp.log c.args.net.now) (g.N.Udp.log c.read_clock.new.net) 0 ports reads c.requires.tended c.requires.left c.requires.rounds (omega arith)
+    waits_as g.S.Store.meaning g.S.Source.Source.meaning buffer _ read _ c.wake.new.self 0 ports reads
+    (may_wait buffer _ read _ _ 0 ports reads
+    (record { settled = own.settled; read = own.read; timed = own.timed; requests = own.requests }) c.requires.left
+    c.requires.rounds (omega arith)
     (λ h. inr (λ e. c.poll_now.ensures.some c.if-poll_now.true (sym same ∙ e))))
     (record {
       requests = refl;
@@ -69,28 +49,7 @@ pub returns-then-poll_now-clause-settled : goal.returns-then-poll_now-clause-set
 returns-then-poll_now-clause-settled g c =
     woken_settled g.S.Store.meaning g.S.Source.Source.meaning _ c.wake.new.self c.note_poll.new.reports.ports.items
     c.wake.ensures.woken
-    (read_settled g.S.Store.meaning g.S.Source.Source.meaning c.args.self.now c.read_clock.new.self (record {
-      requests = c.read_clock.ensures.reads.requests;
-      range = c.read_clock.ensures.reads.range;
-      longest = c.read_clock.ensures.reads.longest;
-      backoff = c.read_clock.ensures.reads.backoff;
-      requests_only = c.read_clock.ensures.reads.requests_only;
-      per_client = c.read_clock.ensures.reads.per_client;
-      server = c.read_clock.ensures.reads.server;
-      pending = c.read_clock.ensures.reads.pending;
-      ports = c.read_clock.ensures.reads.ports;
-      reading = c.read_clock.ensures.reads.reading;
-      forward = c.read_clock.ensures.reads.forward;
-      soon = c.read_clock.ensures.reads.soon;
-      limit = c.read_clock.ensures.reads.limit;
-      marked = c.read_clock.ensures.reads.marked;
-      asked = c.read_clock.ensures.reads.asked;
-      drain = c.read_clock.ensures.reads.drain;
-      left = c.read_clock.ensures.reads.left;
-      rounds = c.read_clock.ensures.reads.rounds;
-      room = c.read_clock.ensures.reads.room;
-      events = c.read_clock.ensures.reads.events;
-    })
+    (read_settled g.S.Store.meaning g.S.Source.Source.meaning _ c.read_clock.new.self c.read_clock.ensures.reads
     c.requires.tended.settled)
 
 pub returns-clause-serves : goal.returns-clause-serves
