@@ -20,6 +20,7 @@ PROCESSES = {
     "tftp_store": f"{LOOP} tftpd/test_in_quantity.py", "tftp_sockets": f"{LOOP} tftp", "tftp_lines": f"{LOOP} tftp",
     "tftp_client": "tftp tftpd/test_both_programs.py", "tftp_status": "tftpd/test_status.py", "tftp_folder": DISK, "tftp_disk": DISK,
     "tftp_daemon": "tftpd/test_options.py tftpd/test_command_lines.py tftpd/test_server_alone.py tftpd/test_served_folder.py",
+    "tftp_supervisor": "tftpd/test_several_servers.py tftpd/test_handed_over.py tftpd/test_draining.py",
     "tftp_service": "tftpd/test_several_servers.py tftpd/test_handed_over.py tftpd/test_draining.py",
 }
 # the longest time of a test in Rattle, in seconds: some make thousands of random events

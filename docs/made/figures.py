@@ -43,7 +43,8 @@ text{font:12px ui-monospace,SFMono-Regular,Menlo,Consolas,'DejaVu Sans Mono',mon
 # what is not drawn: tests, examples, and a crate that hands out others' functions
 HIDDEN = re.compile(r"tests_|serve_memory|fetch_memory|tftp_cmd")
 KINDS = {
-    "sockets": ["tftp_sockets", "tftp_client", "tftp_loop", "tftp_service", "tftp_status"],
+    "sockets": ["tftp_sockets", "tftp_client", "tftp_loop", "tftp_service",
+                "tftp_supervisor", "tftp_status"],
     "files": ["tftp_disk", "tftp_folder"],
     "laws": ["tftp_rules", "tftp_promises", "tftp_words"],
     "program": ["tftp_show_main", "tftp_play_main", "tftp_main", "tftpd_main", "tftp_c"],
