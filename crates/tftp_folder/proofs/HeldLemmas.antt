@@ -1,5 +1,5 @@
 -- A store takes away what has the path of a draft only while it holds it.
-use Rattle.std.proofs.Common.{◌≡◌, ◌≢◌, ◌∙◌, ◌/◌, ◌%◌, ◌==◌, ◌≤◌, ◌⊎◌, ℕ, zero, suc, Bool, true, false, cond, List, [], ◌∷◌, ◌++◌, Ok, Err, All, Option}
+use Rattle.std.proofs.Common.{◌≡◌, ◌≢◌, ◌∙◌, ◌/◌, ◌%◌, ◌==◌, ◌≤◌, ◌⊎◌, ℕ, zero, suc, Bool, true, false, cond, List, [], ◌∷◌, ◌++◌, Ok, All, Option}
 use Rattle.std.proofs.Common.{ap, append_assoc, arith, decimal, inl, inr, length, refl, subst, sym}
 use Rattle.std.proofs.lemmas.Bool.{and_parts, cond-false, eqb-true}
 use Rattle.std.proofs.lemmas.List.Elements.{All-head, All-tail}
@@ -18,7 +18,6 @@ use Rattle.tftp_folder.specs.Changing.{AreChanges, IsDraftIn, IsLock, IsTarget, 
 use Rattle.tftp_folder.specs.Changing.MayGo.{Is_linked, Is_locked, Is_synced}
 use Rattle.tftp_folder.specs.Held.{HoldsDraft, KeepDraft, StoresKeepDrafts}
 use Rattle.tftp_folder.specs.Placed.{NamesThere}
-use Rattle.tftp_folder.specs.Uploads.{path_below}
 use Rattle.tftp_folder.proofs.ApartLemmas.{draft_apart}
 
 -- ---- the name of a draft begins with a dot
@@ -150,28 +149,10 @@ target_apart limits folder path target draft is same =
     ∙ draft_start folder draft.0 path draft.1)))
 
 -- ---- what only looks leaves each path
-names_tail : (event : DiskEvent) (events : List DiskEvent) → NamesThere (event ∷ events) → NamesThere events
+pub names_tail : (event : DiskEvent) (events : List DiskEvent) → NamesThere (event ∷ events) → NamesThere events
 names_tail (Linked file from to answer) events there = there.1
 names_tail (Renamed file from to answer) events there = there.1
-names_tail (Made path answer) events there = there
-names_tail (Locked path answer) events there = there
-names_tail (Removed path answer) events there = there
-names_tail (Folder_opened path answer) events there = there
-names_tail (Folder_synced path answer) events there = there
-names_tail (Looked path answer) events there = there
-names_tail (Followed path answer) events there = there
-names_tail (Resolved path answer) events there = there
-names_tail (Opened path answer) events there = there
-names_tail (Tried path answer) events there = there
-names_tail (Created path calls) events there = there
-names_tail (Examined answer) events there = there
-names_tail (Given bytes) events there = there
-names_tail (Not_given error) events there = there
-names_tail (Sought to answer) events there = there
-names_tail (Written bytes) events there = there
-names_tail (Not_written error) events there = there
-names_tail (Synced answer) events there = there
-names_tail (Mode_set mode answer) events there = there
+names_tail event events there = there
 
 module _ (path : List ℕ) where
   data Sees (event : DiskEvent) : Type 0 where

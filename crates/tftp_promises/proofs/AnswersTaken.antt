@@ -3,7 +3,8 @@
 use Rattle.tftp_promises.proofs.Common.{◌≡◌, ℕ, ◌*◌, ◌^◌, ◌<◌, ◌≤◌, Bool, true, false, List, [], ◌∷◌, Option, Some}
 use Rattle.tftp_promises.proofs.Common.{None, Result, Ok, Err, refl, ap, ◌∙◌, arith, inl, inr, ◌⊎◌, if◌then◌else◌}
 use Rattle.tftp_promises.proofs.Common.{nat_le, nat_lt, cases_Bool, ltb-true, MAX_BLOCK, Mode, RawOption}
-use Rattle.tftp_promises.proofs.Common.{agreed_options, agreement, answer, name_of, IsBlockSize, Asked, Known, Refusal}
+use Rattle.tftp_promises.proofs.Common.{agreed_options, agreement, answer, IsBlockSize, Asked, Known, Refusal}
+use Rattle.tftp_negotiate.specs.Options.{name_of}
 use Rattle.std.specs.Prelude.{IfSome}
 use Rattle.std.proofs.lemmas.Bool.{ltb-false}
 use Rattle.tftp_negotiate.specs.Agreement.{taken, taken_option, taken_tsize}

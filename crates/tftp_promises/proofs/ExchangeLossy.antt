@@ -1,22 +1,74 @@
--- The exchange meets the premises of bounded loss, though a datagram was lost.
-use Rattle.tftp_promises.proofs.Common.{◌≡◌, ◌+◌, ◌≤◌, Bool, true, false, List, [], ◌∷◌, ◌++◌, refl, ap, ◌∙◌, arith}
-use Rattle.tftp_promises.proofs.Common.{inr, oack_bytes, memory_source, memory_meaning, Took, Said, EndState, Endpoint}
-use Rattle.tftp_promises.proofs.Common.{SocketEvent, Received, Sent, Watched, Printed, Quiet, Slept, Woke, Run, Start}
-use Rattle.tftp_promises.proofs.Common.{Then, LoopStep, ServesClient, WasHeld, acts_at, acts_in, agreed, read_port}
-use Rattle.tftp_promises.proofs.Common.{read_request, reader, latecomer, read_at}
+-- The programs of the exchange are joined, and meet the premises of bounded loss, though a datagram was lost.
+use Rattle.tftp_promises.proofs.Common.{◌≡◌, ◌+◌, ◌≤◌, ℕ, Bool, true, false, List, [], ◌∷◌, ◌++◌, refl, ap, ◌∙◌, arith}
+use Rattle.tftp_promises.proofs.Common.{inl, reverse, suc, ◌≢◌, memory_source, memory_sink, memory_meaning, Took, Said}
+use Rattle.tftp_promises.proofs.Common.{EndState, Endpoint, ServesClient, WasHeld, acts_at, acts_in, our_ports}
+use Rattle.tftp_promises.proofs.Common.{AreJoined, HasOpened, IsHonest, TakesOwn, Programs, events_of, client_ip}
+use Rattle.tftp_promises.proofs.Common.{read_port, reader, server_ip}
+use Rattle.tftp_promises.proofs.Common.{IsStranger, ips}
+use Rattle.std.specs.Prelude.{get_or}
 use Rattle.tftp_lives.specs.Outlasting.{OneAct, ArriveInTime, AnswersPromptly, acts_of, timeouts}
 use Rattle.tftp_lives.proofs.OneOrder.{timeouts_append}
-use Rattle.tftp_ends.specs.declared.outcome.Outcome.TheVariants as outcomes
-use Rattle.tftp_lines.specs.Printed.{line_text}
-use Rattle.tftp_lines.specs.declared.printed.Printed.TheVariants.{Closed}
 use Rattle.tftp_promises.specs.Outlasting.{AreBounded}
-use Rattle.tftp_promises.specs.Witness.{SomeAreJoined, lossy_acts}
-use Rattle.tftp_promises.proofs.Exchange.{exchanged, programs}
+use Rattle.tftp_promises.specs.Witness.{SomeOutlastLoss, exchange, lossy_acts}
 use Rattle.tftp_promises.proofs.ExchangeParts.{read_spelled}
-use Rattle.tftp_promises.proofs.ExchangeReader.{accepts_does, dallying, reading, stores_does, times_does, waits_does}
-use Rattle.tftp_promises.proofs.ExchangeServer.{answers_wrong_peer, asks_to_read, closed_there, completes_read, handles, opens_read}
-use Rattle.tftp_promises.proofs.ExchangeServer.{sends_block}
-use Rattle.tftp_promises.proofs.ExchangeStates.{read_by, reading_2, s0, s5}
+use Rattle.tftp_promises.proofs.ExchangeReader.{accepts_does, dallying, reading, stored, stores_does, times_does, waits_does}
+use Rattle.tftp_promises.proofs.ExchangeServer.{asks_to_read, completes_read, handles, opens_read, sends_block, server}
+use Rattle.tftp_promises.proofs.ExchangeServer.{serves as serves_reader}
+use Rattle.tftp_promises.proofs.ExchangeStates.{read_by, reading_2, s4}
+use Rattle.tftp_promises.proofs.OthersTaken.{takes_none}
+use Rattle.tftp_promises.proofs.TwoAlone.{comes_from, each, fresh_of_two, honest_if, two_alone}
+
+-- ---- the programs
+abbrev programs : Programs memory_meaning memory_source memory_source memory_sink
+programs = two_alone server_ip 69 server reading
+
+away : client_ip ≢ server_ip
+away e = let n : 2 ≡ 1 = ap (λ (ip : List ℕ). get_or ip 3 0) e in omega (arith, n)
+
+one_port : our_ports programs serves_reader ≡ 1024 ∷ []
+unfolding handles asks_to_read opens_read sends_block completes_read
+one_port = refl
+
+-- what came had been sent just before, or one event before that
+honest : IsHonest programs (reverse exchange)
+honest = honest_if (ips programs) (IsStranger programs) (reverse exchange) (
+  comes_from (ips programs) (IsStranger programs) 1 0 refl refl (0, omega arith, refl),
+  (
+    comes_from (ips programs) (IsStranger programs) 0 1 refl refl (1, omega arith, refl),
+    (
+      comes_from (ips programs) (IsStranger programs) 1 0 refl refl (0, omega arith, refl),
+      (comes_from (ips programs) (IsStranger programs) 0 1 refl refl (1, omega arith, refl), (comes_from (ips programs) (IsStranger programs) 1 0 refl refl (0, omega arith, refl), tt)),
+    ),
+  ),
+)
+
+joined : AreJoined programs (reverse exchange)
+joined = record {
+  is_order = record { server = refl; clients = each reading (λ k c. events_of (suc k) (reverse exchange) ≡ c.noted) refl };
+  honest = honest;
+  fresh = fresh_of_two server_ip 69 server reading 1024 (λ e. omega (arith, e)) one_port away;
+  own = each reading (λ k c. TakesOwn server_ip [] c.runs) (takes_none server_ip reading.runs);
+}
+
+-- ---- the transfer
+opened_there : HasOpened programs 1024 (read_by reading_2 []) read_port
+unfolding handles asks_to_read opens_read sends_block completes_read
+opened_there = inl (refl, refl)
+
+abbrev serves : ServesClient programs read_port reading
+serves = record {
+  port = 1024;
+  transfer = read_by reading_2 [];
+  opened = opened_there;
+  server = refl;
+  peer = refl;
+  other = refl;
+  asked = read_spelled;
+  path = refl;
+}
+
+abbrev was : WasHeld programs 1024 (read_by reading_2 [])
+was = record { state = s4; run = serves_reader; held = refl; since = []; is_since = refl }
 
 -- ---- loss
 -- there is one timeout
@@ -42,37 +94,12 @@ promptly y a later between earlier answer bytes is none =
     said_none : (who : Bool) (order : List OneAct) → timeouts ((who, Said a answer) ∷ order) ≡ timeouts order
     said_none who order = refl
 
--- ---- the transfer, until it is complete
-abbrev before_close : Run (LoopStep memory_meaning memory_source) s0 s5
-before_close = Then (Then (Then (Then (Then Start asks_to_read) opens_read) answers_wrong_peer) sends_block) completes_read
-
-abbrev serves : ServesClient programs read_port reading
-serves = record {
-  port = 1024;
-  transfer = read_by reading_2 [];
-  opened = inr (closed_there programs refl);
-  server = refl;
-  peer = refl;
-  other = refl;
-  asked = read_spelled;
-  path = refl;
-}
-
-abbrev since : List SocketEvent
-since =
-    Sent 1024 latecomer (oack_bytes agreed)
-    ∷ Received 69 latecomer read_request ∷ Watched (read_at 0) ∷ Quiet (Woke (69 ∷ [])) ∷ Quiet (Slept 0)
-    ∷ Watched (read_at 0) ∷ Printed (line_text (Closed 1024 5000 outcomes.Complete)) ∷ []
-
-abbrev was : WasHeld programs 1024 (read_by reading_2 [])
-was = record { state = s5; run = before_close; held = refl; since = since; is_since = refl }
-
 client_did : acts_of true lossy_acts ≡ acts_in reading.runs
 unfolding accepts_does waits_does times_does stores_does
 client_did = refl
 
-server_did : acts_of false lossy_acts ≡ acts_at 1024 before_close
-unfolding handles asks_to_read opens_read answers_wrong_peer sends_block completes_read
+server_did : acts_of false lossy_acts ≡ acts_at 1024 serves_reader
+unfolding handles asks_to_read opens_read sends_block completes_read
 server_did = refl
 
 bounded : AreBounded programs reading read_port serves was lossy_acts 1 1
@@ -83,7 +110,7 @@ bounded = record {
     to_y = arrive true false reader read_port (read_by reading_2 []).end;
     to_x = arrive false true read_port reader dallying;
     x_handles = (tt, (tt, (tt, (tt, (tt, (tt, (tt, tt)))))));
-    y_handles = (tt, (tt, (tt, (tt, (tt, (tt, tt))))));
+    y_handles = (tt, (tt, (tt, (tt, tt))));
     x_prompt = promptly true read_port;
     y_prompt = promptly false reader;
     x_retries = omega arith;
@@ -91,14 +118,22 @@ bounded = record {
   };
 }
 
-pub some_joined : SomeAreJoined
-some_joined = (
+pub some_outlast : SomeOutlastLoss
+some_outlast = (
   programs,
   record {
-    exchanged = exchanged;
+    joined = joined;
+    reads = reading;
+    is_reader = refl;
     peer = refl;
     serves = serves;
     was = was;
     bounded = bounded;
+    has_read = refl;
+    has_sent = refl;
+    sink = stored;
+    is_sink = refl;
+    holds = refl;
+    committed = refl;
   },
 )

@@ -2,15 +2,11 @@ pub mod Common
 pub mod ClientTraces
 pub mod Places
 pub mod OthersTaken
+pub mod TwoAlone
 pub mod ExchangeParts
-pub mod ExchangeAlone
 pub mod ExchangeReader
-pub mod ExchangeWriter
 pub mod ExchangeStates
 pub mod ExchangeServer
-pub mod ExchangePut
-pub mod Exchange
-pub mod ExchangeShared
 pub mod PortCounts
 pub mod OneTimerEach
 pub mod ClosedLines

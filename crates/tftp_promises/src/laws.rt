@@ -21,8 +21,7 @@ ghost use Rattle.tftp_promises.specs.Order.{Programs};
 ghost use Rattle.tftp_promises.specs.Others.{ClientsTakeOne};
 ghost use Rattle.tftp_promises.specs.Programs.{ClientProgram, ServersAreRuns};
 ghost use Rattle.tftp_promises.specs.Timers.{EachHasOneTimer};
-ghost use Rattle.tftp_promises.specs.Witness.{SomeAreJoined, SomeAreServed, SomeAreShared};
-ghost use Rattle.tftp_promises.specs.Witness.{SomeHaveWritten};
+ghost use Rattle.tftp_promises.specs.Witness.{SomeOutlastLoss};
 
 use tftp_file::{Sink, Source};
 use tftp_store::Store;
@@ -114,23 +113,6 @@ pub fn a_client_takes_one_answer<G: Source, K: Sink>()
     ensures { ClientsTakeOne G.meaning K.meaning }
 {}
 
-/// The premises of the laws over both ends can be met, by two exchanges. In one a client reads a
-/// file of one block by an OACK, and both ends are complete. The ACK 0 that it sends first is lost,
-/// within a bound of one timeout, so the premises of [`a_client_outlasts_loss`] are met where
-/// something is lost. A stranger sends a datagram between. At the end another program reads at the
-/// port that the first client's transfer had: a stranger, and for the law over each client apart a
-/// client. And two servers share an address: both open a transfer for the first client's request,
-/// which takes one, and passes over the other. In the other exchange a client writes a file of one
-/// block, without options: both ends are complete, and the server's store has the file. All files
-/// are in memory: of the premises on arguments and disks this says nothing (RFC 1350, sections 2, 4
-/// and 6).
-pub fn some_programs_are_joined()
-    ensures joined { SomeAreJoined }
-    ensures written { SomeHaveWritten }
-    ensures served { SomeAreServed }
-    ensures shared { SomeAreShared }
-{}
-
 /// At each time of a run each transfer that the server holds has one timer, at its port, and no
 /// timer is of another. So a datagram or a timeout at a port is for one transfer only (RFC 1350,
 /// section 4).
@@ -186,4 +168,12 @@ pub fn a_client_ends_for_a_reason<T: Store, G: Source, K: Sink>()
 /// is the transfer of a put, once it has ended (RFC 1350, section 2).
 pub fn a_client_outlasts_loss<T: Store, G: Source, K: Sink>()
     ensures { ProgramsOutlastLoss T.meaning T.Source.meaning G.meaning K.meaning }
+{}
+
+/// The premises of [`a_client_outlasts_loss`] can be met where something is lost. A client reads a file
+/// of one block by an OACK, and the ACK 0 that it sends first is lost, within a bound of one timeout.
+/// Both ends are complete, and the client has the file. All files are in memory: of the premises on
+/// arguments and disks this says nothing (RFC 1350, sections 2 and 6; RFC 2347).
+pub fn some_programs_outlast_loss()
+    ensures { SomeOutlastLoss }
 {}

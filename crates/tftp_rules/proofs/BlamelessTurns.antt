@@ -8,7 +8,6 @@ use Rattle.tftp_rules.proofs.Common.{is_sender, terms_of, outcome_of, Turn, Acts
 use Rattle.tftp_rules.proofs.Common.{timeout_turn, Endpoint, Elsewhere, Network, OpenEnd, files_of}
 use Rattle.tftp_ends.specs.declared.outcome.Outcome.TheVariants as outcomes
 use Rattle.tftp_ends.specs.End.{Position}
-use Rattle.tftp_ends.specs.Phase.{waited}
 
 -- which outcomes blame which peer: these blame none
 pub record IsCalm (Blames : Endpoint → Outcome → Type 0) : Type 0 where
@@ -24,10 +23,6 @@ pub record CanSend (x : OpenEnd) (terms : Terms) (number : ℕ) : Type 0 where
   pub sender : is_sender x.state.role.side ≡ true
   pub measured : x.state.role.length ≡ length x.text
   pub left : x.left ≡ drop (before * terms.size) x.text
-
--- an open phase stays so while it waits
-pub waited_open : (phase : Phase) → outcome_of phase ≡ None → outcome_of (waited phase) ≡ None
-waited_open phase e = search rules
 
 module _ (network : Network) (Blames : Endpoint → Outcome → Type 0) where
   -- an end with these terms may close so, unless its peer is ours and it blames that

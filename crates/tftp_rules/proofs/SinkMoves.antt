@@ -68,12 +68,6 @@ took_armed false before after bytes (Err faults.Io) h = took_prefix before after
 took_armed false before after bytes (Err faults.Memory) h =
     took_none before after before bytes faults.Memory (same_Some after before h) refl refl
 
--- no append commits
-pub none_committed : {before after : Holding} {bytes : List ℕ} {answer : Result Done StoreFault} →
-    Took before after bytes answer → before.committed ≡ false → after.committed ≡ false
-none_committed (All_of_it ok same un) = un
-none_committed (Some_of_it fault kept err prefix same un) = un
-
 -- a sink of known content
 pub took : (sinks : SinkMeaning Holding) → ((holding : Holding) → sinks.held holding ≡ Some holding) →
     (before after : Holding) (bytes : List ℕ) (answer : Result Done StoreFault) →
@@ -106,10 +100,6 @@ pub same_bytes : {before after : Holding} {answer : Result Done StoreFault} → 
     after.bytes ≡ before.bytes
 same_bytes (For_good ok same done) = same
 same_bytes (Not_yet fault err same still) = same
-
--- after a commit that succeeds the file is committed
-pub now_committed : {before after : Holding} (done : Done) → Kept_all before after (Ok done) → after.committed ≡ true
-now_committed done h1 = search rules
 
 -- after one that fails it is as before
 pub still_committed : {before after : Holding} (fault : StoreFault) → Kept_all before after (Err fault) →

@@ -13,10 +13,6 @@ pub not-not : (b : Bool) → not (not b) ≡ b
 not-not true = refl
 not-not false = refl
 
--- two opposite values are opposite both ways
-pub flip : (b c : Bool) → b ≡ not c → c ≡ not b
-flip b c e = rw e (sym (not-not c))
-
 -- of no datagrams each has any property
 pub none_sent : (P : Message → Type 0) (d : Message) → Contains [] d → P d
 none_sent P d c = absurd (let h : c.0 < 0 = c.1 in omega arith)
