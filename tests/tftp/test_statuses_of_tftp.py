@@ -1,43 +1,28 @@
 """The status and the messages of `tftp`, whichever way it ends."""
 import os
+from pathlib import Path
 
 import pytest
 
 from lib.ends import TOO_LARGE as FILE_TOO_LARGE, ack, expect, wrq
 from lib.scene import RETRIES, closed_pipe, few_files
+from lib.sections import table
 
 NOWHERE, LONG_NAME = "127.0.0.1:9", "a" * 513
 # The cause of a file that does not fit its blocks, and of what no server may send
 TOO_LARGE, WRONG = "more than 65,535 blocks; try a larger --blksize\n", "ADDRESS: sent what no server may send"
-# Datagrams of a server, and how a client ends that is answered by them, with its cause: what is no packet, an ACK to
-# a read, ERRORs, some without their last zero byte, behind it or without a code, OACKs of what was not asked, of a
-# larger block and of one option twice, a CR at the end of a netascii text
-READ_ANSWERS = [
-    (b"\0\7", [], "Illegal", WRONG),
-    (b"\0\4\0\0", [], "Illegal", WRONG),
-    (b"\0\5\0\2no\0", [], "PeerError(2)", "the server says: no"),
-    (b"\0\5\0\2\0", [], "PeerError(2)", "the server says: access violation"),
-    (b"\0\5\0\1no file", [], "Illegal", f"{WRONG}: ERROR 1 (no file)"),
-    (b"\0\5\1\2a\x1b%\0b", [], "Illegal", f"{WRONG}: ERROR 258 (a%1b%25)"),
-    (b"\0\5\0\0" + b"A" * 600, [], "Illegal", f"{WRONG}: ERROR 0 ({'A' * 512})"),
-    (b"\0\5\0", [], "Illegal", WRONG),
-    (b"\0\5\0\0file too large\0", [], "PeerError(0)", "the server says: file too large; try --blksize 1428"),
-    (b"\0\5\0\0file too large\0", ["--blksize", "8"], "PeerError(0)", "the server says: file too large"),
-    (b"\0\6timeout\x003\0", [], "Refused(NotAsked)", "ADDRESS: agreed to an option that was not requested"),
-    (b"\0\6blksize\x009\0", ["--blksize", "8"], "Refused(BadValue)",
-     "ADDRESS: agreed to a value that was not requested"),
-    (b"\0\6blksize\x008\0blksize\x008\0", ["--blksize", "8"], "Refused(Repeated)",
-     "ADDRESS: agreed to an option twice"),
-    (b"\0\3\0\1A\r", ["--netascii"], "NotNetascii", "a: not netascii"),
-]
+ROWS = table(Path(__file__).with_name("statuses.txt"))
+ANSWERS, LOCALS = ([row[1:] for row in ROWS if row[0] == kind] for kind in ["answer", "local"])
+# an ERROR whose text is longer than what is shown
+LONG = ["\0\5\0\0" + "A" * 600, "", "Illegal", f"{WRONG}: ERROR 0 ({'A' * 512})"]
 
 
-@pytest.mark.parametrize("answer, options, outcome, cause", READ_ANSWERS,
-                         ids=[f"{row[0][:20]!r} {row[2]}" for row in READ_ANSWERS])
+@pytest.mark.parametrize("answer, options, outcome, cause", [*ANSWERS, LONG],
+                         ids=[f"{row[0][:20]!r} {row[2]}" for row in [*ANSWERS, LONG]])
 def test_answers(scene, answer, options, outcome, cause) -> None:
     requests = scene.port()
-    client = scene.tftp("get", requests.word, "a", "local", *options)
-    scene.port().send(answer, requests.receive()[1])
+    client = scene.tftp("get", requests.word, "a", "local", *options.split())
+    scene.port().send(answer.encode("latin-1"), requests.receive()[1])
     client.ends(1, "", f"tftp: {outcome}\ntftp: {cause.replace('ADDRESS', requests.word)}\n")
 
 
@@ -66,29 +51,6 @@ def test_a_help_that_cannot_be_written(scene, program) -> None:
     """Status 2: the contracts do not say what became of the text."""
     with open("/dev/full", "wb") as full:
         scene.fails(program, ["--help"], "", stdout=full)
-
-
-# Command lines with a LOCAL that cannot be used, and the cause: one that is there, a link to nothing, one in a folder
-# that is missing, a folder and links that cannot be replaced; one that is missing, a folder, a FIFO that nobody
-# writes to, and one of no length that has bytes
-LOCALS = [
-    ("get SERVER a abc", "abc: exists (--replace replaces it)"),
-    ("get SERVER a dangling", "dangling: not a file"),
-    ("get SERVER a fifo", "fifo: not a file"),
-    ("get SERVER a missing/local", "missing/local: not found"),
-    ("get SERVER a folder", "folder: a folder has this name with .part"),
-    ("get SERVER a ", ": the path is empty"),
-    ("get SERVER a abc/local", "abc/local: not a folder"),
-    ("get SERVER a . --replace", ".: not a file"),
-    ("get SERVER a link --replace", "link: not a file"),
-    ("get SERVER a dangling --replace", "dangling: not a file"),
-    ("put SERVER missing a", "missing: not found"),
-    ("put SERVER . a", ".: not a file"),
-    ("put SERVER fifo a", "fifo: not a file"),
-    ("put SERVER fifo a --netascii", "fifo: not a file"),
-    ("put SERVER /proc/cpuinfo a", "/proc/cpuinfo: length unknown"),
-    ("put SERVER /proc/cpuinfo a --netascii", "/proc/cpuinfo: length unknown"),
-]
 
 
 def words_of(command) -> list[str]:

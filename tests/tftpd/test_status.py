@@ -125,8 +125,8 @@ def test_each_sample(scene) -> None:
         expect(sorted(map(str, own)), sorted(map(str, expected)), f"the samples of {name}")
     version = written_by(scene.start("tftpd", ["--version"]))[0].strip().removeprefix("tftpd ")
     expect(value(found, "tftpd_build_info", version=version), 1, f"the version among {[*found][-1]}")
-    for asked, count in [("RRQ a octet blksize=99 timeout=100 tsize=0", "0 bytes of 700"), ("RRQ a netascii timeout=200", "0 bytes.*"),
-                         ("WRQ n octet timeout=250", "0 bytes.*")]:
+    for asked, count in [("RRQ a octet blksize=99 timeout=100 tsize=0", "0 bytes of 700"),
+                         ("RRQ a netascii timeout=200", "0 bytes.*"), ("WRQ n octet timeout=250", "0 bytes.*")]:
         port = server.asked(request_of(asked))
         transfer = port.receive()[1][1]
         shows(scene, rf"# {transfer} {re.escape(port.word)} {asked}: .*{count}, \d+ s, \d+ sent again")
