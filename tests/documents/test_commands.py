@@ -1,7 +1,8 @@
-"""Each command line of tftp-show and tftp-play that a document or a manual shows prints what stands there, writes nothing to
-standard error, and ends with the status of the manuals. Of each examples/NAME.script at least one document shows the output.
-The tours of tftpd and tftp run twice in a folder, and leave nothing there. The get of README.md in C compiles, and dnsmasq
-takes the settings of docs/OPERATING.md. In the commands that no check runs each name is looked up (shown_names.py)."""
+"""Each command line of tftp-show and tftp-play that a document or a manual shows prints what stands there, writes
+nothing to standard error, and ends with the status of the manuals. Of each examples/NAME.script at least one document
+shows the output. The tours of tftpd and tftp run twice in a folder, and leave nothing there. The get of README.md in
+C compiles, and dnsmasq takes the settings of docs/OPERATING.md. In the commands that no check runs each name is
+looked up (shown_names.py)."""
 import os
 import re
 import shlex
