@@ -1,6 +1,7 @@
-"""What `tftp-show` does with captures of each format, link and fault, which are built by hand (lib/frames.py); what is printed
-of them is written here. tshark reads them too, packet by packet; tcpdump records an exchange on the loopback interface, and
-transfers of `tftpd` with each client that is installed. Captures are mutated under a limit of memory and of time."""
+"""What `tftp-show` does with captures of each format, link and fault, which are built by hand (lib/frames.py); what
+is printed of them is written here. tshark reads them too, packet by packet; tcpdump records an exchange on the
+loopback interface, and transfers of `tftpd` with each client that is installed. Captures are mutated under a limit of
+memory and of time."""
 import json
 import os
 import random
@@ -14,18 +15,18 @@ from pathlib import Path
 from typing import Any, Iterator
 
 import pytest
-from hypothesis import HealthCheck, given, seed, settings, strategies as st
+from hypothesis import strategies as st
 
 from lib import frames as f
 from lib import others
 from lib.addresses import own_address
 from lib.ends import Port, wait_until
 from lib.examples import run as run_command
+from lib.mutated import many, mutated
 from lib.needs import needs
 from lib.packets import ack, data, error, oack, rrq, wrq
 from lib.process import Program
 from lib.programs import TOP, program
-from lib.seeds import commit_seed
 
 EXAMPLES = TOP / "examples"
 EXAMPLE_CAPTURES = ("wire", "netboot/uefi", "netboot/bios")
@@ -162,15 +163,7 @@ def test_fragments(tmp_path: Path) -> None:
     short, whole = f.packets(told), f.udp(2000, 1024, data(1, bytes(1468)))
     parts = [*short[:3], (3, f.ipv4(f.SERVER, f.CLIENT, whole[:1400], more=True)),
              (4, f.ipv4(f.SERVER, f.CLIENT, whole[1400:], offset=175)), *short[4:]]
-    report = """\
-transfer 1: 192.0.2.2:1024 reads from 192.0.2.1:69
-  asked    RRQ a octet blksize=1468
-  answered by 192.0.2.1:2000
-  agreed   OACK blksize=1468: blocks of 1468 bytes
-  sent     2 blocks, 1471 bytes in 0.000007 s
-  cut      the capture has the beginning of 1 of them
-  ended    complete
-"""
+    report = (HERE / "fragments.txt").read_text()
     lines = "RRQ a octet blksize=1468\nOACK blksize=1468\nACK 0\nDATA 1 1468\nACK 1\nDATA 2 3\nACK 2\n"
     reads("fragments", f.classic(parts, f.RAW), tmp_path, report + "later fragments: frames 1\n", lines)
     reads("a snap length", f.classic(short, f.RAW, snap=100), tmp_path, report, lines)
@@ -238,8 +231,8 @@ def test_selection(tmp_path: Path) -> None:
     assert '"' in json.loads(run(["--json"], quote)[1])["request"]
 
 
-# A put, an ERROR of each side, a request that nobody answers, and one whose DATA are cut: after how many microseconds each begins,
-# how many are between two datagrams, which side sends each, and the datagrams
+# A put, an ERROR of each side, a request that nobody answers, and one whose DATA are cut: after how many microseconds
+# each begins, how many are between two datagrams, which side sends each, and the datagrams
 TOLD: list[tuple[int, int, str, list[bytes]]] = [
     (0, 100_000, "cscsccs", [wrq("up", blksize=8, tsize=11), oack(blksize=8, tsize=11), data(1, b"12345678"), ack(1),
                              data(2, b"ABC"), data(2, b"ABC"), ack(2)]),
@@ -269,8 +262,8 @@ def test_json() -> None:
 
 
 def test_port_again() -> None:
-    """A client asks three times from one port, of a server that answers from its own: when the second transfer is over, the
-    first is known all the same."""
+    """A client asks three times from one port, of a server that answers from its own: when the second transfer is
+    over, the first is known all the same."""
     client, other, server = (f.CLIENT, 2070), ("192.0.2.3", 2070), (f.SERVER, 69)
     told = [(0, client, server, rrq("a")), (1, server, client, data(1, bytes(512))), (2, client, server, rrq("b")),
             (3, client, server, rrq("c")), (4, other, server, rrq("d")), (5, server, other, data(1, bytes(512)))]
@@ -377,8 +370,8 @@ def test_tcpdump(where: str, tmp_path: Path) -> None:
 
 @contextmanager
 def recording(where: str, host: str, path: Path) -> Iterator[None]:
-    """A tcpdump records what this address sends and receives meanwhile. It begins to record behind its first line, and later on
-    a busy host: what was sent before a mark that it has is there, too."""
+    """A tcpdump records what this address sends and receives meanwhile. It begins to record behind its first line,
+    and later on a busy host: what was sent before a mark that it has is there, too."""
     needs("tcpdump")
     words: list[Any] = ["tcpdump", "-i", where, "--immediate-mode", "-U", "-w", path, "-Z", "root", "udp", "and", "host", host]
     with Program(words, path.parent, 10 * PATIENCE) as dump, Port(host).socket as port:
@@ -438,25 +431,7 @@ def test_transfers(tmp_path: Path) -> None:
 KEPT = [capture for _, capture in samples() if len(capture) < 5000] + [two_interfaces()]
 
 
-@st.composite
-def mutated(draw: Any) -> bytes:
-    capture = bytearray(draw(st.sampled_from(KEPT)))
-    for way in draw(st.lists(st.sampled_from(["byte", "cut", "repeat", "number"]), min_size=1, max_size=8)):
-        at, count = draw(st.integers(4, max(len(capture) - 1, 4))), draw(st.integers(1, 40))
-        if way == "byte":
-            capture[at:at + 1] = bytes([draw(st.sampled_from([0, 1, 0x7F, 0x80, 0xFF]) | st.integers(0, 255))])
-        elif way == "cut":
-            del capture[at:at + count]
-        elif way == "repeat":
-            capture[at:at] = capture[at:at + count]
-        else:
-            capture[at:at + 4] = struct.pack("<I", draw(st.sampled_from([0, 1, 2**31, 2**32 - 1, 262_144])))
-    return bytes(capture)
-
-
-@seed(commit_seed())
-@settings(max_examples=MUTATIONS, deadline=None, database=None, suppress_health_check=list(HealthCheck))
-@given(mutated(), st.sampled_from(["--flow", "--json", "--follow", ""]))
+@many(MUTATIONS, mutated(KEPT, False), st.sampled_from(["--flow", "--json", "--follow", ""]))
 def test_mutations(capture: bytes, words: str) -> None:
     """No crash, no more memory and no more time."""
     status, _, errors = run(words.split(), capture)

@@ -1,6 +1,7 @@
-"""examples/monitoring by `promtool`, of Debian's prometheus: the rules by their own tests, and each query of the dashboard,
-filled in as Grafana does for one host and for all, over series whose values were chosen by hand. What Grafana asks of the
-dashboard's JSON is read strictly: a kind of panel, a unit or a variable that is not known here is a fault."""
+"""examples/monitoring by `promtool`, of Debian's prometheus: the rules by their own tests, and each query of the
+dashboard, filled in as Grafana does for one host and for all, over series whose values were chosen by hand. What
+Grafana asks of the dashboard's JSON is read strictly: a kind of panel, a unit or a variable that is not known here is
+a fault."""
 import copy
 import json
 import re
@@ -22,8 +23,8 @@ METRIC = re.compile(r"tftpd_[a-z_]+")
 HERE = Path(__file__).resolve().parent
 # What the series are at each minute of twenty: a server at one host, and two at another
 SERIES = [line.rsplit(" ", 1) for line in (HERE / "series.txt").read_text().splitlines()]
-# At twenty minutes, over a page of ten and curves of four: the series of each panel by their labels, of the first host alone,
-# and of both
+# At twenty minutes, over a page of ten and curves of four: the series of each panel by their labels, of the first
+# host alone, and of both
 SHOWN: dict[str, dict[str, dict[str, float]]] = json.loads((HERE / "shown.json").read_text())
 # What makes a dashboard wrong: what is said of it, the place of a part, and its value, or none where it is taken away
 WRONG = json.loads((HERE / "wrong.json").read_text())

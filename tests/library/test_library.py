@@ -1,6 +1,6 @@
-"""The library for C by its examples: examples/ is built for each checker that is here, in C and C++ by each compiler with
-AddressSanitizer and UndefinedBehaviorSanitizer, in C for valgrind, too, over musl, and without a C library; in Rust and Python
-with AddressSanitizer and for valgrind; and in Go. What each does then is told in lib/transfers.py."""
+"""The library for C by its examples: examples/ is built for each checker that is here, in C and C++ by each compiler
+with AddressSanitizer and UndefinedBehaviorSanitizer, in C for valgrind, too, over musl, and without a C library; in
+Rust and Python with AddressSanitizer and for valgrind; and in Go. What each does then is told in lib/transfers.py."""
 import os
 import re
 import shutil

@@ -1,5 +1,5 @@
-"""What the tests of other machines share: programs and the library for a processor, as `make` builds them, and the tests of tftp
-and tftpd over other programs."""
+"""What the tests of other machines share: programs and the library for a processor, as `make` builds them, and the
+tests of tftp and tftpd over other programs."""
 import os
 import re
 import subprocess

@@ -1,7 +1,7 @@
-"""The programs and the library for ARM64, built as `make ARCH=arm64 programs libtftp deb` does, with and without the C library in the
-programs. The static programs are run by `qemu-aarch64`: by the tests of tftp, tftpd, tftp-show and tftp-play, but those that
-emulated.py leaves out; the library by its examples in C; and tftp and tftpd with other projects' programs, both ways in both
-modes, at the edges of blocks."""
+"""The programs and the library for ARM64, built as `make ARCH=arm64 programs libtftp deb` does, with and without the
+C library in the programs. The static programs are run by `qemu-aarch64`: by the tests of tftp, tftpd, tftp-show and
+tftp-play, but those that emulated.py leaves out; the library by its examples in C; and tftp and tftpd with other
+projects' programs, both ways in both modes, at the edges of blocks."""
 import os
 import re
 import shutil
@@ -87,8 +87,8 @@ def has(scene: Any, name: str, expected: bytes, what: str) -> None:
 
 
 def moves(scene: Any, what: str, lengths: "list[int]", modes: "list[str]", words: Any, takes_puts: bool) -> None:
-    """A client gets files of these lengths in these modes, and puts them. `words` are those of a client by the verb, the name and
-    the file here, the mode, and the size of blocks if it is asked for."""
+    """A client gets files of these lengths in these modes, and puts them. `words` are those of a client by the verb,
+    the name and the file here, the mode, and the size of blocks if it is asked for."""
     for length, mode in product(lengths, modes):
         name, expected, block = f"f{length}{mode}", content(length, mode), "65464" if length > 60_000 else ""
         scene.make(name, expected)
@@ -113,7 +113,8 @@ def of_ours(scene: Any, peer: str) -> None:
 
 
 def of_another(scene: Any, client: str) -> None:
-    """Another project's client at our server. (A curl refuses the length 0 that it asked for, and stores netascii as it came.)"""
+    """Another project's client at our server. (A curl refuses the length 0 that it asked for, and stores netascii as
+    it came.)"""
     way = scene.serve("--forever", "--cap", "64").address
 
     def words(verb: str, name: str, local: str, mode: str, block: str) -> "list[str]":

@@ -1,9 +1,10 @@
-"""The library for machines without an operating system, libtftp-bare.a for amd64 and arm64, by what its objects have. In the
-disassembly no instruction names a register of SSE, MMX or x87, of floating point or SIMD, and none reads or writes below the
-stack pointer. All code is position independent. It calls memcpy, memmove, memset and the heap of tftp.h alone. Nothing calls
-itself and no call is through a pointer, so the most stack that each call takes is the longest way through the calls that it
-makes. No call takes more than the table in man/tftp.3 says, which WRITE_STACK=1 in the environment makes anew, and all code is
-no larger. The client of examples/c is linked to it with ports/malloc.c, and gets a file of tftpd in blocks of 1428 bytes."""
+"""The library for machines without an operating system, libtftp-bare.a for amd64 and arm64, by what its objects have.
+In the disassembly no instruction names a register of SSE, MMX or x87, of floating point or SIMD, and none reads or
+writes below the stack pointer. All code is position independent. It calls memcpy, memmove, memset and the heap of
+tftp.h alone. Nothing calls itself and no call is through a pointer, so the most stack that each call takes is the
+longest way through the calls that it makes. No call takes more than the table in man/tftp.3 says, which WRITE_STACK=1
+in the environment makes anew, and all code is no larger. The client of examples/c is linked to it with
+ports/malloc.c, and gets a file of tftpd in blocks of 1428 bytes."""
 import os
 import re
 from functools import lru_cache
@@ -128,7 +129,8 @@ class Code:
 
 # ---- what is said of it in the manual
 
-# The bytes of stack that the manual states are one of these, with a tenth to spare: another compiler may take some more
+# The bytes of stack that the manual states are one of these, with a tenth to spare: another compiler may take some
+# more
 STATED = [128, 256, 512, 1_024, 1_536, 2_048, 3_072, 4_096, 8_192]
 MADE = re.compile(r'(?s)\.\\" made by tests/machines/test_bare\.py\n(.*?)\.\\" end of what is made\n')
 

@@ -1,6 +1,6 @@
-"""Boots the loader of examples/efi, built for amd64 and for ARM64, linked to libtftp-bare.a, in QEMU under OVMF and under AAVMF. It
-gets a file over the firmware's UDP port, of `tftpd` and of another project's server that is here (in.tftpd or atftpd); the
-length and the SHA-256 that it prints are those of the file."""
+"""Boots the loader of examples/efi, built for amd64 and for ARM64, linked to libtftp-bare.a, in QEMU under OVMF and
+under AAVMF. It gets a file over the firmware's UDP port, of `tftpd` and of another project's server that is here
+(in.tftpd or atftpd); the length and the SHA-256 that it prints are those of the file."""
 import hashlib
 import os
 import re
@@ -22,7 +22,8 @@ OTHERS = ["in.tftpd", "atftpd"]
 
 
 class Firmware(NamedTuple):
-    """A processor, its compiler and its EFI headers, where its firmware is, what that boots, and the words of QEMU."""
+    """A processor, its compiler and its EFI headers, where its firmware is, what that boots, and the words of
+    QEMU."""
     arch: str
     compiler: str
     efi: Path

@@ -1,8 +1,8 @@
-"""A whole ARM64 machine under QEMU, whose programs are ours. QEMU's `virt` board boots Debian's kernel for arm64 with an initrd of
-busybox and of the static `tftp` and `tftpd` for ARM64 (parts/init). Over a virtio network card the machine gets a file of the
-`tftpd` of this host by three block sizes and puts it back. It then serves by `--servers 2` with `--status`: this host gets the
-file at eight clients at once and puts some. At last the machine drains its servers. Files are compared by their hashes. It
-takes a minute or so without kvm, and three at most."""
+"""A whole ARM64 machine under QEMU, whose programs are ours. QEMU's `virt` board boots Debian's kernel for arm64 with
+an initrd of busybox and of the static `tftp` and `tftpd` for ARM64 (parts/init). Over a virtio network card the
+machine gets a file of the `tftpd` of this host by three block sizes and puts it back. It then serves by `--servers 2`
+with `--status`: this host gets the file at eight clients at once and puts some. At last the machine drains its
+servers. Files are compared by their hashes. It takes a minute or so without kvm, and three at most."""
 import hashlib
 import os
 import re

@@ -1,7 +1,7 @@
 """What docs/OPERATING.md says of networks, in network namespaces.
 
-Three hosts are joined by two links: a client, a router, and a server whose port 69 is redirected, filtered and limited by the
-commands of the page, and that runs the command lines of the units.
+Three hosts are joined by two links: a client, a router, and a server whose port 69 is redirected, filtered and
+limited by the commands of the page, and that runs the command lines of the units.
 """
 import os
 import re
@@ -22,7 +22,8 @@ from lib.programs import TOP, programs
 from lib.units import arguments_of
 
 PAGE = TOP / "docs/OPERATING.md"
-# The time after which a server sends again what a client has not answered, and a wait for what does not come, in seconds
+# The time after which a server sends again what a client has not answered, and a wait for what does not come, in
+# seconds
 INTERVAL, SILENCE = 20, 2
 ASKED = {"blksize": BLOCK, "timeout": INTERVAL}
 # What the kernel has to know for the trials: each kind of rule once
@@ -71,6 +72,10 @@ class Network:
         """Serves the folder at a port of the first address."""
         self.serve([self.root, "--listen", f"{SERVER}:{port}", "--forever", *words])
 
+    def logged(self) -> list[bytes]:
+        """The logs so far. (A server writes at the place of its file, which a seek would move.)"""
+        return [os.pread(log.fileno(), 1 << 20, 0) for _, log in self.servers]
+
     def stop(self) -> list[str]:
         """Stops the servers. Returns their logs."""
         logs = []
@@ -102,9 +107,11 @@ class Network:
         return content
 
     def is_served(self, is_served=True, port=69, address=SERVER, content=None) -> None:
-        """Whether the client gets the file, or another one, from this port. It asks once where it is to get nothing."""
+        """Whether the client gets the file, or another one, from this port. It asks once where it is to get
+        nothing."""
         found = self.received(address, port, ["--retries", "10" if is_served else "0"])
-        expect(found == (content or self.content) if is_served else not found, True, f"is {address}:{port} served: {is_served}")
+        expect(found == (content or self.content), is_served, f"whether {address}:{port} is served")
+        expect(bool(found), is_served, f"whether {address}:{port} serves anything")
 
     def ports(self, *addresses, number=0) -> list[Port]:
         """Ports of the client's host."""
@@ -116,8 +123,8 @@ class Network:
 
 
 def answered(ports, wanted) -> tuple[int, int]:
-    """Sends a request from each port, and waits until so many are answered, and some time for one more. Returns how many are,
-    and how many seconds the sending took."""
+    """Sends a request from each port, and waits until so many are answered, and some time for one more. Returns how
+    many are, and how many seconds the sending took."""
     begun, found = time.monotonic(), set[Port]()
     for port in ports:
         port.send(rrq("a", **ASKED), (SERVER, 69))
@@ -133,7 +140,8 @@ def answered(ports, wanted) -> tuple[int, int]:
 
 
 def chatter(port) -> int:
-    """Sends a datagram that is no packet, and another to each answer, ten at most. Returns how many answers there are."""
+    """Sends a datagram that is no packet, and another to each answer, ten at most. Returns how many answers there
+    are."""
     for count in range(10):
         port.send(b"ABCDEFG", (SERVER, 69))
         if not select.select([port.socket], [], [], SILENCE)[0]:
@@ -158,17 +166,16 @@ def test_unit(network) -> None:
     network.is_served()
     done = network.transfers("put", f"{SERVER}:69", __file__, "new", "--retries", "10")
     expect(done.stderr, "tftp: PeerError(2)\ntftp: the server says: access violation\n", "the answer to a write")
-    # (the line may come after the answer, and the server writes at the place of this file, which a seek would move)
-    log = network.servers[0][1].fileno()
-    wait_until(lambda: b"\nrefused " in os.pread(log, 1 << 20, 0), "a line of a refused request")
+    # (the line may come after the answer)
+    wait_until(lambda: b"\nrefused " in network.logged()[0], "a line of a refused request")
     # (where the host is slow a client asks again, which is ignored, or refused again in the same words)
     lines = [line for line in dict.fromkeys(network.stop()[0]) if not line.startswith("ignored ")]
     expect([line.split()[0] for line in lines], ["listening", "opened", "closed", "refused"], "the lines of the log")
 
 
 def test_redirection(network) -> None:
-    """The redirection serves one address of two, and with a line for each a server for each: a request to one is never
-    answered for another."""
+    """The redirection serves one address of two, and with a line for each a server for each: a request to one is
+    never answered for another."""
     network.serve_root(6969)
     network.is_served(False)
     rules = block_of("dnat to")
@@ -248,8 +255,7 @@ def test_many(network) -> None:
             end.is_answered(ack(number), data(number + 1, network.content[number * BLOCK:(number + 1) * BLOCK]))
     for end in ends:
         end.send(ack(len(network.content) // BLOCK + 1))
-    wait_until(lambda: sum(os.pread(log.fileno(), 1 << 20, 0).count(b"\nclosed ") for _, log in network.servers) >= len(MANY),
-               "that the transfers are closed")
+    wait_until(lambda: sum(text.count(b"\nclosed ") for text in network.logged()) == len(MANY), "that the transfers are closed")
     logs = network.stop()
     opened = [line.split()[2].split(":")[0] for log in logs for line in log if line.startswith("opened ")]
     expect(sorted(opened), sorted(MANY), "the clients that were opened")
@@ -293,7 +299,8 @@ def test_three_routers(network) -> None:
     network.stop()
 
 
-# an address of each block that is of no host of the internet (RFC 1918, RFC 6598, RFC 3927), at its edges, and others beside these
+# an address of each block that is of no host of the internet (RFC 1918, RFC 6598, RFC 3927), at its edges, and others
+# beside these
 PRIVATE = ["10.0.0.1", "10.255.255.254", "172.16.0.1", "172.31.255.254", "192.168.0.1", "192.168.255.254", "100.64.0.1",
            "169.254.1.1"]
 BESIDE = ["9.255.255.254", "11.0.0.1", "172.15.255.254", "172.32.0.1", "198.18.0.1", "223.255.255.254"]
@@ -310,7 +317,8 @@ def test_private_addresses(network) -> None:
 
 
 def test_removal(network) -> None:
-    """The two commands that remove what failed puts left spare what is an hour old at most, and what is not theirs."""
+    """The two commands that remove what failed puts left spare what is an hour old at most, and what is not
+    theirs."""
     commands = re.findall(r"`(find /srv/tftp[^`]*)`", " ".join(PAGE.read_text().split()))
     expect(len(commands), 2, "how many commands of the page remove files")
     left, kept = [".tftp-40000", "n~tftp"], [".tftp-40001", "m~tftp", "old"]

@@ -1,6 +1,6 @@
-"""What a host does to the programs while they transfer: it stops them for a while, or kills the server. A file is whole or
-absent afterwards, and the server serves the next request. Disks that are full, few open files, closed streams, and files and
-folders that change have tests of their own in tests/tftpd."""
+"""What a host does to the programs while they transfer: it stops them for a while, or kills the server. A file is
+whole or absent afterwards, and the server serves the next request. Disks that are full, few open files, closed
+streams, and files and folders that change have tests of their own in tests/tftpd."""
 import random
 import signal
 import time

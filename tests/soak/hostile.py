@@ -220,7 +220,8 @@ class Trial(ports.Trial):
 
 
 def run(programs, folder, rng, seconds) -> Counter[str]:
-    """Runs a trial for each second, one after another, each with numbers of its own. Returns their counts together."""
+    """Runs a trial for each second, one after another, each with numbers of its own. Returns their counts
+    together."""
     counts, seed = Counter[str](), rng.random()
     for at in range(max(int(seconds), 1)):
         trial = Trial(programs["tftp"], folder, random.Random(f"{seed} {at}"), f"local{at}")

@@ -1,8 +1,9 @@
-"""Both programs over a network that loses, repeats and reorders datagrams (lib/proxy.py), in both modes and blocks of every size.
+"""Both programs over a network that loses, repeats and reorders datagrams (lib/proxy.py), in both modes and blocks of
+every size.
 
-A client completes with the whole file or times out. The line of the server is matched with what its client reports: it
-reports a read as complete only if the client has the file, and a client reports a write as complete only if the server
-does (RFC 1350, section 6). No other outcome is allowed, and some transfers of each kind have to be complete.
+A client completes with the whole file or times out. The line of the server is matched with what its client reports:
+it reports a read as complete only if the client has the file, and a client reports a write as complete only if the
+server does (RFC 1350, section 6). No other outcome is allowed, and some transfers of each kind have to be complete.
 """
 import random
 import threading

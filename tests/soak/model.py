@@ -281,7 +281,8 @@ class End:
 
 
 class Sender(End):
-    """Sends the blocks of a text. A server's that opened by an OACK has number 0, and so has a client's at its peer's."""
+    """Sends the blocks of a text. A server's that opened by an OACK has number 0, and so has a client's at its
+    peer's."""
 
     def __init__(self, peer, agreed, retries, text, number, newest, is_oack_known=False) -> None:
         super().__init__(peer, agreed, retries, newest)
@@ -435,8 +436,8 @@ class Client:
 
 
 class RequestPort:
-    """A server's request port: its files by path, its folders, and the transfers that it holds. With `uploads`, the path
-    of a folder, files below that alone are written."""
+    """A server's request port: its files by path, its folders, and the transfers that it holds. With `uploads`, the
+    path of a folder, files below that alone are written."""
 
     def __init__(self, files, folders, cap=16, retries=5, max_block=1_428, max_file=4_290_183_239, replaces=False,
                  is_read_only=False, uploads="") -> None:

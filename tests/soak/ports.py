@@ -1,5 +1,5 @@
-"""What the trials share: ports that know when each datagram arrived, an end of the model with its timer, and how a trial
-receives what the model owes it."""
+"""What the trials share: ports that know when each datagram arrived, an end of the model with its timer, and how a
+trial receives what the model owes it."""
 import select
 import socket
 import struct

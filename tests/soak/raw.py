@@ -1,9 +1,9 @@
 """Raw clients at one `tftpd`: each answer is compared with the model's, byte for byte.
 
-They send valid, mutated, truncated, repeated, reordered and foreign datagrams in bursts. The model is asked at once, and
-then each expected answer has to arrive. Any other datagram has to be a retransmission that is due. What closes without
-a datagram has to be due, too, after all its retransmissions. At the end the folder has the files of the model and no
-other, and some reads and writes have to be complete.
+They send valid, mutated, truncated, repeated, reordered and foreign datagrams in bursts. The model is asked at once,
+and then each expected answer has to arrive. Any other datagram has to be a retransmission that is due. What closes
+without a datagram has to be due, too, after all its retransmissions. At the end the folder has the files of the model
+and no other, and some reads and writes have to be complete.
 """
 import random
 import time
@@ -121,9 +121,10 @@ class Trial(ports.Trial):
         return model.request("WRQ", rng.choice(names + written[-2:]), mode, self.options())
 
     def ask(self) -> None:
-        """A burst at the request port. A request may come twice, and other datagrams with it. Where a client may be told
-        that the server is busy, no transfer closes meanwhile: none is near its end, and each that has ended has its line.
-        (The last datagram of a burst may be read half a second after the one before it, which advanced the transfer.)"""
+        """A burst at the request port. A request may come twice, and other datagrams with it. Where a client may be
+        told that the server is busy, no transfer closes meanwhile: none is near its end, and each that has ended has
+        its line. (The last datagram of a burst may be read half a second after the one before it, which advanced the
+        transfer.)"""
         self.is_near = len(self.port.held) + MOST_ASKED > self.port.cap
         if self.is_near and (self.port.has_unreported() or any(each.may_close(STALL) for each in self.live)):
             return
@@ -144,7 +145,8 @@ class Trial(ports.Trial):
         return Live(Port(), mutated(self.rng, request) if self.rng.random() < 0.3 else request)
 
     def was_near_in_time(self) -> None:
-        """No transfer has closed by itself since the last requests, where one more or less decides about the answers."""
+        """No transfer has closed by itself since the last requests, where one more or less decides about the
+        answers."""
         if self.is_near and any(each.may_close(EARLY) for each in self.live):
             raise Stalled
 
@@ -289,8 +291,8 @@ class Trial(ports.Trial):
             live.port.close()
 
     def is_quiet(self) -> None:
-        """Nothing else has been sent: a datagram that has one answer is handled after all before. The server handles one
-        in a round, so that the second is handled in a round that began after the first was sent."""
+        """Nothing else has been sent: a datagram that has one answer is handled after all before. The server handles
+        one in a round, so that the second is handled in a round that began after the first was sent."""
         begun = time.time()
         for _ in range(2):
             self.sent(self.probe, b"?", self.server.address)
@@ -304,8 +306,8 @@ class Trial(ports.Trial):
     # ---- the whole
 
     def run(self, seconds) -> None:
-        """So many steps as the seconds have, each with numbers of its own: what one draws does not depend on how many the one
-        before has drawn, which follows what came by then."""
+        """So many steps as the seconds have, each with numbers of its own: what one draws does not depend on how many
+        the one before has drawn, which follows what came by then."""
         seed = self.rng.random()
         self.is_quiet()
         for step in range(max(int(seconds * STEPS_A_SECOND), 1)):
@@ -334,8 +336,8 @@ class Trial(ports.Trial):
 
 
 def run(programs, folder, rng, seconds, **limits) -> Counter[str]:
-    """Runs a trial, another where this host stalled, and shorter ones where the least of transfers was not reached. Returns
-    their counts together."""
+    """Runs a trial, another where this host stalled, and shorter ones where the least of transfers was not reached.
+    Returns their counts together."""
     counts, end, at, is_over, seed = Counter(stalls=0), time.monotonic() + seconds + PATIENCE, 0, False, rng.random()
     ways = ["reads complete"] + ["writes complete"] * (not limits.get("is_read_only"))
     while at == 0 or (not is_over or any(counts[way] < LEAST for way in ways)) and time.monotonic() < end:

@@ -109,8 +109,8 @@ def test_exchanges() -> None:
 
 
 def gives_up(limit, slack, retries) -> bool:
-    """Whether a client gives up while its server goes on. Its datagram is received after so many timeouts of the client, the
-    answer is sent some timeouts later, and as many as at first pass until that is received."""
+    """Whether a client gives up while its server goes on. Its datagram is received after so many timeouts of the
+    client, the answer is sent some timeouts later, and as many as at first pass until that is received."""
     options = [(b"blksize", 8)]
     server = Sender("client", options, retries, bytes(20), 0, oack(options))
     client = Receiver("server", options, retries, b"octet", lambda _: None, ack(0), True)

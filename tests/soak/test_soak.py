@@ -1,8 +1,8 @@
 """`tftp` and `tftpd` for some time against a model, a bad network and a bad host.
 
-SOAK_SECONDS, else 30, and SOAK_SEED, else the first digits of the commit, say how many steps there are, and what each draws,
-however long they take. A trial has numbers of its own from the seed. A failure shows the seed, and the last datagrams as lines
-for tftp-show.
+SOAK_SECONDS, else 30, and SOAK_SEED, else the first digits of the commit, say how many steps there are, and what each
+draws, however long they take. A trial has numbers of its own from the seed. A failure shows the seed, and the last
+datagrams as lines for tftp-show.
 """
 import os
 import random
@@ -22,7 +22,8 @@ from lib.programs import programs
 from lib.seeds import commit_seed
 
 SECONDS, SEED = float(os.environ.get("SOAK_SECONDS", "30")), int(os.environ.get("SOAK_SEED") or commit_seed())
-# Where so many transfers were opened, each ERROR of a server has to have been seen; and the raw clients open some a second
+# Where so many transfers were opened, each ERROR of a server has to have been seen; and the raw clients open some a
+# second
 MANY, EACH_SECOND = 300, 1
 # Servers of raw clients: with what limits each of them is started
 RAW: dict[str, dict[str, Any]] = {

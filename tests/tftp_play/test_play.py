@@ -1,5 +1,6 @@
-"""Rows of `tftp-play`: what it prints for a script, and its status. The output in scripts.txt is written by hand from RFC 1350,
-sections 2 and 4 to 7, RFC 1123, section 4.2.3.1, and RFC 2347 to 2349. A row has the name of its kind, as `play_first`."""
+"""Rows of `tftp-play`: what it prints for a script, and its status. The output in scripts.txt is written by hand from
+RFC 1350, sections 2 and 4 to 7, RFC 1123, section 4.2.3.1, and RFC 2347 to 2349. A row has the name of its kind, as
+`play_first`."""
 import hashlib
 import re
 import resource
@@ -71,7 +72,8 @@ def test_help(scene) -> None:
 @pytest.mark.parametrize("rows", [requests.PORT, requests.READS, requests.WRITES, requests.REPEATS],
                          ids=["the request port", "reads", "writes", "repeats"])
 def test_port_rows(play, rows) -> None:
-    """Each datagram to the request port has the answer of its row, and opens an end or none; repeats are of one client."""
+    """Each datagram to the request port has the answer of its row, and opens an end or none; repeats are of one
+    client."""
     script, expected, ends = requests.FILES, "", []
     for at, (what, datagram, answer) in enumerate(rows):
         sender = 2000 if rows is requests.REPEATS else 2000 + at
@@ -129,8 +131,8 @@ def test_the_longest_content(play) -> None:
 
 
 def test_settle_is_cut(play) -> None:
-    """A `settle` delivers 1,000,000 datagrams at most. Eight clients read 65,535 blocks of 8 bytes each: a request, an
-    OACK, and then an ACK and a DATA of each client in turn, 125,000 for each of the eight."""
+    """A `settle` delivers 1,000,000 datagrams at most. Eight clients read 65,535 blocks of 8 bytes each: a request,
+    an OACK, and then an ACK and a DATA of each client in turn, 125,000 for each of the eight."""
     blocks = (125_000 - 2) // 2
     gets = "get a octet blksize=8\n" * 8
     status, printed, errors = play.ran(f"file a 61*524279\n{gets}settle 0\n")
@@ -142,8 +144,8 @@ def test_settle_is_cut(play) -> None:
     assert "\n#1000007 " in printed and "\n#1000008 " not in printed
 
 
-# Reads and writes in both modes, with and without options, two writes of one name, and drawn events; and the digest of the run
-# on the day on which it was written, which shows that a run of one seed is the same on each day and host
+# Reads and writes in both modes, with and without options, two writes of one name, and drawn events; and the digest
+# of the run on the day on which it was written, which shows that a run of one seed is the same on each day and host
 RANDOM = (HERE / "random.script").read_text()
 DIGEST = "7a4791433036927cd41efffa6302f35a17a977853c4fe9a7042f598a93c81c18"
 END = re.compile(r"(?m)^end (\d+) (\S+) peer=(\S+) size=(\d+) number=(\d+) complete=(yes|no) (\S+)$")
@@ -183,7 +185,8 @@ def test_a_picture(play, row) -> None:
 
 
 def test_comments(play) -> None:
-    """A comment is between the events around it. It is escaped, and cut after 96 letters; an empty one is not drawn."""
+    """A comment is between the events around it. It is escaped, and cut after 96 letters; an empty one is not
+    drawn."""
     svg = drawn(play, "# a <&>\nfile a 41\nget a octet\n#\n# \n#b\x01\xff\nsettle 0\n# " + 97 * "c" + "\n")
     texts = ["a &lt;&amp;&gt;", "#0 RRQ a octet", "b??", "#1 DATA 1 1", "#2 ACK 1", "closed Complete", 96 * "c" + ".."]
     heights = [re.findall(rf' y="(\d+)"[^>]*>{re.escape(text)}<', svg) for text in texts]

@@ -1,8 +1,8 @@
 """Rows of `tftp-show`: what it prints for lines of packets and of captures, and its status.
 
-captures.txt has lines of tshark's fields, recorded on a virtual network between tftpd-hpa 5.2 at 192.0.2.1 and the clients
-atftp 0.8 and curl 7.88. A packet filter of the client dropped what is called lost. What is printed for each is derived from it
-by hand."""
+captures.txt has lines of tshark's fields, recorded on a virtual network between tftpd-hpa 5.2 at 192.0.2.1 and the
+clients atftp 0.8 and curl 7.88. A packet filter of the client dropped what is called lost. What is printed for each
+is derived from it by hand."""
 import os
 import signal
 import socket
@@ -21,8 +21,8 @@ HERE = Path(__file__).resolve().parent
 CAPTURES, PICTURES = ({row.kind: row for row in sections(HERE / name)} for name in ["captures.txt", "pictures.txt"])
 INPUTS = table(HERE / "inputs.txt")
 UNREADABLE, NO_TRANSFER = "tftp-show: input unreadable\n", "tftp-show: no such transfer\n"
-# Command lines of status 2 over a capture, and how the message begins: a file has to be there, and a transfer is drawn only with
-# `--flow`
+# Command lines of status 2 over a capture, and how the message begins: a file has to be there, and a transfer is
+# drawn only with `--flow`
 FAULTS = [(["--verbose"], "error: "), (["a.pcap", "b.pcap"], "error: "), (["--svg", "/dev/null"], "error: "),
           (["--flow", "--transfer", "0"], "error: "), ([b"caf\xe9"], "error: "), (["/missing/packets.hex"], UNREADABLE),
           (["packets.hex"], UNREADABLE), (["."], UNREADABLE), (["--flow", "--svg", "a.svg", "--transfer", "2"], NO_TRANSFER),
@@ -106,8 +106,8 @@ INTERRUPTED = [
 
 @pytest.mark.parametrize("words, parts, output", INTERRUPTED, ids=["packets", "a capture"])
 def test_interrupted_reads(scene, words, parts, output) -> None:
-    """A read that a signal interrupts is made again. No handler can be had from outside, but a read of a socket with a
-    timeout also fails with EINTR where its process is stopped and goes on, on Linux (signal(7))."""
+    """A read that a signal interrupts is made again. No handler can be had from outside, but a read of a socket with
+    a timeout also fails with EINTR where its process is stopped and goes on, on Linux (signal(7))."""
     ours, theirs = socket.socketpair()
     with ours, theirs:
         theirs.setsockopt(socket.SOL_SOCKET, socket.SO_RCVTIMEO, struct.pack("ll", 300, 0))

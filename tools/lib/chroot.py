@@ -1,5 +1,5 @@
-"""A folder with packages of this host and what they need, file by file as the host's packages list them, as the root of
-commands: no part of this repository is in it, and not the toolchain that proves."""
+"""A folder with packages of this host and what they need, file by file as the host's packages list them, as the root
+of commands: no part of this repository is in it, and not the toolchain that proves."""
 import os
 import re
 import shutil
@@ -19,13 +19,15 @@ ENTER = 'mount -t proc proc "$0/proc" && exec chroot "$0" /usr/bin/env -C "${PWD
 
 def closure(names: Sequence[str]) -> list[str]:
     """These packages of the host and those that they depend on, as far as they are installed."""
-    known = subprocess.run(["dpkg-query", "-W", "-f", "${Package}\n", *names], capture_output=True, text=True, check=False).stdout.split()
+    known = subprocess.run(["dpkg-query", "-W", "-f", "${Package}\n", *names], capture_output=True, text=True, check=False)
     left_out = [f"--no-{kind}" for kind in ["recommends", "suggests", "conflicts", "breaks", "replaces", "enhances"]]
-    return sorted({*re.findall(r"(?m)^(\w[^\s:]*)", run("apt-cache", "depends", "--recurse", "--installed", *left_out, *known))})
+    needed = run("apt-cache", "depends", "--recurse", "--installed", *left_out, *known.stdout.split())
+    return sorted({*re.findall(r"(?m)^(\w[^\s:]*)", needed)})
 
 
 def place(root: Path, path: str) -> None:
-    """A file, a link or a folder of the host at the same path of the folder: a file is linked, not copied, where it may be."""
+    """A file, a link or a folder of the host at the same path of the folder: a file is linked, not copied, where it
+    may be."""
     source, to = Path(path), root / path.lstrip("/")
     if source.is_symlink():
         to.parent.mkdir(parents=True, exist_ok=True)

@@ -1,8 +1,9 @@
 """Counts the transfers that complete while datagrams are lost, with and without --backoff.
 
-`tftp` and `tftpd` transfer a file with Debian's clients and servers, both ways, between two hosts that each lose a share of the
-datagrams that arrive (nft). A pair makes all its transfers at once. Counted are the files that are whole where they were to
-come, and of these the transfers that the client reports as complete: the last acknowledgement of a put may be lost for good."""
+`tftp` and `tftpd` transfer a file with Debian's clients and servers, both ways, between two hosts that each lose a
+share of the datagrams that arrive (nft). A pair makes all its transfers at once. Counted are the files that are whole
+where they were to come, and of these the transfers that the client reports as complete: the last acknowledgement of a
+put may be lost for good."""
 import os
 import subprocess
 import tempfile
@@ -43,7 +44,8 @@ def is_installed(name: str) -> bool:
 class Transfers:
     """The transfers of a pair that run at once, in folders of their own."""
 
-    def __init__(self, pair: Pair, programs: Sequence[str], port: int, count: int, content: bytes, hosts: list[Host], stack: ExitStack) -> None:
+    def __init__(self, pair: Pair, programs: Sequence[str], port: int, count: int, content: bytes, hosts: list[Host],
+                 stack: ExitStack) -> None:
         self.pair, self.content, self.port, self.count = pair, content, port, count
         self.tftp, self.client, self.began = programs[0], hosts[0], 0.0
         room = Path(stack.enter_context(tempfile.TemporaryDirectory()))
@@ -55,7 +57,8 @@ class Transfers:
         if pair.server in PROGRAMS:
             words = others.server(PROGRAMS[pair.server], (SERVER, port), self.root, "root", "root")
         else:
-            words = [programs[1], str(self.root), "--listen", f"{SERVER}:{port}", "--forever", "--cap", "64", *pair.server.split()[1:]]
+            more = ["--forever", "--cap", "64", *pair.server.split()[1:]]
+            words = [programs[1], str(self.root), "--listen", f"{SERVER}:{port}", *more]
         self.server = subprocess.Popen(hosts[1].words(*words), stdout=subprocess.DEVNULL, stderr=subprocess.DEVNULL)
         stack.callback(self.server.wait)
         stack.callback(self.server.kill)
@@ -112,7 +115,8 @@ def lose(hosts: list[Host], share: int) -> None:
         host.rules(f"table inet lossy {{\n chain input {{\n type filter hook input priority 0;\n {rule}\n }}\n}}")
 
 
-def try_pairs(pairs: list[Pair], programs: Sequence[str], share: int, count: int, length: int, limit: float, hosts: list[Host]) -> None:
+def try_pairs(pairs: list[Pair], programs: Sequence[str], share: int, count: int, length: int, limit: float,
+              hosts: list[Host]) -> None:
     """Makes so many transfers of each of these pairs, of a file of this length, all at once."""
     content = os.urandom(length)
     with ExitStack() as stack:

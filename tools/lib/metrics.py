@@ -1,4 +1,5 @@
-"""Reads a text in Prometheus' text format, strictly: each metric once, with its help and its type before its samples."""
+"""Reads a text in Prometheus' text format, strictly: each metric once, with its help and its type before its
+samples."""
 import re
 import shutil
 import subprocess
@@ -9,7 +10,8 @@ Sample = tuple[str, tuple[tuple[str, str], ...]]
 NAME, LABEL = r"[a-zA-Z_:][a-zA-Z0-9_:]*", r'([a-zA-Z_][a-zA-Z0-9_]*)="((?:[^"\\\n]|\\[\\"n])*)"'
 SAMPLE = re.compile(rf"{NAME}(?:\{{{LABEL}(?:,{LABEL})*\}})? \d+")
 # A metric with its samples; comments may stand before it and between them
-METRIC = re.compile(rf"(?:(?!# (?:HELP|TYPE) )#.*\n)*# HELP ({NAME}) .+\n# TYPE \1 (counter|gauge)\n((?:(?!# (?:HELP|TYPE) ).+\n)+)")
+COMMENT = r"(?!# (?:HELP|TYPE) )#.*\n"
+METRIC = re.compile(rf"(?:{COMMENT})*# HELP ({NAME}) .+\n# TYPE \1 (counter|gauge)\n((?:{COMMENT}|[^#\n].*\n)+)")
 
 
 class MetricsFault(ValueError):
@@ -17,8 +19,8 @@ class MetricsFault(ValueError):
 
 
 def metrics(text: str) -> dict[Sample, int]:
-    """The samples of a text. Its last line has its end, and no metric comes in two parts or lacks its help, its type or a
-    sample; the name of a counter has its ending."""
+    """The samples of a text. Its last line has its end, and no metric comes in two parts or lacks its help, its type
+    or a sample; the name of a counter has its ending."""
     found: dict[Sample, int] = {}
     at, names = 0, set[str]()
     while at < len(text) or not found:

@@ -14,7 +14,8 @@ CLIENTS = {
 # A server of a folder at an address, as a user
 SERVERS = {
     "in.tftpd": "--foreground --address {host}:{port} --create --user {user} --secure {root}",
-    "atftpd": "--daemon --no-fork --bind-address {host} --port {port} --user {user}.{group} --logfile /dev/null --verbose=0 {root}",
+    "atftpd": "--daemon --no-fork --bind-address {host} --port {port} --user {user}.{group} --logfile /dev/null --verbose=0 "
+              "{root}",
     # (of its own port, 69)
     "dnsmasq": "--no-daemon --conf-file=/dev/null --user=root --listen-address={host} --port=0 --bind-interfaces --enable-tftp "
                "--tftp-root={root} --quiet-tftp",

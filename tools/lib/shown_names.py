@@ -1,5 +1,5 @@
-"""The names in commands that documents show and that no check runs: targets of make, packages, units, files, folders and options
-of the programs have to be there, and so has the command itself."""
+"""The names in commands that documents show and that no check runs: targets of make, packages, units, files, folders
+and options of the programs have to be there, and so has the command itself."""
 import re
 import shlex
 import shutil
@@ -10,7 +10,8 @@ from typing import Iterator, Mapping
 from lib.programs import TOP
 from lib.units import settings_of
 
-# commands whose names are looked up, others of a reader's own, which a host of the gate may lack, and scripts of this repository
+# commands whose names are looked up, others of a reader's own, which a host of the gate may lack, and scripts of this
+# repository
 LOOKED_UP = {"make", "systemctl", "journalctl", "apt", "nft", "mkdir", "cp", "find"}
 OTHERS = {"apt-get", "cd", "docker", "dpkg", "exec", "python3", "setcap", "tcpdump", "tshark", "tftp", "tftpd", "tftp-show",
           "tftp-play"}
@@ -66,13 +67,14 @@ def of_word(head: str, before: str, word: str) -> list[str]:
     if head == "nft" and before == "-f" and word != "-" and not (TOP / "packaging" / Path(word).name).is_file():
         return [f"no file {word}"]
     # of the folders of the system only the one that the units serve is named
-    if head in ("mkdir", "cp", "find") and word.startswith("/srv") and word != settings_of("tftpd.service").get("ROOT", "/srv/tftp"):
-        return [f"no folder {word} of the units"]
-    return []
+    served = settings_of("tftpd.service").get("ROOT", "/srv/tftp")
+    is_other = head in ("mkdir", "cp", "find") and word.startswith("/srv") and word != served
+    return [f"no folder {word} of the units"] if is_other else []
 
 
 def is_lost(word: str, folder: Path) -> bool:
-    """Whether a word is a path of the repository, from its top or from the folder of the document, that is not there."""
+    """Whether a word is a path of the repository, from its top or from the folder of the document, that is not
+    there."""
     is_named = "/" in word and word.removeprefix("../../").split("/")[0] in FOLDERS and not ANY_NAME.search(word)
     return is_named and not any((place / word).exists() for place in [TOP, folder, folder / "any"])
 
@@ -83,8 +85,8 @@ def is_shell(piece: str) -> bool:
 
 
 def of_line(line: str, folder: Path, options: Mapping[str, set[str]]) -> list[str]:
-    """What is not there of the names in the commands of a line that a document of this folder shows. `options` are those of our
-    programs."""
+    """What is not there of the names in the commands of a line that a document of this folder shows. `options` are
+    those of our programs."""
     bare = re.sub(r"(?:^| )#.*", "", line)
     commands = [bare] if re.search("['\"]", bare) else BETWEEN.split(bare)
     return [what for command in commands for what in of_command(command, folder, options)]

@@ -4,7 +4,7 @@ import hashlib
 import re
 from collections import Counter
 from pathlib import Path
-from typing import Iterator, NamedTuple, Optional
+from typing import Iterator, NamedTuple
 
 FUNCTION = re.compile(r"^ *(?P<vis>pub(?:\([^)]*\))? )?(?:(?:const|unsafe) )*(?:extern \"[^\"]*\" )?fn (?P<name>\w+)", re.M)
 OWNER = re.compile(r"^ *(?P<vis>pub(?:\([^)]*\))? )?(?:unsafe )?(?:trait (?P<trait>\w+)|impl\b(?P<impl>[^{;]*?))(?=\s*\{|[:<])", re.M)
@@ -76,14 +76,9 @@ def blocks_of(plain: str) -> list[Block]:
     return found
 
 
-def owner_of(head: "re.Match[str]", blocks: list[Block]) -> Optional[Block]:
-    """The block that something is in."""
-    return next((it for it in blocks if it.start < head.start() < it.end), None)
-
-
 def functions_of(bare: str, plain: str, blocks: list[Block], prefix: str) -> Iterator[Item]:
     for head in FUNCTION.finditer(plain):
-        block = owner_of(head, blocks)
+        block = next((it for it in blocks if it.start < head.start() < it.end), None)
         if head["vis"] != "pub " and not (block and block.is_public):
             continue
         at = end_of_signature(plain, head.end())
@@ -99,13 +94,15 @@ def functions_of(bare: str, plain: str, blocks: list[Block], prefix: str) -> Ite
 
 def others_of(bare: str, plain: str, blocks: list[Block], prefix: str) -> Iterator[Item]:
     """Public types and constants, and the ghost items of impls and traits."""
-    for kind, pattern in [("type", TYPE), ("ghost", GHOST)]:
-        for head in pattern.finditer(plain):
-            owner = owner_of(head, blocks) if kind == "ghost" else None
-            ending = re.compile(r"[{;]").search(plain, head.end())
-            end = len(plain) if not ending else behind(plain, ending.start()) if ending[0] == "{" else ending.end()
-            place = f"{prefix}{owner.name + '::' if owner else ''}{head['name']}"
-            yield Item(kind, place, digest_of(bare[head.start():end]))
+    for head in TYPE.finditer(plain):
+        ending = re.compile(r"[{;]").search(plain, head.end())
+        end = len(plain) if not ending else behind(plain, ending.start()) if ending[0] == "{" else ending.end()
+        yield Item("type", f"{prefix}{head['name']}", digest_of(bare[head.start():end]))
+    for head in GHOST.finditer(plain):
+        block = next((it for it in blocks if it.start < head.start() < it.end), None)
+        ending = re.compile(r"[{;]").search(plain, head.end())
+        end = len(plain) if not ending else behind(plain, ending.start()) if ending[0] == "{" else ending.end()
+        yield Item("ghost", f"{prefix}{block.name + '::' if block else ''}{head['name']}", digest_of(bare[head.start():end]))
 
 
 def of_source(crate: str, path: Path, folder: Path) -> list[Item]:

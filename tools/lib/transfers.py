@@ -1,7 +1,7 @@
-"""What the examples over the library for C do at servers: each that gets or puts does so at tftpd, at the example that serves,
-and at servers of other projects, through a good network and through one that loses, duplicates and reorders datagrams; each
-file is compared byte for byte, and each example is refused a file that is not there. Trials run side by side, each in a folder
-and at an address of its own."""
+"""What the examples over the library for C do at servers: each that gets or puts does so at tftpd, at the example
+that serves, and at servers of other projects, through a good network and through one that loses, duplicates and
+reorders datagrams; each file is compared byte for byte, and each example is refused a file that is not there. Trials
+run side by side, each in a folder and at an address of its own."""
 import os
 import random
 import re
@@ -22,8 +22,8 @@ from lib.scene import Scene, next_line
 PATIENCE = 300
 # How many trials run at a time: they wait more than they compute
 AT_ONCE = 10
-# How often a transfer through a bad network is tried, and how an example says that it was not complete: its peer has not
-# answered six times in a row, or has ended before its last ACK arrived
+# How often a transfer through a bad network is tried, and how an example says that it was not complete: its peer has
+# not answered six times in a row, or has ended before its last ACK arrived
 TRIES = 8
 TIMED_OUT = re.compile(r"timed out|outcome 2 ")
 # Lengths of files: none, and around blocks of 512 and of 1428 bytes; and those of a bad network or a slow checker
@@ -49,8 +49,8 @@ EXAMPLES = ["bare", *(f"{verb}{language}" for verb in ["get", "put"] for languag
 
 
 def words_of(example, built, way, name, local, blksize, *mode) -> dict[str, Any]:
-    """What starts an example that gets f<length> and stores it, or puts it: its words, and its environment. A put takes the
-    file that a get would ask for, and names it as that is stored."""
+    """What starts an example that gets f<length> and stores it, or puts it: its words, and its environment. A put
+    takes the file that a get would ask for, and names it as that is stored."""
     if example == "bare":
         more = {"SERVER": way[0], "PORT": way[1], "NAME": name, "LOCAL": local}
         return {"args": built.command(example), "env": {**os.environ, **more}}
@@ -75,8 +75,8 @@ class Site:
 
 
 def transfers(site, built, example, seed, length, blksize, compare=None) -> None:
-    """An example gets or puts a file of this length, which is compared. Through a bad network it has some tries: one that
-    is not complete has to say so."""
+    """An example gets or puts a file of this length, which is compared. Through a bad network it has some tries: one
+    that is not complete has to say so."""
     scene = site.scene
     for number in range(TRIES if site.lossy else 1):
         stored = f"{re.sub('[^a-z0-9]', '', example.lower())}{length}.{number}"
@@ -166,7 +166,8 @@ def in_netascii(scene, built, server) -> None:
 # ---- the example that serves files in memory
 
 def serving_port(scene) -> "At":
-    """A port of the scene's address that nothing is bound to, and that the system chooses for no other socket meanwhile."""
+    """A port of the scene's address that nothing is bound to, and that the system chooses for no other socket
+    meanwhile."""
     return At(scene.address, free_ports(1))
 
 
@@ -210,8 +211,8 @@ def by_library(scene, built, lossy) -> None:
 
 
 def is_aborted(scene, built, way, process) -> None:
-    """A get whose file cannot be stored, as on a disk that is full: its server has an ERROR in place of a silent client, and
-    ends the transfer at once. A client that leaves in silence is one that has timed out (outcome 2)."""
+    """A get whose file cannot be stored, as on a disk that is full: its server has an ERROR in place of a silent
+    client, and ends the transfer at once. A client that leaves in silence is one that has timed out (outcome 2)."""
     run(*built.command("get", *way, "memory", "/dev/full"), cwd=scene.folder, status=1)
     begun = time.monotonic()
     while "read memory" not in (line := next_line(process.stdout)) or not re.search("outcome [^1]", line):
@@ -238,9 +239,9 @@ class At:
         self.word, self.address = f"{host}:{number}", (host, number)
 
 
-# Each by its program: whether it takes puts; and with which more words it acknowledges a last DATA that comes again a second
-# later: an in.tftpd (5.2) does once, for as long as it waits at first, which is a second by itself; an atftpd (0.8) has
-# forgotten the transfer. A dnsmasq (2.90) takes no put.
+# Each by its program: whether it takes puts; and with which more words it acknowledges a last DATA that comes again a
+# second later: an in.tftpd (5.2) does once, for as long as it waits at first, which is a second by itself; an atftpd
+# (0.8) has forgotten the transfer. A dnsmasq (2.90) takes no put.
 PEERS: dict[str, tuple[bool, Optional[list[str]]]] = {
     "in.tftpd": (True, ["--retransmit", "2500000"]), os.environ.get("ATFTPD", "atftpd"): (True, None), "dnsmasq": (False, None)}
 
@@ -282,8 +283,8 @@ class Loses:
 
 
 def last_ack(scene, built, peer) -> None:
-    """A put whose last ACK is lost. It is complete where the server acknowledges a DATA that comes again; where it does
-    not, the put is not complete, and says so, although the file is stored."""
+    """A put whose last ACK is lost. It is complete where the server acknowledges a DATA that comes again; where it
+    does not, the put is not complete, and says so, although the file is stored."""
     again = PEERS[peer][1]
     proxy = scene.proxy(started(scene, peer, *(again or [])), 0)
     proxy.to_server, proxy.to_client = Loses(), Loses(ack(2))
@@ -296,10 +297,10 @@ def last_ack(scene, built, peer) -> None:
 
 # ---- other projects' clients
 
-# The clients whose gets go through a bad network, too, and whose puts do not. A curl (7.88) sends a DATA again after 72
-# seconds, when a server that has stored the last one has ended its dally; it takes an OACK that comes twice for a new one,
-# and begins its numbers again: a get does not end, a put leaves out a block. A busybox that puts may end well without the
-# ACK of its last block, and an atftp that gets gives up after some blocks that come twice.
+# The clients whose gets go through a bad network, too, and whose puts do not. A curl (7.88) sends a DATA again after
+# 72 seconds, when a server that has stored the last one has ended its dally; it takes an OACK that comes twice for a
+# new one, and begins its numbers again: a get does not end, a put leaves out a block. A busybox that puts may end
+# well without the ACK of its last block, and an atftp that gets gives up after some blocks that come twice.
 THROUGH_LOSS = ["busybox", "tftp"]
 
 
@@ -320,7 +321,8 @@ def by_others(scene, built, program) -> None:
 
 
 def layout(scene, built) -> None:
-    """The header is that of the library, and many transfers go on at once (tests/library/layout.c, examples/c/shards.c)."""
+    """The header is that of the library, and many transfers go on at once (tests/library/layout.c,
+    examples/c/shards.c)."""
     run(*built.command("layout"))
     expect(run(*built.command("shards")), "1000 transfers at once, 1000 complete\n", "what shards prints")
 
