@@ -1,9 +1,9 @@
 #!/usr/bin/env python3
 """Proves and builds programs and the crates below them: build.py CRATE..
 
-Each crate is built as soon as those that it uses are, beside others that are ready. Prints a line for each crate: how many of how
-many are done, its name, its functions and the seconds that it took, and the minutes since the start. The prover's own log of a
-crate is out/CRATE.log, and its end is printed where it fails.
+Each crate is built as soon as those that it uses are, beside others that are ready. Prints a line for each crate: how
+many of how many are done, its name, its functions and the seconds that it took, and the minutes since the start. The
+prover's own log of a crate is out/CRATE.log, and its end is printed where it fails.
 """
 import os
 import re
@@ -40,8 +40,8 @@ def linked(name: str, part: str, room: Path) -> None:
 
 
 def build(name: str) -> str:
-    """Proves and builds a crate, and returns what is said of it: rt lets in one run at a time to a crate and those below it, so
-    this run has a repository of hard links of its own."""
+    """Proves and builds a crate, and returns what is said of it: rt lets in one run at a time to a crate and those
+    below it, so this run has a repository of hard links of its own."""
     room, log, began = TOP / f"out/{name}.room", TOP / f"out/{name}.log", time.monotonic()
     shutil.rmtree(room, ignore_errors=True)
     for each in below(name):
@@ -50,7 +50,8 @@ def build(name: str) -> str:
     for part in (*PARTS, "out"):
         linked(name, part, room)
     lines = (TOP / "crates.txt").read_text().splitlines(True)
-    (room / "crates.txt").write_text("".join(line for line in lines if re.split(r"[ :]", line)[0] in {name, *below(name)}))
+    own = [line for line in lines if re.split(r"[ :]", line)[0] in {name, *below(name)}]
+    (room / "crates.txt").write_text("".join(own))
     shutil.copy2(TOP / "HANDLES", room)
     done = subprocess.run(words_of(name), cwd=room / "crates" / name, stdin=subprocess.DEVNULL, stdout=subprocess.PIPE,
                           stderr=subprocess.STDOUT, text=True, errors="replace")

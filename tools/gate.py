@@ -1,16 +1,17 @@
 #!/usr/bin/env python3
 """The gate: the manifest, `rt ci`, and then the checks of the programs: gate.py [CHECK..]
 
-A check is a folder of tests/; without words they are those of lib/checks.py. First tools/manifest.txt is compared with what is
-there (tools/manifest.py). Behind `rt ci` the programs are put into bin/ as `make` builds them (tools/shipped.py), and each check
-is run over them, with a limit. Its last line counts the rows that it ran and skipped, which are as many as the manifest has. One
-that fails while this host stalled is run once more, since many measure time on a host that others use; it has failed if it
-fails again, and else that it failed stands at the end. `rt ci` fails here also where an edit in must-fail/ is bad, where fewer
-were refused, or fewer crates proved, than the manifest has.
+A check is a folder of tests/; without words they are those of lib/checks.py. First tools/manifest.txt is compared
+with what is there (tools/manifest.py). Behind `rt ci` the programs are put into bin/ as `make` builds them
+(tools/shipped.py), and each check is run over them, with a limit. Its last line counts the rows that it ran and
+skipped, which are as many as the manifest has. One that fails while this host stalled is run once more, since many
+measure time on a host that others use; it has failed if it fails again, and else that it failed stands at the end.
+`rt ci` fails here also where an edit in must-fail/ is bad, where fewer were refused, or fewer crates proved, than the
+manifest has.
 
-What was skipped and what was repeated stands at the end. With REQUIRE_ALL=1 in the environment what was skipped is a failure,
-but where LACKING names what this check needs and this host has not (.ci/packages). The last line counts the proofs and edits of
-`rt ci` and the checks: N passed, N failed.
+What was skipped and what was repeated stands at the end. With REQUIRE_ALL=1 in the environment what was skipped is a
+failure, but where LACKING names what this check needs and this host has not (.ci/packages). The last line counts the
+proofs and edits of `rt ci` and the checks: N passed, N failed.
 """
 import os
 import re
@@ -25,6 +26,7 @@ from typing import NamedTuple, Optional, Sequence
 
 import manifest
 from lib.checks import CHECKS, ENDED, Check
+from lib.seeds import OTHERS
 from lib.stalls import LIMIT as STALL, Stalls
 
 TOP = Path(__file__).resolve().parent.parent
@@ -35,8 +37,8 @@ UNBUFFERED = {**os.environ, "PYTHONUNBUFFERED": "1"}
 
 
 class Run(NamedTuple):
-    """What came of a command: its lines, its status, none where it was ended at its limit, the seconds that it took, and the longest
-    stall of this host meanwhile."""
+    """What came of a command: its lines, its status, none where it was ended at its limit, the seconds that it took,
+    and the longest stall of this host meanwhile."""
     lines: list[str]
     status: Optional[int]
     seconds: float
@@ -73,14 +75,16 @@ def ran(words: Sequence[str], limit: float = threading.TIMEOUT_MAX) -> Run:
 
 
 def counted(lines: Sequence[str]) -> tuple[int, int]:
-    """How many proofs and edits passed and failed by the last line of `rt ci`: none, and one failed, without that line."""
+    """How many proofs and edits passed and failed by the last line of `rt ci`: none, and one failed, without that
+    line."""
     found = [match for line in lines if (match := re.fullmatch(r"(\d+) passed, (\d+) failed", line))]
     return (int(found[-1][1]), int(found[-1][2])) if found else (0, 1)
 
 
 def faults_of(lines: Sequence[str], passed: int, wanted: Sequence[str]) -> list[str]:
-    """What `rt ci` has said and counts as no failure: edits that are bad, and fewer that were refused than the manifest has,
-    or fewer crates and edits that passed. A kit has a line for each edit that was refused, or counts them at its end."""
+    """What `rt ci` has said and counts as no failure: edits that are bad, and fewer that were refused than the
+    manifest has, or fewer crates and edits that passed. A kit has a line for each edit that was refused, or counts
+    them at its end."""
     found = [line for line in lines if "BAD EDIT" in line or "NOT TRIED" in line]
     crates = sum(line.startswith("crate ") for line in wanted)
     edits = sum(line.startswith("body ") and line.endswith(" gate") for line in wanted)
@@ -95,7 +99,8 @@ def faults_of(lines: Sequence[str], passed: int, wanted: Sequence[str]) -> list[
 
 
 def fault_of(name: str, run: Run, limit: float, wanted: Optional[int]) -> str:
-    """Why a command has failed, if it has: by its time, its status, or its last line, where so many rows are wanted."""
+    """Why a command has failed, if it has: by its time, its status, or its last line, where so many rows are
+    wanted."""
     if run.status is None:
         return f"{name}: has not ended after {limit} s; its last line: {run.lines[-1:]}"
     if run.status:
@@ -138,11 +143,13 @@ class Gate:
     def check(self, name: str, wanted: int) -> None:
         """Runs a check. Tests that this host has no runner for are skipped."""
         if lacks := set(manifest.runner_lacks()):
-            self.skip([f"{name}: skipped: this host has no {', '.join(sorted(lacks))}"], lacks if lacks <= LACKING else set())
+            line = f"{name}: skipped: this host has no {', '.join(sorted(lacks))}"
+            self.skip([line], lacks if lacks <= LACKING else set())
             return
         how = CHECKS.get(name, Check())
         run = self.try_to(name, ["pytest-3", "-q", "-n", str(how.at_once), name], how.limit, wanted)
-        told = [f"{name}: {line}" for line in run.lines if line.startswith("SKIPPED ") and not line.endswith("at another commit")]
+        skipped = [line for line in run.lines if line.startswith("SKIPPED ") and not line.endswith(OTHERS)]
+        told = [f"{name}: {line}" for line in skipped]
         count = re.fullmatch(ENDED, run.lines[-1]) if run.lines else None
         if not told and count and count["skipped"] != "0":
             told = [f"{name}: {count['skipped']} skipped"]

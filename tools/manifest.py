@@ -1,10 +1,11 @@
 #!/usr/bin/env python3
 """What the gate consists of, by name: manifest.py [--write]
 
-tools/manifest.txt has a line for each crate, check, row of a check, test in Rattle and wrong body, for HANDLES, and for each
-public function, clause, type and definition with a hash of its text: so what is gone, or was weakened, is a line of a diff
-that a reviewer reads. The gate fails where the file is not as the repository is (tools/gate.py). --write writes it, as `make
-manifest` does; without it the lines that differ are printed, and the status is 1 where there are any.
+tools/manifest.txt has a line for each crate, check, row of a check, test in Rattle and wrong body, for HANDLES, and
+for each public function, clause, type and definition with a hash of its text: so what is gone, or was weakened, is a
+line of a diff that a reviewer reads. The gate fails where the file is not as the repository is (tools/gate.py).
+--write writes it, as `make manifest` does; without it the lines that differ are printed, and the status is 1 where
+there are any.
 """
 import re
 import subprocess
@@ -37,7 +38,8 @@ def runner_lacks() -> list[str]:
 
 
 def rows_of(checks: Iterable[str]) -> list[str]:
-    """The tests of these folders, by their files and names. Where nothing can collect them, they are those that are committed."""
+    """The tests of these folders, by their files and names. Where nothing can collect them, they are those that are
+    committed."""
     if runner_lacks():
         return [line for line in committed() if line.startswith("row ")]
     done = subprocess.run(["pytest-3", "--collect-only", "-q", *checks], cwd=TOP, stdin=subprocess.DEVNULL, capture_output=True,

@@ -1,20 +1,22 @@
 #!/usr/bin/env python3
-"""Proves and compiles the programs and the library for C for a processor, and keeps their modules: modules.py ARCH [NAME..]
+"""Proves and compiles the programs and the library for C for a processor, and keeps their modules: modules.py ARCH
+[NAME..]
 
-ARCH is amd64 (every processor of x86-64) or arm64, NAME a program or `libtftp`; without names it is all of them. Libraries
-below that are not built yet are built first (tools/build.py). The prover then proves the functions of the crate itself, of
-a program or of the library, for that target. A folder out/modules/ARCH/NAME has what comes of it:
+ARCH is amd64 (every processor of x86-64) or arm64, NAME a program or `libtftp`; without names it is all of them.
+Libraries below that are not built yet are built first (tools/build.py). The prover then proves the functions of the
+crate itself, of a program or of the library, for that target. A folder out/modules/ARCH/NAME has what comes of it:
 
 - `object.o`, or `archive.a` of the library;
 - `verdict`: the prover's last line, which has to name the target;
 - `module.bc` or `module.ll`: what the prover's backend hands to the compiler, and `words`, how;
 - `NAME.s`: the assembly that the toolchain's clang makes of the module by the same words.
 
-`libtftp-bare` is made of the module of `libtftp`: the attributes of its functions are exchanged, so that its code has no
-register of floating point or SIMD, and on x86-64 nothing below the stack pointer; its folder has that module, and `NAME.s`.
+`libtftp-bare` is made of the module of `libtftp`: the attributes of its functions are exchanged, so that its code has
+no register of floating point or SIMD, and on x86-64 nothing below the stack pointer; its folder has that module, and
+`NAME.s`.
 
-What is there of the same text already is not made again. Prints a line for each. JOBS is the number of processors that
-one proof takes (2).
+What is there of the same text already is not made again. Prints a line for each. JOBS is the number of processors
+that one proof takes (2).
 """
 import fcntl
 import os

@@ -1,9 +1,10 @@
 #!/usr/bin/env python3
 """What a change of one crate is tried by in minutes: quick.py CRATE; or without a word, one of tools and documents
 
-A crate: its layout, what is made from it, its proof over what earlier checks kept, the tests in Rattle of its layer before
-their proof (`rt try`), and for what the loops of tftp and tftpd are made of the tests of tests/ that concern it, over the
-programs that are built anew of what is kept. A tool: the manifest, the linters and the tests of the gate.
+A crate: its layout, what is made from it, its proof over what earlier checks kept, the tests in Rattle of its layer
+before their proof (`rt try`), and for what the loops of tftp and tftpd are made of the tests of tests/ that concern
+it, over the programs that are built anew of what is kept. A tool: the manifest, the linters and the tests of the
+gate.
 """
 import subprocess
 import sys
@@ -14,11 +15,13 @@ from lib.kit import listed
 from lib.programs import TOP
 
 # the tests of programs as processes that try a crate, below tests/
-LOOP, DISK = "tftpd/test_server_loop.py tftpd/test_server_alone.py", "tftpd/test_served_folder.py tftpd/test_served_disk.py tftp"
+LOOP = "tftpd/test_server_loop.py tftpd/test_server_alone.py"
+DISK = "tftpd/test_served_folder.py tftpd/test_served_disk.py tftp"
 PROCESSES = {
     "tftp_loop": f"{LOOP} tftpd/test_in_quantity.py", "tftp_server": f"{LOOP} tftpd/test_in_quantity.py",
     "tftp_store": f"{LOOP} tftpd/test_in_quantity.py", "tftp_sockets": f"{LOOP} tftp", "tftp_lines": f"{LOOP} tftp",
-    "tftp_client": "tftp tftpd/test_both_programs.py", "tftp_status": "tftpd/test_status.py", "tftp_folder": DISK, "tftp_disk": DISK,
+    "tftp_client": "tftp tftpd/test_both_programs.py", "tftp_status": "tftpd/test_status.py",
+    "tftp_folder": DISK, "tftp_disk": DISK,
     "tftp_daemon": "tftpd/test_options.py tftpd/test_command_lines.py tftpd/test_server_alone.py tftpd/test_served_folder.py",
     "tftp_supervisor": "tftpd/test_several_servers.py tftpd/test_handed_over.py tftpd/test_draining.py",
     "tftp_service": "tftpd/test_several_servers.py tftpd/test_handed_over.py tftpd/test_draining.py",
@@ -45,7 +48,8 @@ def layer_of(crate: str) -> Iterator[str]:
 def try_crate(crate: str) -> None:
     step("rt fmt", crate)
     step(f"git --no-pager diff --stat -- crates/{crate}")
-    # (what differs from the manifest is what a reviewer reads: make manifest writes it, once the change is as it should be)
+    # (what differs from the manifest is what a reviewer reads: make manifest writes it, once the change is as it
+    # should be)
     step("tools/manifest.py", is_needed=False)
     step("pytest-3 -q tests/documents/test_made.py -k STATEMENT")
     step("rt check", crate)

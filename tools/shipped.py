@@ -1,11 +1,12 @@
 #!/usr/bin/env python3
 """Puts into bin/ what `make` would build, over what `rt ci` has just proved: shipped.py [FOLDER]
 
-`make` builds tftp, tftpd and the library for C for every processor of x86-64 (tools/build.py), and `rt ci` all programs
-for x86-64-v2. So these three are compiled here once more, over the libraries that `rt ci` left, by the prover, which
-proves the functions of their own crates again, and none below (tools/modules.py, which keeps their modules); tftp-show and
-tftp-play are those of `rt ci`. What comes out is the same, byte for byte, as what `make` builds. Where checks of this checkout have left libraries of their own,
-of the same text, those are used; and where of another, `rt` proves them again.
+`make` builds tftp, tftpd and the library for C for every processor of x86-64 (tools/build.py), and `rt ci` all
+programs for x86-64-v2. So these three are compiled here once more, over the libraries that `rt ci` left, by the
+prover, which proves the functions of their own crates again, and none below (tools/modules.py, which keeps their
+modules); tftp-show and tftp-play are those of `rt ci`. What comes out is the same, byte for byte, as what `make`
+builds. Where checks of this checkout have left libraries of their own, of the same text, those are used; and where of
+another, `rt` proves them again.
 """
 import shutil
 import subprocess
@@ -27,8 +28,9 @@ def compiled(name: str, room: str) -> Path:
     """A program. Returns its path."""
     modules.make("amd64", name)
     to = Path(room, name)
-    modules.run([modules.KIT / "bin/rattle-link", "--target", modules.TRIPLES["amd64"], "--toolchain", modules.KIT / "toolchain",
-                 "-o", to, modules.object_of("amd64", name), modules.KIT / "c/libos_c.a", modules.KIT / "c/liblibc_c.a"])
+    modules.run([modules.KIT / "bin/rattle-link", "--target", modules.TRIPLES["amd64"], "--toolchain",
+                 modules.KIT / "toolchain", "-o", to, modules.object_of("amd64", name), modules.KIT / "c/libos_c.a",
+                 modules.KIT / "c/liblibc_c.a"])
     return to
 
 

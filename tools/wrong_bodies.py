@@ -1,16 +1,18 @@
 #!/usr/bin/env python3
 """Tries wrong bodies: wrong_bodies.py [--jobs N] [--stale] [CRATE.. | CRATE/BODY..], or wrong_bodies.py --lines
 
-A wrong body is an edit of a crate that the prover has to refuse: a goal stays open at the function that it changes, or else in
-its crate. Those in crates/NAME/must-fail/ are tried by each gate (`rt ci`), those in crates/NAME/wrong-bodies/ by this tool, and
-five of these by each gate (tests/bodies). tools/wrong_bodies.txt has a line for each: `gate`, or the commit by which it was
-last refused, and at which function, which this tool writes there. Without names all of the second kind are tried, and with --stale
-only such as have changed since, or whose crate has, and such of which nothing is known. The status is 1 where a wrong body proves
-or cannot be read. With --lines only tools/wrong_bodies.txt is written anew.
+A wrong body is an edit of a crate that the prover has to refuse: a goal stays open at the function that it changes,
+or else in its crate. Those in crates/NAME/must-fail/ are tried by each gate (`rt ci`), those in
+crates/NAME/wrong-bodies/ by this tool, and five of these by each gate (tests/bodies). tools/wrong_bodies.txt has a
+line for each: `gate`, or the commit by which it was last refused, and at which function, which this tool writes
+there. Without names all of the second kind are tried, and with --stale only such as have changed since, or whose
+crate has, and such of which nothing is known. The status is 1 where a wrong body proves or cannot be read. With
+--lines only tools/wrong_bodies.txt is written anew.
 
-Those of a crate that change bodies of different functions are first tried by one check of these functions, over what a check of
-the crate has kept: a proof rests on what other functions promise, and not on their bodies. There a body is refused if a goal of its
-own function stays open. Those that are hidden by a refused one below are tried so again, and the others alone.
+Those of a crate that change bodies of different functions are first tried by one check of these functions, over what
+a check of the crate has kept: a proof rests on what other functions promise, and not on their bodies. There a body is
+refused if a goal of its own function stays open. Those that are hidden by a refused one below are tried so again, and
+the others alone.
 """
 import argparse
 import os
@@ -31,7 +33,8 @@ from lib.programs import TOP
 
 PARTS = ("src", "specs", "proofs", "c")
 RECORD = TOP / "tools/wrong_bodies.txt"
-# the folders of a crate that have them: those that each gate tries, and the others; and where these were at earlier commits
+# the folders of a crate that have them: those that each gate tries, and the others; and where these were at earlier
+# commits
 GATE, OTHERS, EARLIER = "must-fail", "wrong-bodies", "slips"
 # how many are tried at a time, the longest time of one in seconds, and the most that are tried by one check
 AT_ONCE, PATIENCE, MOST = 2, 3_600, 8
@@ -67,8 +70,8 @@ def path_of(body: str) -> Path:
 
 
 class Refusal(NamedTuple):
-    """The commit by which a wrong body was last refused, and the function that was not proved; each `-` where it is not known.
-    `gate` in place of a commit is for those that each gate tries."""
+    """The commit by which a wrong body was last refused, and the function that was not proved; each `-` where it is
+    not known. `gate` in place of a commit is for those that each gate tries."""
     commit: str = UNKNOWN
     function: str = UNKNOWN
 
@@ -95,7 +98,8 @@ def is_fresh(body: str, refusal: Refusal) -> bool:
 
 
 def record(body: str, function: str, crate: Any) -> None:
-    """Writes that this one was refused by the commit that made it, its crate and those below what they are, if it is so."""
+    """Writes that this one was refused by the commit that made it, its crate and those below what they are, if it is
+    so."""
     parts = [f"crates/{it.name}/{part}" for it in [crate, *crate.below()] for part in PARTS]
     paths = [*parts, str(path_of(body).relative_to(TOP))]
     head = git("log", "-1", "--abbrev=10", "--format=%h", "--", *paths).stdout.strip()
@@ -118,8 +122,8 @@ def write(known: dict[str, Refusal]) -> None:
 
 
 def edited(*bodies: str) -> dict[str, str]:
-    """The texts that bodies of one crate change, one after another, by their paths in it. A body that cannot be applied is a
-    ValueError, which says why."""
+    """The texts that bodies of one crate change, one after another, by their paths in it. A body that cannot be
+    applied is a ValueError, which says why."""
     texts, path, old = dict[str, str](), "", ""
     for body in bodies:
         for line in path_of(body).read_text().splitlines():
@@ -199,7 +203,8 @@ def own(body: str) -> Optional[Place]:
 
 
 class Verdict(NamedTuple):
-    """What the prover says of a wrong body: whether it refuses it (None: there was no time to know), at which function, and why."""
+    """What the prover says of a wrong body: whether it refuses it (None: there was no time to know), at which
+    function, and why."""
     is_refused: Optional[bool]
     function: str = ""
     why: str = ""
@@ -231,7 +236,8 @@ def judged_by(output: str, texts: dict[str, str]) -> Verdict:
 
 
 def judged_at(place: Place, crate: str, output: str, texts: dict[str, str]) -> Verdict:
-    """What the output of a check comes to at one function: nothing is known of it where one that it calls is refused."""
+    """What the output of a check comes to at one function: nothing is known of it where one that it calls is
+    refused."""
     verdict, before = Verdict(False, why="it is proved at its function"), []
     for line in output.splitlines():
         before.append(line)
@@ -277,7 +283,8 @@ def of(paths: list[str]) -> list[str]:
 
 
 def checked_at(place: Place, crate: Any, room: Path, end: float) -> str:
-    """What a check of the function of a place alone prints. Where others have its name it is found by its whole path."""
+    """What a check of the function of a place alone prints. Where others have its name it is found by its whole
+    path."""
     said = checked(crate, room, end, of([place.name]))
     several = re.search(r"several functions are named .*: write one of (.*)", said)
     if not several:
@@ -308,8 +315,8 @@ def seeded(crate: Any, room: Path) -> list[str]:
 
 
 def judged(body: str, crate: Any, function: str, end: float, is_whole: bool = False) -> Verdict:
-    """What the prover says of a wrong body: at the function where it was refused before, or at the one that it changes, or else in
-    the whole crate, or there alone."""
+    """What the prover says of a wrong body: at the function where it was refused before, or at the one that it
+    changes, or else in the whole crate, or there alone."""
     try:
         texts = edited(body)
     except ValueError as why:
@@ -340,8 +347,8 @@ def groups(bodies: list[str], places: dict[str, Place]) -> list[list[str]]:
 
 
 def together(bodies: list[str], places: dict[str, Place], crate: Any, end: float) -> dict[str, Verdict]:
-    """What one check says of bodies in different functions. Where one of them cannot be read, or not be applied beside another, it
-    says nothing: then halves are tried."""
+    """What one check says of bodies in different functions. Where one of them cannot be read, or not be applied
+    beside another, it says nothing: then halves are tried."""
     modules, texts, output = sorted({places[body].module(crate.name) for body in bodies}), dict[str, str](), ""
     with suppress(ValueError):
         texts = edited(*bodies)

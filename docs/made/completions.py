@@ -1,5 +1,5 @@
-"""Makes completions/ from what `--help` of each program prints. What a value or an argument is called there says what is offered
-for it: files, folders, or the words that it has in small letters, as `auto` in `<1..64|auto>`."""
+"""Makes completions/ from what `--help` of each program prints. What a value or an argument is called there says what
+is offered for it: files, folders, or the words that it has in small letters, as `auto` in `<1..64|auto>`."""
 import re
 from typing import Iterable
 
@@ -59,7 +59,8 @@ def short(it: Entry) -> str:
 
 
 def section(name: str, title: str) -> list[tuple[str, int, Entry]]:
-    """The entries of a section in the help of a program and of its subcommands, each with its subcommand and its place."""
+    """The entries of a section in the help of a program and of its subcommands, each with its subcommand and its
+    place."""
     return [(verb, place, it) for verb in VERBS[name] for place, it in enumerate(of_section(name, verb, title))]
 
 
@@ -79,23 +80,26 @@ def cases_of(keys: Iterable[tuple[str, str]]) -> list[str]:
 
 def of_bash(name: str) -> str:
     options, verbs = section(name, "Options"), " ".join(filter(None, VERBS[name]))
-    words = {verb: " ".join(each for its, _, it in options if its == verb for each in reversed(it.names)) for verb in VERBS[name]}
-    cases = [*cases_of((offered(it), each) for _, _, it in options for each in it.names), "-*,*) return ;;",
-             *(f"{verb}*,-*) how=(-W '{words[verb]}') ;;" for verb in sorted(VERBS[name], reverse=True)),
-             *cases_of((offered(it), f"{verb}{place}") for verb, place, it in section(name, "Arguments")), *cases_of([(verbs, "0")])]
+    cases = [*cases_of((offered(it), each) for _, _, it in options for each in it.names), "-*,*) return ;;"]
+    for verb in sorted(VERBS[name], reverse=True):
+        words = [each for its, _, it in options if its == verb for each in reversed(it.names)]
+        cases.append(f"{verb}*,-*) how=(-W '{' '.join(words)}') ;;")
+    cases += cases_of((offered(it), f"{verb}{place}") for verb, place, it in section(name, "Arguments"))
+    cases += cases_of([(verbs, "0")])
     valued = dict.fromkeys(each for _, _, it in options if it.value for each in it.names)
     return FUNCTION.format(name=name, made=MADE, function=name.replace("-", "_"), valued=" | ".join(valued), verbs=verbs,
                            cases="\n    ".join(cases))
 
 
 def of_fish(name: str) -> str:
-    begin, has_verbs, lines, options = f"complete -c {name}", len(VERBS[name]) > 1, list[str](), dict[tuple[bool, Entry], list[str]]()
-    lines += [f"{begin} -f"] * has_verbs
+    begin, has_verbs, options = f"complete -c {name}", len(VERBS[name]) > 1, dict[tuple[bool, Entry], list[str]]()
+    lines = [f"{begin} -f"] * has_verbs
     for verb, place, it in section(name, "Arguments"):
         if offered(it) == "folders":
             lines.append(f"{begin} -f -a '(__fish_complete_directories)'")
         elif verb and offered(it):
-            lines.append(f"{begin} -n '__fish_seen_subcommand_from {verb}; and test (count (commandline -opc)) -ge {place + 2}' -F")
+            behind = f"test (count (commandline -opc)) -ge {place + 2}"
+            lines.append(f"{begin} -n '__fish_seen_subcommand_from {verb}; and {behind}' -F")
     lines += [f"{begin} -n __fish_use_subcommand -a {it.value} -d '{short(it)}'" for it in commands(name)]
     for verb, _, it in section(name, "Options"):
         options.setdefault((bool(verb), it), []).append(verb)

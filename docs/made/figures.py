@@ -1,7 +1,8 @@
-"""Draws docs/crates.svg, which crate uses which, docs/datagram.svg, the way of one datagram through `tftpd`, and docs/ratios.svg,
-a bar for each row of docs/PERFORMANCE.md that has the ratios of tftpd to the fastest other server. Counts the lines of the
-trusted files, for the table of docs/PROVED.md and where other documents have their sums, and for docs/TESTING.md the lines of
-code, proofs and tests, and the wrong bodies. Lines of code there are about: 5% off is no difference.
+"""Draws docs/crates.svg, which crate uses which, docs/datagram.svg, the way of one datagram through `tftpd`, and
+docs/ratios.svg, a bar for each row of docs/PERFORMANCE.md that has the ratios of tftpd to the fastest other server.
+Counts the lines of the trusted files, for the table of docs/PROVED.md and where other documents have their sums, and
+for docs/TESTING.md the lines of code, proofs and tests, and the wrong bodies. Lines of code there are about: 5% off
+is no difference.
 
 The crates are those of crates.txt, and an arrow that follows from two others is left out; graphviz draws them from
 docs/crates.dot. Each function on the way of the datagram is looked for in the file that is named for it."""
@@ -162,7 +163,8 @@ def filled(path: Path) -> list[str]:
 
 
 def parts_of(lines: list[str]) -> tuple[int, int]:
-    """How many lines of a file of Rattle are code, and how many are clauses and what else is ghost; comments are neither."""
+    """How many lines of a file of Rattle are code, and how many are clauses and what else is ghost; comments are
+    neither."""
     code, clauses, depth, is_clause = 0, 0, 0, False
     for line in lines:
         is_clause = is_clause or bool(re.match(r"(?:ensures|requires|ghost|rule)\b", line))

@@ -1,7 +1,7 @@
-"""Makes docs/STATEMENT.md, the theorem from disk to disk from the top down, of docs/made/statement.md and of the definitions in
-`crates/*/specs`. A block of code there names what is shown in its place, as CRATE.FILE.NAME. What stands below a heading `##`, or in
-a comment there, is a theorem; what stands below `###` is a word of it. What these name beyond the page is listed with its file. A
-name that is not found, or that no theorem needs, ends the program."""
+"""Makes docs/STATEMENT.md, the theorem from disk to disk from the top down, of docs/made/statement.md and of the
+definitions in `crates/*/specs`. A block of code there names what is shown in its place, as CRATE.FILE.NAME. What
+stands below a heading `##`, or in a comment there, is a theorem; what stands below `###` is a word of it. What these
+name beyond the page is listed with its file. A name that is not found, or that no theorem needs, ends the program."""
 import re
 import sys
 from textwrap import wrap
@@ -43,7 +43,8 @@ def needed(files, roots) -> dict[tuple[str, str, str], Any]:
 
 
 def text_of(definitions) -> str:
-    """Definitions as one piece of code, each with its comment, without the heads of the modules that they stand in."""
+    """Definitions as one piece of code, each with its comment, without the heads of the modules that they stand
+    in."""
     pieces = []
     for each in definitions:
         comment = [f"-- {line}" for line in each.comment if not line.startswith("---- ")]
@@ -58,7 +59,8 @@ def link_to(definition) -> str:
 
 
 def named_by(files, shown, left) -> list[str]:
-    """A line for each definition that one on the page names and that is not on the page: what it says, and its file."""
+    """A line for each definition that one on the page names and that is not on the page: what it says, and its
+    file."""
     found: dict[str, Any] = {}
     for each in shown:
         for word in each.words():

@@ -1,7 +1,7 @@
 """Five wrong bodies of those that `rt ci` does not try, which the commit chooses: the prover refuses each of them.
 
-One that proves is a failure, whatever has changed since it was last refused: a wrong body is retired only where its file goes, which
-is a line of the diff of tools/manifest.txt.
+One that proves is a failure, whatever has changed since it was last refused: a wrong body is retired only where its
+file goes, which is a line of the diff of tools/manifest.txt.
 """
 import shutil
 import time
@@ -21,7 +21,8 @@ def test_a_wrong_body_is_refused(number: int) -> None:
     if not shutil.which("rt"):
         pytest.skip("no rt")
     known, before = crates(), wrong_bodies.recorded()
-    bodies = [body for body in wrong_bodies.bodies_in(wrong_bodies.OTHERS) if has_libraries(known[wrong_bodies.crate_of(body)])]
+    bodies = wrong_bodies.bodies_in(wrong_bodies.OTHERS)
+    bodies = [body for body in bodies if has_libraries(known[wrong_bodies.crate_of(body)])]
     if len(bodies) < FEW:
         pytest.skip("no library is built")
     body = chosen(bodies, FEW)[number]

@@ -1,7 +1,8 @@
-"""Each command line of tftp-show and tftp-play that a document or a manual shows prints what stands there, writes nothing to
-standard error, and ends with the status of the manuals. Of each examples/NAME.script at least one document shows the output.
-The tours of tftpd and tftp run twice in a folder, and leave nothing there. The get of README.md in C compiles, and dnsmasq
-takes the settings of docs/OPERATING.md. In the commands that no check runs each name is looked up (shown_names.py)."""
+"""Each command line of tftp-show and tftp-play that a document or a manual shows prints what stands there, writes
+nothing to standard error, and ends with the status of the manuals. Of each examples/NAME.script at least one document
+shows the output. The tours of tftpd and tftp run twice in a folder, and leave nothing there. The get of README.md in
+C compiles, and dnsmasq takes the settings of docs/OPERATING.md. In the commands that no check runs each name is
+looked up (shown_names.py)."""
 import os
 import re
 import shlex
@@ -17,8 +18,9 @@ from lib import shown_names
 from lib.named_options import VERBS, known
 from lib.addresses import own_address
 from lib.programs import NAMES, TOP, program
+from lib.sections import table
 
-SECONDS = 120
+HERE, SECONDS = Path(__file__).parent, 120
 PATTERNS = ["*.md", "docs/*.md", "crates/*/README.md", "examples/**/README.md", "bench/**/README.md", "packaging/*.md",
             "man/*.[1-8]"]
 DOCUMENTS = sorted(path for pattern in PATTERNS for path in TOP.glob(pattern))
@@ -156,31 +158,12 @@ def test_the_names_in_other_commands(page: Path) -> None:
     assert [f"{command}: {what}" for command in commands for what in shown_names.of_line(command, page.parent, options)] == []
 
 
-# the get of README.md in a program that has what the page leaves to its reader: a socket, a clock and a place for the file
-IN_C = """#include "udp.h"
-
-static bool store(const uint8_t *bytes, size_t len) { return fwrite(bytes, 1, len, stdout) == len && !fflush(stdout); }
-
-int main(int argc, char **argv) {
-    static uint8_t datagram[TFTP_HEADER + TFTP_DEFAULT_BLOCK + 1], block[TFTP_DEFAULT_BLOCK], reply[TFTP_MAX_REQUEST];
-    if (argc < 4) return 2;
-    struct tftp_endpoint server = udp_endpoint(argv[1], argv[2]), from;
-    struct tftp_event event = {0};
-    const uint8_t *name = (const uint8_t *)argv[3], *why = (const uint8_t *)"file not stored";
-    size_t name_len = strlen(argv[3]), why_len = 15;
-    int fd = udp_socket((struct tftp_endpoint){0});
-@GET@
-    return is_good ? 0 : 1;
-}
-"""
-
-
 def test_the_get_of_the_readme_in_c(tmp_path: Path) -> None:
     pieces = re.findall(r"(?ms)^```c\n(.*?)^```$", (TOP / "README.md").read_text())
     assert len(pieces) == 1
     if not shutil.which("gcc"):
         pytest.skip("no gcc")
-    (tmp_path / "readme.c").write_text(IN_C.replace("@GET@", pieces[0]))
+    (tmp_path / "readme.c").write_text((HERE / "readme.c").read_text().replace("@GET@", pieces[0]))
     words = ["gcc", "-std=c11", "-Wall", "-Wextra", "-Wpedantic", "-Werror", "-fsyntax-only", "-I", TOP / "include", "-I",
              TOP / "examples/c", "readme.c"]
     done = subprocess.run(words, cwd=tmp_path, stdin=subprocess.DEVNULL, capture_output=True, text=True, timeout=600)
@@ -198,34 +181,11 @@ def test_settings_for_dnsmasq() -> None:
         assert done.returncode == 0, done.stderr
 
 
-# ---- what is said of a name
-
-
-OPTIONS = {"tftpd": {"--listen", "--forever", "--read-only"}, "tftp": {"--blksize"}}
-
-
-@pytest.mark.parametrize("command", [
-    "make test      # all proofs", "make quick CRATE=tftp_wire", "make deb dist", "systemctl enable --now tftpd",
-    "systemctl enable --now tftpd@{6901..6908}", "journalctl -p warning", "journalctl -fu tftpd",
-    f"apt install ./fanjuvery_{shown_names.version()}_amd64.deb", "mkdir -p /srv/tftp",
-    "nft -f /usr/local/share/doc/fanjuvery/tftpd.nft", "tftpd /srv/tftp --listen 192.0.2.1:69 --forever",
-    "tools/install.sh check", "ATFTPD=$PWD/a/atftpd bench/udp/together.py bin/tftpd 3",
-    "tftp get ADDR:PORT NAME", "rt must-fail tftp_ends", "./install.sh install", "make && sudo make install",
-    "systemctl disable --now tftpd-hpa", "journalctl -u tftpd -o short-iso-precise"])
-def test_a_name_that_is_there(command: str) -> None:
-    assert shown_names.of_line(command, TOP, OPTIONS) == []
-
-
-@pytest.mark.parametrize("command, said", {
-    "make tests": "no target tests", "make bodies CRATES=tftp_wires": "no target bodies", "make quick CRATE=tftp_wires": "no crate tftp_wires",
-    "systemctl enable --now fanjuvery": "no unit fanjuvery", "journalctl -fu tftp": "no unit tftp",
-    "apt install ./fanjuvery_9.9.9_amd64.deb": "no package ./fanjuvery_9.9.9_amd64.deb",
-    "mkdir -p /srv/boot": "no folder /srv/boot of the units", "cp pxelinux.0 /srv/tftpboot": "no folder /srv/tftpboot of the units",
-    "nft -f /usr/local/share/doc/fanjuvery/tftp.nft": "no file /usr/local/share/doc/fanjuvery/tftp.nft",
-    "tftpd /srv/tftp --readonly": "tftpd has no option --readonly", "tools/library-abi.py": "no file tools/library-abi.py",
-    "aptt install x": "no command aptt", "make && sudo make installs": "no target installs"}.items())
-def test_a_name_that_is_not(command: str, said: str) -> None:
-    assert shown_names.of_line(command, TOP, OPTIONS)[0] == said
+@pytest.mark.parametrize("command, said", table(HERE / "shown_commands.txt"))
+def test_what_is_said_of_a_name(command: str, said: str) -> None:
+    options = {"tftpd": {"--listen", "--forever", "--read-only"}, "tftp": {"--blksize"}}
+    command = command.replace("@VERSION@", shown_names.version())
+    assert shown_names.of_line(command, TOP, options)[:1] == [said] * bool(said)
 
 
 def test_which_code_is_of_commands() -> None:

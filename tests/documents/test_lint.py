@@ -1,8 +1,9 @@
-"""Tools and documents by linters: ruff or pyflakes, and mypy, look at the Python files, and shellcheck at the shell scripts; each is
-skipped where it is not installed. What one finds counts where its version is Debian 12's: another may find more, and no gate
-fails for what is installed on its host. Lines of documents, but of the READMEs of crates, are at most 120 columns wide, without
-those of tables and code. Each wrong body can be applied, and has a line in tools/wrong_bodies.txt; and the tests of
-named_tests.txt are there. No document has a word of the project's own that its glossary replaces."""
+"""Tools and documents by linters: ruff or pyflakes, and mypy, look at the Python files, and shellcheck at the shell
+scripts; each is skipped where it is not installed. What one finds counts where its version is Debian 12's: another
+may find more, and no gate fails for what is installed on its host. Lines of documents, but of the READMEs of crates,
+are at most 120 columns wide, without those of tables and code. Each wrong body can be applied, and has a line in
+tools/wrong_bodies.txt; and the tests of named_tests.txt are there. No document has a word of the project's own that
+its glossary replaces."""
 import ast
 import os
 import re
@@ -19,7 +20,8 @@ from lib.programs import TOP
 from lib.sections import table
 
 COLUMNS = 120
-# Words that the glossary of docs/PROVED.md has others for, where no code is shown; the made STATEMENT explains its own
+# Words that the glossary of docs/PROVED.md has others for, where no code is shown; the made STATEMENT explains its
+# own
 OLD_WORDS = re.compile(r"(?<![/\w])(?:headlines?|strangers?|slips?|drafts?|wire text|handed over)\b", re.I)
 READ_FIRST = ["README.md", *(f"docs/{path.name}" for path in TOP.glob("docs/*.md") if path.name != "STATEMENT.md"), "SECURITY.md",
               "CONTRIBUTING.md", *(f"packaging/{path.name}" for path in TOP.glob("packaging/*.md"))]
@@ -31,7 +33,8 @@ SHELL = ["tools/*.sh", "tests/machines/parts/*", "ports/*", ".ci/*", "debian/*.s
 VERSIONS = {"mypy": "mypy 1.0.1", "shellcheck": "version: 0.9.0", "pyflakes3": "2.5.0", "ruff": "none"}
 # types of what a file imports from others are not looked at
 MYPY = ["mypy", "--explicit-package-bases", "--ignore-missing-imports", "--follow-imports=silent", "--no-error-summary"]
-# the files whose functions say the types of their parameters too: those of lib/, without what tests of the programs are made of
+# the files whose functions say the types of their parameters too: those of lib/, without what tests of the programs
+# are made of
 TYPED = sorted(str(path.relative_to(TOP)) for pattern in ("lib/*.py", "gate.py", "manifest.py", "wrong_bodies.py", "version.py")
                for path in (TOP / "tools").glob(pattern) if not re.search(r"/(?:scene|ends|proxy|disk|transfers)\.py$", str(path)))
 # and what needs the types of parameters to be known
@@ -101,7 +104,8 @@ def test_wide_lines(page: str) -> None:
 
 @pytest.mark.parametrize("page", READ_FIRST)
 def test_old_words(page: str) -> None:
-    """Words of the project's own in the documents that are read first. A line of a glossary has them in parentheses."""
+    """Words of the project's own in the documents that are read first. A line of a glossary has them in
+    parentheses."""
     text = re.sub(r"(?ms)^```.*?^```$|`[^`]*`", lambda code: "\n" * code[0].count("\n"), (TOP / page).read_text())
     lines = [(number, line) for number, line in enumerate(text.splitlines(), 1) if not re.match(r"- [^:]* \([a-z ]+\): ", line)]
     assert [f"{number}: {word}" for number, line in lines for word in OLD_WORDS.findall(line)] == []

@@ -1,6 +1,7 @@
-"""The options of the four programs are the same wherever they are named: what `--help` prints is compared with the manuals in
-man/, with docs/OPERATING.md and with the units; completions are made of it (docs/made/completions.py). `--version` prints the version
-of the Makefile and the logic of `rt version`; mandoc finds no error in the manuals, and systemd none in the units."""
+"""The options of the four programs are the same wherever they are named: what `--help` prints is compared with the
+manuals in man/, with docs/OPERATING.md and with the units; completions are made of it (docs/made/completions.py).
+`--version` prints the version of the Makefile and the logic of `rt version`; mandoc finds no error in the manuals,
+and systemd none in the units."""
 import re
 import shutil
 import subprocess
@@ -34,8 +35,8 @@ def test_help_and_version(name: str) -> None:
 
 @pytest.mark.parametrize("name", VERBS)
 def test_manual(name: str) -> None:
-    """The manual has an item for each option and names no other anywhere. Its synopsis has each long one, unless it has
-    `options` in place of them."""
+    """The manual has an item for each option and names no other anywhere. Its synopsis has each long one, unless it
+    has `options` in place of them."""
     text = (TOP / MANUALS[name]).read_text()
     synopsis = [line.lstrip(".") for line in re.findall(r"(?ms)^\.Sh SYNOPSIS\n(.*?)^\.Sh ", text)[0].splitlines()]
     if "Op Ar options" not in synopsis:
@@ -58,8 +59,8 @@ def test_the_help_is_that_of_the_crate(name: str) -> None:
 
 
 def test_operating() -> None:
-    """The page for operators names each long option of tftpd but one that no operator gives, and none that no program of ours
-    has."""
+    """The page for operators names each long option of tftpd but one that no operator gives, and none that no program
+    of ours has."""
     pieces = options.code_of(OPERATING)
     alone = {it for piece in pieces if piece.startswith("--") for it in long_ones(OPTION.findall(piece))}
     assert alone <= set().union(*map(known, VERBS))
@@ -104,8 +105,8 @@ def test_systemd_finds_nothing(name: str, tmp_path: Path) -> None:
 
 @pytest.mark.parametrize("manual", ALL_MANUALS)
 def test_the_form_of_a_manual(manual: str) -> None:
-    """mandoc finds no error in it, and each manual of ours that it refers to is there. Remarks below an error differ from one
-    mandoc to the next, and depend on what is installed."""
+    """mandoc finds no error in it, and each manual of ours that it refers to is there. Remarks below an error differ
+    from one mandoc to the next, and depend on what is installed."""
     for name, section in re.findall(r"^\.Xr (tftp\S*) (\d)", (TOP / manual).read_text(), re.M):
         assert f"man/{name}.{section}" in ALL_MANUALS
     if not shutil.which("mandoc"):

@@ -1,6 +1,7 @@
-"""`.ci/packages` installs what is missing where it is root: all at once, or else each that can be had, and again what failed.
-Its status says whether all is there in the end, and whether the host lets the checks do what they do. Stand-ins take the place
-of `apt-get`, `id`, `sleep` and of what is tried of the host, and few other commands are on the PATH."""
+"""`.ci/packages` installs what is missing where it is root: all at once, or else each that can be had, and again what
+failed. Its status says whether all is there in the end, and whether the host lets the checks do what they do.
+Stand-ins take the place of `apt-get`, `id`, `sleep` and of what is tried of the host, and few other commands are on
+the PATH."""
 import re
 import shutil
 import subprocess
@@ -70,11 +71,13 @@ class Ci:
         return self
 
     def says(self, status: int = 0, user: int = 0, lacks: str = "none") -> tuple[list[str], list[str]]:
-        """The lines that it prints as this user, without its seconds, and the calls: the verb of apt-get with the packages."""
+        """The lines that it prints as this user, without its seconds, and the calls: the verb of apt-get with the
+        packages."""
         self.has("id", f"echo {user}")
         env: Any = {"PATH": self.bin, "LACKS": lacks, "CALLS": self.calls, "AWAY": self.away, "BIN": self.bin, "TO": self.to,
                     "SBINS": self.bin, "BELOW": self.below}
-        done = subprocess.run([shutil.which("bash") or "bash", SCRIPT, self.lacking], env=env, capture_output=True, text=True, timeout=60)
+        words: Any = [shutil.which("bash"), SCRIPT, self.lacking]
+        done = subprocess.run(words, env=env, capture_output=True, text=True, timeout=60)
         assert (done.returncode, done.stderr) == (status, ""), done.stdout
         calls = self.calls.read_text().splitlines() if self.calls.exists() else []
         kept = [[word for word in call.split() if not word.startswith("-") and "::" not in word] for call in calls]

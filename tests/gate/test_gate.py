@@ -1,6 +1,6 @@
-"""The gate fails where `rt ci` or a check fails, where an edit is bad or was not tried, where what has to be there is skipped,
-and where anything is gone or weaker than tools/manifest.txt has it; and it ends with one line that counts all. Stand-ins take the
-place of `rt` and of pytest, and of the repository one of two crates and two checks."""
+"""The gate fails where `rt ci` or a check fails, where an edit is bad or was not tried, where what has to be there is
+skipped, and where anything is gone or weaker than tools/manifest.txt has it; and it ends with one line that counts
+all. Stand-ins take the place of `rt` and of pytest, and of the repository one of two crates and two checks."""
 import os
 import re
 import shutil
@@ -64,8 +64,8 @@ REPOSITORY: dict[str, Optional[str]] = {
 
 
 class Case(NamedTuple):
-    """A run of the gate: its last line, if it is no fault that counts, and what it says; what `rt ci` says, the checks, what is
-    written before the manifest and what after it, and the environment."""
+    """A run of the gate: its last line, if it is no fault that counts, and what it says; what `rt ci` says, the
+    checks, what is written before the manifest and what after it, and the environment."""
     name: str
     last: str = ""
     says: str = ""
@@ -97,19 +97,22 @@ CASES = [
     Case("nothing is said", "0 passed, 1 failed", said=["rt: killed"]),
     Case("an edit is bad", "5 passed, 3 failed", said=[BAD, SAID.format(1) + ", 1 bad", "3 passed, 0 failed"]),
     Case("an edit was not tried", "6 passed, 1 failed", said=[SAID.format(1), "4 passed, 0 failed"]),
-    Case("each refused edit has a line", "6 passed, 0 failed", said=[*map(REFUSED.format, ["one", "two"]), OK, "4 passed, 0 failed"]),
+    Case("each refused edit has a line", "6 passed, 0 failed",
+         said=[*map(REFUSED.format, ["one", "two"]), OK, "4 passed, 0 failed"]),
     # (a line that comes again is no other edit)
     Case("an edit has no line", "6 passed, 1 failed", "FAILED: rt ci: 1 of 2 edits were refused",
          said=[*map(REFUSED.format, ["one", "one"]), OK, "4 passed, 0 failed"]),
     Case("nothing may be skipped", "6 passed, 1 failed", "skipped: tests/some: SKIPPED [1] some/test_it.py:3: no such tool",
          checks=["tests/some"], env=ALL),
     Case("what the seed leaves out is not skipped", "6 passed, 0 failed", checks=["tests/few"], env=ALL),
-    Case("what this check needs may be skipped", "6 passed, 0 failed", checks=["tests/behaviours"], env={**ALL, "LACKING": "zsh strace"}),
+    Case("what this check needs may be skipped", "6 passed, 0 failed", checks=["tests/behaviours"],
+         env={**ALL, "LACKING": "zsh strace"}),
     Case("what other checks need may not", "6 passed, 1 failed", checks=["tests/behaviours"], env={**ALL, "LACKING": "zsh"}),
 ]
 DAMAGES = [
     Damage("a check prints nothing", "tests/good: its last line does not count what it ran: []", {"tests/good/run": "exit 0"}),
-    Damage("a check runs no row", "tests/good: 0 run, 0 skipped, and the manifest has 1", {"tests/good/run": "echo '0 run, 0 skipped'"}),
+    Damage("a check runs no row", "tests/good: 0 run, 0 skipped, and the manifest has 1",
+           {"tests/good/run": "echo '0 run, 0 skipped'"}),
     Damage("a check runs fewer rows", "tests/two: 1 run, 0 skipped, and the manifest has 2",
            {"tests/two/run": "echo '1 run, 0 skipped'"}),
     Damage("rows are gone", "- row tests/two: test_it.py::puts",
@@ -128,7 +131,8 @@ DAMAGES = [
     *(Damage(name, fault, {"crates/a/src/lib.rt": CODE.replace(old, new)}) for name, fault, old, new in [
         ("a clause is deleted", "- clause a stores ensures order", "    ensures order { IsInOrder block }\n", ""),
         ("a clause is weaker", "+ clause a stores ensures order", "{ IsInOrder block }", "{ result ≡ true → IsInOrder block }"),
-        ("a premise is added", "+ clause a stores requires", "    ensures whole", "    requires { IsShort block }\n    ensures whole"),
+        ("a premise is added", "+ clause a stores requires", "    ensures whole",
+         "    requires { IsShort block }\n    ensures whole"),
         ("a function is public no more", "- function a stores", "pub fn", "pub(crate) fn")]),
     Damage("a definition is weaker", "- definition a Blocks.IsWhole",
            {"crates/a/specs/Blocks.antt": DEFINITIONS.replace("block ≡ block", "true ≡ true")}),
@@ -157,13 +161,13 @@ class Repository:
                 place.write_text(text)
 
     def run(self, words: list[object], **env: str) -> "subprocess.CompletedProcess[str]":
-        path = f"{self.top}:{os.environ['PATH']}"
-        return subprocess.run([str(word) for word in words], cwd=self.top / "tools", capture_output=True, text=True, timeout=120,
-                              env={**os.environ, "PATH": path, "REQUIRE_ALL": "", "LACKING": "", **env})
+        env = {**os.environ, "PATH": f"{self.top}:{os.environ['PATH']}", "REQUIRE_ALL": "", "LACKING": "", **env}
+        return subprocess.run([str(word) for word in words], cwd=self.top / "tools", capture_output=True, text=True,
+                              timeout=120, env=env)
 
     def commit(self, checks: list[str]) -> None:
         """Writes the manifest."""
-        text = "import manifest, sys; manifest.MANIFEST.write_text(''.join(f'{line}\\n' for line in manifest.made(sys.argv[1:])))"
+        text = "import manifest, sys; manifest.MANIFEST.write_text('\\n'.join([*manifest.made(sys.argv[1:]), '']))"
         assert self.run([sys.executable, "-c", text, *checks]).returncode == 0
 
     def gate(self, said: list[str], checks: list[str], **env: str) -> "subprocess.CompletedProcess[str]":

@@ -1,4 +1,5 @@
-"""A test that fails runs once more only where the host stalled meanwhile, and the last line counts. A stand-in measures stalls."""
+"""A test that fails runs once more only where the host stalled meanwhile, and the last line counts. A stand-in
+measures stalls."""
 import os
 import shutil
 import subprocess

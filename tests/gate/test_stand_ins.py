@@ -1,4 +1,5 @@
-"""The checks fail with programs that do not work: a test of the tests. Each stand-in of stand_ins/ was let through once.
+"""The checks fail with programs that do not work: a test of the tests. Each stand-in of stand_ins/ was let through
+once.
 
 One needs a server that works: it takes the tftpd of bin/, or else that of `rt ci`, and is skipped without it.
 """
@@ -36,7 +37,8 @@ def stand_ins(tftp: str, tftpd: str) -> dict[str, str]:
     (raw, "idle", "silent_tftpd", 1, "no answer"),
     (raw, "idle", "unwilling_tftpd", None, "in place of"),
     (hostile, "idle", "silent_tftpd", 1, "no request")])
-def test_a_trial_fails(trials: Any, tftp: str, tftpd: str, patience: Any, words: str, tmp_path: Path, monkeypatch: Any) -> None:
+def test_a_trial_fails(trials: Any, tftp: str, tftpd: str, patience: Any, words: str, tmp_path: Path,
+                       monkeypatch: Any) -> None:
     if patience:
         monkeypatch.setattr(trials, "PATIENCE", patience)
     with pytest.raises(Failure, match=words):
@@ -67,8 +69,9 @@ def test_a_file_of_no_transfer(tmp_path: Path, monkeypatch: Any) -> None:
                 break
 
 
-# The tests of the programs as processes: the programs, a test, words of its run, and what it says beside the test's name. A test that
-# hangs is named, and the first line of a server that never listens is waited for no longer than a limit
+# The tests of the programs as processes: the programs, a test, words of its run, and what it says beside the test's
+# name. A test that hangs is named, and the first line of a server that never listens is waited for no longer than a
+# limit
 @pytest.mark.parametrize("tftp, tftpd, test, words, said", [
     ("idle", "silent_tftpd", "test_closed_streams_of_a_client", [], ""),
     ("mute_tftpd", "silent_tftpd", "test_loopback", ["--timeout", "3"], ""),
@@ -77,7 +80,7 @@ def test_a_test_fails(tftp: str, tftpd: str, test: str, words: list[str], said: 
     for program, path in stand_ins(tftp, tftpd).items():
         (tmp_path / program).symlink_to(path)
     env = {**os.environ, "TFTP_PROGRAMS": str(tmp_path), "TESTS_ONCE": "1", **({"TESTS_PATIENCE": "1"} if said else {})}
-    done = subprocess.run(["pytest-3", "-q", "-n0", str(TOP / "tests/tftpd/test_both_programs.py"), "-k", f"{test} and one", *words],
-                          capture_output=True, text=True, timeout=120, env=env)
+    command = ["pytest-3", "-q", "-n0", str(TOP / "tests/tftpd/test_both_programs.py"), "-k", f"{test} and one", *words]
+    done = subprocess.run(command, capture_output=True, text=True, timeout=120, env=env)
     assert done.returncode == 1, done.stdout
     assert test in done.stdout and said in done.stdout

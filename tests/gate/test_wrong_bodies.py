@@ -1,9 +1,10 @@
-"""What a wrong body comes to by the output of the prover, and which of them fail the gate. A stand-in takes the place of the prover."""
+"""What a wrong body comes to by the output of the prover, and which of them fail the gate. A stand-in takes the place
+of the prover."""
 import re
 import subprocess
 import sys
 from pathlib import Path
-from typing import Optional
+from typing import Any, Optional
 
 import pytest
 
@@ -87,7 +88,7 @@ def repository(tmp_path: Path, monkeypatch: pytest.MonkeyPatch) -> Repository:
 
 @pytest.mark.parametrize("is_refused", [True, None, False])
 @pytest.mark.parametrize("record", ["a/two - \nb/two 0123456789\n", "b/two -\n"])
-def test_which_verdicts_pass(is_refused: Optional[bool], record: str, repository: Repository, monkeypatch: pytest.MonkeyPatch) -> None:
+def test_which_verdicts_pass(is_refused: Optional[bool], record: str, repository: Repository, monkeypatch: Any) -> None:
     """The gate fails for a body that proves, whatever has changed since it was refused, or is known of it."""
     repository.record.write_text(record)
     for name, value in [("FEW", 2), ("crates", lambda: {"a": None, "b": None}), ("has_libraries", lambda crate: True)]:

@@ -1,10 +1,11 @@
 #!/usr/bin/env python3
 """Which functions of the programs no test and no row runs: coverage.py [PROGRAM..]
 
-The tests run over the programs of bin/, before each of which a library is loaded that has a breakpoint at each function of the
-repository's crates until it is entered (coverage.c); nothing is built again. Of each program, or of those that are named, the
-functions that were never reached are printed, without those that the compiler has put into their callers. docs/TESTING.md says
-why each is not. It takes some minutes, and is no check. A test that looks at the memory of a program may fail under it.
+The tests run over the programs of bin/, before each of which a library is loaded that has a breakpoint at each
+function of the repository's crates until it is entered (coverage.c); nothing is built again. Of each program, or of
+those that are named, the functions that were never reached are printed, without those that the compiler has put into
+their callers. docs/TESTING.md says why each is not. It takes some minutes, and is no check. A test that looks at the
+memory of a program may fail under it.
 """
 import os
 import re
@@ -27,8 +28,8 @@ GIVEN = r"(?m)^([0-9a-f]+) [tT] (tftp(?!.*(?:::Destruct\+\+|\+Destruct::drop|\+F
 
 
 def functions(path: str) -> dict[int, str]:
-    """The functions of the repository's crates in a program, by their places, in rising order, without what tells the instances of
-    one apart."""
+    """The functions of the repository's crates in a program, by their places, in rising order, without what tells the
+    instances of one apart."""
     text = subprocess.run(["nm", path], capture_output=True, text=True, check=True).stdout
     return dict(sorted((int(place, 16), re.sub(r"::<.*", "", name)) for place, name in re.findall(GIVEN, text)))
 
@@ -56,8 +57,8 @@ def main() -> int:
         for name, path in paths.items():
             wrapped(name, path, folder)
         folders = sorted({f"tests/{it}" for name in wanted for it in [*TESTS[name], *SHARED]})
-        done = subprocess.run(["pytest-3", "-q", *folders], cwd=TOP, env={**os.environ, "TFTP_PROGRAMS": room}, stdin=subprocess.DEVNULL,
-                              capture_output=True, text=True, timeout=LIMIT)
+        done = subprocess.run(["pytest-3", "-q", *folders], cwd=TOP, env={**os.environ, "TFTP_PROGRAMS": room},
+                              stdin=subprocess.DEVNULL, capture_output=True, text=True, timeout=LIMIT)
         print(f"coverage: {' '.join(folders)}: {done.stdout.splitlines()[-1:]}", flush=True)
         for name in wanted:
             there, seen = functions(paths[name]).values(), (folder / f"{name}.seen").read_bytes()

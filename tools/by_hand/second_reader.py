@@ -1,9 +1,10 @@
 #!/usr/bin/env python3
 """What tftp-show prints beside two other readers of TFTP: second_reader.py [COUNT SEED [TFTP-SHOW]]
 
-Packets and mutated ones, 100,000 if COUNT is not given, are read by tftp-show, by the model of tests/soak, and those that are
-right by tshark, which is asked for opcode, number, code, name, mode and options of each. SEED is that of the commit if it is
-not given. Without tshark the model alone is asked, and that is said. The status is 1 where two of them differ.
+Packets and mutated ones, 100,000 if COUNT is not given, are read by tftp-show, by the model of tests/soak, and those
+that are right by tshark, which is asked for opcode, number, code, name, mode and options of each. SEED is that of the
+commit if it is not given. Without tshark the model alone is asked, and that is said. The status is 1 where two of
+them differ.
 """
 import random
 import shutil
@@ -54,7 +55,8 @@ def options_of(packet: Any) -> Any:
 
 def escaped(text: bytes, more: bytes = b"") -> str:
     """A text of a line, of which `more` stays as it is."""
-    return "".join(chr(each) if (0x21 <= each <= 0x7E and each not in b"%=") or each in more else f"%{each:02x}" for each in text)
+    plain = {*range(0x21, 0x7F)} - {*b"%="} | {*more}
+    return "".join(chr(each) if each in plain else f"%{each:02x}" for each in text)
 
 
 def shown(packet: Any) -> str:
@@ -78,8 +80,8 @@ def fields_of(packet: Any) -> dict[str, str]:
     names, values = ([each[at].decode() for each in options_of(packet)] for at in (0, 1))
     found = {"tftp.option.name": APART.join(names), "tftp.option.value": APART.join(values)}
     if isinstance(packet, model.Request):
-        file = "tftp.source_file" if packet.kind == "RRQ" else "tftp.destination_file"
-        return {**found, "tftp.opcode": "1" if packet.kind == "RRQ" else "2", file: packet.name.decode(), "tftp.type": packet.mode.decode()}
+        opcode, file = ("1", "tftp.source_file") if packet.kind == "RRQ" else ("2", "tftp.destination_file")
+        return {**found, "tftp.opcode": opcode, file: packet.name.decode(), "tftp.type": packet.mode.decode()}
     if isinstance(packet, (model.Data, model.Ack)):
         return {"tftp.opcode": "3" if isinstance(packet, model.Data) else "4", "tftp.block": f"{packet.number}"}
     if isinstance(packet, model.Error):
@@ -107,11 +109,13 @@ def by_show(given: list[bytes], show: str) -> list[str]:
 
 
 def by_tshark(packets: list[tuple[bytes, Any]], path: Path) -> list[str]:
-    """Where tshark and the model differ. Each packet comes to the port of requests, from an endpoint of its own: tshark puts
-    nothing together."""
-    path.write_bytes(frames.classic([
-        (at * 1_000, frames.ipv4(f"10.{1 + (at >> 16)}.{at >> 8 & 255}.{at & 255}", "192.0.2.1",
-                                 frames.udp(1_024 + at % 60_000, 69, datagram))) for at, (datagram, _) in enumerate(packets)], frames.RAW))
+    """Where tshark and the model differ. Each packet comes to the port of requests, from an endpoint of its own:
+    tshark puts nothing together."""
+    seen = []
+    for at, (datagram, _) in enumerate(packets):
+        source = f"10.{1 + (at >> 16)}.{at >> 8 & 255}.{at & 255}"
+        seen.append((at * 1_000, frames.ipv4(source, "192.0.2.1", frames.udp(1_024 + at % 60_000, 69, datagram))))
+    path.write_bytes(frames.classic(seen, frames.RAW))
     words = ["tshark", "-r", str(path), "-T", "fields", "-E", f"separator={BETWEEN}", "-E", f"aggregator={APART}",
              *[word for field in FIELDS for word in ("-e", field)]]
     done = subprocess.run(words, capture_output=True, text=True, errors="replace", timeout=LIMIT)

@@ -2,11 +2,11 @@
 """Tries the units of packaging/ under a systemd of their own: units.py [FOLDER]
 
 Debian's systemd is PID 1 of a container with a network of its own, in which what `make install` installs is at
-/usr/local. Its units are started, asked over a link by another host, killed, drained, handed their port, given a folder to
-write to, run with two servers each, and spread over eight ports; Debian's package is installed, upgraded and removed. It
-takes the four programs of bin/. FOLDER (out/debian) is where the container's files are made, once, from Debian's archive; a
-run leaves no change in it. It needs root, and debootstrap, systemd-nspawn, ip, nft and unshare. It is run by hand, and not
-by the gate. The last line is a count; the status is 1 if a trial failed.
+/usr/local. Its units are started, asked over a link by another host, killed, drained, handed their port, given a
+folder to write to, run with two servers each, and spread over eight ports; Debian's package is installed, upgraded
+and removed. It takes the four programs of bin/. FOLDER (out/debian) is where the container's files are made, once,
+from Debian's archive; a run leaves no change in it. It needs root, and debootstrap, systemd-nspawn, ip, nft and
+unshare. It is run by hand, and not by the gate. The last line is a count; the status is 1 if a trial failed.
 """
 import os
 import re
@@ -135,7 +135,8 @@ class Container:
     # ---- what runs in the container
 
     def words(self, script) -> list[str]:
-        return ["nsenter", "--target", self.first, "--mount", "--uts", "--ipc", "--net", "--pid", "--cgroup", "bash", "-ec", script]
+        apart = ["--mount", "--uts", "--ipc", "--net", "--pid", "--cgroup"]
+        return ["nsenter", "--target", self.first, *apart, "bash", "-ec", script]
 
     def told(self, script) -> str:
         """What a shell prints in the container, whatever its status is."""
@@ -200,8 +201,11 @@ class Container:
         until(f"{address}:{port} is served", lambda: self.is_served(address, port))
 
     def answers_once(self, when) -> None:
-        """A request that comes now is answered without a further one."""
-        expect(self.is_served(), True, f"whether a request is answered {when}")
+        """A request that comes now is answered, however late, without a further one, and the file is whole."""
+        try:
+            self.opened(blksize=BLOCK).gets(self.content, BLOCK)
+        except OSError as fault:
+            raise AssertionError(f"no request is answered {when}: {fault}") from fault
 
     def put(self, name, port=69) -> str:
         """What the client says that puts the file."""
@@ -243,21 +247,23 @@ class Container:
         expect(self.run(f"{inside} ls /srv").split(), ["tftp"], "what is in /srv")
         for folder in ["/etc", "/usr", "/usr/local", "/srv", "/var/lib", "/srv/tftp"]:
             told = self.told(f"{inside} sh -c 'touch {folder}/x && rm {folder}/x'")
-            expect("Read-only file system" not in told, writable and folder == "/srv/tftp", f"whether {folder} is writable: {told}")
+            is_writable, wanted = "Read-only file system" not in told, writable and folder == "/srv/tftp"
+            expect(is_writable, wanted, f"whether {folder} is writable: {told}")
 
-    def reads_alone(self, unit, capabilities, writer="") -> None:
-        """It refuses writes, has no more than it needs, and the journal has each transfer once, with the server if there are
-        several. Of these lines the refused write is a warning."""
+    def reads_alone(self, unit, capabilities, writers=("",)) -> None:
+        """It refuses writes, has no more than it needs, and the journal has each transfer once, of several servers
+        with their names. Of these lines the refused write is a warning."""
         expect(self.put("new"), DENIED, "the answer to a write")
         self.may(unit, None, capabilities)
         self.sees(unit, False)
         of_run = f"_SYSTEMD_INVOCATION_ID={self.property(unit, 'InvocationID')}"
-        events = [re.match(rf"{writer}(listening|opened|closed|refused) ", line) for line in self.log(unit, of_run)]
-        words = [event[1] for event in events if event]
-        wanted = ["listening", "opened", "closed", "refused"]
-        expect(sorted({*words}) if writer else words, sorted(wanted) if writer else wanted, "the lines of the journal")
-        warned = [re.sub(rf"^{writer}", "", line) for line in self.log(unit, of_run, "--priority=warning")]
-        expect([line.split()[0] for line in warned], ["refused"], "the warnings of the journal")
+        said = re.findall(r"(?m)^(server \d: )?(listening|opened|closed|refused) ", "\n".join(self.log(unit, of_run)))
+        expect(sorted({writer for writer, _ in said}), [*writers], f"the servers of the lines {said}")
+        words = [word for _, word in said]
+        words = words if writers == ("",) else [*dict.fromkeys(words)]
+        expect(words, ["listening", "opened", "closed", "refused"], "the lines of the journal")
+        warned = [re.sub(r"^server \d: ", "", line).split()[0] for line in self.log(unit, of_run, "--priority=warning")]
+        expect(warned, ["refused"], "the warnings of the journal")
 
     def drains(self, unit) -> None:
         """A restart finishes the get that is in flight, and ends with status 0."""
@@ -274,8 +280,8 @@ class Container:
         expect(found, [], f"how {unit} ended")
 
     def loses_no_request(self) -> None:
-        """Where systemd holds the port, a request is answered that comes while the server is away. 64 clients ask once each
-        within two seconds, during a restart: each is answered, and tells the sender that it is enough."""
+        """Where systemd holds the port, a request is answered that comes while the server is away. 64 clients ask
+        once each within two seconds, during a restart: each is answered, and tells the sender that it is enough."""
         for verb in ["stop", "restart"]:
             self.told(f"systemctl {verb} tftpd-socket")
             self.answers_once(f"after a {verb}")
@@ -361,14 +367,15 @@ def try_socket(it) -> None:
 def serves_by_two(it, unit) -> list[str]:
     """The port is served, by two servers and their supervisor, and by no other process. Returns the three."""
     it.serves()
-    found = it.told("for it in /proc/[0-9]*; do test \"$(readlink $it/exe)\" != /usr/local/bin/tftpd || echo ${it#/proc/}; done").split()
+    found = it.told('for it in /proc/[0-9]*; do test "$(readlink $it/exe)" != /usr/local/bin/tftpd || echo ${it#/proc/}; done')
+    found = found.split()
     expect((sorted(it.processes_of(unit)), len(found)), (sorted(found), 3), f"the processes of {unit}")
     return found
 
 
 def try_several_in(it, unit, capabilities) -> None:
-    """Two servers in a unit: each has what one has, and no more. A kill of a server or of their supervisor starts them again,
-    a stop drains both, and the journal has each line with its server."""
+    """Two servers in a unit: each has what one has, and no more. A kill of a server or of their supervisor starts
+    them again, a stop drains both, and the journal has each line with its server."""
     it.begin(unit, OPTIONS=two_servers(unit))
     for place in [0, 1, 2]:
         serves_by_two(it, unit)
@@ -376,7 +383,7 @@ def try_several_in(it, unit, capabilities) -> None:
         it.run(f"kill -KILL {before[place]}")
         until("others serve", lambda: it.is_served() and not {*before} & {*it.processes_of(unit)})
     serves_by_two(it, unit)
-    it.reads_alone(unit, capabilities, "server [12]: ")
+    it.reads_alone(unit, capabilities, ("server 1: ", "server 2: "))
     it.drains(unit)
     serves_by_two(it, unit)
 
@@ -408,7 +415,8 @@ def try_late_address(it) -> None:
 def try_writing(it) -> None:
     """With the lines of the comments it takes writes, as the user whose folder it is."""
     it.run("useradd --system uploader; chown uploader /srv/tftp")
-    for unit, template, port, capabilities in [("tftpd", "tftpd.service", 69, BIND), (INSTANCES[0], "tftpd@.service", 6901, NOTHING)]:
+    for unit, template, port, capabilities in [("tftpd", "tftpd.service", 69, BIND),
+                                               (INSTANCES[0], "tftpd@.service", 6901, NOTHING)]:
         it.begin(unit, for_writes(template), OPTIONS=settings_of(template)["OPTIONS"].replace(" --read-only", ""))
         it.serves(port=port)
         expect(it.put(f"new{port}", port), f"complete {len(it.content)}\n", "the answer to a write")
@@ -445,10 +453,11 @@ def try_grade(it) -> None:
 
 
 def try_package(it) -> None:
-    """An installation starts nothing, an upgrade starts again what runs, a removal stops it, a purge leaves no link. Where systemd
-    holds the port, an upgrade loses no request, of one server and of two."""
+    """An installation starts nothing, an upgrade starts again what runs, a removal stops it, a purge leaves no link.
+    Where systemd holds the port, an upgrade loses no request, of one server and of two."""
     units = ["tftpd", INSTANCES[0]]
-    it.run(f"nft flush ruleset; systemctl disable --now tftpd {' '.join(INSTANCES)}; umount /usr/local; systemctl daemon-reload")
+    it.run(f"nft flush ruleset; systemctl disable --now tftpd {' '.join(INSTANCES)}")
+    it.run("umount /usr/local; systemctl daemon-reload")
     it.install(0)
     expect([it.property(unit, "ActiveState") for unit in units], ["inactive"] * 2, "the units after an installation")
     it.run(f"systemctl enable --now {' '.join(units)}")
@@ -460,14 +469,15 @@ def try_package(it) -> None:
     expect((after & {*before, "0"}, len(after)), (set(), 2), f"the processes after an upgrade, {before} before")
     it.run("systemctl disable --now tftpd; systemctl enable --now tftpd.socket")
     for count, package in [(1, 0), (3, 1)]:
+        if count > 1:
+            it.run("systemctl stop tftpd-socket")
+            it.begin("tftpd-socket", OPTIONS=two_servers("tftpd-socket"))
         it.answers_once("where the port is handed over")
-        processes = it.processes_of("tftpd-socket")
-        expect(len(processes), count, f"how many processes there are: {processes}")
+        before = {*it.processes_of("tftpd-socket")}
         it.install(package)
         it.answers_once("after an upgrade")
-        expect({*it.processes_of("tftpd-socket")} & {*processes}, set(), "the processes that an upgrade leaves")
-        it.run("systemctl stop tftpd-socket")
-        it.begin("tftpd-socket", OPTIONS=two_servers("tftpd-socket"))
+        after = {*it.processes_of("tftpd-socket")}
+        expect((len(before), len(after), after & before), (count, count, set()), f"{before} and {after}, after an upgrade")
     it.run("dpkg -r fanjuvery")
     expect(it.told("readlink /proc/[0-9]*/exe | grep tftpd"), "", "the processes that a removal leaves")
     it.run("dpkg -P fanjuvery")
@@ -483,7 +493,8 @@ def run(folder) -> int:
     began = time.monotonic()
     with tempfile.TemporaryDirectory(prefix="units-") as room, ExitStack() as stack:
         it = Container(folder, room, stack)
-        print("units:", it.run("systemctl --version").splitlines()[0], f"started in {time.monotonic() - began:.0f} s", flush=True)
+        version, seconds = it.run("systemctl --version").splitlines()[0], time.monotonic() - began
+        print(f"units: {version} started in {seconds:.0f} s", flush=True)
         for trial in TRIALS:
             try:
                 trial(it)

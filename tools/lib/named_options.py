@@ -64,8 +64,8 @@ def of_mdoc(line: str) -> set[str]:
 
 
 def code_of(text: str) -> list[str]:
-    """The pieces of code in a page: the lines of its blocks, and its spans. Where the head of a table's first column is a
-    program that is none of ours, that column is left out."""
+    """The pieces of code in a page: the lines of its blocks, and its spans. Where the head of a table's first column
+    is a program that is none of ours, that column is left out."""
     parts = re.split(r"^```.*$", text, flags=re.M)
     prose, is_foreign, is_table = [], False, False
     for line in "\n".join(parts[::2]).splitlines():
