@@ -3,7 +3,7 @@
 use Rattle.tftp_player.proofs.Common.{◌≡◌, ◌≢◌, ℕ, ◌+◌, ◌<◌, ◌≤◌, List, ◌++◌, length, Some, sym, ap, ◌∙◌, subst, inl}
 use Rattle.tftp_player.proofs.Common.{inr, rules, ◌⊎◌, slice_get, slice_set, slice_index_or, slice_get_within, Config}
 use Rattle.tftp_player.proofs.Common.{request_port, Endpoint, OpenEnd, said_by, report_by, PlayedServer, world_of}
-use Rattle.tftp_player.proofs.Common.{EndsAsk, ClosedEnd, WorldState, report_of, no_report, WorldEnd, Open_end}
+use Rattle.tftp_player.proofs.Common.{ClosedEnd, WorldState, report_of, no_report, WorldEnd, Open_end}
 use Rattle.tftp_player.proofs.Common.{Closed_end, end_address, world_after, Datagram, Delivery, WorldRefuses, WorldStep}
 use Rattle.tftp_player.proofs.Common.{Deliver, WorldFault, Effect, Report}
 use Rattle.tftp_player.specs.Effect.{no_effect}
@@ -84,13 +84,6 @@ module _ (from to : Endpoint) (bytes : List ℕ) (before after : PlayedServer) (
       let lost : Lost = search rules in
       landed (old sent) (old sent) (new sent) from to bytes no_report (report_by sent effect) (lost_report sent lost)
       (still sent lost) (none_arrives (old sent) from to bytes ports away none)
-
--- a datagram for the request port arrives by what that does
-pub asks_arrive :
-    (from to : Endpoint) (bytes : List ℕ) (before after : PlayedServer) (ends ends' : List WorldEnd) (effect : Effect) →
-    to ≡ request_port → EndsAsk from bytes before after ends ends' effect →
-    EndsDelivery from to bytes before after ends ends' effect
-asks_arrive from to bytes before after ends ends' effect e a = rw (e) a
 
 -- the same, with what was sent given by equations
 pub arrives_reported :

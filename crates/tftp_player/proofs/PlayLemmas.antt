@@ -6,7 +6,7 @@ use Rattle.tftp_player.proofs.Common.{slice_set, append-nil, Record, is_sender, 
 use Rattle.tftp_player.proofs.Common.{timeout_turn, Config, Endpoint, OpenEnd, files_of, said_by, report_by}
 use Rattle.tftp_player.proofs.Common.{records_from, PlayedServer, ArePartsConsistent, world_of, WorldState, WorldEnd}
 use Rattle.tftp_player.proofs.Common.{Open_end, Closed_end, end_address, end_record, replied, world_after, report_of}
-use Rattle.tftp_player.proofs.Common.{no_report, WorldStep, WorldRefuses, armed_end, WorldFault, Datagram, Effect}
+use Rattle.tftp_player.proofs.Common.{no_report, WorldStep, armed_end, Datagram, Effect}
 use Rattle.tftp_player.proofs.Common.{Timeout, RefuseStore, Report}
 use Rattle.std.proofs.Common.{option_and_then}
 use Rattle.std.proofs.lemmas.Bool.Decides.{nat_tests}
@@ -16,7 +16,6 @@ use Rattle.tftp_player.specs.EndSteps.{EndTimesOut}
 use Rattle.tftp_player.specs.Simulation.{EndsTimeOut, opened_at, stored_in, stored_at, committed_at}
 use Rattle.tftp_player.specs.World.{end_committed}
 use Rattle.tftp_player.specs.WorldSteps.{IsAtPort}
-use Rattle.tftp_player.specs.declared.fault.WorldFault.TheVariants.{Memory}
 use Rattle.tftp_player.proofs.HostEnds.{records_set, same_set}
 use Rattle.tftp_player.proofs.StepLemmas.{timeout_step, timeout_stays, refuse_step}
 use Rattle.tftp_player.proofs.WorldTurns.{ports_set}
@@ -73,13 +72,6 @@ timeout_result config sent index before after ends ends' effect port old sent0 s
     effect) v) (sym (ap (λ s. world_of config sent1 s ends') server ∙ ap (λ ds. world_of config ds before ends') (more ∙
     ap (λ ds. ds ++ said_by effect.from effect.to effect.bytes) same))) (timed_by config sent index before ends ends'
     effect port t.end t.next (record { is = is; there = t.found }) t.times_out t.is)))
-
--- there is an end at this port, so only lack of memory can refuse its timeout
-pub timeout_refused :
-    (config : Config) (sent : List Datagram) (server : PlayedServer) (ends : List WorldEnd) (old : WorldState)
-    (port index : ℕ) → world_of config sent server ends ≡ old → port ≡ 1024 + index → index < length ends →
-    (fault : WorldFault) → fault ≡ Memory → WorldRefuses old (Timeout port) fault
-timeout_refused config sent server ends old port index view is within fault e = search rules
 
 -- ---- a store that is to refuse: the record of the end and its address stay
 flag_only : (b : Bool) (x : OpenEnd) →

@@ -2,7 +2,7 @@
 -- For the law a_transfer_recovers.
 use Rattle.tftp_player.proofs.Common.{common_steps, ◌≡◌, ℕ, ◌+◌, ◌*◌, ◌-◌, ◌<◌, ◌≤◌, Bool, true, false, not, List, []}
 use Rattle.tftp_player.proofs.Common.{◌∷◌, ◌++◌, length, take, Option, Some, None, refl, sym, ap, ◌∙◌, subst, arith}
-use Rattle.tftp_player.proofs.Common.{inl, inr, rules, ◌≢◌, ◌⊎◌, if◌then◌else◌, slice_get, option_map, Contains}
+use Rattle.tftp_player.proofs.Common.{inl, inr, rules, ◌≢◌, ◌⊎◌, slice_get, option_map, Contains}
 use Rattle.tftp_player.proofs.Common.{true≢false, cases_eq, same_Some, Mode, RawOption, Packet, Data, Oack, Spells}
 use Rattle.tftp_player.proofs.Common.{canonical, Asked, block, block_count, wire_text, Respond, ResendReply, Outcome}
 use Rattle.tftp_player.proofs.Common.{Phase, Waiting, Sending, Receiving, Dallying, Closed, Terms, is_sender, is_client}
@@ -13,9 +13,9 @@ use Rattle.tftp_player.proofs.Common.{Timeout}
 use Rattle.tftp_ends.specs.declared.phase.Dally.{Dally}
 use Rattle.tftp_ends.specs.End.{number_of}
 use Rattle.tftp_rules.specs.Rules.{run}
-use Rattle.tftp_player.specs.Recovering.{IsEstablished, AreThrough, TransfersRecover}
+use Rattle.tftp_player.specs.Recovering.{IsEstablished, TransfersRecover}
 use Rattle.tftp_player.proofs.NewestKept.{IsNewest, EndNewest, AllNewest, run_newest, new_newest}
-use Rattle.tftp_player.proofs.RunsLeft.{UnlessReads, IsWilling, IsLeft, GoesOn, Reaches, IsOver, walks, ends_here}
+use Rattle.tftp_player.proofs.RunsLeft.{UnlessReads, IsWilling, IsLeft, GoesOn, Reaches, walks, ends_here}
 use Rattle.tftp_player.proofs.OldDatagrams.{oack_again}
 use Rattle.tftp_player.proofs.StraightActions.{from_peer}
 use Rattle.tftp_player.proofs.StraightRuns.{IsReady, ready_next, stays_at, set_at, SendsAt, AwaitsAt, fit_of}
@@ -361,11 +361,6 @@ module _ (w new : WorldState) (ok : Refines true w) (one other : ℕ) (x y : Ope
   pub recovers : AllNewest w → Recovers
   recovers fresh =
       recovers_by n refl (rw (e.sends) at (fresh one (Open_end x) e.sender_at)) (fresh other (Open_end y) e.receiver_at)
-
--- both ends are complete once the run is over
-pub through_at : (old new : WorldState) (one other count : ℕ) → IsOver new one other (length old.sent + count) →
-    AreThrough old new one other count
-through_at old new one other count o = search rules
 
 -- so each established transfer of a world recovers
 pub transfers_recover : TransfersRecover

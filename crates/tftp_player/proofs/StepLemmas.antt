@@ -1,29 +1,18 @@
 -- Steps of a world, from what happened at one index of it. For six other files.
 use Rattle.tftp_player.proofs.Common.{◌≡◌, ◌≢◌, ℕ, ◌+◌, ◌<◌, ◌≤◌, Bool, true, List, length, Some, refl, rules, ◌⊎◌}
-use Rattle.tftp_player.proofs.Common.{◌&&◌, not, slice_get, slice_set, slice_get_within, Mode, Asked, Files, wire_text}
+use Rattle.tftp_player.proofs.Common.{◌&&◌, not, slice_get, slice_set, slice_get_within, Files}
 use Rattle.tftp_player.proofs.Common.{Holding, is_client, Turn, timeout_turn, request_port, Endpoint, OpenEnd, files_of}
 use Rattle.tftp_player.proofs.Common.{end_after, HasPorts, WorldState, ClosedEnd, WorldEnd, Open_end, Closed_end}
 use Rattle.tftp_player.proofs.Common.{end_address, StoredFile, file_at, in_the_way, has_committed, world_after}
-use Rattle.tftp_player.proofs.Common.{report_of, no_report, opened_in, sent_report, EndStep, FilesAfter, At_open_end}
-use Rattle.tftp_player.proofs.Common.{At_closed_end, HasPort, armed_end, Delivery, WorldStep, reading_client}
-use Rattle.tftp_player.proofs.Common.{writing_client, MayGet, MayPut, Get, Put, Timeout, RefuseStore}
+use Rattle.tftp_player.proofs.Common.{report_of, no_report, EndStep, FilesAfter, At_open_end}
+use Rattle.tftp_player.proofs.Common.{At_closed_end, armed_end, Delivery, WorldStep}
+use Rattle.tftp_player.proofs.Common.{Timeout, RefuseStore}
 use Rattle.tftp_player.specs.WorldSteps.{IsAtPort}
 
 -- a client leaves the server's files
 pub client_files : (overwrite client b : Bool) (path bytes : List ℕ) (files : List StoredFile) → client ≡ true →
     FilesAfter overwrite (not client && b) path bytes files files
 client_files overwrite client b path bytes files e = search rules
-
--- a client asks
-pub get_step : (w : WorldState) (name : List ℕ) (mode : Mode) (asked : Asked) → HasPort w → MayGet name mode asked →
-    WorldStep w (Get name mode asked) (sent_report w) (opened_in w (reading_client w name mode asked))
-get_step w name mode asked port may = (port, may, record { reports = refl; is = refl })
-
--- a put is a step of a world
-pub put_step : (w : WorldState) (name : List ℕ) (mode : Mode) (asked : Asked) (file : List ℕ) → HasPort w →
-    MayPut name mode asked (length (wire_text mode file)) →
-    WorldStep w (Put name mode asked file) (sent_report w) (opened_in w (writing_client w name mode asked file))
-put_step w name mode asked file port may = (port, may, record { reports = refl; is = refl })
 
 -- a timeout of an open end, and of a closed one
 pub timeout_step : (w : WorldState) (port k : ℕ) (x : OpenEnd) → IsAtPort w port k (Open_end x) →
