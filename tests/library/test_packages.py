@@ -320,7 +320,8 @@ def at_serve(scene: Any, built: Built, server: Built, lossy: bool) -> None:
             for place, length in enumerate(transfers.FEW) for it in clients if place or not built.is_slow]
     jobs += [partial(transfers.refused, site, built, it) for it in clients if it.startswith("get") and not lossy]
     transfers.together(jobs)
-    transfers.ended(process)
+    process.terminate()
+    process.wait()
 
 
 @pytest.mark.timeout(1_200)
