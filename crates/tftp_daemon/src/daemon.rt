@@ -28,7 +28,7 @@ use tftp_loop::{Ending, LoopConfig, LoopFault, PortRange};
 use tftp_server::{Config, Server, Store};
 use tftp_service::{HandedFault, Input, LineStamp};
 use tftp_sockets::{DrainSignal, ErrorLines, ServerUdp};
-use tftp_status::Reporting;
+use tftp_status::{Reporting, UnusedDisk};
 use tftp_supervisor::Supervise;
 
 /// The configuration of `tftpd`.
@@ -230,7 +230,7 @@ fn supervise_checked<P: Print + Eprint + Clock + Supervise, N: ServerUdp, D: Dis
 
 /// Serves alone.
 fn serve_alone<P, N: ServerUdp + Eprint, D: Disk>(
-    mut host: Host<'_, P, N, D>,
+    host: Host<'_, P, N, D>,
     config: &DaemonConfig<'_>,
     input: Input,
 ) -> (Result<(), DaemonFault>, Devices<N, D>)
@@ -244,15 +244,28 @@ fn serve_alone<P, N: ServerUdp + Eprint, D: Disk>(
     ensures reports { IfSome result.1.reporting.report
         (λ report. IsReportOf config.now report.status) }
 {
-    match setup_of(&mut host.net, host.alloc, config, input) {
-        Ok(setup) => serve_with(host, config, setup),
-        Err(fault) => (Err(fault), host.into_devices()),
+    let Host {
+        alloc,
+        mut net,
+        served,
+        counts,
+        ..
+    } = host;
+    match setup_of(&mut net, alloc, config, input) {
+        Ok(setup) => serve_with(alloc, net, served, counts, config, setup),
+        Err(fault) => {
+            let reporting = Reporting::new(alloc, counts, None);
+            (Err(fault), Devices { net, reporting })
+        }
     }
 }
 
 /// Serves with the device that is made of this.
-fn serve_with<P, N: ServerUdp + Eprint, D: Disk>(
-    host: Host<'_, P, N, D>,
+fn serve_with<N: ServerUdp + Eprint, D: Disk>(
+    alloc: Global,
+    net: N,
+    served: D,
+    counts: UnusedDisk<D>,
     config: &DaemonConfig<'_>,
     setup: DeviceSetup,
 ) -> (Result<(), DaemonFault>, Devices<N, D>)
@@ -262,19 +275,12 @@ fn serve_with<P, N: ServerUdp + Eprint, D: Disk>(
     requires listens { ListensAt config.now.listen setup.port.at }
     requires file { IfSome setup.reports (λ settings. ReportsAt config.now settings.paths) }
     ensures status { daemon_status result.0 ≤ 2 }
-    ensures runs { MayServe D.log (D.log host.entry.served) ⟦<FolderStore<D> as Store>⟧.meaning
+    ensures runs { MayServe D.log (D.log served) ⟦<FolderStore<D> as Store>⟧.meaning
         ⟦<FolderSource<D::View> as Source>⟧.meaning config.now (daemon_status result.0)
-        (N.log host.entry.net) (N.log result.1.net) }
+        (N.log net) (N.log result.1.net) }
     ensures reports { IfSome result.1.reporting.report
         (λ report. IsReportOf config.now report.status) }
 {
-    let Host {
-        alloc,
-        net,
-        served,
-        counts,
-        ..
-    } = host;
     let service = config.service_at(setup.port.endpoint());
     let signal = DrainFile::new(served.view(), config.drain);
     match open_server(served, alloc, config) {

@@ -66,7 +66,19 @@ pub fn tftpd_words<
         served: SystemDisk::new(rt),
         counts: UnusedDisk::new(SystemDisk::new(rt)),
     };
-    let (status, _devices) = tftpd_on(host, words, input, Surroundings::of(rt, words));
+    status_on(host, words, input, Surroundings::of(rt, words))
+}
+
+/// As [`tftpd_on`], which returns the status alone.
+fn status_on<
+    P: Print + ErrorLines + Clock + Supervise,
+    N: ServerUdp + Eprint + Drop,
+    D: Disk,
+    S: AsStr,
+>(host: Host<'_, P, N, D>, words: &[S], input: Input, surroundings: Surroundings) -> u8
+    ensures { result ≤ 2 }
+{
+    let (status, _devices) = tftpd_on(host, words, input, surroundings);
     status
 }
 
