@@ -8,10 +8,9 @@
 # make manifest: writes tools/manifest.txt, what the gate consists of by name: crates, checks and their rows, wrong bodies, and
 #   each public clause and definition with its hash; and tools/wrong_bodies.txt, a line for each wrong body. The gate fails where it is not
 #   as committed
-# make docs: writes docs/STATEMENT.md and the pictures of docs/ from the sources, and out/DEFINITIONS.md
+# make docs: writes docs/STATEMENT.md, the pictures and the completions from the sources and the programs of bin/
 # make wrong-bodies CRATES="NAME ..": tries the wrong bodies that not each gate tries, of all crates without words; with STALE=1
-#   only such as changed since they were last refused, or whose crate did; with FEW=5 five of all, by the seed of the commit, as
-#   the gate does
+#   only such as changed since they were last refused, or whose crate did
 # make ARCH=arm64 programs libtftp deb: the same for ARM64, proved with that target, into bin/arm64/, linked by CC
 #   (aarch64-linux-gnu-gcc); with STATIC=1 the programs have the C library in themselves, in bin/arm64-static/
 # make bare: bin/libtftp-bare.a, the library for machines without an operating system; also with ARCH=arm64
@@ -23,10 +22,7 @@
 # make behaviours: each wrong behaviour of tftp and tftpd that a test has to notice, five of which the gate tries
 # make soak SECONDS=3600 SEED=2: trials of bin/tftp and bin/tftpd against a model, a bad network and a bad host, and
 #   bin/tftp-show beside two other readers; then five minutes of inputs for the library for C, from a corpus
-# make coverage: which functions of the programs no test runs, by qemu-x86_64
-# make walk: the calls from a received ACK to the block that answers it; with FROM=Flow::add_seen those from any function
-# make weights: what each crate weighs in the gate; make plants CRATE=NAME: which wrong bodies of `rt plant` a crate's
-#   contracts let through
+# make coverage: which functions of the programs no test runs
 # make mutated-inputs COUNT=100000 SEED=2: mutated lines, captures, scripts and command lines for the programs of bin/, as many of each
 # make bench: the benchmarks of bench/, which are no tests
 # make bench-udp: tftpd and tftp beside the other servers and clients that are installed
@@ -49,15 +45,8 @@ LIBRARY := $(BIN)/libtftp.a
 BARE := $(BIN)/libtftp-bare.a
 SOURCES := $(shell find crates -path '*/out' -prune -o \( -name '*.rt' -o -name '*.antt' \) -print) crates.txt
 
-# what is run behind `rt ci`, over bin/, which holds by then what `make` builds (tools/shipped.py). Each is run with a limit,
-# whatever the others come to, and ends with a count of its rows, which tools/manifest.txt has by name; one that fails is run
-# once more if the host stalled meanwhile. tools/gate.py says what was skipped, what repeated, and what failed
-CHECKS := tests/documents tests/disk '$(MAKE) --no-print-directory sampled' tests/captures tests/memory \
-	tests/gate tests/mutated tests/library tests/dashboard tests/tftp tests/tftpd tests/tftp_show tests/tftp_play tools/behaviours.py \
-	tests/network tests/soak 'tools/wrong_bodies.py --few' tests/machines
-
-.PHONY: build programs libtftp bare assembly run sample sampled manifest tftp-show tftp-play tftp tftpd test quick docs \
-	wrong-bodies install uninstall dist deb soak behaviours coverage walk weights plants mutated-inputs bench bench-udp clean
+.PHONY: build programs libtftp bare assembly run sample manifest tftp-show tftp-play tftp tftpd test quick docs \
+	wrong-bodies install uninstall dist deb soak behaviours coverage mutated-inputs bench bench-udp clean
 # one after another: each crate is proved by as many processors as there are
 .NOTPARALLEL:
 
@@ -70,18 +59,18 @@ libtftp: $(LIBRARY)
 
 ifeq ($(ARCH)$(STATIC),amd64)
 # one run builds all four
-$(PROGRAMS) &: $(SOURCES) tools/build.sh
+$(PROGRAMS) &: $(SOURCES) tools/build.py
 	$(NEEDS_RT)
-	@tools/build.sh tftp_show_main tftp_play_main tftp_main tftpd_main
+	@tools/build.py tftp_show_main tftp_play_main tftp_main tftpd_main
 	@mkdir -p bin
 	@cp crates/tftp_show_main/out/tftp_show_main bin/tftp-show
 	@cp crates/tftp_play_main/out/tftp_play_main bin/tftp-play
 	@cp crates/tftp_main/out/tftp_main bin/tftp
 	@cp crates/tftpd_main/out/tftpd_main bin/tftpd
 
-$(LIBRARY): $(SOURCES) tools/build.sh tools/library.sh ports/heap.c ports/malloc.c
+$(LIBRARY): $(SOURCES) tools/build.py tools/library.sh ports/heap.c ports/malloc.c
 	$(NEEDS_RT)
-	@tools/build.sh tftp_c
+	@tools/build.py tftp_c
 	@tools/library.sh bin
 else
 PORTED := tools/modules.py tools/port.sh tools/library.sh ports/os.c ports/heap.c ports/malloc.c
@@ -102,15 +91,12 @@ endif
 
 tftp-show tftp-play tftp tftpd:
 	$(NEEDS_RT)
-	@tools/build.sh $(subst -,_,$@)_main
+	@tools/build.py $(subst -,_,$@)_main
 	@mkdir -p bin
 	@cp crates/$(subst -,_,$@)_main/out/$(subst -,_,$@)_main bin/$@
 
 run:
 	@if $(MAKE) -q --no-print-directory programs; then exec $(MAKE) --no-print-directory sample; else exec tools/try.sh; fi
-
-sampled: run
-	@echo '1 run, 0 skipped'
 
 sample:
 	bin/tftp-show < examples/packets.hex; test $$? -le 1 # 1: some lines of the sample are faults
@@ -130,10 +116,10 @@ mutated-inputs: $(PROGRAMS)
 
 test:
 	$(NEEDS_RT)
-	@tools/gate.py $(CHECKS)
+	@tools/gate.py
 
 quick:
-	@tools/quick.sh '$(CRATE)'
+	@tools/quick.py $(CRATE)
 
 manifest:
 	@tools/wrong_bodies.py --lines
@@ -143,7 +129,7 @@ docs:
 	docs/made/made.py --write
 
 wrong-bodies:
-	@tools/wrong_bodies.py $(if $(FEW),--few $(FEW),--together $(if $(STALE),--stale) $(CRATES))
+	@tools/wrong_bodies.py $(if $(STALE),--stale) $(CRATES)
 
 install uninstall:
 	@BIN='$(BIN)' tools/install.sh $@ 'DESTDIR=$(DESTDIR)' 'PREFIX=$(PREFIX)' 'PROGRAM_PREFIX=$(PROGRAM_PREFIX)' \
@@ -171,20 +157,10 @@ soak: bin/tftp bin/tftpd bin/tftp-show $(LIBRARY)
 	tools/by_hand/fuzz.py 300 $(SEED)
 
 behaviours: bin/tftp bin/tftpd
-	tools/behaviours.py --all
+	TRY_ALL=1 pytest-3 -q -n 3 tests/behaviours
 
 coverage: $(PROGRAMS)
 	tools/by_hand/coverage.py
-
-walk:
-	@tools/by_hand/walk.py $(FROM)
-
-weights:
-	@tools/by_hand/weights.py
-
-plants:
-	$(NEEDS_RT)
-	@tools/by_hand/plants.py '$(CRATE)'
 
 bench: $(PROGRAMS)
 	bench/show/run.sh bin/tftp-show

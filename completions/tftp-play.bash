@@ -1,16 +1,33 @@
-# bash completion of tftp-play
+# bash completion of tftp-play, made by `make docs` of the help that the program prints
 
 _tftp_play() {
-    local options
+    local words word how verb='' value='' place=0
     COMPREPLY=()
-    options='--events --svg --help -h --version -V'
-    if [[ $2 = -* && $3 != --svg ]]; then
-        mapfile -t COMPREPLY < <(compgen -W "$options" -- "$2")
-    else
-        # SCRIPT, or the file of --svg
-        compopt -o filenames 2> /dev/null
-        mapfile -t COMPREPLY < <(compgen -f -- "$2")
-    fi
+    # bash parts words at colons, too: ADDR:PORT is one word of the line
+    read -ra words <<< "${COMP_LINE:0:COMP_POINT}"
+    # the words before the one that is completed
+    if [[ ${COMP_LINE:COMP_POINT-1:1} != ' ' ]]; then unset 'words[-1]'; fi
+    for word in "${words[@]:1}"; do
+        if [[ -n $value ]]; then
+            value=''
+            continue
+        fi
+        case $word in
+        --svg) value=$word ;;
+        -*) ;;
+        *) if [[ -z $verb && '  ' = *" $word "* ]]; then verb=$word; else place=$((place + 1)); fi ;;
+        esac
+    done
+    # the option whose value is completed, or else the subcommand with the place of the word
+    case ${value:-$verb$place},$2 in
+    --svg,*) how=(-f) ;;
+    -*,*) return ;;
+    *,-*) how=(-W '--svg --events --help -h --version -V') ;;
+    0,*) how=(-f) ;;
+    *) return ;;
+    esac
+    if [[ ${how[0]} != -W ]]; then compopt -o filenames 2> /dev/null; fi
+    mapfile -t COMPREPLY < <(compgen "${how[@]}" -- "$2")
 }
 
 complete -F _tftp_play tftp-play

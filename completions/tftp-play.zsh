@@ -1,9 +1,9 @@
 #compdef tftp-play
-# zsh completion of tftp-play
+# zsh completion of tftp-play, made by `make docs` of the help that the program prints
 
 _arguments \
-  '--events[print the event beside each -]' \
-  '--svg=[draw the run into a file]:picture:_files' \
-  '(-h --help)'{-h,--help}'[print help]' \
-  '(-V --version)'{-V,--version}'[print version]' \
-  '1:script:_files'
+    '--svg=[Draws the run as a sequence diagram into this file]:FILE:_files' \
+    '--events[Prints the event beside each -]' \
+    '(--help -h)'{-h,--help}'[Print help]' \
+    '(--version -V)'{-V,--version}'[Print version]' \
+    '1:The script:_files'

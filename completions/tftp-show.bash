@@ -1,20 +1,33 @@
-# bash completion of tftp-show, which reads a capture
+# bash completion of tftp-show, made by `make docs` of the help that the program prints
 
 _tftp_show() {
-    local options
+    local words word how verb='' value='' place=0
     COMPREPLY=()
-    options='--flow --follow --json --svg --transfer --port --help -h --version -V'
-    case $3 in
-    --transfer | --port)
-        return
-        ;;
+    # bash parts words at colons, too: ADDR:PORT is one word of the line
+    read -ra words <<< "${COMP_LINE:0:COMP_POINT}"
+    # the words before the one that is completed
+    if [[ ${COMP_LINE:COMP_POINT-1:1} != ' ' ]]; then unset 'words[-1]'; fi
+    for word in "${words[@]:1}"; do
+        if [[ -n $value ]]; then
+            value=''
+            continue
+        fi
+        case $word in
+        --svg | --transfer | --port) value=$word ;;
+        -*) ;;
+        *) if [[ -z $verb && '  ' = *" $word "* ]]; then verb=$word; else place=$((place + 1)); fi ;;
+        esac
+    done
+    # the option whose value is completed, or else the subcommand with the place of the word
+    case ${value:-$verb$place},$2 in
+    --svg,*) how=(-f) ;;
+    -*,*) return ;;
+    *,-*) how=(-W '--flow --follow --json --svg --transfer --port --help -h --version -V') ;;
+    0,*) how=(-f) ;;
+    *) return ;;
     esac
-    if [[ $2 = -* ]]; then
-        mapfile -t COMPREPLY < <(compgen -W "$options" -- "$2")
-    else
-        compopt -o filenames 2> /dev/null
-        mapfile -t COMPREPLY < <(compgen -f -- "$2")
-    fi
+    if [[ ${how[0]} != -W ]]; then compopt -o filenames 2> /dev/null; fi
+    mapfile -t COMPREPLY < <(compgen "${how[@]}" -- "$2")
 }
 
 complete -F _tftp_show tftp-show

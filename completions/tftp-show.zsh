@@ -1,13 +1,13 @@
 #compdef tftp-show
-# zsh completion of tftp-show, which reads a capture
+# zsh completion of tftp-show, made by `make docs` of the help that the program prints
 
 _arguments \
-  '--flow[print the transfers of a capture]' \
-  '--follow[print transfers as they begin and end]' \
-  '--json[print the transfers as JSON]' \
-  '--svg=[draw a transfer into a file]:picture:_files' \
-  '--transfer=[the number of the transfer that is drawn or printed]:number: ' \
-  '--port=[the port of requests]:port: ' \
-  '(-h --help)'{-h,--help}'[print help]' \
-  '(-V --version)'{-V,--version}'[print version]' \
-  ':capture:_files'
+    '--flow[Prints what happened in each transfer, when it is over]' \
+    '--follow[Prints a line as a transfer begins, and one as it ends]' \
+    '--json[Prints an object of JSON for each transfer, when it is over]' \
+    '--svg=[Draws a transfer as a sequence diagram into this file]:FILE:_files' \
+    '--transfer=[The transfer that is drawn or alone printed, by its number in the report]:N: ' \
+    '--port=[The port of requests in a capture]:1-65535: ' \
+    '(--help -h)'{-h,--help}'[Print help]' \
+    '(--version -V)'{-V,--version}'[Print version]' \
+    '1:A capture, or lines:_files'

@@ -1,9 +1,8 @@
 """What the tests share: a scene for each, and a second run of a test that failed while this host stalled.
 
-A test that takes `scene` has a folder and an address of its own. Where a module sets `OVER_SEVERAL`, each of its tests runs
-over two servers at one port, too, unless it is marked as `one_server`. TESTS_ONCE in the environment forbids second runs, as
-where a fault is to be noticed.
-"""
+A test that takes `scene` has a folder and an address of its own. Where a module sets `OVER_SEVERAL`, each of its
+tests runs over two servers at one port, too, unless it is marked as `one_server`. TESTS_ONCE in the environment
+forbids second runs, as where a fault is to be noticed. """
 import os
 import signal
 import time
@@ -16,6 +15,7 @@ from _pytest.runner import runtestprotocol
 from lib.addresses import own_network
 from lib.programs import NAMES, found
 from lib.scene import Scene
+from lib.seeds import OTHERS
 from lib.stalls import LIMIT, Stalls
 
 # how many tests have addresses in one network, below those of second runs
@@ -74,7 +74,8 @@ def pytest_runtest_protocol(item: Any, nextitem: Any) -> bool:
         item._initrequest()
         why = next(report.longreprtext.splitlines()[-1] for report in reports if report.failed)
         reports = runtestprotocol(item, log=False, nextitem=nextitem)
-        reports[-1].sections.append(("once more", f"{item.nodeid}: once more, since the host stalled for {stall:.1f} s: {why}"))
+        said = f"{item.nodeid}: once more, since the host stalled for {stall:.1f} s: {why}"
+        reports[-1].sections.append(("once more", said))
     for report in reports:
         hook.pytest_runtest_logreport(report=report)
     hook.pytest_runtest_logfinish(nodeid=item.nodeid, location=item.location)
@@ -89,9 +90,10 @@ def pytest_terminal_summary(terminalreporter: Any) -> None:
 
 
 def pytest_unconfigure(config: pytest.Config) -> None:
-    """Ends with a count, as each check of the gate does."""
+    """Ends with a count, as each check of the gate does (lib/checks.py)."""
     reporter: Any = config.pluginmanager.get_plugin("terminalreporter")
     if reporter and not config.option.collectonly and not hasattr(config, "workerinput"):
-        run, skipped = (sum(len(reporter.stats.get(kind, [])) for kind in kinds)
-                        for kinds in [("passed", "failed", "error"), ("skipped",)])
-        print(f"{run} run, {skipped} skipped")
+        run = sum(len(reporter.stats.get(kind, [])) for kind in ("passed", "failed", "error"))
+        skipped = reporter.stats.get("skipped", [])
+        left = sum(OTHERS in str(report.longrepr) for report in skipped)
+        print(f"{run} run{f', {left} at other commits' if left else ''}, {len(skipped) - left} skipped")

@@ -2,7 +2,7 @@
 """Proves and compiles the programs and the library for C for a processor, and keeps their modules: modules.py ARCH [NAME..]
 
 ARCH is amd64 (every processor of x86-64) or arm64, NAME a program or `libtftp`; without names it is all of them. Libraries
-below that are not built yet are built first (tools/build.sh). The prover then proves the functions of the crate itself, of
+below that are not built yet are built first (tools/build.py). The prover then proves the functions of the crate itself, of
 a program or of the library, for that target. A folder out/modules/ARCH/NAME has what comes of it:
 
 - `object.o`, or `archive.a` of the library;
@@ -151,7 +151,7 @@ def build_below(names: list[str]) -> None:
     lacking = [name for name in names if not has_libraries(crate_of(name))]
     below = sorted({it.name for name in lacking for it in crate_of(name).below()})
     if below:
-        subprocess.run([TOP / "tools/build.sh", *below], check=True)
+        subprocess.run([TOP / "tools/build.py", *below], check=True)
 
 
 def text_of(module: Path) -> str:
@@ -173,21 +173,9 @@ def for_bare_machines(arch: str, room: Path) -> None:
     assembled(room, BARE, exchanged=BARE_WORDS[arch])
 
 
-def make(arch: str, name: str) -> None:
-    """Proves, compiles and keeps one, where it is not kept. A second run waits for the first."""
-    place_of(arch, name).parent.mkdir(parents=True, exist_ok=True)
-    with place_of(arch, name).with_name(f"{name}.lock").open("w") as lock:
-        fcntl.flock(lock, fcntl.LOCK_EX)
-        make_alone(arch, name)
-
-
-def make_alone(arch: str, name: str) -> None:
-    place = place_of(arch, name)
-    if is_kept(arch, name):
-        print(f"{name} for {arch}: made before", flush=True)
-        return
-    stamp = stamp_of(name, arch)
-    room = place.with_name(f"{name}.new")
+def made(arch: str, name: str, place: Path) -> None:
+    """Proves and compiles one, and puts it in its place as soon as it is whole."""
+    stamp, room = stamp_of(name, arch), place.with_name(f"{name}.new")
     shutil.rmtree(room, ignore_errors=True)
     room.mkdir()
     if name == BARE:
@@ -200,7 +188,18 @@ def make_alone(arch: str, name: str) -> None:
     (room / "stamp").write_text(stamp)
     shutil.rmtree(place, ignore_errors=True)
     room.rename(place)
-    print(f"{name} for {arch}: {(place / 'verdict').read_text()}", end="", flush=True)
+
+
+def make(arch: str, name: str) -> None:
+    """Makes one where it is not kept. A second run waits for the first."""
+    place = place_of(arch, name)
+    place.parent.mkdir(parents=True, exist_ok=True)
+    with place.with_name(f"{name}.lock").open("w") as lock:
+        fcntl.flock(lock, fcntl.LOCK_EX)
+        is_new = not is_kept(arch, name)
+        if is_new:
+            made(arch, name, place)
+    print(f"{name} for {arch}: {(place / 'verdict').read_text().strip() if is_new else 'made before'}", flush=True)
 
 
 def main() -> None:
@@ -208,9 +207,8 @@ def main() -> None:
     known = [*NAMES, LIBRARY, BARE]
     if arch not in TRIPLES or not {*names} <= {*known}:
         sys.exit(__doc__)
-    names = [name for name in names or known]
-    build_below([name for name in names if not is_kept(arch, name)])
-    for name in names:
+    build_below([name for name in names or known if not is_kept(arch, name)])
+    for name in names or known:
         make(arch, name)
 
 

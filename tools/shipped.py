@@ -1,7 +1,7 @@
 #!/usr/bin/env python3
 """Puts into bin/ what `make` would build, over what `rt ci` has just proved: shipped.py [FOLDER]
 
-`make` builds tftp, tftpd and the library for C for every processor of x86-64 (tools/build.sh), and `rt ci` all programs
+`make` builds tftp, tftpd and the library for C for every processor of x86-64 (tools/build.py), and `rt ci` all programs
 for x86-64-v2. So these three are compiled here once more, over the libraries that `rt ci` left, by the prover, which
 proves the functions of their own crates again, and none below (tools/modules.py, which keeps their modules); tftp-show and
 tftp-play are those of `rt ci`. What comes out is the same, byte for byte, as what `make` builds. Where checks of this checkout have left libraries of their own,
@@ -13,41 +13,34 @@ import sys
 import tempfile
 from concurrent.futures import ThreadPoolExecutor
 from pathlib import Path
-from typing import Any
 
 import modules
-from lib.kit import crates, has_libraries, kit
+from lib.kit import has_libraries
 from lib.programs import NAMES, TOP, of_crate
 
 # what is for every processor of x86-64, and the word that says so
-PLAIN, FLAG, LIBRARY = ("tftp", "tftpd"), "--cpu=x86-64", "tftp_c"
-KIT = kit()
+PLAIN, FLAG = ("tftp", "tftpd"), "--cpu=x86-64"
+OVER = f"{FLAG}, over the libraries of rt ci"
 
 
-def crate_of(name) -> Any:
-    """The crate of a program or of the library for C, as rt has it."""
-    return crates()[LIBRARY if name == LIBRARY else name.replace("-", "_") + "_main"]
-
-
-def compiled(name, room) -> Path:
+def compiled(name: str, room: str) -> Path:
     """A program. Returns its path."""
     modules.make("amd64", name)
     to = Path(room, name)
-    linked = ["--target", "x86_64-unknown-linux-gnu", "--toolchain", KIT / "toolchain", "-o", to,
-              modules.object_of("amd64", name), KIT / "c/libos_c.a", KIT / "c/liblibc_c.a"]
-    modules.run([KIT / "bin/rattle-link", *linked])
+    modules.run([modules.KIT / "bin/rattle-link", "--target", modules.TRIPLES["amd64"], "--toolchain", modules.KIT / "toolchain",
+                 "-o", to, modules.object_of("amd64", name), modules.KIT / "c/libos_c.a", modules.KIT / "c/liblibc_c.a"])
     return to
 
 
 def archive() -> str:
     """Makes the archive of the library for C where tools/library.sh looks for it: `rt ci` proves it, and leaves none.
     Returns how."""
-    crate = crate_of(LIBRARY)
+    crate = modules.crate_of(modules.LIBRARY)
     if has_libraries(crate):
         try:
             modules.make("amd64", modules.LIBRARY)
-            shutil.copy2(modules.object_of("amd64", modules.LIBRARY), Path(crate.folder, "out", f"lib{LIBRARY}.a"))
-            return f"{FLAG}, over the libraries of rt ci"
+            shutil.copy2(modules.object_of("amd64", modules.LIBRARY), Path(crate.folder, "out", f"lib{crate.name}.a"))
+            return OVER
         except SystemExit as fault:
             # (it takes longer, and says what is wrong if something is)
             print(f"{fault}; once more by rt lib", flush=True)
@@ -55,22 +48,22 @@ def archive() -> str:
     return f"by rt lib {FLAG}"
 
 
-def built(name, room) -> tuple[Path, str]:
+def built(name: str, room: str) -> tuple[Path, str]:
     """Where a program is, and how it was built."""
-    crate = crate_of(name)
+    crate = modules.crate_of(name)
     if name not in PLAIN:
         return of_crate(crate.name), "as rt ci built it"
     if has_libraries(crate):
-        return compiled(name, room), f"{FLAG}, over the libraries of rt ci"
-    subprocess.run([TOP / "tools/build.sh", crate.name], check=True)
-    return of_crate(crate.name), "by tools/build.sh"
+        return compiled(name, room), OVER
+    subprocess.run([TOP / "tools/build.py", crate.name], check=True)
+    return of_crate(crate.name), "by tools/build.py"
 
 
 def main() -> None:
     folder = Path(sys.argv[1] if sys.argv[1:] else TOP / "bin")
     folder.mkdir(exist_ok=True)
-    # (tools/build.sh lets in one run at a time)
-    workers = 3 if all(has_libraries(crate_of(name)) for name in [*PLAIN, LIBRARY]) else 1
+    # (tools/build.py lets in one run at a time)
+    workers = 3 if all(has_libraries(modules.crate_of(name)) for name in [*PLAIN, modules.LIBRARY]) else 1
     with tempfile.TemporaryDirectory(prefix="shipped-") as room, ThreadPoolExecutor(workers) as pool:
         library = pool.submit(archive)
         for name, (place, how) in zip(NAMES, pool.map(lambda name: built(name, room), NAMES)):

@@ -1,25 +1,19 @@
 #!/usr/bin/env python3
-"""Tries wrong bodies: wrong_bodies.py [--jobs N] [--stale] [--together] [CRATE.. | CRATE/BODY..], wrong_bodies.py --few [COUNT], or
-wrong_bodies.py --lines
+"""Tries wrong bodies: wrong_bodies.py [--jobs N] [--stale] [CRATE.. | CRATE/BODY..], or wrong_bodies.py --lines
 
 A wrong body is an edit of a crate that the prover has to refuse: a goal stays open at the function that it changes, or else in
-its crate. Those in crates/NAME/must-fail/ are tried by each gate (`rt ci`), those in crates/NAME/wrong-bodies/ by this tool.
-tools/wrong_bodies.txt has a line for each: `gate`, or the commit by which it was last refused, and at which function, which a
-run without --few writes there. Without words all of the second kind are tried, and with --stale of these only such as have
-changed since, or whose crate has, and such of which nothing is known. The status is 1 where a wrong body proves or cannot be
-read.
+its crate. Those in crates/NAME/must-fail/ are tried by each gate (`rt ci`), those in crates/NAME/wrong-bodies/ by this tool, and
+five of these by each gate (tests/bodies). tools/wrong_bodies.txt has a line for each: `gate`, or the commit by which it was
+last refused, and at which function, which this tool writes there. Without names all of the second kind are tried, and with --stale
+only such as have changed since, or whose crate has, and such of which nothing is known. The status is 1 where a wrong body proves
+or cannot be read. With --lines only tools/wrong_bodies.txt is written anew.
 
-With --together those of a crate that change bodies of different functions are first tried by one check of these functions,
-over what a check of the crate has kept: a proof rests on what other functions promise, and not on their bodies. There a body
-is refused if a goal of its own function stays open. Those that are hidden by a refused one below are tried so again, and the
-others alone.
-
-With --few, as in the gate, some are tried by the seed of the commit, five if COUNT is not given, over the libraries that are
-there. One that proves is a failure, whatever has changed since it was last refused: a wrong body is retired only where its file
-goes, which is a line of the diff of tools/manifest.txt. With --lines only tools/wrong_bodies.txt is written anew.
+Those of a crate that change bodies of different functions are first tried by one check of these functions, over what a check of
+the crate has kept: a proof rests on what other functions promise, and not on their bodies. There a body is refused if a goal of its
+own function stays open. Those that are hidden by a refused one below are tried so again, and the others alone.
 """
+import argparse
 import os
-import random
 import re
 import shutil
 import subprocess
@@ -27,36 +21,31 @@ import sys
 import tempfile
 import time
 from concurrent.futures import ThreadPoolExecutor
-from contextlib import contextmanager
+from contextlib import contextmanager, suppress
 from functools import partial
 from pathlib import Path
 from typing import Any, Callable, Iterator, NamedTuple, Optional
 
-from lib import rows
 from lib.kit import crates, has_libraries
 from lib.programs import TOP
-from lib.seeds import commit_seed
 
 PARTS = ("src", "specs", "proofs", "c")
 RECORD = TOP / "tools/wrong_bodies.txt"
-# the folders of a crate that have them: those that each gate tries, and the others
-GATE, OTHERS = "must-fail", "wrong-bodies"
-# and where the others were at earlier commits
-EARLIER = "slips"
-# how many are tried of all, how many at a time, and the longest time of all in seconds
-FEW, AT_ONCE, LIMIT = 5, 2, 600
-# the longest time of one that is tried by hand, and the most that are tried by one check
-PATIENCE, MOST = 3_600, 8
+# the folders of a crate that have them: those that each gate tries, and the others; and where these were at earlier commits
+GATE, OTHERS, EARLIER = "must-fail", "wrong-bodies", "slips"
+# how many are tried at a time, the longest time of one in seconds, and the most that are tried by one check
+AT_ONCE, PATIENCE, MOST = 2, 3_600, 8
 UNKNOWN, BY_GATE = "-", "gate"
 # a line of the prover on a place; what says that it cannot read a text, and what that a name is gone
 SAID = re.compile(r"(?:note: )?(?:\./)?(?P<path>\S+?):\d+:\d+: (?P<error>error: )?(?P<name>`[^`]*`: )?(?P<what>.*)")
 UNREAD = re.compile(r"is not in scope|has no field|is no name|operand is missing|expected the end|cannot continue")
 UNREADABLE = "it cannot be read"
+GONE = re.compile(r"has no field|is not in scope|has no `|was not admitted")
 # what says that a function is not proved because another is not
 WAITS = re.compile(r"\bwhich (?:is|are) not proved|\bit waits for ")
-GONE = re.compile(r"has no field|is not in scope|has no `|was not admitted")
 FUNCTION = re.compile(r"""^ *(?:pub(?:\([a-z]+\))? )?(?:unsafe )?(?:extern "C" )?fn (\w+)""")
-IMPL = re.compile(r"^(?:pub )?(?:unsafe )?(?:(?P<trait>trait) (?P<own>\w+)|impl(?:<.*?>)? (?:(?:\w+::)*(?P<what>\w+)(?:<.*>)? for )?(?P<type>\w+).*)")
+IMPL = re.compile(r"^(?:pub )?(?:unsafe )?(?:(?P<trait>trait) (?P<own>\w+)"
+                  r"|impl(?:<.*?>)? (?:(?:\w+::)*(?P<what>\w+)(?:<.*>)? for )?(?P<type>\w+).*)")
 
 
 def bodies_in(*folders: str) -> list[str]:
@@ -74,10 +63,6 @@ def path_of(body: str) -> Path:
     return of_gate if of_gate.is_file() else other
 
 
-def git(*words: str) -> "subprocess.CompletedProcess[str]":
-    return subprocess.run(["git", *words], cwd=TOP, capture_output=True, text=True)
-
-
 # ---- by which commit each was refused
 
 
@@ -88,6 +73,10 @@ class Refusal(NamedTuple):
     function: str = UNKNOWN
 
 
+def git(*words: str) -> "subprocess.CompletedProcess[str]":
+    return subprocess.run(["git", *words], cwd=TOP, capture_output=True, text=True)
+
+
 def recorded() -> dict[str, Refusal]:
     """What the list says of each wrong body."""
     lines = RECORD.read_text().splitlines() if RECORD.is_file() else []
@@ -95,15 +84,14 @@ def recorded() -> dict[str, Refusal]:
 
 
 def is_fresh(body: str, refusal: Refusal) -> bool:
-    """Whether neither the wrong body, which may have been an edit in must-fail/ by then, nor its crate has changed since it was
-    refused."""
+    """Whether neither the wrong body, wherever it stood by then, nor its crate has changed since it was refused."""
     crate, path = crate_of(body), path_of(body)
     if refusal.commit == UNKNOWN:
         return False
     if git("diff", "--quiet", refusal.commit, "--", *(f"crates/{crate}/{part}" for part in PARTS)).returncode:
         return False
-    before = (git("show", f"{refusal.commit}:crates/{crate}/{folder}/{path.name}").stdout for folder in (OTHERS, GATE, EARLIER))
-    return path.read_text() in before
+    folders = (OTHERS, GATE, EARLIER)
+    return path.read_text() in (git("show", f"{refusal.commit}:crates/{crate}/{it}/{path.name}").stdout for it in folders)
 
 
 def record(body: str, function: str, crate: Any) -> None:
@@ -126,50 +114,43 @@ def write(known: dict[str, Refusal]) -> None:
     RECORD.write_text("".join(f"{line}\n" for line in lines))
 
 
-# ---- whether each can be applied
+# ---- what each changes
 
 
-def edited(body: str, others: dict[str, str] = {}) -> tuple[dict[str, str], str]:
-    """The texts that a body changes, by their paths in the crate, over those of others; or why it cannot be applied."""
-    folder, path, old = path_of(body).parent.parent, "", ""
-    texts = {**others}
-    for line in path_of(body).read_text().splitlines():
-        if line.startswith("file: "):
-            path = line[len("file: "):].strip()
-        elif line.startswith("old: "):
-            old = line[len("old: "):]
-        elif line.startswith("new:"):
-            if path not in texts:
-                if not (folder / path).is_file():
-                    return {}, f"there is no {path}"
-                texts[path] = (folder / path).read_text()
-            count = texts[path].count(old)
-            if count != 1:
-                return {}, f"its old text is in {path} {count} times"
-            texts[path] = texts[path].replace(old, line[len("new:"):].removeprefix(" "))
-    return texts, "" if texts else "it changes nothing"
+def edited(*bodies: str) -> dict[str, str]:
+    """The texts that bodies of one crate change, one after another, by their paths in it. A body that cannot be applied is a
+    ValueError, which says why."""
+    texts, path, old = dict[str, str](), "", ""
+    for body in bodies:
+        for line in path_of(body).read_text().splitlines():
+            kind, _, rest = line.partition(":")
+            if kind == "file":
+                path = rest.strip()
+            elif kind == "old":
+                old = rest.removeprefix(" ")
+            elif kind == "new":
+                place = path_of(body).parent.parent / path
+                if path not in texts and not place.is_file():
+                    raise ValueError(f"there is no {path}")
+                text = texts.get(path) or place.read_text()
+                if text.count(old) != 1:
+                    raise ValueError(f"its old text is in {path} {text.count(old)} times")
+                texts[path] = text.replace(old, rest.removeprefix(" "))
+    if not texts:
+        raise ValueError("it changes nothing")
+    return texts
 
 
 def not_applied() -> list[str]:
     """The wrong bodies that cannot be applied, and the lines of the list that are of none, or lack one."""
-    found = [f"wrong body {body}: {why}" for body in bodies_in(GATE, OTHERS) for why in [edited(body)[1]] if why]
+    found = []
+    for body in bodies_in(GATE, OTHERS):
+        try:
+            edited(body)
+        except ValueError as why:
+            found.append(f"wrong body {body}: {why}")
     wrong = sorted({*recorded()} ^ {*bodies_in(GATE, OTHERS)})
     return found + [f"tools/wrong_bodies.txt and the crates differ in {body}" for body in wrong]
-
-
-# ---- one of them
-
-
-class Verdict(NamedTuple):
-    """What the prover says of a wrong body: whether it refuses it (None: there was no time to know), at which function, and why."""
-    is_refused: Optional[bool]
-    function: str = ""
-    why: str = ""
-
-    def __str__(self) -> str:
-        if self.is_refused:
-            return f"refused at {self.function}{f' ({self.why})' if self.why else ''}"
-        return f"NOT REFUSED: {self.why}" if self.is_refused is False else "undecided, no time for the whole crate"
 
 
 class Place(NamedTuple):
@@ -203,29 +184,30 @@ def places(body: str, texts: dict[str, str]) -> list[Place]:
     return found
 
 
-def checked(crate: Any, room: Path, words: list[str], end: float) -> str:
-    """What a check of the copy prints, or nothing if it takes too long."""
-    import rtlib
-    command = [rtlib.RATTLE, "check", *crate.words(["--jobs", "1", *words], keeps=False)]
-    try:
-        done = subprocess.run(command, cwd=room, stdin=subprocess.DEVNULL, stdout=subprocess.PIPE, stderr=subprocess.STDOUT,
-                              text=True, errors="replace", timeout=max(end - time.monotonic(), 1))
-    except subprocess.TimeoutExpired:
-        return ""
-    return done.stdout
+def own(body: str) -> Optional[Place]:
+    """The function whose body is all that a wrong body changes, if it is so."""
+    words = re.findall(r"(?m)^old: *(\w+)", path_of(body).read_text())
+    if len(words) != 1 or words[0] in ("requires", "ensures", "ghost"):
+        return None
+    with suppress(ValueError):
+        found = places(body, edited(body))
+        return found[0] if len(found) == 1 and found[0].path.startswith("src/") else None
+    return None
 
 
-def checked_at(place: Place, crate: Any, room: Path, end: float) -> str:
-    """What a check of the function of a place alone prints. Where others have its name it is found by its whole path."""
-    said = checked(crate, room, ["--only", place.name], end)
-    several = re.search(r"several functions are named .*: write one of (.*)", said)
-    if not several:
-        return said
-    paths = re.findall(r"`([^`]+)`", several[1])
-    module = place.path.removeprefix("src/").removesuffix(".rt").replace("/", "::")
-    inside = [path for path in paths if path.startswith(f"{crate.name}::{module}::")] or paths
-    named = [path for path in inside if path.split("::")[-2] == place.owner] or inside
-    return checked(crate, room, [word for path in named for word in ["--only", path]], end)
+# ---- what the prover says
+
+
+class Verdict(NamedTuple):
+    """What the prover says of a wrong body: whether it refuses it (None: there was no time to know), at which function, and why."""
+    is_refused: Optional[bool]
+    function: str = ""
+    why: str = ""
+
+    def __str__(self) -> str:
+        if self.is_refused:
+            return f"refused at {self.function}{f' ({self.why})' if self.why else ''}"
+        return f"NOT REFUSED: {self.why}" if self.is_refused is False else "undecided, no time for the whole crate"
 
 
 def unread(said: "re.Match[str]", texts: dict[str, str]) -> bool:
@@ -248,28 +230,23 @@ def judged_by(output: str, texts: dict[str, str]) -> Verdict:
     return Verdict(False, why="it is proved") if is_proved else Verdict(None)
 
 
-def kept_of(crate: str) -> Path:
-    """Where checks of a crate keep what they have proved."""
-    return TOP / "crates" / crate / "out/incremental"
+def judged_at(place: Place, crate: str, output: str, texts: dict[str, str]) -> Verdict:
+    """What the output of a check comes to at one function: nothing is known of it where one that it calls is refused."""
+    verdict, before = Verdict(False, why="it is proved at its function"), []
+    for line in output.splitlines():
+        before.append(line)
+        if not (said := re.match(r"fn (\S+): (.*)", line)):
+            continue
+        is_own = place.names(crate) in f"::{said[1]}::".replace("::fn::", "::")
+        if is_own and re.match(r"not proved|no proof", said[2]):
+            if not WAITS.search(said[2]):
+                return judged_by("\n".join(before), texts)
+            verdict = Verdict(None)
+        before = []
+    return verdict
 
 
-def seeded(crate: Any, room: Path) -> list[str]:
-    """The words by which a check takes what earlier ones of the crate have proved, of which the copy gets links."""
-    kept = kept_of(crate.name)
-
-    def linked(one: str, other: str) -> str:
-        try:
-            if one.endswith(".oantt"):
-                os.link(one, other)
-                return other
-        except OSError:
-            pass
-        return shutil.copy2(one, other)
-
-    if not kept.is_dir():
-        return []
-    shutil.copytree(kept, room / "kept", copy_function=linked)
-    return ["--incremental", str(room / "kept")]
+# ---- one, or several in one copy
 
 
 @contextmanager
@@ -284,33 +261,68 @@ def copied(crate: Any, texts: dict[str, str]) -> Iterator[Path]:
         yield Path(folder)
 
 
+def checked(crate: Any, room: Path, end: float, words: list[str]) -> str:
+    """What a check of the copy prints, or nothing if it takes too long."""
+    import rtlib
+    command = [rtlib.RATTLE, "check", *crate.words(["--jobs", "1", *words], keeps=False)]
+    with suppress(subprocess.TimeoutExpired):
+        return subprocess.run(command, cwd=room, stdin=subprocess.DEVNULL, stdout=subprocess.PIPE, stderr=subprocess.STDOUT,
+                              text=True, errors="replace", timeout=max(end - time.monotonic(), 1)).stdout
+    return ""
+
+
+def of(paths: list[str]) -> list[str]:
+    """The words by which functions or modules alone are checked."""
+    return [word for path in paths for word in ("--only", path)]
+
+
+def checked_at(place: Place, crate: Any, room: Path, end: float) -> str:
+    """What a check of the function of a place alone prints. Where others have its name it is found by its whole path."""
+    said = checked(crate, room, end, of([place.name]))
+    several = re.search(r"several functions are named .*: write one of (.*)", said)
+    if not several:
+        return said
+    paths = re.findall(r"`([^`]+)`", several[1])
+    inside = [path for path in paths if path.startswith(f"{place.module(crate.name)}::")] or paths
+    return checked(crate, room, end, of([path for path in inside if path.split("::")[-2] == place.owner] or inside))
+
+
+def kept_of(crate: str) -> Path:
+    """Where checks of a crate keep what they have proved."""
+    return TOP / "crates" / crate / "out/incremental"
+
+
+def seeded(crate: Any, room: Path) -> list[str]:
+    """The words by which a check takes what earlier ones of the crate have proved, of which the copy gets links."""
+    def linked(one: str, other: str) -> str:
+        if one.endswith(".oantt"):
+            with suppress(OSError):
+                os.link(one, other)
+                return other
+        return shutil.copy2(one, other)
+
+    if not kept_of(crate.name).is_dir():
+        return []
+    shutil.copytree(kept_of(crate.name), room / "kept", copy_function=linked)
+    return ["--incremental", str(room / "kept")]
+
+
 def judged(body: str, crate: Any, function: str, end: float, is_whole: bool = False) -> Verdict:
     """What the prover says of a wrong body: at the function where it was refused before, or at the one that it changes, or else in
     the whole crate, or there alone."""
-    texts, why = edited(body)
-    if why:
-        return Verdict(False, why=why)
+    try:
+        texts = edited(body)
+    except ValueError as why:
+        return Verdict(False, why=str(why))
+    verdict = Verdict(None)
     with copied(crate, texts) as room:
-        tries: list[Callable[[], str]] = [partial(checked, crate, room, ["--only", function], end)] * (function != UNKNOWN)
+        tries: list[Callable[[], str]] = [partial(checked, crate, room, end, of([function]))] * (function != UNKNOWN)
         tries += [partial(checked_at, place, crate, room, end) for place in places(body, texts)]
-        tries = [*tries[:0 if is_whole else None], lambda: checked(crate, room, seeded(crate, room), end)]
-        verdict = Verdict(None)
-        for run in tries:
+        for run in [*tries[:0 if is_whole else None], lambda: checked(crate, room, end, seeded(crate, room))]:
             verdict = judged_by(run(), texts)
             if verdict.is_refused or verdict.why.startswith(UNREADABLE):
                 break
-        return verdict
-
-
-# ---- several in one copy
-
-
-def own(body: str) -> Optional[Place]:
-    """The function whose body is all that a wrong body changes, if it is so."""
-    texts, why = edited(body)
-    found, pairs = places(body, texts), re.findall(r"(?m)^old: *(\w+)", path_of(body).read_text())
-    is_body = len(pairs) == 1 and not {"requires", "ensures", "ghost"} & {*pairs}
-    return found[0] if not why and is_body and len(found) == 1 and found[0].path.startswith("src/") else None
+    return verdict
 
 
 def groups(bodies: list[str], places: dict[str, Place]) -> list[list[str]]:
@@ -320,79 +332,34 @@ def groups(bodies: list[str], places: dict[str, Place]) -> list[list[str]]:
     for body in bodies:
         fitting = [group for group in found if len(group) < MOST and crate_of(group[0]) == crate_of(body)
                    and key[body] not in map(key.get, group)]
-        if not fitting:
-            fitting = [[]]
-            found += fitting
-        fitting[0].append(body)
+        if fitting:
+            fitting[0].append(body)
+        else:
+            found.append([body])
     return found
 
 
-def judged_at(place: Place, crate: str, output: str, texts: dict[str, str]) -> Verdict:
-    """What the output of a check comes to at one function: nothing is known of it where one that it calls is refused."""
-    verdict, before = Verdict(False, why="it is proved at its function"), []
-    for line in output.splitlines():
-        before.append(line)
-        if not (said := re.match(r"fn (\S+): (.*)", line)):
-            continue
-        is_own = place.names(crate) in f"::{said[1]}::".replace("::fn::", "::")
-        is_open = re.match(r"not proved|no proof", said[2])
-        if is_own and is_open and not WAITS.search(said[2]):
-            return judged_by("\n".join(before), texts)
-        if is_own and is_open:
-            verdict = Verdict(None)
-        before = []
-    return verdict
-
-
 def together(bodies: list[str], places: dict[str, Place], crate: Any, end: float) -> dict[str, Verdict]:
-    """What one check says of bodies in different functions. Where one of them cannot be read it says nothing: then halves are
-    tried."""
-    texts: dict[str, str] = {}
-    for body in bodies:
-        texts = edited(body, texts)[0] or texts
-    modules = sorted({places[body].module(crate.name) for body in bodies})
-    with copied(crate, texts) as room:
-        output = checked(crate, room, [*seeded(crate, room), *(word for it in modules for word in ["--only", it])], end)
+    """What one check says of bodies in different functions. Where one of them cannot be read, or not be applied beside another, it
+    says nothing: then halves are tried."""
+    modules, texts, output = sorted({places[body].module(crate.name) for body in bodies}), dict[str, str](), ""
+    with suppress(ValueError):
+        texts = edited(*bodies)
+        with copied(crate, texts) as room:
+            output = checked(crate, room, end, [*seeded(crate, room), *of(modules)])
     if len(bodies) > 1 and not re.search(r"(?m)^fn ", output):
         return {**together(bodies[::2], places, crate, end), **together(bodies[1::2], places, crate, end)}
     return {body: judged_at(places[body], crate.name, output, texts) for body in bodies}
 
 
-# ---- a few of them
-
-
-def few(count: int) -> int:
-    """Tries some bodies by the seed of the commit, of crates below which all libraries are there."""
-    known, before, end = crates(), recorded(), time.monotonic() + LIMIT
-    ready = [body for body in bodies_in(OTHERS) if has_libraries(known[crate_of(body)])]
-    chosen = random.Random(commit_seed()).sample(ready, min(count, len(ready)))
-    counted = {body: is_fresh(body, before.get(body, Refusal())) for body in bodies_in(OTHERS)}
-    with ThreadPoolExecutor(AT_ONCE) as pool:
-        found = dict(zip(chosen, pool.map(
-            lambda body: judged(body, known[crate_of(body)], before.get(body, Refusal()).function, end), chosen)))
-    wrong = [body for body, verdict in found.items() if verdict.is_refused is False]
-    for body, verdict in found.items():
-        print(f"wrong body {body}: {verdict}")
-    lacking = "" if ready else ", skipped: no library is built"
-    print(f"wrong bodies: {sum(counted.values())} of {len(counted)} were refused as they and their crates stand")
-    print(f"wrong bodies: {len(chosen)} of these and others tried, {len(wrong)} not refused{lacking}")
-    rows.ended(len(chosen), 0 if ready else FEW, len(counted) - (len(chosen) or FEW))
-    return int(bool(wrong))
-
-
 # ---- all of them
 
 
-def built(names: set[str], known: dict[str, Any]) -> bool:
-    """Whether the libraries below these crates are built, where need be now."""
-    lacking = sorted(name for name in names if not has_libraries(known[name]))
-    return not lacking or subprocess.run(["tools/build.sh", *lacking], cwd=TOP).returncode == 0
-
-
-def every(bodies: list[str], jobs: int, is_together: bool) -> int:
+def every(bodies: list[str], jobs: int) -> int:
     """Tries these, and records those that are refused."""
     known, before, began = crates(), recorded(), time.monotonic()
-    if not built({crate_of(body) for body in bodies}, known):
+    lacking = sorted({name for name in map(crate_of, bodies) if not has_libraries(known[name])})
+    if lacking and subprocess.run(["tools/build.py", *lacking], cwd=TOP).returncode:
         return 1
     end, found = began + PATIENCE * len(bodies), dict[str, Verdict]()
 
@@ -403,54 +370,47 @@ def every(bodies: list[str], jobs: int, is_together: bool) -> int:
             record(body, verdict.function, known[crate_of(body)])
 
     with ThreadPoolExecutor(jobs) as pool:
-        kept = [body for body in bodies if is_together and kept_of(crate_of(body)).is_dir()]
-        places = {body: place for body in kept if (place := own(body))}
+        places = {body: place for body in bodies if kept_of(crate_of(body)).is_dir() and (place := own(body))}
         left, proved = [*places], set[str]()
         while left:
             runs = [pool.submit(together, group, places, known[crate_of(group[0])], end) for group in groups(left, places)]
-            hidden = []
-            for body, verdict in (item for run in runs for item in run.result().items()):
+            said = {body: verdict for run in runs for body, verdict in run.result().items()}
+            for body, verdict in said.items():
                 if verdict.is_refused:
                     note(body, verdict)
-                elif verdict.is_refused is None:
-                    hidden.append(body)
-                else:
-                    proved.add(body)
+            proved |= {body for body, verdict in said.items() if verdict.is_refused is False}
+            hidden = [body for body, verdict in said.items() if verdict.is_refused is None]
             left = hidden if len(hidden) < len(left) else []
         alone = {body: pool.submit(judged, body, known[crate_of(body)], before.get(body, Refusal()).function, end, body in proved)
                  for body in bodies if body not in found}
-        for body, one in alone.items():
-            note(body, one.result())
+        for body, run in alone.items():
+            note(body, run.result())
     wrong = sum(not verdict.is_refused for verdict in found.values())
     print(f"wrong bodies: {len(bodies) - wrong} refused, {wrong} not, in {time.monotonic() - began:.0f} s")
     return int(wrong > 0)
 
 
-def chosen_by(words: list[str]) -> list[str]:
-    """The bodies that a command line names."""
-    bodies, before, is_stale = bodies_in(GATE, OTHERS), recorded(), "--stale" in words
-    names = {*words} - {"--stale", "--together"}
-    lacking = names - {*bodies} - {*map(crate_of, bodies)}
+def chosen_by(names: list[str], is_stale: bool = False) -> list[str]:
+    """The bodies that a command line names: those of the gate by their own names alone."""
+    bodies, others, before = bodies_in(GATE, OTHERS), bodies_in(OTHERS), recorded()
+    lacking = {*names} - {*bodies} - {*map(crate_of, bodies)}
     if lacking:
         sys.exit(f"wrong bodies: there is no {', '.join(sorted(lacking))}")
-    others = bodies_in(OTHERS)
     named = [body for body in bodies if body in names or body in others and (not names or crate_of(body) in names)]
     return [body for body in named if not is_stale or not is_fresh(body, before.get(body, Refusal()))]
 
 
 def main() -> int:
-    # (tools/manifest.txt has them beside the edits)
-    rows.listed([])
-    words = sys.argv[1:]
-    if words[:1] in (["-h"], ["--help"]):
-        sys.exit(__doc__)
-    if words == ["--lines"]:
+    words = argparse.ArgumentParser(usage=__doc__)
+    words.add_argument("--jobs", type=int, default=AT_ONCE)
+    words.add_argument("--stale", action="store_true")
+    words.add_argument("--lines", action="store_true")
+    words.add_argument("names", nargs="*")
+    given = words.parse_args()
+    if given.lines:
         write(recorded())
         return 0
-    if words[:1] == ["--few"]:
-        return few(int(words[1]) if words[1:] else FEW)
-    jobs, words = (int(words[1]), words[2:]) if words[:1] == ["--jobs"] else (AT_ONCE, words)
-    return every(chosen_by(words), jobs, "--together" in words)
+    return every(chosen_by(given.names, given.stale), given.jobs)
 
 
 if __name__ == "__main__":

@@ -12,6 +12,7 @@ import sys
 from pathlib import Path
 from typing import NamedTuple, Optional
 
+from lib.kit import below, listed
 from lib.programs import TOP
 
 # how a text says a small number
@@ -33,10 +34,6 @@ text{font:12px ui-monospace,SFMono-Regular,Menlo,Consolas,'DejaVu Sans Mono',mon
 .page{fill:#fdfdfb;stroke:#d0d7de}
 .box{fill:#fff;stroke:#57606a}
 .sockets{fill:#ddf4ff;stroke:#0969da}
-.files{fill:#fff8c5;stroke:#9a6700}
-.laws{fill:#fbefff;stroke:#8250df}
-.program{fill:#dafbe1;stroke:#1a7f37}
-.edge{fill:none;stroke:#8c959f}
 .lane{stroke:#8c959f;stroke-dasharray:2 4}
 .arrow{stroke:#1f2328;stroke-width:1.5px}
 </style>
@@ -46,7 +43,8 @@ text{font:12px ui-monospace,SFMono-Regular,Menlo,Consolas,'DejaVu Sans Mono',mon
 # what is not drawn: tests, examples, and a crate that hands out others' functions
 HIDDEN = re.compile(r"tests_|serve_memory|fetch_memory|tftp_cmd")
 KINDS = {
-    "sockets": ["tftp_sockets", "tftp_client", "tftp_loop", "tftp_service", "tftp_status"],
+    "sockets": ["tftp_sockets", "tftp_client", "tftp_loop", "tftp_service",
+                "tftp_supervisor", "tftp_status"],
     "files": ["tftp_disk", "tftp_folder"],
     "laws": ["tftp_rules", "tftp_promises", "tftp_words"],
     "program": ["tftp_show_main", "tftp_play_main", "tftp_main", "tftpd_main", "tftp_c"],
@@ -85,32 +83,15 @@ WAY = [
 LANE, STEP = 215, 46
 
 
-def svg(width: int, height: int, title: str, lines: list[str]) -> str:
-    """A picture of this size with this title."""
-    head = f'<svg xmlns="http://www.w3.org/2000/svg" width="{width}" height="{height}" viewBox="0 0 {width} {height}" role="img">'
-    page = f'<rect class="page" x=".5" y=".5" width="{width - 1}" height="{height - 1}"/>'
-    return "\n".join([head, f"<title>{title}</title>", STYLE, page, *lines, "</svg>"]) + "\n"
-
-
 def uses() -> dict[str, set[str]]:
-    """The crates of the repository that each uses, by crates.txt."""
-    found = {}
-    for line in (TOP / "crates.txt").read_text().splitlines():
-        line = line.split("#")[0]
-        if ":" in line:
-            name, words = line.split(":")
-            found[name.split()[0]] = set(words.split())
-    return {name: {word for word in words if word in found} for name, words in found.items()}
-
-
-def below(name: str, used: dict[str, set[str]]) -> set[str]:
-    """All crates that this one is built on."""
-    return set().union(*({each} | below(each, used) for each in used[name]))
+    """The crates of the repository that each uses."""
+    found = listed()
+    return {name: set(words) & {*found} for name, words in found.items()}
 
 
 def reduced(used: dict[str, set[str]]) -> dict[str, list[str]]:
     """The same without those that follow from others."""
-    return {name: sorted(each for each in words if not any(each in below(other, used) for other in words - {each}))
+    return {name: sorted(each for each in words if not any(each in below(other) for other in words - {each}))
             for name, words in used.items()}
 
 
@@ -161,7 +142,10 @@ def datagram() -> str:
             lines.append(f'<line class="arrow" marker-end="url(#head)" x1="{start}" y1="{y}" x2="{end}" y2="{y}"/>')
         lines.append(f'<text x="{at}" y="{y - 7}">{index + 1} {hop.function}</text>')
         lines.append(f'<text class="note" x="{at}" y="{y + 15}">{hop.does}</text>')
-    return svg(width, height, "An ACK 1 at the port of a read: what tftpd calls until DATA 2 is sent", lines)
+    head = f'<svg xmlns="http://www.w3.org/2000/svg" width="{width}" height="{height}" viewBox="0 0 {width} {height}" role="img">'
+    page = f'<rect class="page" x=".5" y=".5" width="{width - 1}" height="{height - 1}"/>'
+    title = "<title>An ACK 1 at the port of a read: what tftpd calls until DATA 2 is sent</title>"
+    return "\n".join([head, title, STYLE, page, *lines, "</svg>", ""])
 
 
 def lines_of(path: str) -> int:

@@ -1,27 +1,27 @@
 #!/usr/bin/env python3
 """What documents have that is made from the sources: made.py [--write]
 
-Statement and pictures of docs/, numbers of lines in them, out/DEFINITIONS.md, and the pictures of examples/ as tftp-play and
+Statement and pictures of docs/, numbers of lines in them, the completions, and the pictures of examples/ as tftp-play and
 tftp-show of bin/ draw them. --write writes all. Without it each is compared with what stands there, which
 tests/documents/test_made.py does in the gate, and the status is 1 where one differs.
 """
 import subprocess
 import sys
+from functools import partial
 from pathlib import Path
 from typing import Callable
 
 TOP = Path(__file__).resolve().parents[2]
 sys.path[:0] = [str(TOP / "docs/made"), str(TOP / "tools")]
 
-import definitions
+import completions
 import figures
 import statement
-from lib.programs import program
+from lib.programs import NAMES, program
 
 # the words that draw each picture of examples/, and its input
 DRAWN = {"lossy.svg": ("tftp-play", "lossy.script"), "race.svg": ("tftp-play", "race.script"),
          "wire.svg": ("tftp-show", "wire.txt"), "netboot/boot.svg": ("tftp-show", "netboot/uefi.txt")}
-DEFINITIONS = "out/DEFINITIONS.md"
 
 
 def drawn(picture: str) -> str:
@@ -38,8 +38,9 @@ def drawn(picture: str) -> str:
 
 # what is made, by its path, or by those of several
 MADE: dict[str, Callable[[], str]] = {
-    "docs/STATEMENT.md": statement.document, DEFINITIONS: definitions.document,
-    **{f"examples/{picture}": lambda picture=picture: drawn(picture) for picture in DRAWN}}  # type: ignore[misc]
+    "docs/STATEMENT.md": statement.document,
+    **{f"completions/{name}.{shell}": partial(of, name) for shell, of in completions.SHELLS.items() for name in NAMES},
+    **{f"examples/{picture}": partial(drawn, picture) for picture in DRAWN}}
 FIGURES = ["docs/crates.dot", "docs/crates.svg", "docs/datagram.svg", "docs/ratios.svg", "docs/PROVED.md", "README.md",
            "docs/TESTING.md"]
 
@@ -50,9 +51,8 @@ def main() -> int:
     for path, text in texts.items():
         place = TOP / path
         if "--write" in sys.argv[1:]:
-            place.parent.mkdir(exist_ok=True)
             place.write_text(text)
-        elif path != DEFINITIONS and (not place.is_file() or place.read_text() != text):
+        elif not place.is_file() or place.read_text() != text:
             print(f"{path} differs: docs/made/made.py --write makes it")
             wrong += 1
     print(f"made: {len(texts)} texts and pictures, {wrong} differ")

@@ -1,6 +1,7 @@
-"""examples/monitoring by `promtool`, of Debian's prometheus: the rules by their own tests, and each query of the dashboard,
-filled in as Grafana does for one host and for all, over series whose values were chosen by hand. What Grafana asks of the
-dashboard's JSON is read strictly: a kind of panel, a unit or a variable that is not known here is a fault."""
+"""examples/monitoring by `promtool`, of Debian's prometheus: the rules by their own tests, and each query of the
+dashboard, filled in as Grafana does for one host and for all, over series whose values were chosen by hand. What
+Grafana asks of the dashboard's JSON is read strictly: a kind of panel, a unit or a variable that is not known here is
+a fault."""
 import copy
 import json
 import re
@@ -19,76 +20,14 @@ MONITORING = TOP / "examples/monitoring"
 BOARD = json.loads((MONITORING / "dashboard.json").read_text())
 RULES = (MONITORING / "tftpd.rules.yml").read_text()
 METRIC = re.compile(r"tftpd_[a-z_]+")
-# What the series below are at each minute of twenty: a server at one host, and two at another
-SERIES = """
-tftpd_build_info{instance="boot1.lan",version="0.1.0"} 1x20
-tftpd_build_info{instance="boot2.lan",version="0.1.0",server="1"} 1x20
-tftpd_build_info{instance="boot2.lan",version="0.1.0",server="2"} 1x20
-tftpd_start_time_seconds{instance="boot1.lan"} 600x20
-tftpd_start_time_seconds{instance="boot2.lan",server="1"} 900x20
-tftpd_start_time_seconds{instance="boot2.lan",server="2"} 1000x20
-node_textfile_mtime_seconds{instance="boot1.lan",file="/run/tftpd.prom"} 1140x20
-node_textfile_mtime_seconds{instance="boot2.lan",file="/run/tftpd.1.prom"} 1080x20
-node_textfile_mtime_seconds{instance="boot2.lan",file="/run/tftpd.2.prom"} 1170x20
-node_textfile_mtime_seconds{instance="boot2.lan",file="/run/other.prom"} 1199x20
-tftpd_transfers_limit{instance="boot1.lan"} 8x20
-tftpd_transfers_limit{instance="boot2.lan",server="1"} 8x20
-tftpd_transfers_limit{instance="boot2.lan",server="2"} 8x20
-tftpd_transfers_open{instance="boot1.lan",direction="read"} 3x20
-tftpd_transfers_open{instance="boot1.lan",direction="write"} 1x20
-tftpd_transfers_open{instance="boot2.lan",direction="read",server="1"} 2x20
-tftpd_transfers_open{instance="boot2.lan",direction="read",server="2"} 6x20
-tftpd_transfers_total{instance="boot1.lan",direction="read",outcome="complete"} 0+30x20
-tftpd_transfers_total{instance="boot1.lan",direction="write",outcome="complete"} 0+15x20
-tftpd_transfers_total{instance="boot2.lan",direction="read",outcome="complete",server="1"} 0+15x20
-tftpd_transfers_total{instance="boot2.lan",direction="read",outcome="complete",server="2"} 0+45x20
-tftpd_transfers_total{instance="boot1.lan",direction="read",outcome="timed_out"} 0+60x20
-tftpd_transfers_total{instance="boot1.lan",direction="read",outcome="peer_error"} 0+30x20
-tftpd_transfers_total{instance="boot2.lan",direction="write",outcome="store_fault",server="2"} 0+15x20
-tftpd_bytes_total{instance="boot1.lan",direction="read"} 0+6000x20
-tftpd_bytes_total{instance="boot2.lan",direction="write",server="1"} 0+600x20
-tftpd_bytes_total{instance="boot2.lan",direction="write",server="2"} 0+600x20
-tftpd_requests_total{instance="boot1.lan",answer="opened"} 0+120x20
-tftpd_requests_total{instance="boot1.lan",answer="busy"} 0+15x20
-tftpd_requests_total{instance="boot2.lan",answer="opened",server="1"} 0+60x20
-tftpd_requests_total{instance="boot2.lan",answer="lost",server="2"} 0+30x20
-tftpd_requests_total{instance="boot2.lan",answer="refused",server="2"} 0+15x20
-tftpd_datagrams_total{instance="boot1.lan",way="sent"} 0+120x20
-tftpd_datagrams_total{instance="boot1.lan",way="received"} 0+30x20
-tftpd_datagrams_total{instance="boot2.lan",way="sent",server="1"} 0+120x20
-tftpd_blocks_sent_again_total{instance="boot1.lan"} 0+15x20
-tftpd_blocks_sent_again_total{instance="boot2.lan",server="1"} 0+45x20
-"""
-# At twenty minutes, over a page of ten and curves of four: the series of each panel by their labels, of the first host alone,
-# and of both
-ALERT = '__name__="ALERTS",alertname="{}",alertstate="firing",instance="{}",severity="warning"'
-OF_FIRST = {ALERT.format(name, "boot1.lan"): 1.0 for name in ["TftpdBusy", "TftpdTimesOut"]}
-READ, WRITE, LIMIT = 'direction="read",instance="{}"', 'direction="write",instance="{}"', 'instance="{}"'
-ONE, TWO = "boot1.lan", "boot2.lan"
-OPEN = {READ.format(ONE): 3.0, WRITE.format(ONE): 1.0, LIMIT.format(ONE): 8.0}
-COMPLETE = {READ.format(ONE): 0.5, WRITE.format(ONE): 0.25}
-FAILED = {'direction="read",outcome="timed_out"': 1.0, 'direction="read",outcome="peer_error"': 0.5}
-FULL = {LIMIT.format(ONE): 0.5}
-SHOWN: dict[str, tuple[dict[str, float], dict[str, float]]] = {
-    "Servers": ({'version="0.1.0"': 1}, {'version="0.1.0"': 3}),
-    "Quiet for": ({"": 60}, {"": 60}),
-    "Since a start": ({"": 600}, {"": 200}),
-    "Fullest server": ({"": 0.5}, {"": 0.75}),
-    "Complete": ({"": 450}, {"": 1050}),
-    "Failed": ({"": 600}, {"": 750}),
-    "Turned away": ({"": 150}, {"": 450}),
-    "Sent again": ({"": 0.125}, {"": 0.25}),
-    "Open transfers, and how many may be": (OPEN, {**OPEN, READ.format(TWO): 8, LIMIT.format(TWO): 16}),
-    "How full each server is": (FULL, {**FULL, 'instance="boot2.lan",server="1"': 0.25, 'instance="boot2.lan",server="2"': 0.75}),
-    "Requests, by their answer": ({'answer="opened"': 2, 'answer="busy"': 0.25},
-                                  {'answer="opened"': 3, 'answer="busy"': 0.25, 'answer="lost"': 0.5, 'answer="refused"': 0.25}),
-    "Failed transfers, by their outcome": (FAILED, {**FAILED, 'direction="write",outcome="store_fault"': 0.25}),
-    "Complete transfers": (COMPLETE, {**COMPLETE, READ.format(TWO): 1}),
-    "Bytes of closed transfers": ({READ.format(ONE): 100}, {READ.format(ONE): 100, WRITE.format(TWO): 20}),
-    "Datagrams": ({'way="sent"': 2, 'way="received"': 0.5, "": 0.25}, {'way="sent"': 4, 'way="received"': 0.5, "": 1}),
-    "Alerts": (OF_FIRST, {**OF_FIRST, ALERT.format("TftpdLosesRequests", TWO): 1}),
-}
-CHOICES = ["boot1.lan", "All"]
+HERE = Path(__file__).resolve().parent
+# What the series are at each minute of twenty: a server at one host, and two at another
+SERIES = [line.rsplit(" ", 1) for line in (HERE / "series.txt").read_text().splitlines()]
+# At twenty minutes, over a page of ten and curves of four: the series of each panel by their labels, of the first
+# host alone, and of both
+SHOWN: dict[str, dict[str, dict[str, float]]] = json.loads((HERE / "shown.json").read_text())
+# What makes a dashboard wrong: what is said of it, the place of a part, and its value, or none where it is taken away
+WRONG = json.loads((HERE / "wrong.json").read_text())
 # how Grafana writes a choice into a regular expression, within a string of a query
 FILLED = {"boot1.lan": r"boot1\\.lan", "All": r"(boot1\\.lan|boot2\\.lan)"}
 VARIABLE = re.compile(r"\$(?:\{(\w+)\}|(\w+))")
@@ -109,16 +48,14 @@ def asked(expr: str, choice: str) -> str:
     return VARIABLE.sub(lambda name: values[name[1] or name[2]], expr)
 
 
-@pytest.mark.parametrize("choice", CHOICES)
+@pytest.mark.parametrize("choice", FILLED)
 @pytest.mark.parametrize("panel", BOARD["panels"], ids=lambda panel: f"panel {panel['title']}")
 def test_a_panel_shows(panel: Any, choice: str, tmp_path: Path) -> None:
-    wanted = SHOWN[panel["title"]][CHOICES.index(choice)]
-    series = [line.rsplit(" ", 1) for line in SERIES.strip().splitlines()]
+    samples = [{"labels": f"{{{labels}}}", "value": count} for labels, count in SHOWN[panel["title"]][choice].items()]
+    query = asked(" or ".join(f"({target['expr']})" for target in panel["targets"]), choice)
     # (what is JSON is YAML, too)
-    tests = {"interval": "1m", "input_series": [{"series": name, "values": values} for name, values in series],
-             "promql_expr_test": [{
-                 "expr": asked(" or ".join(f"({target['expr']})" for target in panel["targets"]), choice), "eval_time": "20m",
-                 "exp_samples": [{"labels": f"{{{labels}}}", "value": value} for labels, value in wanted.items()]}]}
+    tests = {"interval": "1m", "input_series": [{"series": name, "values": values} for name, values in SERIES],
+             "promql_expr_test": [{"expr": query, "eval_time": "20m", "exp_samples": samples}]}
     (tmp_path / "test.yml").write_text(json.dumps({
         "rule_files": [str(MONITORING / "tftpd.rules.yml")], "evaluation_interval": "1m", "tests": [tests]}))
     assert promtool("test", "rules", "test.yml", folder=tmp_path) == ""
@@ -127,7 +64,7 @@ def test_a_panel_shows(panel: Any, choice: str, tmp_path: Path) -> None:
 @pytest.mark.parametrize("panel", BOARD["panels"], ids=lambda panel: f"panel {panel['title']}")
 def test_each_series_has_a_name_of_its_own(panel: Any) -> None:
     names = []
-    for series in SHOWN[panel["title"]][1]:
+    for series in SHOWN[panel["title"]]["All"]:
         labels = dict(re.findall(r'(\w+)="([^"]*)"', series))
         # (a single server has no label for its number)
         legends = [target["legendFormat"] for target in panel["targets"]]
@@ -258,30 +195,15 @@ def test_the_dashboard() -> None:
     assert faults(BOARD) == []
 
 
-# What makes a dashboard wrong, by what is said of it
-WRONG: list[tuple[str, Callable[[Any], object]]] = [
-    ("schemaVersion", lambda it: it.update(schemaVersion=8)), ("uid", lambda it: it.update(uid="a b")),
-    ("time", lambda it: it.pop("time")), ("variables", lambda it: it["templating"]["list"].pop(0)),
-    ("variables", lambda it: it["templating"]["list"][1].update(datasource=None)),
-    ("ids", lambda it: it["panels"][0].update(id=2)), ("titles", lambda it: it["panels"][0].update(title="Failed")),
-    ("overlap", lambda it: it["panels"][0]["gridPos"].update(w=4)),
-    ("Sent again: gridPos", lambda it: it["panels"][7]["gridPos"].update(w=4)),
-    ("Servers: gridPos", lambda it: it["panels"][0]["gridPos"].pop("h")),
-    ("Servers: type", lambda it: it["panels"][0].update(type="graph")),
-    ("Servers: datasource", lambda it: it["panels"][0].update(datasource="Prometheus")),
-    ("Servers: fieldConfig", lambda it: it["panels"][0]["fieldConfig"]["defaults"].update(unit="transfers")),
-    ("Servers: thresholds", lambda it: it["panels"][0]["fieldConfig"]["defaults"]["thresholds"]["steps"].clear()),
-    ("Servers: targets", lambda it: it["panels"][0]["targets"].clear()),
-    ("Servers: targets", lambda it: it["panels"][0]["targets"][0].pop("instant")),
-    ("Servers: targets", lambda it: it["panels"][0]["targets"][0].update(expr="up{a='$host'}")),
-    ("Servers: targets", lambda it: it["panels"][0]["targets"][0].update(refId="a")),
-]
-
-
-@pytest.mark.parametrize("number", range(len(WRONG)), ids=lambda number: f"{number} {WRONG[number][0]}")
-def test_what_is_no_dashboard(number: int) -> None:
-    said, spoil = WRONG[number]
-    board = copy.deepcopy(BOARD)
-    spoil(board)
+@pytest.mark.parametrize("said, place, value", [(said, place, more) for said, place, *more in WRONG])
+def test_what_is_no_dashboard(said: str, place: list[Any], value: list[Any]) -> None:
+    board: Any = copy.deepcopy(BOARD)
+    part = board
+    for step in place[:-1]:
+        part = part[step]
+    if value:
+        part[place[-1]] = value[0]
+    else:
+        del part[place[-1]]
     # (a kind of panel decides what is asked of its targets, too)
     assert faults(board)[:1] == [said]

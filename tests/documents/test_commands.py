@@ -137,6 +137,14 @@ def test_a_tour(document: str, room: Path) -> None:
         assert (sorted(os.listdir(room)), sorted(os.listdir(TOP / "examples"))) == (["bin", "examples"], examples)
 
 
+def test_the_sample() -> None:
+    """What `make run` shows of the programs of bin/."""
+    if not all((TOP / "bin" / name).is_file() for name in NAMES):
+        pytest.skip("bin/ has no programs")
+    done = subprocess.run(["make", "--no-print-directory", "sample"], cwd=TOP, capture_output=True, text=True, timeout=SECONDS)
+    assert done.returncode == 0, done.stdout + done.stderr
+
+
 @pytest.mark.parametrize("page", PAGES, ids=name_of)
 def test_the_names_in_other_commands(page: Path) -> None:
     text, options = page.read_text(), {name: known(name) for name in VERBS}

@@ -1,8 +1,8 @@
 """Tools and documents by linters: ruff or pyflakes, and mypy, look at the Python files, and shellcheck at the shell scripts; each is
 skipped where it is not installed. What one finds counts where its version is Debian 12's: another may find more, and no gate
 fails for what is installed on its host. Lines of documents, but of the READMEs of crates, are at most 120 columns wide, without
-those of tables and code. Each wrong body can be applied, and has a line in tools/wrong_bodies.txt; and the tests that NAMED
-lists are there. No document has a word of the project's own that its glossary replaces."""
+those of tables and code. Each wrong body can be applied, and has a line in tools/wrong_bodies.txt; and the tests of
+named_tests.txt are there. No document has a word of the project's own that its glossary replaces."""
 import ast
 import os
 import re
@@ -16,6 +16,7 @@ import pytest
 
 import wrong_bodies
 from lib.programs import TOP
+from lib.sections import table
 
 COLUMNS = 120
 # Words that the glossary of docs/PROVED.md has others for, where no code is shown; the made STATEMENT explains its own
@@ -37,17 +38,8 @@ TYPED = sorted(str(path.relative_to(TOP)) for pattern in ("lib/*.py", "gate.py",
 UNKNOWN = ["arg-type", "assignment", "attr-defined", "call-overload", "dict-item", "func-returns-value", "has-type", "index",
            "list-item", "misc", "operator", "str-bytes-safe", "union-attr", "var-annotated"]
 
-# Tests that keep their names, since their rows were agreed under them; beside some, those that give the rows which need
-# another crate. Each is a test in Rattle, a test `test_NAME`, or a tool
-NAMED: dict[str, list[str]] = {
-    "vectors_show": [], "packet_rows": [], "play_first": [], "read_rows": ["the_most_blocks_come_whole"], "option_rows": [],
-    "write_rows": ["a_write_makes_a_file"], "random_safe": [], "port_rows": ["wrong_names", "paths_of_names", "long_names"],
-    "netascii_rows": [], "every_cut": [], "loopback": [], "stream_rows": [], "ref_equals_owned": [], "table_rows": [],
-    "memory_in_turn": [], "stray_rows": [], "malformed_each_state": [],
-    "fault_rows": ["a_read_of_twenty_bytes_breaks_off", "a_write_is_refused_at_each_block", "a_file_that_cannot_be_opened",
-                   "a_file_that_cannot_be_read", "a_draft_that_cannot_be_begun"],
-    "fault_each": ["a_read_breaks_off_at_each_block", "a_source_faults_in_each_block"], "overwrite_rows": [], "repeat_rows": [],
-}
+# tests that keep their names
+NAMED = [name for row in table(Path(__file__).with_name("named_tests.txt")) for name in row[0].split()]
 
 
 def looked(words: list[str], folder: Path = TOP, **more: str) -> None:
@@ -119,9 +111,11 @@ def test_wrong_bodies() -> None:
     assert wrong_bodies.not_applied() == []
 
 
-@pytest.mark.parametrize("name", [name for first, more in NAMED.items() for name in [first, *more]])
+@pytest.mark.parametrize("name", NAMED)
 def test_names_of_tests(name: str) -> None:
     rattle = "".join(path.read_text() for path in TOP.glob("crates/tests_*/src/*.rt"))
     python = "".join(path.read_text() for folder in ("tests", "tools") for path in TOP.glob(f"{folder}/**/*.py"))
+    rows = (TOP / "tests/tftp_play/scripts.txt").read_text()
     folders: Any = {path.name for path in TOP.glob("t*/*")}
-    assert name in set(re.findall(r"#\[test\][^{]*?fn (\w+)", rattle)) | set(re.findall(r"def test_(\w+)", python)) | folders
+    found = re.findall(r"#\[test\][^{]*?fn (\w+)", rattle) + re.findall(r"def test_(\w+)", python) + re.findall(r"(?m)^### (\w+)", rows)
+    assert name in {*found, *folders}

@@ -1,4 +1,4 @@
-"""What documents have that is made from the sources is as it is made (docs/made), and contracts cite what is there."""
+"""What documents have that is made from the sources is as it is made (docs/made)."""
 import sys
 
 import pytest
@@ -6,12 +6,11 @@ import pytest
 from lib.programs import TOP
 
 sys.path[:0] = [str(TOP / "docs/made")]
-import definitions
 import figures
 import made
 
 
-@pytest.mark.parametrize("path", [path for path in made.MADE if path != made.DEFINITIONS])
+@pytest.mark.parametrize("path", made.MADE)
 def test_a_text_or_picture(path: str) -> None:
     assert (TOP / path).read_text() == made.MADE[path](), "docs/made/made.py --write makes it"
 
@@ -26,7 +25,3 @@ def test_a_figure(path: str, texts: "dict[str, str]") -> None:
     if path not in texts:
         pytest.skip("no dot 2.43.0")
     assert (TOP / path).read_text() == texts[path], "docs/made/made.py --write makes it"
-
-
-def test_what_contracts_cite() -> None:
-    assert definitions.document() and definitions.unknown() == []

@@ -1,5 +1,5 @@
 """The options of the four programs are the same wherever they are named: what `--help` prints is compared with the manuals in
-man/, with the completions for bash, zsh and fish, with docs/OPERATING.md and with the units. `--version` prints the version
+man/, with docs/OPERATING.md and with the units; completions are made of it (docs/made/completions.py). `--version` prints the version
 of the Makefile and the logic of `rt version`; mandoc finds no error in the manuals, and systemd none in the units."""
 import re
 import shutil
@@ -14,7 +14,6 @@ from lib.programs import TOP
 
 OPERATING = (TOP / "docs/OPERATING.md").read_text()
 UNITS = ["tftpd.service", "tftpd@.service", "tftpd-socket.service"]
-SHELLS = {"bash": options.of_bash, "zsh": options.of_zsh, "fish": options.of_fish}
 # the longest command that a manual shows in 80 columns
 COLUMNS = 68
 # the first systemd that knows each setting of the units
@@ -52,15 +51,10 @@ def test_manual(name: str) -> None:
     assert [line for line in re.findall(r"(?m)^(?:\.Dl )?([#$] .*)$", text) if len(line) > COLUMNS] == []
 
 
-@pytest.mark.parametrize("shell", SHELLS)
-@pytest.mark.parametrize("name", VERBS)
-def test_completions(name: str, shell: str) -> None:
-    """The completions of each shell have the options of each subcommand."""
-    text = (TOP / f"completions/{name}.{shell}").read_text()
-    for verb in VERBS[name]:
-        found = SHELLS[shell](text, verb, len(VERBS[name]) > 1)
-        assert options.differences(set(of_help(name, verb)), found) == [], verb
-    assert long_ones(OPTION.findall(text)) <= known(name)
+@pytest.mark.parametrize("name", ["tftp", "tftpd"])
+def test_the_help_is_that_of_the_crate(name: str) -> None:
+    """`rt ci` compares the help of these crates with the same texts."""
+    assert printed(name, "--help") == (TOP / f"crates/{name}_main/stdout").read_text()
 
 
 def test_operating() -> None:

@@ -36,7 +36,7 @@ WITHOUT_CLAIM = {
     "tftp_daemon/src/error_output.rt": "whether standard error is the journal: the form of its lines",
     "tftp_daemon/src/processors.rt": "how many processors there are: the number of servers",
     "tftp_play/src/arguments.rt": "scripts, and what tftp-play writes",
-    "tftp_service/src/system/reports.rt": "when a server's pipe is read: a mistake delays lines",
+    "tftp_supervisor/src/system/reports.rt": "when a server's pipe is read: a mistake delays lines",
     "tftp_show/src/arguments.rt": "captures, and what tftp-show writes",
 }
 # The main of a program passes its streams on

@@ -1,21 +1,23 @@
 """The gate fails where `rt ci` or a check fails, where an edit is bad or was not tried, where what has to be there is skipped,
-and where anything is gone or weaker than tools/manifest.txt has it; and it ends with one line that counts all. A stand-in takes
-the place of `rt`, and of the repository one of a crate and two checks."""
+and where anything is gone or weaker than tools/manifest.txt has it; and it ends with one line that counts all. Stand-ins take the
+place of `rt` and of pytest, and of the repository one of two crates and two checks."""
 import os
 import re
 import shutil
 import subprocess
 import sys
-import tempfile
-import unittest
 from pathlib import Path
+from typing import NamedTuple, Optional
 
-TOP = Path(__file__).resolve().parent.parent.parent
-import gate
+import pytest
+
+from lib.checks import CHECKS
+from lib.programs import TOP
 
 # A kit says how many edits were refused in a count at the end, or in a line for each edit
 SAID = "rt: ok; handles allowed: Net; must-fail edits: {} refused; every proof and must-fail edit was done in this run"
 REFUSED = "rt: must-fail a/{}.edit: refused, as it must be: src/lib.rt:3:5: error: the goal is open"
+BAD = "rt: must-fail a/two.edit: BAD EDIT: its old text stands 0 times"
 OK = "rt: ok; handles allowed: Net"
 PASSED = [SAID.format(2), "4 passed, 0 failed"]
 CODE = """\
@@ -27,236 +29,200 @@ pub fn stores(block: &[u8]) -> bool
 }
 """
 DEFINITIONS = "-- the block is whole\nabbrev pub IsWhole : List ℕ → Bool → Type 0\nIsWhole block result = block ≡ block\n"
-WITH_ROWS = """
-case "$1" in --rows) printf 'puts\\ngets\\n'; exit ;; esac
-echo '2 run, 0 skipped'"""
-WRITE = "import manifest, sys; manifest.MANIFEST.write_text(''.join(f'{line}\\n' for line in manifest.made(sys.argv[1:])))"
-CHECKS = ["./good", "tools/with_rows.py"]
+ONCE = "test -e been || { touch been; exit 4; }; echo '1 run, 0 skipped'"
+SECOND = "test ! -e been || { rm been; echo '1 run, 0 skipped'; exit; }; touch been; exit 1"
+STALLED = """\
+LIMIT = 0.5
+class Stalls:
+    def longest_since(self):
+        return 2.0
+    def close(self):
+        pass
+"""
+# (a check here is a folder with a list of rows, and a script that takes the place of its tests)
+PYTEST = """\
+case "$*" in
+*--collect-only*) for each; do test ! -e "$each/rows" || sed "s|^|${each#tests/}/|" "$each/rows"; done ;;
+*) for check; do :; done; . "$check/run" ;;
+esac"""
+TWO = ["tests/good", "tests/two"]
+REPOSITORY: dict[str, Optional[str]] = {
+    "crates.txt": "a:\ntests_parts: a\n", "HANDLES": "Handles allowed: Net.\n", "crates/a/src/lib.rt": CODE,
+    "crates/a/specs/Blocks.antt": DEFINITIONS, "crates/a/must-fail/one.edit": "old: one\nnew: two\n",
+    "crates/a/must-fail/two.edit": "old: one\nnew: two\n", "crates/a/wrong-bodies/three.edit": "old: 1\nnew: 2\n",
+    "crates/tests_parts/src/lib.rt": "#[test]\nfn vectors() {}\n", "tools/shipped.py": "echo put", "pytest-3": PYTEST,
+    "tests/good/rows": "test_it.py::test\n", "tests/good/run": "echo all is well; echo '1 run, 0 skipped'",
+    "tests/two/rows": "test_it.py::puts\ntest_it.py::gets\n", "tests/two/run": "echo '2 run, 0 skipped'",
+    "tests/bad/rows": "test_it.py::test\n", "tests/bad/run": "exit 3",
+    "tests/some/rows": "test_it.py::test\n",
+    "tests/some/run": "echo 'SKIPPED [1] some/test_it.py:3: no such tool'; echo '0 run, 1 skipped'",
+    "tests/few/rows": "test_it.py::puts\ntest_it.py::gets\n",
+    "tests/few/run": "echo 'SKIPPED [1] few/test_it.py:3: at another commit'; echo '1 run, 1 at other commits, 0 skipped'",
+    "tests/behaviours/rows": "test_it.py::test\n",
+    "tests/behaviours/run": "echo 'SKIPPED [1] behaviours/test_it.py:3: no strace'; echo '0 run, 1 skipped'",
+}
 
 
-class Stand(unittest.TestCase):
-    """A repository of two crates with two edits and another wrong body, and a gate of two checks."""
+class Case(NamedTuple):
+    """A run of the gate: its last line, if it is no fault that counts, and what it says; what `rt ci` says, the checks, what is
+    written before the manifest and what after it, and the environment."""
+    name: str
+    last: str = ""
+    says: str = ""
+    said: list[str] = PASSED
+    checks: list[str] = TWO[:1]
+    before: dict[str, Optional[str]] = {}
+    env: dict[str, str] = {}
 
-    def setUp(self) -> None:
-        room = tempfile.TemporaryDirectory(prefix="gate-")
-        self.addCleanup(room.cleanup)
-        self.top = Path(room.name) / "top"
-        (self.top / "tools").mkdir(parents=True)
+
+class Damage(NamedTuple):
+    """What is changed behind the manifest, a text of none for what is removed, and the fault that the gate finds."""
+    name: str
+    fault: str
+    files: dict[str, Optional[str]] = {}
+    said: list[str] = PASSED
+    checks: list[str] = TWO
+    env: dict[str, str] = {}
+
+
+ALL = {"REQUIRE_ALL": "1"}
+CASES = [
+    Case("all is well", "9 passed, 0 failed", checks=[*TWO, "tests/some", "tests/few"]),
+    Case("a check fails", "6 passed, 1 failed", "FAILED: tests/bad: status 3", checks=["tests/bad", "tests/good"]),
+    Case("a check fails once", "5 passed, 1 failed", "FAILED: tests/good: status 4", before={"tests/good/run": ONCE}),
+    Case("a check fails once while the host stalls", "6 passed, 0 failed",
+         "repeated: tests/good: status 4, while the host stalled for 2.0 s; once more",
+         before={"tests/good/run": ONCE, "tools/lib/stalls.py": STALLED}),
+    Case("the proof fails", "3 passed, 1 failed", said=["rt: FAILED: a", "3 passed, 1 failed"]),
+    Case("nothing is said", "0 passed, 1 failed", said=["rt: killed"]),
+    Case("an edit is bad", "5 passed, 3 failed", said=[BAD, SAID.format(1) + ", 1 bad", "3 passed, 0 failed"]),
+    Case("an edit was not tried", "6 passed, 1 failed", said=[SAID.format(1), "4 passed, 0 failed"]),
+    Case("each refused edit has a line", "6 passed, 0 failed", said=[*map(REFUSED.format, ["one", "two"]), OK, "4 passed, 0 failed"]),
+    # (a line that comes again is no other edit)
+    Case("an edit has no line", "6 passed, 1 failed", "FAILED: rt ci: 1 of 2 edits were refused",
+         said=[*map(REFUSED.format, ["one", "one"]), OK, "4 passed, 0 failed"]),
+    Case("nothing may be skipped", "6 passed, 1 failed", "skipped: tests/some: SKIPPED [1] some/test_it.py:3: no such tool",
+         checks=["tests/some"], env=ALL),
+    Case("what the seed leaves out is not skipped", "6 passed, 0 failed", checks=["tests/few"], env=ALL),
+    Case("what this check needs may be skipped", "6 passed, 0 failed", checks=["tests/behaviours"], env={**ALL, "LACKING": "zsh strace"}),
+    Case("what other checks need may not", "6 passed, 1 failed", checks=["tests/behaviours"], env={**ALL, "LACKING": "zsh"}),
+]
+DAMAGES = [
+    Damage("a check prints nothing", "tests/good: its last line does not count what it ran: []", {"tests/good/run": "exit 0"}),
+    Damage("a check runs no row", "tests/good: 0 run, 0 skipped, and the manifest has 1", {"tests/good/run": "echo '0 run, 0 skipped'"}),
+    Damage("a check runs fewer rows", "tests/two: 1 run, 0 skipped, and the manifest has 2",
+           {"tests/two/run": "echo '1 run, 0 skipped'"}),
+    Damage("rows are gone", "- row tests/two: test_it.py::puts",
+           {"tests/two/rows": "test_it.py::gets\n", "tests/two/run": "echo '1 run, 0 skipped'"}),
+    Damage("a check is left out", "- check tests/two", checks=TWO[:1]),
+    Damage("a check skips in silence", "tests/good: 1 skipped", {"tests/good/run": "echo '0 run, 1 skipped'"}, env=ALL),
+    Damage("a check fails every second time", "tests/good: status 1", {"tests/good/run": SECOND}),
+    Damage("nothing is proved", "rt ci: 0 passed, of 2 crates and 2 edits", said=[SAID.format(2), "0 passed, 0 failed"]),
+    Damage("the edits are gone", "rt ci: 0 of 2 edits were refused",
+           {"crates/a/must-fail/one.edit": None, "crates/a/must-fail/two.edit": None}, [OK, "2 passed, 0 failed"]),
+    Damage("an edit is another", "- body a/one ", {"crates/a/must-fail/one.edit": "old: one\nnew: a word that is not there\n"}),
+    Damage("a wrong body is gone", "- body a/three ", {"crates/a/wrong-bodies/three.edit": None}),
+    Damage("a crate is left out", "- crate tests_parts: a", {"crates.txt": "a:\n"}),
+    Damage("a test in Rattle is gone", "- test tests_parts/vectors", {"crates/tests_parts/src/lib.rt": "fn vectors() {}\n"}),
+    Damage("the handles are others", "- handles ", {"HANDLES": "Handles allowed: Net, Files.\n"}),
+    *(Damage(name, fault, {"crates/a/src/lib.rt": CODE.replace(old, new)}) for name, fault, old, new in [
+        ("a clause is deleted", "- clause a stores ensures order", "    ensures order { IsInOrder block }\n", ""),
+        ("a clause is weaker", "+ clause a stores ensures order", "{ IsInOrder block }", "{ result ≡ true → IsInOrder block }"),
+        ("a premise is added", "+ clause a stores requires", "    ensures whole", "    requires { IsShort block }\n    ensures whole"),
+        ("a function is public no more", "- function a stores", "pub fn", "pub(crate) fn")]),
+    Damage("a definition is weaker", "- definition a Blocks.IsWhole",
+           {"crates/a/specs/Blocks.antt": DEFINITIONS.replace("block ≡ block", "true ≡ true")}),
+]
+
+
+class Repository:
+    def __init__(self, top: Path) -> None:
+        self.top = top
         for name in ["gate.py", "manifest.py", "wrong_bodies.py"]:
-            shutil.copy2(TOP / "tools" / name, self.top / "tools" / name)
-        shutil.copytree(TOP / "tools/lib", self.top / "tools/lib", ignore=shutil.ignore_patterns("__pycache__"))
-        self.script("tools/shipped.py", "echo put")
-        self.script("good", "echo all is well; echo '1 run, 0 skipped'")
-        self.script("bad", "exit 3")
-        self.script("some", "echo 'some: skipped: no such tool'; echo '0 run, 1 skipped'")
-        self.script("tools/with_rows.py", WITH_ROWS)
-        for path, text in {"crates.txt": "a:\ntests_parts: a\n", "HANDLES": "Handles allowed: Net.\n", "crates/a/src/lib.rt": CODE,
-                           "crates/a/specs/Blocks.antt": DEFINITIONS, "crates/a/must-fail/one.edit": "old: one\nnew: two\n",
-                           "crates/a/must-fail/two.edit": "old: one\nnew: two\n", "crates/a/wrong-bodies/three.edit": "old: 1\nnew: 2\n",
-                           "crates/tests_parts/src/lib.rt": "#[test]\nfn vectors() {}\n"}.items():
-            self.write(path, text)
+            (top / "tools").mkdir(parents=True, exist_ok=True)
+            shutil.copy2(TOP / "tools" / name, top / "tools" / name)
+        shutil.copytree(TOP / "tools/lib", top / "tools/lib", ignore=shutil.ignore_patterns("__pycache__"))
+        self.write(REPOSITORY)
 
-    def write(self, path: str, text: str) -> None:
-        (self.top / path).parent.mkdir(parents=True, exist_ok=True)
-        (self.top / path).write_text(text)
+    def write(self, files: dict[str, Optional[str]]) -> None:
+        for path, text in files.items():
+            place = self.top / path
+            place.parent.mkdir(parents=True, exist_ok=True)
+            if text is None:
+                place.unlink()
+            elif path in ("tools/shipped.py", "pytest-3", "rt"):
+                place.write_text(f"#!/bin/sh\n{text}\n")
+                place.chmod(0o755)
+            else:
+                place.write_text(text)
 
-    def script(self, name: str, text: str) -> None:
-        self.write(name, f"#!/bin/sh\n{text}\n")
-        (self.top / name).chmod(0o755)
+    def run(self, words: list[object], **env: str) -> "subprocess.CompletedProcess[str]":
+        path = f"{self.top}:{os.environ['PATH']}"
+        return subprocess.run([str(word) for word in words], cwd=self.top / "tools", capture_output=True, text=True, timeout=120,
+                              env={**os.environ, "PATH": path, "REQUIRE_ALL": "", "LACKING": "", **env})
 
     def commit(self, checks: list[str]) -> None:
         """Writes the manifest."""
-        subprocess.run([sys.executable, "-c", WRITE, *checks], cwd=self.top / "tools", check=True)
+        text = "import manifest, sys; manifest.MANIFEST.write_text(''.join(f'{line}\\n' for line in manifest.made(sys.argv[1:])))"
+        assert self.run([sys.executable, "-c", text, *checks]).returncode == 0
 
-    def run_gate(self, said: list[str], checks: list[str], **more: str) -> "subprocess.CompletedProcess[str]":
+    def gate(self, said: list[str], checks: list[str], **env: str) -> "subprocess.CompletedProcess[str]":
+        """Runs the gate, where `rt ci` prints these lines."""
         lines = "".join(f"echo '{line}'\n" for line in said)
-        self.script("rt", f'{lines}test "$1" = ci; exit {int(" 0 failed" not in said[-1])}')
-        env = {**os.environ, "PATH": f"{self.top}:{os.environ['PATH']}", "REQUIRE_ALL": "", "LACKING": "", **more}
-        return subprocess.run([self.top / "tools/gate.py", *checks], env=env, capture_output=True, text=True, timeout=120)
-
-    def ends(self, said: list[str], checks: list[str], status: int, last: str, **more: str) -> str:
-        """The gate ends with this status and line, where `rt ci` prints these lines, and the manifest has these checks."""
-        self.commit(checks)
-        done = self.run_gate(said, checks, **more)
-        self.assertEqual((done.returncode, done.stdout.splitlines()[-1]), (status, last), done.stdout + done.stderr)
-        return done.stdout
+        self.write({"rt": f'{lines}test "$1" = ci; exit {int(" 0 failed" not in said[-1])}'})
+        return self.run([self.top / "tools/gate.py", *checks], **env)
 
 
-class Needs(unittest.TestCase):
-    """What a check needs is said by the words of .ci/packages, and of checks that the gate has."""
-
-    def test_the_words(self) -> None:
-        packages = (TOP / ".ci/packages").read_text()
-        lists = re.findall(r"(?ms)^(?:NEEDS|SERVERS|FILES)='(.*?)'$", packages)
-        known = {word for text in lists for line in text.splitlines() for word in line.split()}
-        known |= set(re.findall(r"(?m)^ *may (\w+) ", packages)) | set(re.findall(r"(?:words\+=\(|\|\| echo )([\w-]+)", packages))
-        for check, words in gate.NEEDS.items():
-            self.assertEqual(set(words.split()) - known, set(), check)
-
-    def test_the_checks(self) -> None:
-        names = {gate.manifest.name_of(check) for check in gate.manifest.checks_of_makefile()}
-        self.assertEqual(set(gate.NEEDS) - names, set())
+@pytest.fixture
+def repository(tmp_path: Path) -> Repository:
+    return Repository(tmp_path)
 
 
-class Gate(Stand):
-    def test_all_is_well(self) -> None:
-        self.ends(PASSED, [*CHECKS, "./some"], 0, "8 passed, 0 failed")
-
-    def test_a_check_fails(self) -> None:
-        said = self.ends(PASSED, ["./bad", "./good"], 1, "6 passed, 1 failed")
-        self.assertIn("FAILED: ./bad: status 3", said)
-
-    def test_a_check_fails_once(self) -> None:
-        self.script("once", "test -e been || { touch been; exit 4; }; echo '1 run, 0 skipped'")
-        said = self.ends(PASSED, ["./once"], 1, "5 passed, 1 failed")
-        self.assertIn("FAILED: ./once: status 4", said)
-
-    def test_a_check_fails_once_while_the_host_stalls(self) -> None:
-        self.write("tools/lib/stalls.py", "LIMIT = 0.5\nclass Stalls:\n    def longest_since(self):\n        return 2.0\n"
-                   "    def close(self):\n        pass\n")
-        self.script("once", "test -e been || { touch been; exit 4; }; echo '1 run, 0 skipped'")
-        said = self.ends(PASSED, ["./once"], 0, "6 passed, 0 failed")
-        self.assertIn("repeated: ./once: status 4, while the host stalled for 2.0 s; once more", said)
-
-    def test_the_proof_fails(self) -> None:
-        self.ends(["rt: FAILED: a", "3 passed, 1 failed"], ["./good"], 1, "3 passed, 1 failed")
-
-    def test_nothing_is_said(self) -> None:
-        self.ends(["rt: killed"], ["./good"], 1, "0 passed, 1 failed")
-
-    def test_an_edit_is_bad(self) -> None:
-        bad = "rt: must-fail a/two.edit: BAD EDIT: its old text stands 0 times"
-        self.ends([bad, SAID.format(1) + ", 1 bad", "3 passed, 0 failed"], ["./good"], 1, "5 passed, 3 failed")
-
-    def test_an_edit_was_not_tried(self) -> None:
-        self.ends([SAID.format(1), "4 passed, 0 failed"], ["./good"], 1, "6 passed, 1 failed")
-
-    def test_each_refused_edit_has_a_line(self) -> None:
-        each = [REFUSED.format("one"), REFUSED.format("two"), OK]
-        self.ends([*each, "4 passed, 0 failed"], ["./good"], 0, "6 passed, 0 failed")
-
-    def test_an_edit_has_no_line(self) -> None:
-        # (a line that comes again is no other edit)
-        said = self.ends([REFUSED.format("one"), REFUSED.format("one"), OK, "4 passed, 0 failed"], ["./good"], 1,
-                         "6 passed, 1 failed")
-        self.assertIn("FAILED: rt ci: 1 of 2 edits were refused", said)
-
-    def test_nothing_may_be_skipped(self) -> None:
-        said = self.ends(PASSED, ["./some"], 1, "6 passed, 1 failed", REQUIRE_ALL="1")
-        self.assertIn("skipped: ./some: some: skipped: no such tool", said)
-
-    def test_what_it_did_without_is_skipped(self) -> None:
-        self.script("some", "echo '5 of 5 passed; without atftpd'; echo '1 run, 0 skipped'")
-        self.ends(PASSED, ["./some"], 1, "6 passed, 1 failed", REQUIRE_ALL="1")
-
-    def test_a_host_without_the_runner(self) -> None:
-        """Tests that nothing can run are skipped, and with REQUIRE_ALL=1 only where .ci/packages says what is lacking."""
-        text = (self.top / "tools/manifest.py").read_text()
-        self.write("tools/manifest.py", text.replace('"/usr/bin/pytest-3"', '"/nowhere/pytest-3"'))
-        self.write("tools/manifest.txt", "row tests/a: test_a.py::test\n")
-        said = self.ends(PASSED, ["tests/a", "./good"], 0, "6 passed, 0 failed", LACKING="pytest-3", REQUIRE_ALL="1")
-        self.assertIn("skipped: tests/a: skipped: this host has no pytest-3", said)
-        self.ends(PASSED, ["tests/a", "./good"], 1, "6 passed, 1 failed", REQUIRE_ALL="1")
-
-    def test_what_the_host_lacks_may_be_skipped(self) -> None:
-        """By the check alone that needs it."""
-        self.script("tools/behaviours.py", "echo 'behaviours: skipped: no strace'; echo '0 run, 1 skipped'")
-        self.ends(PASSED, ["tools/behaviours.py"], 0, "6 passed, 0 failed", REQUIRE_ALL="1", LACKING="zsh strace")
-        self.ends(PASSED, ["tools/behaviours.py"], 1, "6 passed, 1 failed", REQUIRE_ALL="1", LACKING="zsh")
+@pytest.mark.parametrize("case", CASES, ids=lambda it: it.name)
+def test_the_gate_ends(case: Case, repository: Repository) -> None:
+    repository.write(case.before)
+    repository.commit(case.checks)
+    done = repository.gate(case.said, case.checks, **case.env)
+    status = int(not case.last.endswith(" 0 failed"))
+    assert (done.returncode, done.stdout.splitlines()[-1]) == (status, case.last), done.stdout + done.stderr
+    assert case.says in done.stdout
 
 
-class Damages(Stand):
-    """Each makes the gate fail, by a line that names it, where the manifest was written before it."""
+@pytest.mark.parametrize("damage", DAMAGES, ids=lambda it: it.name)
+def test_the_gate_notices(damage: Damage, repository: Repository) -> None:
+    repository.commit(TWO)
+    repository.write(damage.files)
+    done = repository.gate(damage.said, damage.checks, **damage.env)
+    assert done.returncode == 1, done.stdout + done.stderr
+    assert damage.fault in done.stdout[done.stdout.find("\nFAILED: "):]
 
-    def fails(self, words: str, said: list[str] = PASSED, checks: list[str] = CHECKS, **more: str) -> None:
-        done = self.run_gate(said, checks, **more)
-        faults = done.stdout[done.stdout.find("\nFAILED: "):]
-        self.assertEqual(done.returncode, 1, done.stdout + done.stderr)
-        self.assertIn(words, faults)
 
-    def setUp(self) -> None:
-        super().setUp()
-        self.commit(CHECKS)
+def test_a_comment_and_the_layout_are_free(repository: Repository) -> None:
+    repository.commit(TWO)
+    repository.write({"crates/a/src/lib.rt": "// Blocks.\n" + CODE.replace("block result }", "block\n        result } // all"),
+                      "crates/a/specs/Blocks.antt": "-- in other words\n" + DEFINITIONS})
+    assert repository.gate(PASSED, TWO).stdout.splitlines()[-1] == "7 passed, 0 failed"
 
-    def test_none(self) -> None:
-        self.assertEqual(self.run_gate(PASSED, CHECKS).stdout.splitlines()[-1], "7 passed, 0 failed")
 
-    def test_a_check_prints_nothing(self) -> None:
-        self.script("good", "exit 0")
-        self.fails("./good: its last line does not count what it ran: []")
+@pytest.mark.parametrize("lacking, last", [("pytest-3", "5 passed, 0 failed"), ("zsh", "5 passed, 1 failed")])
+def test_a_host_without_the_runner(lacking: str, last: str, repository: Repository) -> None:
+    """Tests that nothing can run are skipped, and with REQUIRE_ALL=1 only where .ci/packages says what is lacking."""
+    text = (repository.top / "tools/manifest.py").read_text()
+    repository.commit(["tests/good"])
+    repository.write({"tools/manifest.py": text.replace('"/usr/bin/pytest-3"', '"/nowhere/pytest-3"')})
+    done = repository.gate(PASSED, ["tests/good"], REQUIRE_ALL="1", LACKING=lacking)
+    assert "skipped: tests/good: skipped: this host has no pytest-3" in done.stdout
+    assert done.stdout.splitlines()[-1] == last
 
-    def test_a_check_runs_no_row(self) -> None:
-        self.script("good", "echo '0 run, 0 skipped'")
-        self.fails("./good: 0 run, 0 skipped, and the manifest has 1")
 
-    def test_a_check_runs_fewer_rows(self) -> None:
-        self.script("tools/with_rows.py", WITH_ROWS.replace("2 run", "1 run"))
-        self.fails("tools/with_rows.py: 1 run, 0 skipped, and the manifest has 2")
+@pytest.mark.parametrize("check", CHECKS)
+def test_what_a_check_needs_is_said_by_the_words_of_ci_packages(check: str) -> None:
+    packages = (TOP / ".ci/packages").read_text()
+    lists = re.findall(r"(?ms)^(?:NEEDS|SERVERS|FILES)='(.*?)'$", packages)
+    known = {word for text in lists for line in text.splitlines() for word in line.split()}
+    known |= set(re.findall(r"(?m)^ *may (\w+) ", packages)) | set(re.findall(r"(?:words\+=\(|\|\| echo )([\w-]+)", packages))
+    assert set(CHECKS[check].needs.split()) <= known
 
-    def test_rows_are_gone(self) -> None:
-        self.script("tools/with_rows.py", WITH_ROWS.replace("puts\\n", "").replace("2 run", "1 run"))
-        self.fails("- row tools/with_rows.py: puts")
 
-    def test_a_check_is_left_out(self) -> None:
-        self.fails("- check tools/with_rows.py", checks=CHECKS[:1])
-
-    def test_a_check_skips_in_silence(self) -> None:
-        self.script("good", "echo '0 run, 1 skipped'")
-        self.fails("good: 1 skipped", REQUIRE_ALL="1")
-
-    def test_a_check_fails_every_second_time(self) -> None:
-        self.script("good", "test ! -e been || { rm been; echo '1 run, 0 skipped'; exit; }; touch been; exit 1")
-        self.fails("./good: status 1")
-
-    def test_nothing_is_proved(self) -> None:
-        self.fails("rt ci: 0 passed, of 2 crates and 2 edits", said=[SAID.format(2), "0 passed, 0 failed"])
-
-    def test_the_edits_are_gone(self) -> None:
-        for path in (self.top / "crates/a/must-fail").iterdir():
-            path.unlink()
-        self.fails("rt ci: 0 of 2 edits were refused", said=[OK, "2 passed, 0 failed"])
-
-    def test_an_edit_is_another(self) -> None:
-        self.write("crates/a/must-fail/one.edit", "old: one\nnew: a word that is not there\n")
-        self.fails("- body a/one ")
-
-    def test_a_wrong_body_is_gone(self) -> None:
-        (self.top / "crates/a/wrong-bodies/three.edit").unlink()
-        self.fails("- body a/three ")
-
-    def test_a_crate_is_left_out(self) -> None:
-        self.write("crates.txt", "a:\n")
-        self.fails("- crate tests_parts: a")
-
-    def test_a_test_in_rattle_is_gone(self) -> None:
-        self.write("crates/tests_parts/src/lib.rt", "fn vectors() {}\n")
-        self.fails("- test tests_parts/vectors")
-
-    def test_the_handles_are_others(self) -> None:
-        self.write("HANDLES", "Handles allowed: Net, Files.\n")
-        self.fails("- handles ")
-
-    def test_a_clause_is_deleted(self) -> None:
-        self.write("crates/a/src/lib.rt", CODE.replace("    ensures order { IsInOrder block }\n", ""))
-        self.fails("- clause a stores ensures order")
-
-    def test_a_clause_is_weaker(self) -> None:
-        self.write("crates/a/src/lib.rt", CODE.replace("{ IsInOrder block }", "{ result ≡ true → IsInOrder block }"))
-        self.fails("+ clause a stores ensures order")
-
-    def test_a_premise_is_added(self) -> None:
-        self.write("crates/a/src/lib.rt", CODE.replace("    ensures whole", "    requires { IsShort block }\n    ensures whole"))
-        self.fails("+ clause a stores requires")
-
-    def test_a_function_is_public_no_more(self) -> None:
-        self.write("crates/a/src/lib.rt", CODE.replace("pub fn", "pub(crate) fn"))
-        self.fails("- function a stores")
-
-    def test_a_definition_is_weaker(self) -> None:
-        self.write("crates/a/specs/Blocks.antt", DEFINITIONS.replace("block ≡ block", "true ≡ true"))
-        self.fails("- definition a Blocks.IsWhole")
-
-    def test_a_comment_and_the_layout_are_free(self) -> None:
-        self.write("crates/a/src/lib.rt", "// Blocks.\n" + CODE.replace("block result }", "block\n        result } // all"))
-        self.write("crates/a/specs/Blocks.antt", "-- in other words\n" + DEFINITIONS)
-        self.assertEqual(self.run_gate(PASSED, CHECKS).returncode, 0)
+def test_each_folder_of_tests_is_a_check() -> None:
+    assert {str(path.parent.relative_to(TOP)) for path in TOP.glob("tests/*/test_*.py")} == {*CHECKS}

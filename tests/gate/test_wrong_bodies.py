@@ -1,42 +1,37 @@
 """What a wrong body comes to by the output of the prover, and which of them fail the gate. A stand-in takes the place of the prover."""
 import re
 import subprocess
+import sys
 from pathlib import Path
-from typing import Any, Optional
+from typing import Optional
 
 import pytest
 
 import wrong_bodies
+from lib.programs import TOP
+
+sys.path[:0] = [str(TOP / "tests/bodies")]
+import test_few_bodies
 
 TEXTS = {"src/lib.rt": ""}
 OPEN = "src/lib.rt:3:1: error: `stores`: the goal is open\nfn a::stores: not proved\nonly=1 proved=0"
-PROVED = "fn a::stores: proved\nonly=1 proved=1"
+LOST = "proofs/stores/Answers.antt:3:9: error: `held`: it has no field `next`\nfn a::stores: not proved"
 
 
-def test_an_open_goal() -> None:
-    assert wrong_bodies.judged_by(OPEN, TEXTS) == wrong_bodies.Verdict(True, "a::stores")
-
-
-@pytest.mark.parametrize("said", [PROVED, "only=3 proved=3", "logic=proved functions=12 files=3"])
-def test_it_is_proved(said: str) -> None:
-    assert wrong_bodies.judged_by(said, TEXTS) == wrong_bodies.Verdict(False, why="it is proved")
-
-
-@pytest.mark.parametrize("said", ["fn a::loads: proved\nonly=2 proved=1", ""])
-def test_some_of_it_is_proved(said: str) -> None:
-    assert wrong_bodies.judged_by(said, TEXTS).is_refused is None
-
-
-@pytest.mark.parametrize("said", ["error[mismatched-types]: src/lib.rt:3",
-                                  "src/lib.rt:3:9: error: expected the end of a clause\n" + OPEN])
-def test_it_is_no_code(said: str) -> None:
+@pytest.mark.parametrize("said, is_refused, function, why", [
+    (OPEN, True, "a::stores", ""),
+    (LOST, True, "a::stores", "only because a proof cites what it takes away"),
+    *((said, False, "", "it is proved") for said in [
+        "fn a::stores: proved\nonly=1 proved=1", "only=3 proved=3", "logic=proved functions=12 files=3"]),
+    # some of it is proved
+    ("fn a::loads: proved\nonly=2 proved=1", None, "", ""), ("", None, "", ""),
+    # it is no code
+    *((said, False, "", wrong_bodies.UNREADABLE) for said in [
+        "error[mismatched-types]: src/lib.rt:3", "src/lib.rt:3:9: error: expected the end of a clause\n" + OPEN])])
+def test_what_a_check_comes_to(said: str, is_refused: Optional[bool], function: str, why: str) -> None:
     verdict = wrong_bodies.judged_by(said, TEXTS)
-    assert verdict.is_refused is False and verdict.why.startswith(wrong_bodies.UNREADABLE)
-
-
-def test_a_proof_cites_what_is_gone() -> None:
-    said = "proofs/stores/Answers.antt:3:9: error: `held`: it has no field `next`\nfn a::stores: not proved"
-    assert wrong_bodies.judged_by(said, TEXTS).why == "only because a proof cites what it takes away"
+    assert verdict[:2] == (is_refused, function)
+    assert verdict.why.startswith(why) and bool(verdict.why) == bool(why)
 
 
 # ---- several in one copy: what is said of each, and which can be tried so
@@ -85,34 +80,27 @@ class Repository:
 @pytest.fixture
 def repository(tmp_path: Path, monkeypatch: pytest.MonkeyPatch) -> Repository:
     it = Repository(tmp_path)
-    for name, value in [("TOP", it.top), ("RECORD", it.record), ("crates", lambda: {"a": None, "b": None}),
-                        ("has_libraries", lambda crate: True), ("commit_seed", lambda: 1)]:
-        monkeypatch.setattr(wrong_bodies, name, value)
+    monkeypatch.setattr(wrong_bodies, "TOP", it.top)
+    monkeypatch.setattr(wrong_bodies, "RECORD", it.record)
     return it
 
 
-# Whether the prover refuses the bodies of a and b, the status of --few, and a line that it prints
-@pytest.mark.parametrize("a, b, status, line", [
-    (True, True, 0, "wrong body a/two: refused at a::a"),
-    (True, True, 0, "wrong bodies: 1 of 2 were refused as they and their crates stand"),
-    (True, True, 0, "2 run, 0 skipped"),
-    (False, True, 1, "wrong body a/two: NOT REFUSED: so"),
-    # its crate has changed since it was refused
-    (True, False, 1, "wrong body b/two: NOT REFUSED: so"),
-    (None, None, 0, "wrong body a/two: undecided, no time for the whole crate"),
-])
-def test_few(a: Any, b: Any, status: int, line: str, repository: Repository, monkeypatch: Any, capsys: Any) -> None:
-    refused = {"a": a, "b": b}
-    monkeypatch.setattr(wrong_bodies, "judged", lambda body, crate, function, end: wrong_bodies.Verdict(
-        refused[wrong_bodies.crate_of(body)], function, "" if refused[wrong_bodies.crate_of(body)] else "so"))
-    assert wrong_bodies.few(2) == status
-    assert line in capsys.readouterr().out.splitlines()
-
-
-def test_few_of_which_nothing_is_known(repository: Repository, monkeypatch: Any) -> None:
-    repository.record.write_text("a/two -\nb/two 0123456789\n")
-    monkeypatch.setattr(wrong_bodies, "judged", lambda body, *_: wrong_bodies.Verdict(wrong_bodies.crate_of(body) == "b"))
-    assert wrong_bodies.few(2) == 1
+@pytest.mark.parametrize("is_refused", [True, None, False])
+@pytest.mark.parametrize("record", ["a/two - \nb/two 0123456789\n", "b/two -\n"])
+def test_which_verdicts_pass(is_refused: Optional[bool], record: str, repository: Repository, monkeypatch: pytest.MonkeyPatch) -> None:
+    """The gate fails for a body that proves, whatever has changed since it was refused, or is known of it."""
+    repository.record.write_text(record)
+    for name, value in [("FEW", 2), ("crates", lambda: {"a": None, "b": None}), ("has_libraries", lambda crate: True)]:
+        monkeypatch.setattr(test_few_bodies, name, value)
+    tried = list[str]()
+    monkeypatch.setattr(wrong_bodies, "judged", lambda body, *_: tried.append(body) or wrong_bodies.Verdict(is_refused))
+    for number in range(2):
+        if is_refused is False:
+            with pytest.raises(AssertionError, match="NOT REFUSED"):
+                test_few_bodies.test_a_wrong_body_is_refused(number)
+        else:
+            test_few_bodies.test_a_wrong_body_is_refused(number)
+    assert sorted(tried) == ["a/two", "b/two"]
 
 
 def test_one_that_was_tried_by_the_gate(repository: Repository) -> None:
@@ -127,7 +115,7 @@ def test_one_that_was_tried_by_the_gate(repository: Repository) -> None:
 
 
 def test_which_are_chosen(repository: Repository) -> None:
-    assert wrong_bodies.chosen_by(["--stale"]) == ["b/two"]
+    assert wrong_bodies.chosen_by([], is_stale=True) == ["b/two"]
     assert wrong_bodies.chosen_by(["a"]) == ["a/two"]
 
 

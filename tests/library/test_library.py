@@ -1,6 +1,6 @@
-"""The library for C by its examples: examples/ is built for each checker that is here, in C and C++ by each compiler with
-AddressSanitizer and UndefinedBehaviorSanitizer, in C for valgrind, too, over musl, and without a C library; in Rust and Python
-with AddressSanitizer and for valgrind; and in Go. What each does then is told in lib/transfers.py."""
+"""The library for C by its examples: examples/ is built for each checker that is here, in C and C++ by each compiler
+with AddressSanitizer and UndefinedBehaviorSanitizer, in C for valgrind, too, over musl, and without a C library; in
+Rust and Python with AddressSanitizer and for valgrind; and in Go. What each does then is told in lib/transfers.py."""
 import os
 import re
 import shutil
@@ -11,7 +11,7 @@ from typing import Any
 
 import pytest
 
-from lib import transfers
+from lib import others, transfers
 from lib.examples import BUILDS, FLAGS, LAYOUT, Host, archive, in_c, lacking, run
 from lib.programs import TOP, programs
 
@@ -44,7 +44,7 @@ def test_another_server_is_there(peer: str) -> None:
 
 def test_other_clients(library: Path, tmp_path: Path) -> None:
     """Each that is installed gets from the example that serves, puts to it, and gets what it has put."""
-    found = [program for program in transfers.CLIENTS if shutil.which(program)]
+    found = [*filter(others.is_installed, others.CLIENTS)]
     if not found:
         pytest.skip("no client of another project")
     built = in_c(Host(tmp_path, library), "gcc", "sanitized")

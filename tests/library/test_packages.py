@@ -1,6 +1,7 @@
-"""What is installed and packed: `make install`, `uninstall`, `dist` and `deb` in a copy of the files that they take, with the
-programs of bin/; the packages below a folder, beside others, and with a compiler; and in a chroot, in which an example of each
-language is built from the packages' files alone and gets, puts, and is refused a file at the example that serves."""
+"""What is installed and packed: `make install`, `uninstall`, `dist` and `deb` in a copy of the files that they take,
+with the programs of bin/; the packages below a folder, beside others, and with a compiler; and in a chroot, in which
+an example of each language is built from the packages' files alone and gets, puts, and is refused a file at the
+example that serves."""
 import filecmp
 import os
 import re
@@ -16,26 +17,16 @@ from lib import transfers
 from lib.chroot import Inside, furnish, is_possible
 from lib.ends import expect
 from lib.examples import Built, in_c, in_cpp, in_go, in_python, in_rust, run, rust_has_sanitizer
+from lib.needs import needs
 from lib.programs import NAMES, TOP, program
-from lib.scene import next_line
 
 COPIED = ["Makefile", "LICENSE", "SECURITY.md", "crates.txt", "completions", "debian", "docs/OPERATING.md", "ports",
           "examples", "include", "man", "packaging", "tools"]
-LIBRARY = ["include/tftp.h", "include/tftp.hpp", "lib/libtftp.a", "lib/libtftp.so", "lib/libtftp.so.1",
-           "lib/cmake/tftp/tftp-config.cmake", "lib/cmake/tftp/tftp-config-version.cmake", "lib/pkgconfig/tftp.pc",
-           "man/man3/tftp.3"]
 WORDS = ["PREFIX=/usr", "PROGRAM_PREFIX=x-", "MANDIR=/usr/man", "UNITDIR=/usr/units"]
 SHELLS = {"bash": ["bash", "-n"], "zsh": ["zsh", "-f", "-n"], "fish": ["fish", "--no-execute"]}
 UNITS = ["x-tftpd.service", "x-tftpd@.service", "x-tftpd.socket", "x-tftpd-socket.service"]
 # what is installed with these words
-INSTALLED = {
-    *(f"usr/share/doc/fanjuvery/{name}" for name in ["LICENSE", "OPERATING.md", "README.md", "SECURITY.md", "dashboard.json",
-                                                     "tftpd.default", "tftpd.nft", "tftpd.rules.yml"]),
-    *(f"usr/man/{name}" for name in ["man1/x-tftp.1", "man1/x-tftp-play.1", "man1/x-tftp-show.1", "man5/x-tftp-play.5", "man8/x-tftpd.8"]),
-    *(f"usr/{name}" for name in LIBRARY), *(f"usr/units/{name}" for name in UNITS), *(f"usr/bin/x-{name}" for name in NAMES),
-    *(f"usr/share/{place}" for name in NAMES for place in [
-        f"bash-completion/completions/x-{name}", f"fish/vendor_completions.d/x-{name}.fish", f"zsh/site-functions/_x-{name}"]),
-}
+INSTALLED = {*Path(__file__).with_name("installed.txt").read_text().split()}
 
 
 def files_below(folder: Path) -> set[str]:
@@ -74,12 +65,6 @@ class Copy:
 
     def unpacked(self, package: str, root: Path) -> None:
         self.run("dpkg-deb", "-x", self.packages()[package], root)
-
-
-def needs(*commands: str) -> None:
-    absent = [it for it in commands if not shutil.which(it)]
-    if absent:
-        pytest.skip(f"no {', no '.join(absent)}")
 
 
 @pytest.fixture(scope="module")
@@ -160,17 +145,16 @@ def test_completions_are_read(shell: str, copy: Copy) -> None:
 
 
 def test_package(copy: Copy, tmp_path: Path) -> None:
-    """It has the programs, compressed manuals, a unit, and the documents that Debian asks for."""
-    package = copy.packages()["fanjuvery"]
-    held = copy.run("dpkg-deb", "--contents", package)
-    for name in ["usr/bin/tftpd", "usr/bin/fanjuvery-tftp", "usr/share/man/man8/fanjuvery-tftpd.8.gz", "usr/share/doc/fanjuvery/copyright",
-                 "usr/share/doc/fanjuvery/changelog.gz", "lib/systemd/system/tftpd.service", "etc/default/fanjuvery-tftpd"]:
-        assert f" ./{name}\n" in held
-    copy.run("dpkg-deb", "--control", package, tmp_path / "control")
-    names = sorted(it.name for it in (tmp_path / "control").iterdir())
-    assert names == ["conffiles", "control", "md5sums", "postinst", "postrm", "prerm"]
+    """It has the programs, compressed manuals, a unit, and the documents that Debian asks for; its scripts can be
+    read."""
+    root, names = tmp_path / "root", ["conffiles", "control", "md5sums", "postinst", "postrm", "prerm"]
+    copy.run("dpkg-deb", "--raw-extract", copy.packages()["fanjuvery"], root)
+    assert sorted(it.name for it in (root / "DEBIAN").iterdir()) == names
     for name in names[3:]:
-        copy.run("sh", "-n", tmp_path / "control" / name)
+        copy.run("sh", "-n", root / "DEBIAN" / name)
+    assert {"usr/bin/tftpd", "usr/bin/fanjuvery-tftp", "usr/share/man/man8/fanjuvery-tftpd.8.gz", "etc/default/fanjuvery-tftpd",
+            "usr/share/doc/fanjuvery/copyright", "usr/share/doc/fanjuvery/changelog.gz",
+            "lib/systemd/system/tftpd.service"} <= files_below(root)
 
 
 def test_lintian(copy: Copy) -> None:
@@ -202,8 +186,8 @@ def test_removal(copy: Copy, tmp_path: Path) -> None:
 
 @pytest.mark.parametrize("is_first", [True, False], ids=["behind the other", "before the other"])
 def test_beside_another_package(is_first: bool, copy: Copy, tmp_path: Path) -> None:
-    """A client and a server of another package stay as they are, whichever was installed first, and when this one is purged:
-    what is `tftp` is theirs."""
+    """A client and a server of another package stay as they are, whichever was installed first, and when this one is
+    purged: what is `tftp` is theirs."""
     other, built, root = tmp_path / "other", tmp_path / "other.deb", tmp_path / "root"
     for folder in ("DEBIAN", "usr/bin", "usr/share/man/man8"):
         (other / folder).mkdir(parents=True)
@@ -321,12 +305,7 @@ def inside(copy: Copy, tmp_path_factory: pytest.TempPathFactory) -> Iterator[Ins
 
 def at_serve(scene: Any, built: Built, server: Built, lossy: bool) -> None:
     """The clients of a language get, put and, at a good network, are refused, at the server in C."""
-    for length in transfers.FEW:
-        scene.make(f"f{length}", transfers.content(length))
-    at = transfers.serving_port(scene)
-    words = server.command("serve", *at.address, *[f"f{length}=f{length}" for length in transfers.FEW])
-    process = scene.start(words[0], words[1:])
-    expect(next_line(process.stdout), "serving\n", "the first line of serve")
+    at, process = transfers.serves(scene, server)
     site, way = transfers.Site("serve", scene, at, lossy), at.word.split(":")
 
     def is_read_back(_: Any, name: str, length: int, what: str) -> None:
@@ -341,8 +320,7 @@ def at_serve(scene: Any, built: Built, server: Built, lossy: bool) -> None:
             for place, length in enumerate(transfers.FEW) for it in clients if place or not built.is_slow]
     jobs += [partial(transfers.refused, site, built, it) for it in clients if it.startswith("get") and not lossy]
     transfers.together(jobs)
-    process.terminate()
-    process.wait()
+    transfers.ended(process)
 
 
 @pytest.mark.timeout(1_200)

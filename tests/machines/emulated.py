@@ -1,5 +1,5 @@
-"""A plugin of pytest that leaves out the tests which programs of a kind cannot be tried by, by what the text of a test has. The
-kind is PROGRAMS_ARE in the environment: `emulated`, `static`, or nothing."""
+"""A plugin of pytest that leaves out the tests which programs of a kind cannot be tried by, by what the text of a
+test has. The kind is PROGRAMS_ARE in the environment: `emulated`, `static`, or nothing."""
 import inspect
 import os
 import re

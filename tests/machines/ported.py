@@ -1,14 +1,11 @@
-"""What the tests of other machines share: programs and the library for a processor, as `make` builds them, the tests of tftp and
-tftpd over other programs, and what a host may lack."""
+"""What the tests of other machines share: programs and the library for a processor, as `make` builds them, and the
+tests of tftp and tftpd over other programs."""
 import os
 import re
-import shutil
 import subprocess
 import sys
 from pathlib import Path
 from typing import Any
-
-import pytest
 
 from lib.programs import NAMES, TOP
 
@@ -18,12 +15,6 @@ PARTS = Path("/usr/local/share/arm64-parts")
 VERSION = re.findall(r"(?m)^VERSION := (\S+)$", (TOP / "Makefile").read_text())[0]
 # the tests of the programs as processes
 TESTS = ["tests/tftp", "tests/tftpd"]
-
-
-def needs(*commands: str, files: "tuple[Path, ...]" = ()) -> None:
-    absent = [it for it in commands if not shutil.which(it)] + [str(it) for it in files if not it.exists()]
-    if absent:
-        pytest.skip(f"no {', no '.join(absent)}")
 
 
 def run(*words: Any, **how: Any) -> str:

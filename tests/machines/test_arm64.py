@@ -1,23 +1,25 @@
-"""The programs and the library for ARM64, built as `make ARCH=arm64 programs libtftp deb` does, with and without the C library in the
-programs. The static programs are run by `qemu-aarch64`: by the tests of tftp, tftpd, tftp-show and tftp-play, but those that
-emulated.py leaves out; the library by its examples in C; and tftp and tftpd with other projects' programs, both ways in both
-modes, at the edges of blocks."""
+"""The programs and the library for ARM64, built as `make ARCH=arm64 programs libtftp deb` does, with and without the
+C library in the programs. The static programs are run by `qemu-aarch64`: by the tests of tftp, tftpd, tftp-show and
+tftp-play, but those that emulated.py leaves out; the library by its examples in C; and tftp and tftpd with other
+projects' programs, both ways in both modes, at the edges of blocks."""
 import os
 import re
 import shutil
 import subprocess
 from functools import partial
+from itertools import product
 from pathlib import Path
 from typing import Any
 
 import pytest
 
-from lib import transfers
+from lib import others, transfers
 from lib.ends import expect
 from lib.examples import Host, in_c
+from lib.needs import needs
 from lib.programs import NAMES, TOP
 from lib.transfers import PEERS, peers, started
-from ported import COMPILER, EMULATOR, TESTS, VERSION, needs, run, run_over, static_programs
+from ported import COMPILER, EMULATOR, TESTS, VERSION, run, run_over, static_programs
 
 LENGTHS = [0, 1, 511, 512, 513, 1_024, 65_463, 65_464, 65_465]
 MAKE = ["make", "--no-print-directory", "ARCH=arm64"]
@@ -73,77 +75,64 @@ def test_the_tests_of_programs(tests: str, emulated: Path) -> None:
 # ---- the library, and other projects
 
 
-def trials_of(room: Path, library: Path) -> "list[tuple[str, Any]]":
-    place = Host(room, library)
-    place.emulator = [EMULATOR]
-    return [*transfers.trials_of(in_c(place, COMPILER, "static"))]
-
-
 def content(length: int, mode: str) -> bytes:
     """Bytes of every kind, or a text of lines."""
     return (b"a line of some words\n" * (length // 21 + 1))[:length] if mode else bytes(at * 7 % 256 for at in range(length))
 
 
-def is_stored(scene: Any, name: str, expected: bytes, what: str) -> None:
+def has(scene: Any, name: str, expected: bytes, what: str) -> None:
     """A server may write the end of a file behind its last ACK."""
     transfers.has_written(scene.folder / name, len(expected))
-    expect((scene.folder / name).read_bytes() == expected, True, what)
+    expect((scene.folder / name).read_bytes() == expected, True, f"{what}: {name} of {len(expected)} bytes")
 
 
-def gets_and_puts(scene: Any, peer: str) -> None:
+def moves(scene: Any, what: str, lengths: "list[int]", modes: "list[str]", words: Any, takes_puts: bool) -> None:
+    """A client gets files of these lengths in these modes, and puts them. `words` are those of a client by the verb,
+    the name and the file here, the mode, and the size of blocks if it is asked for."""
+    for length, mode in product(lengths, modes):
+        name, expected, block = f"f{length}{mode}", content(length, mode), "65464" if length > 60_000 else ""
+        scene.make(name, expected)
+        (scene.folder / name).chmod(0o644)
+        (scene.folder / "got").unlink(missing_ok=True)
+        run(*words("get", name, "got", mode, block), cwd=scene.folder, timeout=300)
+        has(scene, "got", expected, what)
+        if takes_puts:
+            run(*words("put", f"put.{name}", name, mode, block), cwd=scene.folder, timeout=300)
+            has(scene, f"put.{name}", expected, what)
+
+
+def of_ours(scene: Any, peer: str) -> None:
     """Our client at another project's server."""
-    at, takes_puts = started(scene, peer), PEERS[peer][1]
-    for length in LENGTHS:
-        for mode in ["", "--netascii"]:
-            words = [mode] * bool(mode) + ["--blksize", "65464"] * (length > 60_000)
-            name, expected = f"f{length}{mode}", content(length, mode)
-            scene.make(name, expected)
-            os.chmod(scene.folder / name, 0o644)
-            run_client(scene, "get", at.word, name, "got", *words, "--replace")
-            expect((scene.folder / "got").read_bytes(), expected, f"what was got of {peer}, {length} bytes {mode}")
-            if takes_puts:
-                run_client(scene, "put", at.word, name, f"put.{name}", *words)
-                is_stored(scene, f"put.{name}", expected, f"what was put to {peer}, {length} bytes {mode}")
+    at, tftp = started(scene, peer).word, scene.programs["tftp"]
+
+    def words(verb: str, name: str, local: str, mode: str, block: str) -> "list[str]":
+        names = [name, local] if verb == "get" else [local, name]
+        return [tftp, verb, at, *names, *["--netascii"] * bool(mode), *(["--blksize", block] if block else [])]
+
+    moves(scene, f"tftp at {peer}", LENGTHS, ["", "netascii"], words, PEERS[peer][0])
 
 
-def run_client(scene: Any, *words: str) -> None:
-    client = scene.tftp(*words)
-    printed, errors = [text.decode() for text in client.process.communicate(timeout=300)]
-    expect((client.process.returncode, errors, printed[:9]), (0, "", "complete "), f"tftp {' '.join(words)}")
+def of_another(scene: Any, client: str) -> None:
+    """Another project's client at our server. (A curl refuses the length 0 that it asked for, and stores netascii as
+    it came.)"""
+    way = scene.serve("--forever", "--cap", "64").address
 
+    def words(verb: str, name: str, local: str, mode: str, block: str) -> "list[str]":
+        found = others.command(client, verb, way, name, local, mode or "binary")
+        return [*found, "--tftp-blksize", block] if client == "curl" and block else found
 
-# (a curl refuses the length 0 that it asked for, and stores netascii as it came)
-OTHERS = {
-    "curl": lambda host, port, _, block: (["curl", "-s", *block], f"tftp://{host}:{port}/"),
-    "tftp": lambda host, port, mode, block: (["tftp", "-m", "netascii" if mode else "binary", host, port, "-c"], ""),
-}
-
-
-def served(scene: Any, program: str) -> None:
-    """Another project's client at our server."""
-    server = scene.serve("--forever", "--cap", "64")
-    host, port = server.word.split(":")
-    for length in LENGTHS[program == "curl":]:
-        for mode in ["", "netascii"][:1 if program == "curl" else 2]:
-            name, expected = f"f{length}{mode}", content(length, mode)
-            block = ["--tftp-blksize", "65464"] if program == "curl" and length > 60_000 else []
-            scene.make(name, expected)
-            words, url = OTHERS[program](host, port, mode, block)
-            get = [*words, "-o", "got", url + name] if url else [*words, "get", name, "got"]
-            put = [*words, "-T", name, f"{url}put.{name}"] if url else [*words, "put", name, f"put.{name}"]
-            (scene.folder / "got").write_bytes(b"")
-            run(*get, cwd=scene.folder, timeout=300)
-            expect((scene.folder / "got").read_bytes(), expected, f"what {program} got, {length} bytes {mode}")
-            run(*put, cwd=scene.folder, timeout=300)
-            is_stored(scene, f"put.{name}", expected, f"what {program} put, {length} bytes {mode}")
+    is_curl = client == "curl"
+    moves(scene, f"{client} at tftpd", LENGTHS[is_curl:], ["", "netascii"][:1 if is_curl else 2], words, True)
 
 
 @pytest.mark.timeout(1_800)
 @pytest.mark.parametrize("whose", ["the library", "other projects"])
 def test_with_others(whose: str, emulated: Path, library: Path, tmp_path: Path) -> None:
+    place = Host(tmp_path, library)
+    place.emulator = [EMULATOR]
     if whose == "the library":
-        trials = trials_of(tmp_path, library)
+        trials = [*transfers.trials_of(in_c(place, COMPILER, "static"))]
     else:
-        trials = [(f"tftp at {Path(peer).name}", partial(gets_and_puts, peer=peer)) for peer in peers()]
-        trials += [(f"{name} at tftpd", partial(served, program=name)) for name in OTHERS if shutil.which(name)]
+        trials = [(f"tftp at {Path(peer).name}", partial(of_ours, peer=peer)) for peer in peers()]
+        trials += [(f"{it} at tftpd", partial(of_another, client=it)) for it in ["curl", "tftp"] if others.is_installed(it)]
     transfers.tried(trials, {name: str(emulated / name) for name in NAMES})

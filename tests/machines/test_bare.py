@@ -1,19 +1,21 @@
-"""The library for machines without an operating system, libtftp-bare.a for amd64 and arm64, by what its objects have. In the
-disassembly no instruction names a register of SSE, MMX or x87, of floating point or SIMD, and none reads or writes below the
-stack pointer. All code is position independent. It calls memcpy, memmove, memset and the heap of tftp.h alone. Nothing calls
-itself and no call is through a pointer, so the most stack that each call takes is the longest way through the calls that it
-makes. No call takes more than the table in man/tftp.3 says, which WRITE_STACK=1 in the environment makes anew, and all code is
-no larger. The client of examples/c is linked to it with ports/malloc.c, and gets a file of tftpd in blocks of 1428 bytes."""
+"""The library for machines without an operating system, libtftp-bare.a for amd64 and arm64, by what its objects have.
+In the disassembly no instruction names a register of SSE, MMX or x87, of floating point or SIMD, and none reads or
+writes below the stack pointer. All code is position independent. It calls memcpy, memmove, memset and the heap of
+tftp.h alone. Nothing calls itself and no call is through a pointer, so the most stack that each call takes is the
+longest way through the calls that it makes. No call takes more than the table in man/tftp.3 says, which WRITE_STACK=1
+in the environment makes anew, and all code is no larger. The client of examples/c is linked to it with
+ports/malloc.c, and gets a file of tftpd in blocks of 1428 bytes."""
 import os
 import re
 from functools import lru_cache
 from pathlib import Path
-from typing import Any, Sequence
+from typing import Any, NamedTuple, Sequence
 
 import pytest
 
+from lib.needs import needs
 from lib.programs import TOP
-from ported import EMULATOR, bare_archive, needs, run
+from ported import EMULATOR, run
 
 # what the archive may call
 CALLS = {"memcpy", "memmove", "memset", "tftp_alloc", "tftp_realloc", "tftp_free"}
@@ -21,12 +23,14 @@ MANUAL, MAP = TOP / "man/tftp.3", TOP / "packaging/libtftp.map"
 LENGTH = 1_000_003
 
 
-class Processor:
+class Processor(NamedTuple):
     """How the code of a processor is read."""
-
-    def __init__(self, arch: str, prefix: str, compiler: str, registers: str, below: str, absolute: str) -> None:
-        self.arch, self.prefix, self.compiler = arch, prefix, compiler
-        self.registers, self.below, self.absolute = re.compile(registers), re.compile(below), absolute
+    arch: str
+    prefix: str
+    compiler: str
+    registers: str
+    below: str
+    absolute: str
 
 
 PROCESSORS = [
@@ -64,7 +68,7 @@ class Code:
             for line in lines:
                 # without comments, and the addresses of branches
                 code = re.sub(r"\b[0-9a-f]+ <.*", "", line.partition("#" if it.arch == "amd64" else "//")[0])
-                if it.registers.search(code) or it.below.search(code):
+                if re.search(it.registers, code) or re.search(it.below, code):
                     found.append(f"{it.arch}: {name}: {line}")
         listed = run(f"{it.prefix}readelf", "-rW", self.path)
         of_code = re.findall(r"(?ms)^Relocation section '\.rela\.text\S*' .*?(?=^Relocation section|\Z)", listed)
@@ -125,7 +129,8 @@ class Code:
 
 # ---- what is said of it in the manual
 
-# The bytes of stack that the manual states are one of these, with a tenth to spare: another compiler may take some more
+# The bytes of stack that the manual states are one of these, with a tenth to spare: another compiler may take some
+# more
 STATED = [128, 256, 512, 1_024, 1_536, 2_048, 3_072, 4_096, 8_192]
 MADE = re.compile(r'(?s)\.\\" made by tests/machines/test_bare\.py\n(.*?)\.\\" end of what is made\n')
 
@@ -167,22 +172,15 @@ def test_what_the_manual_says(codes: Any) -> None:
 
 
 @pytest.fixture(scope="module")
-def archives(tmp_path_factory: pytest.TempPathFactory) -> Any:
-    """The archive for a processor, or a skip."""
-    room = tmp_path_factory.mktemp("bare")
-
-    @lru_cache(None)
-    def archive(it: Processor) -> Path:
-        needs(it.compiler, f"{it.prefix}objdump")
-        return bare_archive(it.arch, room / it.arch)
-
-    return archive
-
-
-@pytest.fixture(scope="module")
 def codes(archives: Any, tmp_path_factory: pytest.TempPathFactory) -> Any:
     room = tmp_path_factory.mktemp("code")
-    return lru_cache(None)(lambda it: Code(it, archives(it), room))
+
+    @lru_cache(None)
+    def code(it: Processor) -> Code:
+        needs(it.compiler, f"{it.prefix}objdump")
+        return Code(it, archives(it.arch), room)
+
+    return code
 
 
 @pytest.mark.parametrize("processor", PROCESSORS, ids=lambda it: it.arch)
@@ -193,9 +191,9 @@ def test_the_code(processor: Processor, codes: Any) -> None:
 @pytest.mark.parametrize("processor", PROCESSORS, ids=lambda it: it.arch)
 def test_a_get(processor: Processor, archives: Any, scene: Any) -> None:
     """The client of examples/c over the archive gets a file."""
-    needs(*EMULATORS[processor.arch])
+    needs(processor.compiler, *EMULATORS[processor.arch])
     client, content = scene.folder / "client", os.urandom(LENGTH)
-    run(processor.compiler, "-O1", "-static", "-I", "include", "examples/c/get.c", "ports/malloc.c", archives(processor), "-o", client)
+    run(processor.compiler, "-O1", "-static", "-I", "include", "examples/c/get.c", "ports/malloc.c", archives(processor.arch), "-o", client)
     scene.make("file", content)
     run(*EMULATORS[processor.arch], client, *scene.serve().word.split(":"), "file", "got", "1428", cwd=scene.folder)
     assert (scene.folder / "got").read_bytes() == content

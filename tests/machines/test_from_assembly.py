@@ -1,9 +1,10 @@
-"""Builds the programs and the library from the archive of assembly, as who has a C compiler alone. The archive is packed twice,
-which has to give the same bytes; it says what it is built from; and the calls which the programs make by names of the toolchain
-are those of os.c, no more and no fewer. It is unpacked in a folder of this host's packages of gcc, make, musl and a shell,
-which has no part of this repository and not the toolchain. With that folder as the root, `make check` and `make install` run
-with gcc, and again with musl-gcc and STATIC=1, and the tests of the programs run over what they built. The half for ARM64 is
-built by the cross compiler, statically, and its `make check` run by qemu-aarch64."""
+"""Builds the programs and the library from the archive of assembly, as who has a C compiler alone. The archive is
+packed twice, which has to give the same bytes; it says what it is built from; and the calls which the programs make
+by names of the toolchain are those of os.c, no more and no fewer. It is unpacked in a folder of this host's packages
+of gcc, make, musl and a shell, which has no part of this repository and not the toolchain. With that folder as the
+root, `make check` and `make install` run with gcc, and again with musl-gcc and STATIC=1, and the tests of the
+programs run over what they built. The half for ARM64 is built by the cross compiler, statically, and its `make check`
+run by qemu-aarch64."""
 import shutil
 from pathlib import Path
 from typing import Iterator
@@ -11,8 +12,9 @@ from typing import Iterator
 import pytest
 
 from lib.chroot import ROOM, Inside, furnish, is_possible
+from lib.needs import needs
 from lib.programs import NAMES, TOP
-from ported import COMPILER, EMULATOR, TESTS, VERSION, needs, run, run_over
+from ported import COMPILER, EMULATOR, TESTS, VERSION, run, run_over
 
 PACKAGES = ["coreutils", "dash", "gcc", "libc6-dev", "make", "musl-tools", "sed", "grep", "diffutils", "tar", "xz-utils"]
 # the processors, and what the nm of their objects is

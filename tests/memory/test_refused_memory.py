@@ -1,9 +1,10 @@
-"""Each request for memory of a program is refused in turn, by refuse_memory.c, which is loaded before the program. It refuses
-nothing of programs that `rt try` compiled with their checks.
+"""Each request for memory of a program is refused in turn, by refuse_memory.c, which is loaded before the program. It
+refuses nothing of programs that `rt try` compiled with their checks.
 
-What tftp-show, tftp-play and tftp do when one is refused has a letter, and each command has a pattern of the letters of all its
-requests. A server whose client is not answered for lack of memory says so in its log, and the client asks again. The program
-of crates/tests_memory announces each call, and says behind it that it was out of memory and left all as before."""
+What tftp-show, tftp-play and tftp do when one is refused has a letter, and each command has a pattern of the letters
+of all its requests. A server whose client is not answered for lack of memory says so in its log, and the client asks
+again. The program of crates/tests_memory announces each call, and says behind it that it was out of memory and left
+all as before."""
 import re
 import select
 import shutil
@@ -41,10 +42,12 @@ def counter(tmp_path_factory: pytest.TempPathFactory) -> Path:
     return compiled(tmp_path_factory.mktemp("counter"), Path(__file__).with_name("refuse_memory.c"))
 
 
-def ran(counter: Path, words: list[object], refused: int, *since: str, given: bytes = b"", folder: Path = TOP) -> tuple[End, int, int]:
+def ran(counter: Path, words: list[object], refused: int, *since: str, given: bytes = b"",
+        folder: Path = TOP) -> tuple[End, int, int]:
     """How a program ends without that request, how many it made, and how many were refused."""
     env = {"LD_PRELOAD": str(counter), "REFUSED": str(refused), **{name: "1" for name in since}}
-    done = subprocess.run(list(map(str, words)), env=env, input=given, cwd=folder, capture_output=True, timeout=PATIENCE)
+    done = subprocess.run(list(map(str, words)), env=env, input=given, cwd=folder, capture_output=True,
+                          timeout=PATIENCE)
     errors = done.stderr.decode()
     counts = COUNTED.search(errors)
     assert counts, f"{words} with {refused} refused: status {done.returncode}: {errors}"
@@ -57,8 +60,8 @@ LINES = b"00040000\n00030001414243\n0001612f62006f6374657400\n0\n"
 FLOW = b"0\t192.0.2.2\t1024\t192.0.2.1\t69\t000161006f6374657400\n" \
     b"1\t192.0.2.1\t1025\t192.0.2.2\t1024\t00030001414243\n2\t192.0.2.2\t1024\t192.0.2.1\t1025\t00040001\n"
 SCRIPT = b"file a 414243\nget a octet\nput n netascii 0D0A blksize=8\nsettle 0\n"
-# The kinds of ends: a letter, the status, and what is written to standard error. NAME is the program, FILE the local file.
-# Of F and T the system refused a call on the file, since the C library had no memory for it.
+# The kinds of ends: a letter, the status, and what is written to standard error. NAME is the program, FILE the local
+# file. Of F and T the system refused a call on the file, since the C library had no memory for it.
 KINDS = [
     ("S", 2, "NAME: out of memory\n"), ("U", 2, "error: out of memory\n"), ("O", 2, "out of memory\n"),
     ("M", 2, "tftp: Memory\n"), ("F", 2, "tftp: file fault\ntftp: FILE: another error\n"),
@@ -104,7 +107,7 @@ def kind_of(command: Command, end: End, ample: End) -> str:
         wanted = errors.replace("NAME", command.program).replace("FILE", command.file)
         if (end.status, end.errors) == (status, wanted) and ample.printed.startswith(end.printed):
             return kind
-    # (one event alone; its line takes the place of those that it has with ample memory)
+    # (one event alone: its line takes the place of those that it has with ample memory)
     lines = end.printed.splitlines()
     first = next((ours for ours, other in zip_longest(lines, ample.printed.splitlines()) if ours != other), None)
     refused = [line for line in lines if any(re.fullmatch(words, line) for words in REFUSED.values())]
@@ -124,8 +127,8 @@ def test_each_request_of_a_command(command: Command, counter: Path, tmp_path: Pa
     def run(refused: int) -> tuple[End, int]:
         for path in [local, part]:
             path.unlink(missing_ok=True)
-        end, count, _ = ran(counter, words, refused, "FROM_START", "FROM_OUTPUT", given=command.given, folder=tmp_path)
-        return end, count
+        since = ["FROM_START", "FROM_OUTPUT"]
+        return ran(counter, words, refused, *since, given=command.given, folder=tmp_path)[:2]
 
     ample, count = run(0)
     assert not ample.errors and ample.status < 2, ample
@@ -142,16 +145,20 @@ def test_each_request_of_a_command(command: Command, counter: Path, tmp_path: Pa
     assert re.fullmatch(command.kinds, kinds), kinds
 
 
-# What a run says that is refused memory, prints and ends with, and its letter
+# What a run says that is refused memory, prints and ends with, and its letter. A script goes on, and its status says whether
+# an end is open
+OPEN = "a\nrefused Memory\nend 1024 client-read peer=none size=512 number=0 complete=no open\n"
+
+
 @pytest.mark.parametrize("name, status, printed, errors, kind", [
-    ("tftp", 2, "a\n", "tftp: out of memory\n", "S"), ("tftp", 1, "", "tftp: StoreFault\ntftp: local: another error\n", "T"),
-    ("tftp", 2, "", "tftp: no memory\n", "?"), ("tftp", 1, "", "tftp: out of memory\n", "?"), ("tftp", 0, "a\n", "", "?"),
-    ("tftp", 2, "b\n", "tftp: out of memory\n", "?"), ("tftp", 2, "", "tftp-show: out of memory\n", "?"), ("tftp", 2, "", "", "?"),
-    # a script goes on, and its status says whether an end is open
-    ("tftp-play", 1, "a\nrefused Memory\nend 1024 client-read peer=none size=512 number=0 complete=no open\n", "", "E"),
-    ("tftp-play", 0, "a\nrefused Memory\nend 1024 client-read peer=none size=512 number=0 complete=no open\n", "", "?"),
-    ("tftp-play", 0, "a\nrefused Memory\n", "", "E"), ("tftp-play", 0, "refused Memory\nrefused Memory\n", "", "?"),
-    ("tftp-play", 0, "c\nrefused Memory\n", "", "?"), ("tftp-play", 0, "a\n", "", "?")])
+    ("tftp", 2, "a\n", "tftp: out of memory\n", "S"),
+    ("tftp", 1, "", "tftp: StoreFault\ntftp: local: another error\n", "T"),
+    *(("tftp", status, printed, errors, "?") for status, printed, errors in [
+        (2, "", "tftp: no memory\n"), (1, "", "tftp: out of memory\n"), (0, "a\n", ""), (2, "", ""),
+        (2, "b\n", "tftp: out of memory\n"), (2, "", "tftp-show: out of memory\n")]),
+    *(("tftp-play", status, printed, "", kind) for status, printed, kind in [
+        (1, OPEN, "E"), (0, OPEN, "?"), (0, "a\nrefused Memory\n", "E"), (0, "refused Memory\nrefused Memory\n", "?"),
+        (0, "c\nrefused Memory\n", "?"), (0, "a\n", "?")])])
 def test_the_letter_of_a_run(name: str, status: int, printed: str, errors: str, kind: str) -> None:
     command, ample = Command(name, "", b"", "", "local"), End(0, "a\nb\n", "")
     assert kind_of(command, End(status, printed, errors), ample) == kind
@@ -166,23 +173,19 @@ def test_each_request_of_a_servers_start(counter: Path, tmp_path: Path) -> None:
     _, count, _ = ran(counter, words, 0, "FROM_START")
     ends = Counter(ran(counter, words, refused, "FROM_START")[0] for refused in range(1, count + 1))
     # an environment that cannot be read names no journal: the server serves, its warnings without a priority
-    serves = [end for end in ends.elements() if end.status == 0 and end.printed.startswith("listening ") and not end.errors]
-    assert len(serves) < 2
-    assert {*ends} - {*serves} <= {End(2, "", "tftpd: out of memory\n"), End(2, "", "error: out of memory\n")}
-
-
-def log_of(server: Program) -> str:
-    return server.texts[server.process.stderr].decode()
+    others = [end for end in ends if end not in [End(2, "", f"{name}: out of memory\n") for name in ("tftpd", "error")]]
+    assert sum(ends[end] for end in others) < 2
+    assert all(end.status == 0 and end.printed.startswith("listening ") and not end.errors for end in others), others
 
 
 def fetched(server: Program, port: int) -> Optional[int]:
-    """How often a client asks until it has the file, or None where the server has ended. It asks again where the log says
-    that its request was lost: no time passes for nothing, and a slow server is not asked twice."""
+    """How often a client asks until it has the file, or None where the server has ended. It asks again where the log
+    says that its request was lost: no time passes for nothing, and a slow server is not asked twice."""
     with socket.socket(socket.AF_INET, socket.SOCK_DGRAM) as client:
         client.bind((HOST, 0))
         for requests in range(1, 10):
             client.sendto(rrq("a"), (HOST, port))
-            while len(re.findall(r"(?m)^lost ", log_of(server))) < requests:
+            while len(re.findall(rb"(?m)^lost ", server.texts[server.process.stderr])) < requests:
                 if select.select([client], [], [], 0.01)[0]:
                     answer, peer = client.recvfrom(600)
                     assert answer == data(1, CONTENT)
@@ -194,8 +197,8 @@ def fetched(server: Program, port: int) -> Optional[int]:
 
 
 def served(counter: Path, folder: Path, refused: int) -> tuple[Optional[int], str, int, int]:
-    """How often the client asks, the log, and how many requests for memory were made and refused. None in place of the first
-    for a server that was refused its buffers and has ended."""
+    """How often the client asks, the log, and how many requests for memory were made and refused. None in place of
+    the first for a server that was refused its buffers and has ended."""
     words = [program("tftpd"), folder, "--listen", f"{HOST}:0", "--log", "--rounds", "2000", "--retries", "10"]
     env = {"LD_PRELOAD": str(counter), "REFUSED": str(refused), "FROM_OUTPUT": "1"}
     with Program(words, folder, PATIENCE, env=env) as server:
@@ -225,66 +228,35 @@ def test_each_request_of_a_server_that_serves(counter: Path, tmp_path: Path) -> 
 
 AS_BEFORE = "= out of memory, all as before"
 # Where a commit is refused its memory: no file, ERROR 3 `disk full`, and the name is free for the other write.
-RACE = "a race for a name"
-FULL = """\
-deliver 4:
-= #6, closed 1025 StoreFault
-n is not there
-deliver 5:
-= #7
-deliver 7:
-= closed 1026 Complete
-deliver 6:
-= closed 1024 PeerError(3)
-n 42
-#0 10.0.0.2:1024 > 10.0.0.1:69 00026e006f6374657400
-#1 10.0.0.1:1025 > 10.0.0.2:1024 00040000
-#2 10.0.0.2:1026 > 10.0.0.1:69 00026e006f6374657400
-#3 10.0.0.1:1027 > 10.0.0.2:1026 00040000
-#4 10.0.0.2:1024 > 10.0.0.1:1025 0003000141
-#5 10.0.0.2:1026 > 10.0.0.1:1027 0003000142
-#6 10.0.0.1:1025 > 10.0.0.2:1024 000500036469736b2066756c6c00
-#7 10.0.0.1:1027 > 10.0.0.2:1026 00040001
-1024 Record { side: ClientWrite, peer: Some(Endpoint { ip: [10, 0, 0, 1], port: 1025 }), size: 512, timeout: None, \
-number: 1, complete: false, outcome: Some(PeerError(3)) }
-1025 Record { side: ServerWrite, peer: Some(Endpoint { ip: [10, 0, 0, 2], port: 1024 }), size: 512, timeout: None, \
-number: 0, complete: false, outcome: Some(StoreFault) } stored 41
-1026 Record { side: ClientWrite, peer: Some(Endpoint { ip: [10, 0, 0, 1], port: 1027 }), size: 512, timeout: None, \
-number: 1, complete: true, outcome: Some(Complete) }
-1027 Record { side: ServerWrite, peer: Some(Endpoint { ip: [10, 0, 0, 2], port: 1026 }), size: 512, timeout: None, \
-number: 1, complete: true, outcome: None } stored 42 committed
-n 42
-""".splitlines()
+FULL = Path(__file__).with_name("refused_commit.txt").read_text().splitlines()
 
 
-def with_full_disk(expected: list[str]) -> list[str]:
-    """What is printed where the memory of a commit is refused."""
-    start = expected.index("deliver 4:", expected.index(RACE))
-    return expected[:start] + FULL + expected[expected.index("a busy server"):]
-
-
-def call_of(lines: list[str], expected: list[str]) -> Optional[str]:
-    """The call that was out of memory and left all as before, if all else is as expected."""
+def is_call(lines: list[str], expected: list[str]) -> bool:
+    """Whether one call was out of memory and left all as before, and all else is as expected."""
     if lines.count(AS_BEFORE) != 1:
-        return None
+        return False
     place = lines.index(AS_BEFORE)
     # (the same call again: its answer stands on a line of its own, behind no `= `)
-    again = lines[:place] + ["= " + it for it in lines[place + 1:place + 2]] + lines[place + 2:]
-    return lines[place - 1].rstrip(":") if again == expected else None
+    return lines[:place] + ["= " + it for it in lines[place + 1:place + 2]] + lines[place + 2:] == expected
 
 
 def test_memory_in_turn(counter: Path) -> None:
     scenes = of_crate("tests_memory")
     assert scenes.is_file(), f"{scenes} is not there; `rt ci` builds it"
     expected = (TOP / "crates/tests_memory/stdout").read_text().splitlines()
+    start = expected.index("deliver 4:", expected.index("a race for a name"))
+    with_full_disk = expected[:start] + FULL + expected[expected.index("a busy server"):]
     ample, count, _ = ran(counter, [scenes], 0)
     assert ample.status == 0 and ample.printed.splitlines() == expected
     calls, commits = 0, 0
     for request in range(1, count + 1):
         end, _, refused = ran(counter, [scenes], request)
         lines = end.printed.splitlines()
-        is_call = call_of(lines, expected) is not None
-        assert end.status == 0 and refused == 1 and (is_call or lines == with_full_disk(expected)), f"request {request}: {lines}"
-        calls, commits = calls + is_call, commits + (not is_call)
+        assert end.status == 0 and refused == 1, end
+        if is_call(lines, expected):
+            calls += 1
+        else:
+            assert lines == with_full_disk, f"request {request}"
+            commits += 1
     # each call that sends or stores asks for memory, and a commit does
     assert commits and calls >= 15

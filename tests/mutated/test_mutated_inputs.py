@@ -1,27 +1,28 @@
-"""Mutated lines, captures, scripts and command lines for the four programs. Each input is drawn from samples of examples/ and of
-this file, by the seed of the commit, or MUTATED_SEED; MUTATED_INPUTS is how many of each kind there are. A run has a limit of
-memory (`ulimit -v`), of files and of time. A program may refuse what it is given, in its own words and with the statuses of
-its manual: it never ends by a signal, writes nothing else to standard error, prints visible ASCII alone, and a line of
-tftp-show for each line. tftp asks a server of this test, and tftpd ends after one wait."""
+"""Mutated lines, captures, scripts and command lines for the four programs. Each input is drawn from samples of
+examples/ and of this file, by the seed of the commit, or MUTATED_SEED; MUTATED_INPUTS is how many of each kind there
+are. A run has a limit of memory (`ulimit -v`), of files and of time. A program may refuse what it is given, in its
+own words and with the statuses of its manual: it never ends by a signal, writes nothing else to standard error,
+prints visible ASCII alone, and a line of tftp-show for each line. tftp asks a server of this test, and tftpd ends
+after one wait."""
 import os
 import re
 import subprocess
 from functools import lru_cache
 from pathlib import Path
-from typing import Any, Callable
+from typing import Any
 
 import pytest
-from hypothesis import HealthCheck, given, seed, settings, strategies as st
+from hypothesis import strategies as st
 
 from lib.addresses import own_address
 from lib.answerer import Answerer
+from lib.mutated import many, mutated
 from lib.packets import error
 from lib.programs import NAMES, TOP, program
-from lib.seeds import commit_seed
 
 HOST = own_address()
 EXAMPLES = TOP / "examples"
-COUNT, SEED = int(os.environ.get("MUTATED_INPUTS", "250")), int(os.environ.get("MUTATED_SEED", "0")) or commit_seed()
+COUNT = int(os.environ.get("MUTATED_INPUTS", "250"))
 # Of a run: the kilobytes of address space, the blocks of a file, and the seconds
 MEMORY, FILE, SECONDS = 400_000, 20_000, 120
 # What a program may write to standard error in its first line; a second has the cause
@@ -44,38 +45,10 @@ WORDS = {
 }
 # what the last words are, so that each run ends soon and asks no other host
 LAST = {"tftp": ["--retries", "0"], "tftpd": ["--rounds", "1", "--listen", f"{HOST}:0"]}
-PIECES = [b"", b"\n", b" ", b"\t", b"0", b"f", b"*", b"-", b"99999999999999999999", b"\0", b"0003", b"0001", b"\r\n",
-          b"18446744073709551615"]
 
 
 def contents(*patterns: str) -> list[bytes]:
     return [path.read_bytes() for pattern in patterns for path in sorted(EXAMPLES.glob(pattern))]
-
-
-@st.composite
-def mutated(draw: Any, texts: list[bytes], has_lines: bool = True) -> bytes:
-    """A text with lines left out or in another order, and some bytes, words or lines changed or repeated."""
-    text = draw(st.sampled_from(texts))
-    lines = text.splitlines(True)
-    if has_lines and draw(st.booleans()):
-        lines = draw(st.permutations(lines))[draw(st.integers(0, 2)):]
-        text = b"".join(lines) * draw(st.sampled_from([1, 1, 1, 3]))
-    for _ in range(draw(st.integers(0, 8))):
-        start = draw(st.integers(0, len(text)))
-        end = min(len(text), start + draw(st.sampled_from([0, 1, 1, 2, 5, 40])))
-        piece = draw(st.sampled_from(PIECES) | st.binary(min_size=1, max_size=4)
-                     | st.sampled_from([2, 3, 200]).map(lambda times: text[start:end] * times) | st.just(text[end:end + 60]))
-        text = text[:start] + piece + text[end:]
-    return text[:2_000_000]
-
-
-def many(*strategies: Any) -> Callable[[Callable[..., None]], Callable[..., None]]:
-    """A test of so many inputs."""
-    def of(test: Callable[..., None]) -> Callable[..., None]:
-        how = settings(max_examples=COUNT, deadline=None, database=None, suppress_health_check=list(HealthCheck))
-        return seed(SEED)(how(given(*strategies)(test)))
-
-    return of
 
 
 @lru_cache(None)
@@ -108,19 +81,19 @@ def judged(room: Path, name: str, words: list[str], given: bytes) -> "subprocess
     return done
 
 
-@many(mutated(contents("packets.hex", "capture.hex")))
+@many(COUNT, mutated(contents("packets.hex", "capture.hex")))
 def test_lines_of_packets(room: Path, given: bytes) -> None:
     """One line for each."""
     done = judged(room, "tftp-show", [], given)
     assert done.returncode == 2 or done.stdout.count(b"\n") == given.count(b"\n") + (given[-1:] not in (b"", b"\n"))
 
 
-@many(mutated(contents("wire.txt", "netboot/uefi.txt")), st.sampled_from(["", "", "--svg picture", "--svg picture --transfer 2"]))
+@many(COUNT, mutated(contents("wire.txt", "netboot/uefi.txt")), st.sampled_from(["", "", "--svg picture", "--svg picture --transfer 2"]))
 def test_captures(room: Path, given: bytes, words: str) -> None:
     judged(room, "tftp-show", ["--flow", *words.split()], given)
 
 
-@many(mutated(contents("*.script")), st.sampled_from(["", "", "", "--svg picture"]))
+@many(COUNT, mutated(contents("*.script")), st.sampled_from(["", "", "", "--svg picture"]))
 def test_scripts_of_play(room: Path, given: bytes, words: str) -> None:
     # (what is long by design: as many bytes or events as a script may have)
     given = re.sub(rb"(random \d+ )(\d{4,})|(\*)(\d{5,})", lambda it: (it[1] or it[3]) + (it[2] or it[4])[:4], given)
@@ -142,7 +115,7 @@ def command_line(draw: Any) -> list[str]:
     return [name, *words, *LAST.get(name, [])]
 
 
-@many(command_line())
+@many(COUNT, command_line())
 def test_command_lines(room: Path, answerer: Answerer, words: list[str]) -> None:
     name, *others = [word.replace("SERVER", answerer.word) for word in words]
     judged(room, name, others, b"")

@@ -1,13 +1,13 @@
 """What docs/OPERATING.md says of networks, in network namespaces.
 
-Three hosts are joined by two links: a client, a router, and a server whose port 69 is redirected, filtered and limited by the
-commands of the page, and that runs the command lines of the units.
+Three hosts are joined by two links: a client, a router, and a server whose port 69 is redirected, filtered and
+limited by the commands of the page, and that runs the command lines of the units.
 """
 import os
 import re
+import select
 import signal
 import subprocess
-import sys
 import tempfile
 import time
 from contextlib import ExitStack
@@ -16,37 +16,18 @@ from typing import Iterator
 
 import pytest
 
-from lib.ends import expect
+from lib.ends import End, Port, ack, data, error, expect, oack, rrq, wait_until
 from lib.hosts import BLOCK, CLIENT, MANY, PATIENCE, SECOND, SERVER, Host
 from lib.programs import TOP, programs
 from lib.units import arguments_of
 
 PAGE = TOP / "docs/OPERATING.md"
-# The time after which a server sends again what a client has not answered, in seconds
-INTERVAL = 20
+# The time after which a server sends again what a client has not answered, and a wait for what does not come, in
+# seconds
+INTERVAL, SILENCE = 20, 2
+ASKED = {"blksize": BLOCK, "timeout": INTERVAL}
 # What the kernel has to know for the trials: each kind of rule once
-KERNEL = """table ip a {
-    ct helper t {
-        type "tftp" protocol udp
-    }
-    chain nat {
-        type nat hook prerouting priority dstnat
-        ip daddr 192.0.2.1 udp dport 69 dnat to 192.0.2.1:6969
-        fib daddr type local udp dport 69 dnat to ip daddr:jhash ip saddr mod 2 seed 69 map { 0 : 6901, 1 : 6902 }
-    }
-    chain last {
-        type nat hook postrouting priority srcnat
-        oifname outer masquerade
-    }
-    chain first {
-        type filter hook prerouting priority filter
-        ct state established,related meta l4proto udp ct original proto-dst 69 accept
-        udp dport 69 ct helper set "t"
-        udp dport 69 meter clients { ip saddr timeout 1h limit rate over 2/minute burst 30 packets } drop
-        udp dport 69 udp sport < 1024 drop
-    }
-}
-"""
+KERNEL = Path(__file__).with_name("kernel.nft").read_text()
 
 
 def block_of(part) -> str:
@@ -77,6 +58,8 @@ class Network:
         self.content = os.urandom(12 * BLOCK + 7)
         (self.root / "a").write_bytes(self.content)
 
+    # ---- servers
+
     def serve(self, words) -> None:
         """Starts a server at the server's host, and waits until it listens."""
         log = tempfile.TemporaryFile("w+")
@@ -85,13 +68,13 @@ class Network:
         self.servers.append((process, log))
         expect(process.stdout.readline()[:10], b"listening ", f"the first word of the server {words}")
 
-    def wait_for_line(self, word) -> None:
-        """Waits until the first server has logged a line that begins with this word, which may be after its answer."""
-        end = time.monotonic() + PATIENCE
-        # (the server writes at the place of this file, which a seek would move)
-        while f"\n{word} ".encode() not in os.pread(self.servers[0][1].fileno(), 1 << 20, 0):
-            expect(time.monotonic() < end, True, f"whether a line {word} is logged in time")
-            time.sleep(0.01)
+    def serve_root(self, port, *words) -> None:
+        """Serves the folder at a port of the first address."""
+        self.serve([self.root, "--listen", f"{SERVER}:{port}", "--forever", *words])
+
+    def logged(self) -> list[bytes]:
+        """The logs so far. (A server writes at the place of its file, which a seek would move.)"""
+        return [os.pread(log.fileno(), 1 << 20, 0) for _, log in self.servers]
 
     def stop(self) -> list[str]:
         """Stops the servers. Returns their logs."""
@@ -106,32 +89,65 @@ class Network:
         self.servers = []
         return logs
 
-    def is_served(self, port=69, options=("--retries", "10"), address=SERVER) -> bool:
-        """Whether the client gets the file from this port. It asks once where it is to get nothing."""
+    # ---- clients
+
+    def transfers(self, *words, host=None) -> "subprocess.CompletedProcess[str]":
+        """What a client says, of the client's host if none is given."""
+        command = (host or self.client).words(self.tftp, *words)
+        return subprocess.run(command, capture_output=True, text=True, timeout=PATIENCE)
+
+    def received(self, address, port, options) -> bytes:
+        """What the client gets of the file from there, or nothing."""
         local = self.root / "local"
-        words = [self.tftp, "get", f"{address}:{port}", "a", local, "--blksize", f"{BLOCK}", "--no-dally", *options]
-        done = subprocess.run(self.client.words(*words), capture_output=True, text=True, timeout=PATIENCE)
-        is_whole = local.exists() and local.read_bytes() == self.content
+        done = self.transfers("get", f"{address}:{port}", "a", local, "--blksize", f"{BLOCK}", "--no-dally", *options)
+        content = local.read_bytes() if local.exists() else b""
         for left in [local, self.root / "local.part"]:
             left.unlink(missing_ok=True)
-        expect(is_whole, done.returncode == 0, f"whether the file is whole where {done} says so")
-        return is_whole
-
-    def received(self, name, address) -> bytes:
-        """The bytes of the file that the client gets from port 69 of this address."""
-        local = self.root / "local"
-        words = [self.tftp, "get", f"{address}:69", name, local, "--blksize", f"{BLOCK}", "--no-dally", "--retries", "10"]
-        subprocess.run(self.client.words(*words), capture_output=True, check=True, timeout=PATIENCE)
-        content = local.read_bytes()
-        local.unlink()
+        expect(bool(content), done.returncode == 0, f"whether the file is there where {done} says so")
         return content
 
-    def ask(self, *words) -> list[str]:
-        """What this script prints as the client, with these words."""
-        words = [sys.executable, str(Path(__file__).with_name("clients.py")), SERVER, f"{BLOCK}", f"{INTERVAL}", *map(str, words)]
-        done = subprocess.run(self.client.words(*words), capture_output=True, text=True, timeout=PATIENCE * 4)
-        expect(done.returncode, 0, f"the status of {words}: {done.stderr}")
-        return done.stdout.split()
+    def is_served(self, is_served=True, port=69, address=SERVER, content=None) -> None:
+        """Whether the client gets the file, or another one, from this port. It asks once where it is to get
+        nothing."""
+        found = self.received(address, port, ["--retries", "10" if is_served else "0"])
+        expect(found == (content or self.content), is_served, f"whether {address}:{port} is served")
+        expect(bool(found), is_served, f"whether {address}:{port} serves anything")
+
+    def ports(self, *addresses, number=0) -> list[Port]:
+        """Ports of the client's host."""
+        with self.client.inside():
+            found = [Port(address, number) for address in addresses]
+        for port in found:
+            self.stack.callback(port.close)
+        return found
+
+
+def answered(ports, wanted) -> tuple[int, int]:
+    """Sends a request from each port, and waits until so many are answered, and some time for one more. Returns how
+    many are, and how many seconds the sending took."""
+    begun, found = time.monotonic(), set[Port]()
+    for port in ports:
+        port.send(rrq("a", **ASKED), (SERVER, 69))
+    seconds, until = int(time.monotonic() - begun), time.monotonic() + PATIENCE
+    while time.monotonic() < until and len(found) < len(ports):
+        waiting = {port.socket: port for port in ports if port not in found}
+        for ready in select.select([*waiting], [], [], 0.1)[0]:
+            _, peer = waiting[ready].receive()
+            waiting[ready].send(error(0, ""), peer)
+            found.add(waiting[ready])
+            until = time.monotonic() + SILENCE if len(found) == wanted else until
+    return len(found), seconds
+
+
+def chatter(port) -> int:
+    """Sends a datagram that is no packet, and another to each answer, ten at most. Returns how many answers there
+    are."""
+    for count in range(10):
+        port.send(b"ABCDEFG", (SERVER, 69))
+        if not select.select([port.socket], [], [], SILENCE)[0]:
+            return count
+        port.receive()
+    return 10
 
 
 @pytest.fixture
@@ -147,80 +163,78 @@ def network() -> Iterator[Network]:
 def test_unit(network) -> None:
     """The unit's own command line serves port 69, and refuses writes."""
     network.serve(arguments_of("tftpd.service"))
-    expect(network.is_served(), True, "whether the unit's command line serves")
-    words = [network.tftp, "put", f"{SERVER}:69", __file__, "new", "--retries", "10"]
-    done = subprocess.run(network.client.words(*words), capture_output=True, text=True, timeout=PATIENCE)
+    network.is_served()
+    done = network.transfers("put", f"{SERVER}:69", __file__, "new", "--retries", "10")
     expect(done.stderr, "tftp: PeerError(2)\ntftp: the server says: access violation\n", "the answer to a write")
-    network.wait_for_line("refused")
+    # (the line may come after the answer)
+    wait_until(lambda: b"\nrefused " in network.logged()[0], "a line of a refused request")
     # (where the host is slow a client asks again, which is ignored, or refused again in the same words)
     lines = [line for line in dict.fromkeys(network.stop()[0]) if not line.startswith("ignored ")]
     expect([line.split()[0] for line in lines], ["listening", "opened", "closed", "refused"], "the lines of the log")
 
 
 def test_redirection(network) -> None:
-    """The redirection serves one address of two, and with a line for each a server for each: a request to one is never
-    answered for another."""
-    network.serve([network.root, "--listen", f"{SERVER}:6969", "--forever"])
-    once = ["--retries", "0"]
-    expect(network.is_served(options=once), False, "whether port 69 is served before it is redirected")
+    """The redirection serves one address of two, and with a line for each a server for each: a request to one is
+    never answered for another."""
+    network.serve_root(6969)
+    network.is_served(False)
     rules = block_of("dnat to")
     network.server.rules(rules)
-    expect(network.is_served(), True, "whether port 69 is served by the redirection")
-    expect(network.is_served(options=once, address=SECOND), False, "whether the second address is served by the first's")
+    network.is_served()
+    network.is_served(False, address=SECOND)
     (network.root / "second").mkdir()
     (network.root / "second/a").write_bytes(network.content[::-1])
     network.serve([network.root / "second", "--listen", f"{SECOND}:6969", "--forever"])
     network.server.rules(rules + rules.splitlines()[-1].replace(SERVER, SECOND))
-    answer = network.received("a", SECOND)
-    expect(answer == network.content[::-1], True, "whether the second address has a server of its own")
-    expect(network.is_served(), True, "whether the first address is served beside it")
+    network.is_served(address=SECOND, content=network.content[::-1])
+    network.is_served()
 
 
 def test_firewall(network) -> None:
     """The firewall of the server, with and without the redirection."""
-    network.serve([network.root, "--listen", f"{SERVER}:6969", "--forever"])
+    network.serve_root(6969)
     both = block_of("dnat to") + f"nft -f - << 'END'\n{block_of('ct original proto-dst 69')}END"
     network.server.rules(both)
-    expect(network.is_served(), True, "whether the firewall admits what is redirected")
-    expect(network.is_served(6969, ["--retries", "0"]), False, "whether the firewall admits another port")
+    network.is_served()
+    network.is_served(False, 6969)
     network.stop()
     network.server.rules(block_of("ct original proto-dst 69"))
-    network.serve([network.root, "--listen", f"{SERVER}:69", "--forever"])
-    expect(network.is_served(), True, "whether the firewall admits requests")
+    network.serve_root(69)
+    network.is_served()
+
+
+# a router that translates addresses, and a client with a firewall of its own
+HIDDEN = "table ip hidden {\nchain last {\ntype nat hook postrouting priority srcnat\noifname outer masquerade\n}\n}\n"
+CLOSED = "table ip own {\nchain input {\ntype filter hook input priority filter; policy drop\n" \
+    "ct state established,related accept\n}\n}\n"
 
 
 def test_translation(network) -> None:
-    """A client behind a router that translates its address is served by the help of the kernel alone."""
-    network.serve([network.root, "--listen", f"{SERVER}:69", "--forever"])
+    """A client behind either is served by the help of the kernel alone."""
+    network.serve_root(69)
     network.server.rules("")
-    hidden = "table ip hidden {\nchain last {\ntype nat hook postrouting priority srcnat\noifname outer masquerade\n}\n}\n"
-    network.router.rules(hidden)
-    expect(network.is_served(options=["--retries", "0"]), False, "whether a client is served without the helper")
-    network.router.rules(hidden + block_of("ct helper set"))
-    expect(network.is_served(), True, "whether a client is served with the helper")
-    network.router.rules("")
-    # a client with a firewall of its own, by the same rules at its output
-    closed = "table ip own {\nchain input {\ntype filter hook input priority filter; policy drop\n" \
-        "ct state established,related accept\n}\n}\n"
-    network.client.rules(closed)
-    expect(network.is_served(options=["--retries", "0"]), False, "whether a client with a firewall is served")
-    network.client.rules(closed + block_of("ct helper set").replace("hook prerouting", "hook output"))
-    expect(network.is_served(), True, "whether a client with a firewall is served with the helper")
-    network.client.rules("")
+    helper = block_of("ct helper set")
+    for host, rules, help_ in [(network.router, HIDDEN, helper),
+                               (network.client, CLOSED, helper.replace("hook prerouting", "hook output"))]:
+        host.rules(rules)
+        network.is_served(False)
+        host.rules(rules + help_)
+        network.is_served()
+        host.rules("")
     network.stop()
 
 
 def test_limit(network) -> None:
     """Of 50 requests of one address 30 are answered, behind the redirection, too; another address is not limited. A
     port of system services is never answered, so that a service which answers everything is not, either."""
-    network.serve([network.root, "--listen", f"{SERVER}:6969", "--cap", "64", "--retries", "0", "--forever"])
+    network.serve_root(6969, "--cap", "64", "--retries", "0")
     network.server.rules(block_of("dnat to") + block_of("limit rate over"))
-    answered, seconds = map(int, network.ask("answers", CLIENT, 50, 30))
+    count, seconds = answered(network.ports(*[CLIENT] * 50), 30)
     # two more a minute, if it took so long to send them
-    expect(30 <= answered <= 30 + seconds // 30, True, f"whether {answered} of 50 requests are answered in {seconds} s")
-    expect(network.ask("answers", MANY[0], 1, 1)[0], "1", "whether another address is answered")
-    expect(network.ask("chatter", MANY[1], 1024)[0], "10", "how many answers a service gets that answers everything")
-    expect(network.ask("chatter", MANY[1], 19)[0], "0", "how many answers it gets from a port of system services")
+    expect(30 <= count <= 30 + seconds // 30, True, f"whether {count} of 50 requests are answered in {seconds} s")
+    expect(answered(network.ports(MANY[0]), 1)[0], 1, "whether another address is answered")
+    for number, count in [(1024, 10), (19, 0)]:
+        expect(chatter(*network.ports(MANY[1], number=number)), count, f"how many answers port {number} gets")
     network.stop()
 
 
@@ -230,22 +244,32 @@ def test_many(network) -> None:
     for port in range(6901, 6909):
         network.serve([it.replace("%i", str(port)) for it in arguments_of("tftpd@.service")])
     network.server.rules((TOP / "packaging/tftpd.nft").read_text())
-    expect(network.ask("fetch", network.root / "a", *MANY), [str(len(MANY))], "how many files are whole")
+    ports = network.ports(*MANY)
+    for port in ports * 2:
+        port.send(rrq("a", **ASKED), (SERVER, 69))
+    # each transfer is open before any goes on
+    ends = [End(port, *port.receive()[::-1]) for port in ports]
+    expect({end.newest for end in ends}, {oack(**ASKED)}, "the answers")
+    for number in range(len(network.content) // BLOCK + 1):
+        for end in ends:
+            end.is_answered(ack(number), data(number + 1, network.content[number * BLOCK:(number + 1) * BLOCK]))
+    for end in ends:
+        end.send(ack(len(network.content) // BLOCK + 1))
+    wait_until(lambda: sum(text.count(b"\nclosed ") for text in network.logged()) == len(MANY), "that the transfers are closed")
     logs = network.stop()
     opened = [line.split()[2].split(":")[0] for log in logs for line in log if line.startswith("opened ")]
     expect(sorted(opened), sorted(MANY), "the clients that were opened")
-    others = [line for log in logs for line in log if not re.match("listening|opened|closed|ignored", line)]
+    others = [line for log in logs for line in log if not re.match("listening|opened|closed .* Complete$|ignored", line)]
     expect(others, [], "the other lines of the logs")
     expect([log for log in logs if len(log) < 2], [], "the logs of servers that were not asked")
 
 
-def both_ways(network, host, address, size) -> None:
+def both_ways(network, host, size) -> None:
     """A client of this host gets a file in blocks of this size from port 69, and puts one."""
     content, local = os.urandom(5 * size + 7), network.root / "local"
     (network.root / "long").write_bytes(content)
-    more = ["--blksize", f"{size}", "--retries", "10"]
-    for words in [["get", f"{address}:69", "long", local, "--no-dally"], ["put", f"{address}:69", local, "new"]]:
-        done = subprocess.run(host.words(network.tftp, *words, *more), capture_output=True, text=True, timeout=PATIENCE)
+    for words in [["get", f"{SERVER}:69", "long", local, "--no-dally"], ["put", f"{SERVER}:69", local, "new"]]:
+        done = network.transfers(*words, "--blksize", f"{size}", "--retries", "10", host=host)
         expect((done.returncode, done.stderr), (0, ""), f"how {words[0]} in blocks of {size} ends")
     expect([(network.root / name).read_bytes() == content for name in ["local", "new"]], [True] * 2, "whether the files are whole")
     for name in ["local", "new", "long"]:
@@ -254,48 +278,47 @@ def both_ways(network, host, address, size) -> None:
 
 def test_large_blocks(network) -> None:
     """Blocks of 8,192 bytes over links of 1,500 go in parts (RFC 791, section 2.3), those of the client too."""
-    network.serve([network.root, "--listen", f"{SERVER}:69", "--max-block", "65464", "--retries", "10", "--forever"])
+    network.serve_root(69, "--max-block", "65464", "--retries", "10")
     for size in [1_432, 1_468, 1_469, 8_192]:
-        both_ways(network, network.client, SERVER, size)
+        both_ways(network, network.client, size)
     network.stop()
 
 
 def test_three_routers(network) -> None:
     """A client behind two more routers: what either sends lives long enough to cross three."""
-    second, third, far = (Host(network.stack) for _ in range(3))
-    network.router.link(second, "to2")
-    second.link(third, "to3")
-    third.link(far, "far")
-    for host, script in [
-            (network.router, "ip address add 203.0.113.1/30 dev to2; ip route add 203.0.113.0/24 via 203.0.113.2"),
-            (second, "ip address add 203.0.113.2/30 dev to2; ip address add 203.0.113.5/30 dev to3; "
-                     "ip route add 203.0.113.8/30 via 203.0.113.6; ip route add default via 203.0.113.1"),
-            (third, "ip address add 203.0.113.6/30 dev to3; ip address add 203.0.113.9/30 dev far; "
-                    "ip route add default via 203.0.113.5"),
-            (far, "ip address add 203.0.113.10/30 dev far; ip route add default via 203.0.113.9")]:
-        host.run(f"{script}; echo 1 > /proc/sys/net/ipv4/ip_forward")
-    network.serve([network.root, "--listen", f"{SERVER}:69", "--retries", "10", "--forever"])
-    both_ways(network, far, SERVER, BLOCK)
+    hosts = [network.router, *(Host(network.stack) for _ in range(3))]
+    for at, (host, other) in enumerate(zip(hosts, hosts[1:])):
+        host.link(other, f"link{at}")
+        host.run(f"ip address add 203.0.113.{4 * at + 1}/30 dev link{at}; echo 1 > /proc/sys/net/ipv4/ip_forward")
+        other.run(f"ip address add 203.0.113.{4 * at + 2}/30 dev link{at}; ip route add default via 203.0.113.{4 * at + 1}")
+    # (the way back)
+    for at, host in enumerate(hosts[:-1]):
+        host.run(f"ip route add 203.0.113.0/24 via 203.0.113.{4 * at + 2}")
+    network.serve_root(69, "--retries", "10")
+    both_ways(network, hosts[-1], BLOCK)
     network.stop()
 
 
-# an address of each block that is of no host of the internet (RFC 1918, RFC 6598, RFC 3927), at its edges
+# an address of each block that is of no host of the internet (RFC 1918, RFC 6598, RFC 3927), at its edges, and others
+# beside these
 PRIVATE = ["10.0.0.1", "10.255.255.254", "172.16.0.1", "172.31.255.254", "192.168.0.1", "192.168.255.254", "100.64.0.1",
            "169.254.1.1"]
+BESIDE = ["9.255.255.254", "11.0.0.1", "172.15.255.254", "172.32.0.1", "198.18.0.1", "223.255.255.254"]
 
 
 def test_private_addresses(network) -> None:
-    """A client of each is answered, and of other addresses beside these blocks."""
-    network.serve([network.root, "--listen", f"{SERVER}:69", "--cap", "64", "--retries", "0", "--forever"])
-    for address in [*PRIVATE, "9.255.255.254", "11.0.0.1", "172.15.255.254", "172.32.0.1", "198.18.0.1", "223.255.255.254"]:
+    """A client of each is answered."""
+    network.serve_root(69, "--cap", "64", "--retries", "0")
+    for address in PRIVATE + BESIDE:
         network.client.run(f"ip address add {address}/32 dev inner")
         network.router.run(f"ip route add {address}/32 dev inner")
-        expect(network.ask("answers", address, 1, 1)[0], "1", f"whether {address} is answered")
+        expect(answered(network.ports(address), 1)[0], 1, f"whether {address} is answered")
     network.stop()
 
 
 def test_removal(network) -> None:
-    """The two commands that remove what failed puts left spare what is an hour old at most, and what is not theirs."""
+    """The two commands that remove what failed puts left spare what is an hour old at most, and what is not
+    theirs."""
     commands = re.findall(r"`(find /srv/tftp[^`]*)`", " ".join(PAGE.read_text().split()))
     expect(len(commands), 2, "how many commands of the page remove files")
     left, kept = [".tftp-40000", "n~tftp"], [".tftp-40001", "m~tftp", "old"]

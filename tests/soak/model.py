@@ -4,7 +4,10 @@ Bytes go in and the bytes of the answer come out: a packet or its first fault (R
 options (RFC 2347 to 2349), the request port, and the four kinds of ends, which never send a DATA again because of a
 repeated ACK (RFC 1123, section 4.2.3.1). test_model.py tries it against worked examples.
 """
-from typing import Any, NamedTuple, Optional, Union
+from typing import Any, Iterator, NamedTuple, Optional
+
+from lib.packets import ack, data, pairs
+from lib.packets import request as packet_of_request
 
 MODES = (b"netascii", b"octet")
 TEXTS = {
@@ -17,93 +20,82 @@ MOST_BLOCKS = 65_535
 U64 = 2**64
 
 
-class Fault(NamedTuple):
-    kind: str
-    at: int
+Fault = NamedTuple("Fault", [("kind", str), ("at", int)])
+# (the kind is "RRQ" or "WRQ", and the options are pairs of name and value)
+Request = NamedTuple("Request", [("kind", str), ("name", bytes), ("mode", bytes), ("options", tuple)])
+Data = NamedTuple("Data", [("number", int), ("block", bytes)])
+Ack = NamedTuple("Ack", [("number", int)])
+Error = NamedTuple("Error", [("code", int), ("text", bytes)])
+Oack = NamedTuple("Oack", [("options", tuple)])
 
 
-class Request(NamedTuple):
-    kind: str  # "RRQ" or "WRQ"
-    name: bytes
-    mode: bytes
-    options: tuple  # of pairs (name, value)
-
-
-class Data(NamedTuple):
-    number: int
-    block: bytes
-
-
-class Ack(NamedTuple):
-    number: int
-
-
-class Error(NamedTuple):
-    code: int
-    text: bytes
-
-
-class Oack(NamedTuple):
-    options: tuple
+class Refused(Exception):
+    """What ends the reading of a datagram by its Fault, or the opening of a transfer by the text of an ERROR."""
 
 
 # ---- packets
 
 
-def string(datagram, start, missing="Unterminated") -> Union[Fault, tuple[bytes, int]]:
-    """The bytes before the next zero byte and the offset after it, or a fault."""
+def string(datagram, start) -> tuple[bytes, int]:
+    """The bytes before the next zero byte and the offset after it."""
     end = datagram.find(b"\0", start)
-    return Fault(missing, start) if end < 0 else (datagram[start:end], end + 1)
+    if end < 0:
+        raise Refused(Fault("Unterminated", start))
+    return datagram[start:end], end + 1
 
 
-def option_list(datagram, start) -> Union[Fault, tuple[tuple[bytes, bytes], ...]]:
-    """The options from this offset to the end, or the first fault."""
-    options = []
+def options_from(datagram, start) -> Iterator[tuple[bytes, bytes]]:
+    """The options from this offset to the end."""
     while start < len(datagram):
-        name = string(datagram, start)
-        if isinstance(name, Fault):
-            return name
-        if not name[0]:
-            return Fault("EmptyOption", start)
-        if name[1] == len(datagram):
-            return Fault("NoValue", name[1])
-        value = string(datagram, name[1])
-        if isinstance(value, Fault):
-            return value
-        options.append((name[0], value[0]))
-        start = value[1]
-    return tuple(options)
+        name, behind = string(datagram, start)
+        if not name:
+            raise Refused(Fault("EmptyOption", start))
+        if behind == len(datagram):
+            raise Refused(Fault("NoValue", behind))
+        value, start = string(datagram, behind)
+        yield name, value
 
 
-def request_of(datagram) -> Union[Fault, Request]:
-    name = string(datagram, 2)
-    if isinstance(name, Fault):
-        return name
-    if not name[0]:
-        return Fault("EmptyName", 2)
-    mode = string(datagram, name[1])
-    if isinstance(mode, Fault):
-        return mode
-    if mode[0].lower() not in MODES:
-        return Fault("Mode", name[1])
-    options = option_list(datagram, mode[1])
-    if isinstance(options, Fault):
-        return options
-    return Request("RRQ" if datagram[1] == 1 else "WRQ", name[0], mode[0].lower(), options)
+def request_of(datagram) -> Request:
+    name, at = string(datagram, 2)
+    if not name:
+        raise Refused(Fault("EmptyName", 2))
+    mode, behind = string(datagram, at)
+    if mode.lower() not in MODES:
+        raise Refused(Fault("Mode", at))
+    return Request("RRQ" if datagram[1] == 1 else "WRQ", name, mode.lower(), tuple(options_from(datagram, behind)))
 
 
-def error_of(datagram) -> Union[Fault, Error]:
-    text = string(datagram, 4)
-    if isinstance(text, Fault):
-        return text
-    return Fault("Trailing", text[1]) if text[1] < len(datagram) else Error(number_at(datagram, 2), text[0])
+def error_of(datagram) -> Error:
+    text, end = string(datagram, 4)
+    if end < len(datagram):
+        raise Refused(Fault("Trailing", end))
+    return Error(number_at(datagram, 2), text)
 
 
-def oack_of(datagram) -> Union[Fault, Oack]:
+def oack_of(datagram) -> Oack:
     if len(datagram) == 2:
-        return Fault("EmptyOack", 2)
-    options = option_list(datagram, 2)
-    return options if isinstance(options, Fault) else Oack(options)
+        raise Refused(Fault("EmptyOack", 2))
+    return Oack(tuple(options_from(datagram, 2)))
+
+
+def data_of(datagram) -> Data:
+    if not number_at(datagram, 2):
+        raise Refused(Fault("BlockZero", 2))
+    return Data(number_at(datagram, 2), datagram[4:])
+
+
+def ack_of(datagram) -> Ack:
+    if len(datagram) > 4:
+        raise Refused(Fault("Trailing", 4))
+    return Ack(number_at(datagram, 2))
+
+
+# by the opcode: what reads a packet, and its shortest and longest length
+KINDS: dict[int, tuple[Any, int, int]] = {
+    1: (request_of, 2, 512), 2: (request_of, 2, 512), 3: (data_of, 4, 65_468), 4: (ack_of, 4, U64), 5: (error_of, 4, 512),
+    6: (oack_of, 2, 512),
+}
 
 
 def number_at(datagram, at) -> int:
@@ -114,48 +106,29 @@ def decode(datagram) -> Any:
     """The packet of a datagram, or its first fault from the left."""
     if len(datagram) < 2:
         return Fault("Short", 0)
-    opcode = number_at(datagram, 0)
-    if not 1 <= opcode <= 6:
+    if number_at(datagram, 0) not in KINDS:
         return Fault("Opcode", 0)
-    longest = 65_468 if opcode == 3 else 512
-    if opcode != 4 and len(datagram) > longest:
+    read, shortest, longest = KINDS[number_at(datagram, 0)]
+    if len(datagram) > longest:
         return Fault("TooLong", longest)
-    if opcode in (3, 4, 5) and len(datagram) < 4:
+    if len(datagram) < shortest:
         return Fault("Short", 2)
-    if opcode in (1, 2):
-        return request_of(datagram)
-    if opcode == 5:
-        return error_of(datagram)
-    if opcode == 6:
-        return oack_of(datagram)
-    number = number_at(datagram, 2)
-    if opcode == 4:
-        return Fault("Trailing", 4) if len(datagram) > 4 else Ack(number)
-    return Data(number, datagram[4:]) if number else Fault("BlockZero", 2)
-
-
-def data(number, block) -> bytes:
-    return b"\0\3" + number.to_bytes(2, "big") + block
-
-
-def ack(number) -> bytes:
-    return b"\0\4" + number.to_bytes(2, "big")
+    try:
+        return read(datagram)
+    except Refused as refused:
+        return refused.args[0]
 
 
 def error(text) -> bytes:
     return b"\0\5" + TEXTS[text].to_bytes(2, "big") + text.encode() + b"\0"
 
 
-def pairs(options) -> bytes:
-    return b"".join(name + b"\0" + value + b"\0" for name, value in options)
-
-
 def oack(agreed) -> bytes:
-    return b"\0\6" + pairs((name, b"%d" % value) for name, value in agreed)
+    return b"\0\6" + pairs(agreed)
 
 
 def request(kind, name, mode, options) -> bytes:
-    return (b"\0\1" if kind == "RRQ" else b"\0\2") + name + b"\0" + mode + b"\0" + pairs(options)
+    return packet_of_request(1 if kind == "RRQ" else 2, name, mode, options)
 
 
 # ---- options
@@ -176,10 +149,10 @@ def is_repeated(options) -> bool:
     return len(names) != len(set(names))
 
 
-def answer(options, kind, mode, length, max_block, max_file) -> Union[str, list[tuple[bytes, int]]]:
-    """The list that a server agrees on, or the text of its ERROR."""
+def answer(options, kind, mode, length, max_block, max_file) -> list[tuple[bytes, int]]:
+    """The list that a server agrees on."""
     if is_repeated(options):
-        return "option refused"
+        raise Refused("option refused")
     agreed = []
     for name, value in ((name.lower(), canonical(value)) for name, value in options):
         if value is None or value not in KNOWN.get(name, ()):
@@ -192,35 +165,27 @@ def answer(options, kind, mode, length, max_block, max_file) -> Union[str, list[
             agreed.append((name, length))
         elif mode == b"octet" and kind == "WRQ":
             if value > max_file:
-                return "disk full"
+                raise Refused("disk full")
             agreed.append((name, value))
     return agreed
 
 
-def agrees(asked, kind, mode, options, limit) -> Union[tuple[str, str], list[tuple[bytes, int]]]:
-    """What a client accepts of an OACK, or the text of its ERROR and the reason."""
+def agrees(asked, kind, mode, options, limit) -> list[tuple[bytes, int]]:
+    """What a client accepts of an OACK; it refuses by the text of its ERROR and the reason."""
     if is_repeated(options):
-        return "option refused", "Refused(Repeated)"
+        raise Refused("option refused", "Refused(Repeated)")
     agreed = []
     for name, value in ((name.lower(), canonical(value)) for name, value in options):
         wanted = asked.get(name) if mode == b"octet" or name != b"tsize" else None
         if wanted is None:
-            return "option refused", "Refused(NotAsked)"
+            raise Refused("option refused", "Refused(NotAsked)")
         if name == b"tsize" and kind == "RRQ" and value is not None:
             if value > limit:
-                return "disk full", "TooLarge"
+                raise Refused("disk full", "TooLarge")
         elif not (value == wanted or (name == b"blksize" and value is not None and 8 <= value <= wanted)):
-            return "option refused", "Refused(BadValue)"
+            raise Refused("option refused", "Refused(BadValue)")
         agreed.append((name, value))
     return agreed
-
-
-def size_of(agreed) -> int:
-    return dict(agreed).get(b"blksize", PLAIN_SIZE)
-
-
-def interval_of(agreed) -> int:
-    return dict(agreed).get(b"timeout", 1)
 
 
 # ---- files
@@ -263,12 +228,14 @@ def path_of(name) -> Optional[bytes]:
 
 class End:
     """One end of a transfer. `outcome` is there once it is closed, `moved` counts its steps with progress."""
+    # whether it has all or has given all, and how many timeouts it has then waited for its peer
+    is_complete, silences, path = False, 0, b""
 
     def __init__(self, peer, agreed, retries, newest) -> None:
-        self.peer, self.size, self.interval = peer, size_of(agreed), interval_of(agreed)
+        self.peer = peer
+        self.size, self.interval = dict(agreed).get(b"blksize", PLAIN_SIZE), dict(agreed).get(b"timeout", 1)
         self.retries = self.left = retries
         self.newest, self.outcome, self.moved = newest, None, 0
-        self.is_complete = False
 
     def close(self, outcome, text=None) -> Optional[bytes]:
         """Closes, and answers by the ERROR of this text."""
@@ -280,6 +247,10 @@ class End:
         self.newest, self.left, self.moved = newest, self.retries, self.moved + 1
         return newest
 
+    def timeouts(self) -> int:
+        """After how many timeouts it closes without progress."""
+        return self.left + 1
+
     def on_timeout(self) -> Optional[bytes]:
         """The datagram that is sent again, if one is."""
         if self.left == 0:
@@ -287,24 +258,31 @@ class End:
         self.left -= 1
         return self.newest
 
+    def is_peer(self, sender) -> bool:
+        return sender == self.peer
+
     def on_datagram(self, sender, datagram) -> Optional[bytes]:
         """The answer, which goes to the sender, if there is one."""
         if self.outcome:
             return None
         is_error = datagram[:2] == b"\0\5"
-        if sender != self.peer:
+        if not self.is_peer(sender):
             return None if is_error else error("unknown transfer id")
         packet = decode(datagram)
         if is_error:
             return self.close(f"PeerError({packet.code})" if isinstance(packet, Error) else "Illegal")
-        return self.on_packet(packet)
+        return self.on_packet(sender, packet)
+
+    def on_packet(self, sender, packet) -> Optional[bytes]:
+        raise NotImplementedError
 
     def illegal(self) -> Optional[bytes]:
         return self.close("Illegal", "illegal operation")
 
 
 class Sender(End):
-    """Sends the blocks of a text. A server's that opened by an OACK has number 0, and so has a client's at its peer's."""
+    """Sends the blocks of a text. A server's that opened by an OACK has number 0, and so has a client's at its
+    peer's."""
 
     def __init__(self, peer, agreed, retries, text, number, newest, is_oack_known=False) -> None:
         super().__init__(peer, agreed, retries, newest)
@@ -314,7 +292,11 @@ class Sender(End):
     def block(self, number) -> bytes:
         return data(number, self.text[(number - 1) * self.size:number * self.size])
 
-    def on_packet(self, packet) -> Optional[bytes]:
+    def wants(self, _) -> bytes:
+        """What a right peer sends next."""
+        return ack(self.number)
+
+    def on_packet(self, sender, packet) -> Optional[bytes]:
         if isinstance(packet, Ack) and packet.number < self.number:
             return None
         if isinstance(packet, Ack) and packet.number == self.number:
@@ -334,7 +316,15 @@ class Receiver(End):
     def __init__(self, peer, agreed, retries, mode, commit, newest, is_oack_known=False) -> None:
         super().__init__(peer, agreed, retries, newest)
         self.mode, self.commit, self.is_oack_known = mode, commit, is_oack_known
-        self.number, self.text, self.silences, self.path = 0, b"", 0, None
+        self.number, self.text = 0, b""
+
+    def wants(self, text) -> bytes:
+        """What a right peer sends next of this text: where all is there, the last block once more."""
+        number = self.number if self.is_complete else self.number + 1
+        return data(number, text[(number - 1) * self.size:number * self.size])
+
+    def timeouts(self) -> int:
+        return 2 - self.silences if self.is_complete else super().timeouts()
 
     def on_timeout(self) -> Optional[bytes]:
         if not self.is_complete:
@@ -348,19 +338,23 @@ class Receiver(End):
             return ack(self.number) if isinstance(packet, Data) and packet.number == self.number else None
         return super().on_datagram(sender, datagram)
 
-    def on_packet(self, packet) -> Optional[bytes]:
+    def on_packet(self, sender, packet) -> Optional[bytes]:
         if isinstance(packet, Data):
             return self.on_data(packet)
         if isinstance(packet, Oack) and self.is_oack_known:
             return ack(0) if self.number == 0 else None
         return self.illegal()
 
+    def is_last(self, packet) -> bool:
+        """Whether this packet has the last block."""
+        return isinstance(packet, Data) and packet.number == self.number + 1 and len(packet.block) < self.size
+
     def on_data(self, packet) -> Optional[bytes]:
         if packet.number <= self.number:
             return ack(self.number) if packet.number == self.number else None
         if packet.number > self.number + 1 or len(packet.block) > self.size:
             return self.illegal()
-        is_last = len(packet.block) < self.size
+        is_last = self.is_last(packet)
         if packet.number == MOST_BLOCKS and not is_last:
             return self.close("TooLarge", "file too large")
         # of what came before, which begins a text, only a CR at its end decides about the next byte
@@ -368,82 +362,82 @@ class Receiver(End):
         if not may_go_on(self.mode, begun + packet.block) or (is_last and self.ends_in_cr(packet.block)):
             return self.close("NotNetascii", "not netascii")
         self.text += packet.block
-        return self.store(packet.number, is_last)
-
-    def ends_in_cr(self, block) -> bool:
-        return self.mode == b"netascii" and (block or self.text)[-1:] == b"\r"
-
-    def store(self, number, is_last) -> Optional[bytes]:
         if is_last:
             refused = self.commit(host_text(self.mode, self.text))
             if refused:
                 return self.close("StoreFault", refused)
             self.is_complete = True
-        self.number = number
-        return self.advance(ack(number))
+        self.number = packet.number
+        return self.advance(ack(packet.number))
+
+    def ends_in_cr(self, block) -> bool:
+        return self.mode == b"netascii" and (block or self.text)[-1:] == b"\r"
 
 
 # ---- clients
 
 
+class Asking(End):
+    """A client that has no peer yet: every port of the server may answer."""
+
+    def __init__(self, client) -> None:
+        super().__init__(client.server, [], client.retries, None)
+        self.client = client
+
+    def is_peer(self, sender) -> bool:
+        return sender[0] == self.peer[0]
+
+    def on_packet(self, sender, packet) -> Optional[bytes]:
+        try:
+            return self.client.opens(sender, packet)
+        except Refused as refused:
+            return self.close(refused.args[1], refused.args[0])
+
+
 class Client:
-    """A client from its request on: `end` is there once it has accepted a peer. Every port of the server may answer."""
+    """A client from its request on. Its end is another once it has accepted a peer."""
 
     def __init__(self, server, kind, mode, asked, retries, text=b"", limit=U64 - 1, commit=lambda content: None) -> None:
         self.server, self.kind, self.mode, self.asked, self.retries = server, kind, mode, asked, retries
         self.text, self.limit, self.commit = text, limit, commit
-        self.end, self.outcome = None, None
+        self.end: Any = Asking(self)
 
     def on_datagram(self, sender, datagram) -> Optional[bytes]:
-        if self.end:
-            return self.end.on_datagram(sender, datagram)
-        if self.outcome:
-            return None
-        is_error = datagram[:2] == b"\0\5"
-        if sender[0] != self.server[0]:
-            return None if is_error else error("unknown transfer id")
-        packet = decode(datagram)
-        if is_error:
-            return self.close(f"PeerError({packet.code})" if isinstance(packet, Error) else "Illegal")
+        return self.end.on_datagram(sender, datagram)
+
+    def has_peer(self) -> bool:
+        return not isinstance(self.end, Asking)
+
+    def opens(self, sender, packet) -> Optional[bytes]:
         if isinstance(packet, Oack):
-            return self.on_oack(sender, packet)
-        return self.on_plain(sender, packet, datagram)
-
-    def close(self, outcome, text=None) -> Optional[bytes]:
-        self.outcome = outcome
-        return error(text) if text else None
-
-    def on_oack(self, sender, packet) -> Optional[bytes]:
-        agreed = agrees(self.asked, self.kind, self.mode, packet.options, self.limit)
-        if isinstance(agreed, tuple):
-            return self.close(agreed[1], agreed[0])
-        return self.read_from(sender, agreed) if self.kind == "RRQ" else self.write_to(sender, agreed, True)
-
-    def on_plain(self, sender, packet, datagram) -> Optional[bytes]:
+            agreed = agrees(self.asked, self.kind, self.mode, packet.options, self.limit)
+            return self.reads(sender, agreed, True) if self.kind == "RRQ" else self.writes(sender, agreed, True)
         if self.kind == "WRQ" and packet == Ack(0):
-            return self.write_to(sender, [], False)
+            return self.writes(sender, [], False)
         if self.kind == "RRQ" and isinstance(packet, Data) and packet.number == 1 and len(packet.block) <= PLAIN_SIZE:
-            self.end = Receiver(sender, [], self.retries, self.mode, self.commit, None)
-            return self.end.on_datagram(sender, datagram)
-        return self.close("Illegal", "illegal operation")
+            self.reads(sender, [], False)
+            return self.end.on_packet(sender, packet)
+        raise Refused("illegal operation", "Illegal")
 
-    def read_from(self, sender, agreed) -> bytes:
-        self.end = Receiver(sender, agreed, self.retries, self.mode, self.commit, ack(0), True)
+    def reads(self, sender, agreed, is_oack_known) -> bytes:
+        newest = ack(0) if is_oack_known else None
+        self.end = Receiver(sender, agreed, self.retries, self.mode, self.commit, newest, is_oack_known)
         return ack(0)
 
-    def write_to(self, sender, agreed, is_oack_known) -> Optional[bytes]:
-        if len(self.text) >= MOST_BLOCKS * size_of(agreed):
-            return self.close("TooLarge", "file too large")
-        self.end = Sender(sender, agreed, self.retries, self.text, 1, None, is_oack_known)
-        return self.end.advance(self.end.block(1))
+    def writes(self, sender, agreed, is_oack_known) -> bytes:
+        end = Sender(sender, agreed, self.retries, self.text, 1, None, is_oack_known)
+        if end.last > MOST_BLOCKS:
+            raise Refused("file too large", "TooLarge")
+        self.end = end
+        return end.advance(end.block(1))
 
 
 # ---- the request port
 
 
 class RequestPort:
-    """A server's request port: its files by path, its folders, and the transfers that it holds. With `uploads`, the path
-    of a folder, files below that alone are written."""
+    """A server's request port: its files by path, its folders, and the transfers that it holds. With `uploads`, the
+    path of a folder, files below that alone are written."""
 
     def __init__(self, files, folders, cap=16, retries=5, max_block=1_428, max_file=4_290_183_239, replaces=False,
                  is_read_only=False, uploads="") -> None:
@@ -462,16 +456,12 @@ class RequestPort:
             return error("illegal operation"), None
         if any(opened == (client, packet) and not end.outcome for end, opened in self.held):
             return None, None
-        path = path_of(packet.name)
-        if path is None:
-            return error("access violation"), None
-        if len(self.held) >= self.cap:
-            return error("server busy"), None
-        opened = (self.read if packet.kind == "RRQ" else self.write)(client, packet, path)
-        if isinstance(opened, str):
-            return error(opened), None
-        self.held.append((opened, (client, packet)))
-        return opened.newest, opened
+        try:
+            end = self.opened(client, packet, path_of(packet.name))
+        except Refused as refused:
+            return error(refused.args[0]), None
+        self.held.append((end, (client, packet)))
+        return end.newest, end
 
     def has_unreported(self) -> bool:
         """Whether a transfer has ended and is not removed: when a server does that, no datagram shows."""
@@ -481,36 +471,37 @@ class RequestPort:
         """The transfer is removed."""
         self.held = [each for each in self.held if each[0] is not end]
 
-    def read(self, client, packet, path) -> Union[str, End]:
+    def opened(self, client, packet, path) -> End:
+        if path is None:
+            raise Refused("access violation")
+        if len(self.held) >= self.cap:
+            raise Refused("server busy")
+        end = (self.read if packet.kind == "RRQ" else self.write)(client, packet, path)
+        end.path = path
+        return end
+
+    def read(self, client, packet, path) -> End:
         if path not in self.files:
-            return "file not found"
+            raise Refused("file not found")
         text = wire_text(packet.mode, self.files[path])
         agreed = answer(packet.options, "RRQ", packet.mode, len(text), self.max_block, self.max_file)
-        if isinstance(agreed, str):
-            return agreed
-        if len(text) >= MOST_BLOCKS * size_of(agreed):
-            return "file too large"
-        number = 0 if agreed else 1
-        end = Sender(client, agreed, self.retries, text, number, oack(agreed))
-        end.path = path
+        end = Sender(client, agreed, self.retries, text, 0 if agreed else 1, oack(agreed))
+        if end.last > MOST_BLOCKS:
+            raise Refused("file too large")
         if not agreed:
             end.newest = end.block(1)
         return end
 
-    def write(self, client, packet, path) -> Union[str, End]:
+    def write(self, client, packet, path) -> End:
         agreed = answer(packet.options, "WRQ", packet.mode, 0, self.max_block, self.max_file)
-        if isinstance(agreed, str):
-            return agreed
         if self.is_read_only or (self.uploads and not path.startswith(self.uploads + b"/")):
-            return "access violation"
+            raise Refused("access violation")
         if path.rpartition(b"/")[0] not in self.folders:
-            return "access violation"
+            raise Refused("access violation")
         if path in self.folders or (path in self.files and not self.replaces):
-            return "file exists"
+            raise Refused("file exists")
         newest = oack(agreed) if agreed else ack(0)
-        end = Receiver(client, agreed, self.retries, packet.mode, lambda content: self.commit(path, content), newest)
-        end.path = path
-        return end
+        return Receiver(client, agreed, self.retries, packet.mode, lambda content: self.commit(path, content), newest)
 
     def commit(self, path, content) -> Optional[str]:
         if path in self.files and not self.replaces:

@@ -4,30 +4,14 @@
 LONGEST = 65_507
 
 
-def some_bytes(rng, most) -> bytes:
+def random_bytes(rng, most=40) -> bytes:
     return rng.randbytes(rng.randrange(most + 1))
 
 
-def cut(rng, datagram) -> bytes:
-    return datagram[:rng.randrange(len(datagram) + 1)]
-
-
-def grown(rng, datagram) -> bytes:
-    return datagram + some_bytes(rng, rng.choice([1, 4, 600]))
-
-
-def with_byte(rng, datagram) -> bytes:
+def spliced(rng, datagram, put, removed=1) -> bytes:
+    """With other bytes in place of some."""
     at = rng.randrange(len(datagram)) if datagram else 0
-    return datagram[:at] + rng.randbytes(1) + datagram[at + 1:]
-
-
-def without_byte(rng, datagram) -> bytes:
-    at = rng.randrange(len(datagram)) if datagram else 0
-    return datagram[:at] + datagram[at + 1:]
-
-
-def with_opcode(rng, datagram) -> bytes:
-    return bytes([0, rng.randrange(9)]) + datagram[2:]
+    return datagram[:at] + put + datagram[at + removed:]
 
 
 def with_number(rng, datagram) -> bytes:
@@ -35,11 +19,15 @@ def with_number(rng, datagram) -> bytes:
     return datagram[:2] + (number % 65_536).to_bytes(2, "big") + datagram[4:]
 
 
-def random_bytes(rng, _) -> bytes:
-    return some_bytes(rng, 40)
-
-
-MUTATIONS = [cut, grown, with_byte, without_byte, with_opcode, with_number, random_bytes]
+MUTATIONS = [
+    lambda rng, datagram: datagram[:rng.randrange(len(datagram) + 1)],
+    lambda rng, datagram: datagram + random_bytes(rng, rng.choice([1, 4, 600])),
+    lambda rng, datagram: spliced(rng, datagram, rng.randbytes(1)),
+    lambda rng, datagram: spliced(rng, datagram, b""),
+    lambda rng, datagram: bytes([0, rng.randrange(9)]) + datagram[2:],
+    with_number,
+    lambda rng, _: random_bytes(rng),
+]
 
 
 def mutated(rng, datagram) -> bytes:

@@ -1,27 +1,65 @@
-"""UDP ports of the loopback network that know when each datagram arrived, and servers at it."""
+"""What the trials share: ports that know when each datagram arrived, an end of the model with its timer, and how a
+trial receives what the model owes it."""
 import select
 import socket
 import struct
 import time
+from collections import Counter
 from contextlib import suppress
-from typing import Any, Iterator
+from typing import Any, Iterable, Iterator
 
-from lib import process
+from lib import ends, stalls
 from lib.addresses import own_network
-from lib.process import PATIENCE, Failure, Program
+from lib.process import PATIENCE, Failure
 
-# (the trials have those of lib/ from here, too)
-__all__ = ["ELSEWHERE", "HOST", "LAST", "PATIENCE", "Failure", "Port", "Program", "Sent", "Server", "Stalled", "wait_for"]
-# How long a server may go on after the time of its trial, in seconds
-LAST = 1_800
 NETWORK = own_network()
 HOST, ELSEWHERE = f"{NETWORK}.1", f"{NETWORK}.2"
-TIMESTAMP = getattr(socket, "SO_TIMESTAMPNS", 35)
+# The longest life of a client, and how long a server may go on after the time of its trial, in seconds
+LIFE, LAST = 900, 1_800
+# How much earlier than the model's a timer may be, in seconds, since two clocks are read that count otherwise
+EARLY = 0.05
+# Nothing is sent to an end that could close within so many seconds. Where a stall of this host takes longer the trial
+# begins again
+STALL = stalls.LIMIT
+# Of so many steps back retransmissions may be on their way
+MOST_STEPS = 3
+# How many transfers of each kind have to be complete
+LEAST = 1
 
 
 class Stalled(Exception):
     """This host let so much time go by between two steps of a trial that an end may have closed: nothing is known of
     what follows, and the trial begins again."""
+
+
+class Port(ends.Port):
+    """A port that the system chooses. `seen` has the last datagrams that it sent and received."""
+
+    def __init__(self, address=HOST) -> None:
+        super().__init__(address)
+        self.socket.setsockopt(socket.SOL_SOCKET, ends.SO_TIMESTAMPNS, 1)
+        self.socket.setsockopt(socket.SOL_SOCKET, socket.SO_RCVBUF, 1 << 20)
+        self.socket.setblocking(False)
+        self.seen = []
+
+    def send(self, datagram, to) -> None:
+        self.seen = [*self.seen[-11:], datagram]
+        super().send(datagram, to)
+
+    def all_arrived(self) -> Iterator[Any]:
+        """The datagrams that wait, each with its sender and the time of its arrival."""
+        with suppress(BlockingIOError):
+            while True:
+                datagram, notes, _, sender = self.socket.recvmsg(65_536, 64)
+                times = [struct.unpack("qq", value[:16]) for _, _, value in notes]
+                self.seen = [*self.seen[-11:], datagram]
+                yield datagram, sender, times[0][0] + times[0][1] / 1e9 if times else time.time()
+
+
+def wait_for(ports, seconds) -> None:
+    """Waits until a datagram or a line is there, or so long."""
+    with suppress(ValueError):
+        select.select([each.socket if isinstance(each, Port) else each for each in ports], [], [], max(seconds, 0))
 
 
 class Sent:
@@ -39,53 +77,74 @@ class Sent:
         return True
 
 
-class Port:
-    """A port that the system chooses. `seen` has the last datagrams that it sent and received."""
+class Timed:
+    """An end of the model: `began` is the earliest time at which the timer of its newest datagram may have begun."""
 
-    def __init__(self, address=HOST) -> None:
-        self.socket = socket.socket(socket.AF_INET, socket.SOCK_DGRAM)
-        self.socket.setsockopt(socket.SOL_SOCKET, TIMESTAMP, 1)
-        self.socket.setsockopt(socket.SOL_SOCKET, socket.SO_RCVBUF, 1 << 20)
-        self.socket.bind((address, 0))
-        self.socket.setblocking(False)
-        self.address = self.socket.getsockname()
-        self.seen = []
+    def __init__(self, end=None, began=0.0) -> None:
+        self.end, self.began, self.older = end, began, list[Sent]()
 
-    def word(self) -> str:
-        return f"{self.address[0]}:{self.address[1]}"
+    def seconds_left(self) -> float:
+        """How long it stays open without progress."""
+        return self.began + self.end.timeouts() * self.end.interval - time.time()
 
-    def note(self, datagram) -> None:
-        self.seen = self.seen[-11:] + [datagram]
+    def newest(self) -> Sent:
+        """What it sends again, which it does not once it has all."""
+        left = 0 if self.end.is_complete else self.end.left
+        return Sent(self.end.newest, self.began - EARLY, self.end.interval, left)
 
-    def send(self, datagram, to) -> float:
-        """Sends a datagram, and returns the time just before."""
-        now = time.time()
-        self.note(datagram)
-        self.socket.sendto(datagram, to)
-        return now
+    def advances(self, newest, began) -> None:
+        """It has made progress behind this newest datagram."""
+        self.older, self.began = [*self.older[-MOST_STEPS + 1:], newest], began
 
-    def arrived(self) -> Iterator[Any]:
-        """The datagrams that wait, each with its sender and the time of its arrival."""
-        with suppress(BlockingIOError):
-            while True:
-                datagram, extra, _, sender = self.socket.recvmsg(65_536, 64)
-                times = [struct.unpack("ll", value[:16]) for _, kind, value in extra if kind == TIMESTAMP]
-                when = times[0][0] + times[0][1] / 1e9 if times else time.time()
-                self.note(datagram)
-                yield datagram, sender, when
-
-    def close(self) -> None:
-        self.socket.close()
+    def repeats(self, datagram, when, is_open=True) -> bool:
+        """Whether a datagram that arrived then is a retransmission that is due: an older one, or the newest."""
+        if any(each.may_come(datagram, when) for each in self.older):
+            return True
+        if not is_open or not self.newest().may_come(datagram, when):
+            return False
+        self.end.on_timeout()
+        self.began += self.end.interval
+        return True
 
 
-def wait_for(ports, seconds) -> None:
-    """Waits until a datagram or a line is there, or so long."""
-    with suppress(ValueError):
-        select.select([each.socket if isinstance(each, Port) else each for each in ports], [], [], max(seconds, 0))
+class Trial:
+    """What a trial has sent and received, and what is owed to it."""
+
+    def __init__(self) -> None:
+        self.counts: Counter[str] = Counter()
+
+    def owed(self) -> list[tuple[Port, bytes]]:
+        """The datagrams that have to come, each with its port."""
+        raise NotImplementedError
+
+    def ports(self) -> list[Any]:
+        """What it receives at."""
+        raise NotImplementedError
+
+    def look(self) -> None:
+        """Takes what waits."""
+        raise NotImplementedError
+
+    def take(self, seconds=PATIENCE) -> None:
+        """Receives for so long, or until all that is owed has come."""
+        end = time.monotonic() + seconds
+        while True:
+            self.look()
+            owed = self.owed()
+            if not owed:
+                return
+            if time.monotonic() > end:
+                raise Failure(f"no answer {owed[0][1][:60]}", owed[0][0].seen)
+            wait_for(self.ports(), 0.2)
 
 
-class Server(process.Server):
-    """A `tftpd` that listens at HOST."""
+def has_least(counts, ways=("reads complete", "writes complete")) -> None:
+    """Some transfers of each kind are complete."""
+    lacking = [way for way in ways if counts[way] < LEAST]
+    if lacking:
+        raise Failure(f"too few {lacking[0]}: {dict(counts)}")
 
-    def __init__(self, program, folder, words, life, limit=None, root=".") -> None:
-        super().__init__(program, HOST, folder, words, life, limit, root)
+
+def close_all(ports: Iterable[Any]) -> None:
+    for port in ports:
+        port.close()

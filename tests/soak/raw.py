@@ -1,43 +1,32 @@
 """Raw clients at one `tftpd`: each answer is compared with the model's, byte for byte.
 
-They send valid, mutated, truncated, repeated, reordered and foreign datagrams in bursts. The model is asked at once, and
-then each expected answer has to arrive. Any other datagram has to be a retransmission that is due. What closes without
-a datagram has to be due, too, after all its retransmissions. At the end the folder has the files of the model and no
-other, and some reads and writes have to be complete.
+They send valid, mutated, truncated, repeated, reordered and foreign datagrams in bursts. The model is asked at once,
+and then each expected answer has to arrive. Any other datagram has to be a retransmission that is due. What closes
+without a datagram has to be due, too, after all its retransmissions. At the end the folder has the files of the model
+and no other, and some reads and writes have to be complete.
 """
-import os
 import random
 import time
 from collections import Counter
+from typing import Any
 
 import model
+import ports
+from lib.process import PATIENCE, Failure, Program, Server
 from mutations import mutated, random_bytes
-from ports import LAST, PATIENCE, Failure, Port, Program, Sent, Server, Stalled, wait_for
-from lib import stalls
+from ports import EARLY, HOST, LAST, LEAST, STALL, Port, Stalled, Timed, close_all, has_least, wait_for
 
-# How much earlier than the model's a timer may be, in seconds, since two clocks are read that count otherwise
-EARLY = 0.05
-# Nothing is sent to an end that could close within so many seconds. Where a stall of this host takes longer the trial
-# begins again
-STALL = stalls.LIMIT
 MOST_CLIENTS = 64
-# The most requests of a burst
-MOST_ASKED = 6
-# How many transfers of each kind have to be complete, and the shortest time of a further trial for them, in seconds
-LEAST, SHORTEST = 1, 5
-# The texts of a server's ERRORs
-ERRORS = {*model.TEXTS}
+# The most requests of a burst, and the shortest time of a further trial for the least of transfers, in seconds
+MOST_ASKED, SHORTEST = 6, 5
+# The texts of a server's ERRORs; files are cut short in tests/tftpd
+ERRORS = {*model.TEXTS} - {"file changed"}
 # How many steps a trial makes for each second that it is given, on a host that has time
 STEPS_A_SECOND = 10
-# The most steps of a burst
-MOST_STEPS = 3
-# The most resident memory of a server at the end
-MOST_MEGABYTES = 12
-MOST_CHECKED = 400
+# The most open files and resident memory of a server at the end, and the latter with the checks of `rt try`
+MOST_FILES, MOST_MEGABYTES, MOST_CHECKED = 7, 12, 400
 SIZES = [8, 9, 100, 511, 512, 513, 1_024, 1_428, 1_468, 8_192, 65_464]
 LENGTHS = [0, 1, 7, 8, 9, 511, 512, 513, 1_024, 1_427, 1_428, 1_429, 5_000, 70_000, 600_000]
-# Files that are cut short while they are read: more bytes than are read at once
-CUT, CUT_LENGTH = [f"cut{at}" for at in range(6)], 300_000
 # The words of a command line for what a request port of the model is made with
 FLAGS = {"replaces": "--overwrite", "is_read_only": "--read-only"}
 
@@ -51,17 +40,13 @@ def words_of(limits) -> list[str]:
     return words
 
 
-class Live:
+class Live(Timed):
     """A client's port, what the request port and the transfer owe it, and the model's end once a transfer opens."""
 
-    def __init__(self, port) -> None:
-        self.port, self.end, self.transfer, self.text = port, None, None, None
-        # whether the file that it reads was cut short meanwhile, and its request
-        self.is_cut, self.request = False, b""
-        # what it sent before its newest steps, of which retransmissions may be on their way
-        self.older = []
-        # `began` is the earliest time at which the timer of the newest datagram may have begun
-        self.refusals, self.expected, self.began = [], [], None
+    def __init__(self, port, request) -> None:
+        super().__init__()
+        self.port, self.request, self.transfer, self.text = port, request, None, b""
+        self.refusals, self.expected = list[bytes](), list[bytes]()
 
     def opens(self, end, text, began) -> None:
         self.end, self.text, self.began = end, text, began
@@ -69,94 +54,64 @@ class Live:
 
     def was_in_time(self) -> None:
         """Nothing can have closed the transfer before what was just sent to it was there."""
-        if self.end and not self.end.outcome and self.left() < EARLY:
+        if self.end and not self.end.outcome and self.seconds_left() < EARLY:
             raise Stalled
-
-    def is_owed(self) -> bool:
-        return bool(self.refusals or self.expected)
 
     def may_close(self, seconds) -> bool:
         """Whether its transfer closes by itself within so many seconds."""
-        return bool(self.end) and self.left() < seconds
-
-    def left(self) -> float:
-        """How long it stays open without progress, in seconds."""
-        end = self.end
-        is_dallying = isinstance(end, model.Receiver) and end.is_complete
-        timeouts = 2 - end.silences if is_dallying else end.left + 1
-        return self.began + timeouts * end.interval - time.time()
+        return bool(self.end) and self.seconds_left() < seconds
 
     def is_open(self) -> bool:
-        return bool(self.end and self.transfer) and not self.end.outcome and self.left() > STALL
-
-    def next_datagram(self) -> bytes:
-        """What a right client would send next."""
-        end = self.end
-        if isinstance(end, model.Sender):
-            return model.ack(end.number)
-        number = end.number if end.is_complete else end.number + 1
-        return model.data(number, self.text[(number - 1) * end.size:number * end.size])
-
-    def ends_with(self, datagram) -> bool:
-        """Whether the server commits a file by this datagram."""
-        end, packet = self.end, model.decode(datagram)
-        return (isinstance(end, model.Receiver) and isinstance(packet, model.Data)
-                and packet.number == end.number + 1 and len(packet.block) < end.size)
+        return bool(self.end and self.transfer) and not self.end.outcome and self.seconds_left() > STALL
 
 
-class Trial:
+class Trial(ports.Trial):
     """A server with raw clients, for some seconds."""
 
     def __init__(self, program, folder, rng, life, **limits) -> None:
-        self.rng, self.folder, self.counts = rng, folder, Counter()
-        self.files = self.make_files(folder)
+        super().__init__()
+        self.rng, self.folder = rng, folder
+        self.files = self.make_files()
         limits = {"cap": MOST_CLIENTS, **limits}
         self.port = model.RequestPort(dict(self.files), [b"sub"], **limits)
-        self.server = Server(program, folder, [*words_of(limits), "--forever"], life)
+        self.server = Server(program, HOST, folder, [*words_of(limits), "--forever"], life)
         self.probe, self.stranger = Port(), Port()
-        self.live, self.commits, self.is_near = [], set(), False
+        self.live: list[Live] = []
+        self.commits, self.is_near = set(), False
         # ports whose transfers timed out, with their requests
-        self.again = []
+        self.again: list[tuple[Port, bytes]] = []
         # the server reads its clock once a round, and handles what came since in that round, too: what is sent now is
         # handled in a round that began after this time
         self.round = time.time()
 
-    def make_files(self, folder) -> dict[bytes, bytes]:
-        (folder / "sub").mkdir()
+    def make_files(self) -> dict[bytes, bytes]:
+        (self.folder / "sub").mkdir()
         files = {}
         for at, length in enumerate(LENGTHS):
             content = self.rng.randbytes(length) if at % 2 else (b"line\r\n\r" * (length // 7 + 1))[:length]
             name = f"sub/f{length}" if at % 3 == 0 else f"f{length}"
             files[name.encode()] = content
-        files |= {name.encode(): (b"a line\n" * CUT_LENGTH)[:CUT_LENGTH] for name in CUT}
-        for name, content in files.items():
-            (folder / name.decode()).write_bytes(content)
+            (self.folder / name).write_bytes(content)
         return files
 
     def close(self) -> None:
         self.server.end()
-        for port in [self.probe, self.stranger, *[each.port for each in self.live], *[port for port, _ in self.again]]:
-            port.close()
+        close_all([self.probe, self.stranger, *[each.port for each in self.live], *[port for port, _ in self.again]])
 
     # ---- what is sent
 
     def options(self) -> list[tuple[bytes, bytes]]:
-        rng, options = self.rng, []
-        choices = [(b"blksize", rng.choice(SIZES + [7, 65_465])), (b"timeout", rng.choice([3, 3, 5, 0, 256])),
-                   (b"tsize", rng.choice([0, 0, 100, 601, 2**64 - 1, 2**64])), (b"windowsize", 4), (b"BLKSIZE", 512),
-                   (b"x", "")]
-        for name, value in rng.sample(choices, rng.randrange(4)):
-            options.append((name, str(value).encode()))
-        return options
+        rng = self.rng
+        choices: list[Any] = [
+            (b"blksize", rng.choice(SIZES + [7, 65_465])), (b"timeout", rng.choice([3, 3, 5, 0, 256])),
+            (b"tsize", rng.choice([0, 0, 100, 601, 2**64 - 1, 2**64])), (b"windowsize", 4), (b"BLKSIZE", 512), (b"x", "")]
+        return [(name, str(value).encode()) for name, value in rng.sample(choices, rng.randrange(4))]
 
     def request(self) -> bytes:
         rng = self.rng
         mode = rng.choice([b"octet", b"octet", b"netascii", b"NetASCII", b"OcTeT", b"mail"])
-        if rng.random() < 0.06:
-            size = rng.choice([512, 1_428, 8_192, 65_464])
-            return model.request("RRQ", rng.choice(CUT).encode(), b"octet", [(b"blksize", b"%d" % size)])
         if rng.random() < 0.03:
-            return model.request("RRQ", f"f{LENGTHS[-1]}".encode(), mode, [(b"blksize", rng.choice([b"8", b"9", b"10"]))])
+            return model.request("RRQ", f"f{LENGTHS[-1]}", mode, [(b"blksize", rng.choice([b"8", b"9", b"10"]))])
         names = [*self.files, *self.files, b"none", b"sub", b"../a", b"a//b", b"/f512", b"a+b", b""]
         if rng.random() < 0.5:
             return model.request("RRQ", rng.choice(names), mode, self.options())
@@ -166,9 +121,10 @@ class Trial:
         return model.request("WRQ", rng.choice(names + written[-2:]), mode, self.options())
 
     def ask(self) -> None:
-        """A burst at the request port. A request may come twice, and other datagrams with it. Where a client may be told
-        that the server is busy, no transfer closes meanwhile: none is near its end, and each that has ended has its line.
-        (The last datagram of a burst may be read half a second after the one before it, which advanced the transfer.)"""
+        """A burst at the request port. A request may come twice, and other datagrams with it. Where a client may be
+        told that the server is busy, no transfer closes meanwhile: none is near its end, and each that has ended has
+        its line. (The last datagram of a burst may be read half a second after the one before it, which advanced the
+        transfer.)"""
         self.is_near = len(self.port.held) + MOST_ASKED > self.port.cap
         if self.is_near and (self.port.has_unreported() or any(each.may_close(STALL) for each in self.live)):
             return
@@ -176,35 +132,30 @@ class Trial:
             live = self.asker()
             self.live.append(live)
             for _ in range(self.rng.choice([1, 1, 2])):
-                self.ask_once(live, live.request)
+                self.ask_once(live)
             live.was_in_time()
         self.was_near_in_time()
 
     def asker(self) -> Live:
         """A client with its request: one whose transfer timed out asks again, which opens a further one."""
         if self.again and self.rng.random() < 0.5:
-            port, request = self.again.pop()
-            live = Live(port)
-            live.request = request
             self.counts["asked again"] += 1
-            return live
-        live = Live(Port())
-        live.request = self.request()
-        if self.rng.random() < 0.3:
-            live.request = mutated(self.rng, live.request)
-        return live
+            return Live(*self.again.pop())
+        request = self.request()
+        return Live(Port(), mutated(self.rng, request) if self.rng.random() < 0.3 else request)
 
     def was_near_in_time(self) -> None:
-        """No transfer has closed by itself since the last requests, where one more or less decides about the answers."""
+        """No transfer has closed by itself since the last requests, where one more or less decides about the
+        answers."""
         if self.is_near and any(each.may_close(EARLY) for each in self.live):
             raise Stalled
 
-    def ask_once(self, live, datagram) -> None:
-        answer, end = self.port.on_datagram(live.port.address, datagram)
-        self.sent(live.port, datagram, self.server.address)
+    def ask_once(self, live) -> None:
+        answer, end = self.port.on_datagram(live.port.address, live.request)
+        self.sent(live.port, live.request, self.server.address)
         if end:
             self.counts["transfers"] += 1
-            live.opens(end, self.text_to_send(end) if isinstance(end, model.Receiver) else None, self.round)
+            live.opens(end, self.text_to_send(end) if isinstance(end, model.Receiver) else b"", self.round)
         elif answer:
             live.refusals.append(answer)
             self.note(answer)
@@ -220,30 +171,27 @@ class Trial:
         is_wrong = end.mode == b"netascii" and self.rng.random() < 0.5
         return content if is_wrong else model.wire_text(end.mode, content)
 
-    def sent(self, port, datagram, to) -> float:
+    def sent(self, port, datagram, to) -> None:
         self.counts["datagrams"] += 1
-        return port.send(datagram, to)
+        port.send(datagram, to)
 
     def datagram_for(self, live) -> bytes:
-        rng, right = self.rng, live.next_datagram()
-        dice = rng.random()
-        if dice < 0.85 or live.is_cut:
+        rng, right, dice = self.rng, live.end.wants(live.text), self.rng.random()
+        if dice < 0.85:
             return right
         if dice < 0.9:
             return right[:2] + (max(live.end.number - 1, 0)).to_bytes(2, "big") + right[4:]
         if dice < 0.94:
             return mutated(rng, right)
-        return rng.choice([right, self.request(), model.error("disk full"), b"\0\5", b"\0\6a\0b\0",
-                           random_bytes(rng, b"")])
+        return rng.choice([right, self.request(), model.error("disk full"), b"\0\5", b"\0\6a\0b\0", random_bytes(rng)])
 
     def converse(self, live) -> None:
         """A burst at the port of a transfer, at times with a stranger's datagram."""
-        # (one of a file that was cut may be the last, for all that the model knows)
-        for _ in range(1 if live.is_cut else self.rng.choice([1, 1, 1, 2, 3])):
+        for _ in range(self.rng.choice([1, 1, 1, 2, 3])):
             if self.rng.random() < 0.03:
                 self.from_stranger(live)
             datagram = self.datagram_for(live)
-            if live.ends_with(datagram):
+            if isinstance(live.end, model.Receiver) and live.end.is_last(model.decode(datagram)):
                 # two commits of one name in one burst have no order
                 if live.end.path in self.commits:
                     return
@@ -253,33 +201,18 @@ class Trial:
                 return
 
     def say(self, live, datagram) -> None:
-        end, moved = live.end, live.end.moved
-        older = Sent(end.newest, live.began - EARLY, end.interval, end.left)
+        newest, moved = live.newest(), live.end.moved
         self.sent(live.port, datagram, live.transfer)
         live.was_in_time()
-        answer = end.on_datagram(live.port.address, datagram)
-        if end.moved > moved:
-            live.older, live.began = [*live.older[-MOST_STEPS + 1:], older], self.round
+        answer = live.end.on_datagram(live.port.address, datagram)
+        if live.end.moved > moved:
+            live.advances(newest, self.round)
         if answer:
             live.expected.append(answer)
             self.note(answer)
 
-    def cut_file(self) -> None:
-        """A file is cut short behind what its reader has, and another takes its name. The reader gets what was read before,
-        and then an ERROR: no short block, which would be mistaken for the last (RFC 1350, section 6)."""
-        readers = [live for live in self.live if live.is_open() and isinstance(live.end, model.Sender)
-                   and live.end.path.decode() in CUT and live.end.number and not live.is_cut]
-        if readers:
-            live = self.rng.choice(readers)
-            path, content = self.folder / live.end.path.decode(), self.port.files[live.end.path]
-            os.truncate(path, self.rng.randrange(live.end.number * live.end.size // 2 + 1))
-            (self.folder / "next").write_bytes(content)
-            os.replace(self.folder / "next", path)
-            for each in self.live:
-                each.is_cut = each.is_cut or (isinstance(each.end, model.Sender) and each.end.path == live.end.path)
-
     def from_stranger(self, live) -> None:
-        datagram = self.rng.choice([live.next_datagram(), b"\0\5\0\0\0", b"\0\5", b"x"])
+        datagram = self.rng.choice([live.end.wants(live.text), b"\0\5\0\0\0", b"\0\5", b"x"])
         answer = live.end.on_datagram(self.stranger.address, datagram)
         self.sent(self.stranger, datagram, live.transfer)
         live.was_in_time()
@@ -291,7 +224,7 @@ class Trial:
         end = time.monotonic() + PATIENCE
         while time.monotonic() < end:
             wait_for([port], 0.5)
-            for found in port.arrived():
+            for found in port.all_arrived():
                 if found[:2] != (answer, sender):
                     raise Failure(f"{found[:2]} in place of {answer} from {sender}", port.seen)
                 return
@@ -299,24 +232,26 @@ class Trial:
 
     # ---- what is received
 
-    def take(self, seconds) -> None:
-        """Receives for so long, or until all that is expected has come."""
-        end = time.monotonic() + seconds
-        while True:
-            if self.is_owed():
-                wait_for([self.server.output, *[each.port for each in self.live]], 0.2)
-            for live in self.live:
-                for found in live.port.arrived():
-                    self.take_of(live, *found)
-            self.take_lines()
-            if not self.is_owed():
-                return
-            if time.monotonic() > end:
-                live = next(each for each in self.live if each.is_owed())
-                raise Failure(f"no answer {[*live.refusals, *live.expected][0][:60]}", live.port.seen)
+    def owed(self) -> list[tuple[Port, bytes]]:
+        return [(each.port, datagram) for each in self.live for datagram in [*each.refusals, *each.expected]]
 
-    def is_owed(self) -> bool:
-        return any(each.is_owed() for each in self.live)
+    def ports(self) -> list[Any]:
+        return [self.server.output, *[each.port for each in self.live]]
+
+    def look(self) -> None:
+        for live in self.live:
+            self.take_all_of(live)
+        for line in self.server.lines():
+            transfer, client, outcome = line.split()
+            found = [each for each in self.live if each.port.address[1] == int(client) and each.transfer
+                     and each.transfer[1] == int(transfer)]
+            if not found:
+                raise Failure(f"a line of no transfer: {line}")
+            self.take_close(found[0], outcome, line)
+
+    def take_all_of(self, live) -> None:
+        for found in live.port.all_arrived():
+            self.take_of(live, *found)
 
     def take_of(self, live, datagram, sender, when) -> None:
         if sender == self.server.address:
@@ -330,37 +265,14 @@ class Trial:
             raise Failure(f"{datagram[:60]} from {sender} in place of {live.transfer}", live.port.seen)
         if live.expected and datagram == live.expected[0]:
             live.expected.pop(0)
-        elif live.expected and live.is_cut and datagram == model.error("file changed"):
-            live.expected.pop(0)
-            live.end.close("SourceFault")
-            self.note(datagram)
+        elif live.repeats(datagram, when):
+            self.counts["retransmissions"] += 1
         else:
-            self.take_again(live, datagram, when)
-
-    def take_again(self, live, datagram, when) -> None:
-        """The datagram is a retransmission that is due."""
-        end = live.end
-        if not any(each.may_come(datagram, when) for each in live.older):
-            newest = Sent(end.newest, live.began - EARLY, end.interval, end.left)
-            if not newest.may_come(datagram, when):
-                since = when - live.began
-                raise Failure(f"{datagram[:60]} after {since:.3f} s, of interval {end.interval}", live.port.seen)
-            end.on_timeout()
-            live.began += end.interval
-        self.counts["retransmissions"] += 1
-
-    def take_lines(self) -> None:
-        for line in self.server.lines():
-            transfer, client, outcome = line.split()
-            found = [each for each in self.live if each.port.address[1] == int(client) and each.transfer
-                     and each.transfer[1] == int(transfer)]
-            if not found:
-                raise Failure(f"a line of no transfer: {line}")
-            self.take_close(found[0], outcome, line)
+            since = when - live.began
+            raise Failure(f"{datagram[:60]} after {since:.3f} s, of interval {live.end.interval}", live.port.seen)
 
     def take_close(self, live, outcome, line) -> None:
-        for found in live.port.arrived():
-            self.take_of(live, *found)
+        self.take_all_of(live)
         end, since = live.end, time.time() - live.began
         if not end.outcome and end.is_complete:
             end.outcome = "Complete" if since > 2 * end.interval - EARLY else "Complete too early"
@@ -372,18 +284,15 @@ class Trial:
         if outcome == "Complete":
             self.counts["reads complete" if isinstance(end, model.Sender) else "writes complete"] += 1
         self.port.has_closed(end)
-        self.forget(live, asks_again=outcome == "TimedOut")
-
-    def forget(self, live, asks_again=False) -> None:
         self.live.remove(live)
-        if asks_again:
+        if outcome == "TimedOut":
             self.again.append((live.port, live.request))
         else:
             live.port.close()
 
     def is_quiet(self) -> None:
-        """Nothing else has been sent: a datagram that has one answer is handled after all before. The server handles one
-        in a round, so that the second is handled in a round that began after the first was sent."""
+        """Nothing else has been sent: a datagram that has one answer is handled after all before. The server handles
+        one in a round, so that the second is handled in a round that began after the first was sent."""
         begun = time.time()
         for _ in range(2):
             self.sent(self.probe, b"?", self.server.address)
@@ -391,48 +300,47 @@ class Trial:
         self.round = begun
         self.take(0)
         self.commits.clear()
-        for live in [each for each in self.live if not each.end]:
-            self.forget(live)
+        close_all(live.port for live in self.live if not live.end)
+        self.live = [live for live in self.live if live.end]
 
     # ---- the whole
 
     def run(self, seconds) -> None:
-        """So many steps as the seconds have, each with numbers of its own: what one draws does not depend on how many the one
-        before has drawn, which follows what came by then."""
+        """So many steps as the seconds have, each with numbers of its own: what one draws does not depend on how many
+        the one before has drawn, which follows what came by then."""
         seed = self.rng.random()
         self.is_quiet()
         for step in range(max(int(seconds * STEPS_A_SECOND), 1)):
             self.rng = random.Random(f"{seed} {step}")
-            dice = self.rng.random()
-            if dice < 0.05:
-                self.cut_file()
-            elif dice < 0.3:
+            if self.rng.random() < 0.3:
                 self.ask()
             else:
-                chosen = self.rng.sample(self.live, min(len(self.live), self.rng.randrange(1, 12)))
-                for live in dict.fromkeys([*chosen, *(each for each in self.live if each.is_cut)]):
+                for live in self.rng.sample(self.live, min(len(self.live), self.rng.randrange(1, 12))):
                     if live.is_open():
                         self.converse(live)
             self.take(PATIENCE)
             self.is_quiet()
 
-    def finish(self) -> tuple[int, float]:
-        """Every transfer closes in time, a get succeeds, and every file is equal."""
+    def finish(self, tftp) -> None:
+        """Every transfer closes in time, little is left open, every file is equal, and a get succeeds."""
         while self.live:
-            longest = max(each.left() for each in self.live)
-            if longest < -PATIENCE / 2:
+            if max(each.seconds_left() for each in self.live) < -PATIENCE / 2:
                 raise Failure("a transfer that does not close", self.live[0].port.seen)
-            wait_for([self.server.output, *[each.port for each in self.live]], 0.5)
+            wait_for(self.ports(), 0.5)
             self.take(0)
-        return self.server.usage()
+        files, megabytes = self.server.usage()
+        if files > MOST_FILES or megabytes > (MOST_CHECKED if self.server.has_checks() else MOST_MEGABYTES):
+            raise Failure(f"{files} open files and {megabytes:.1f} MB at the end")
+        has_files(self.folder, self.port.files)
+        gets(tftp, self.folder, self.server.word, next(iter(self.files)), self.port.files)
 
 
-def run(programs, folder, rng, seconds, **limits) -> dict[str, int]:
-    """Runs a trial, another where this host stalled, and shorter ones where the least of transfers was not reached. Returns
-    their counts together."""
+def run(programs, folder, rng, seconds, **limits) -> Counter[str]:
+    """Runs a trial, another where this host stalled, and shorter ones where the least of transfers was not reached.
+    Returns their counts together."""
     counts, end, at, is_over, seed = Counter(stalls=0), time.monotonic() + seconds + PATIENCE, 0, False, rng.random()
     ways = ["reads complete"] + ["writes complete"] * (not limits.get("is_read_only"))
-    while at == 0 or (not is_over or lacking(counts, ways)) and time.monotonic() < end:
+    while at == 0 or (not is_over or any(counts[way] < LEAST for way in ways)) and time.monotonic() < end:
         place, own = folder / f"{at}", random.Random(f"{seed} {at}")
         place.mkdir()
         try:
@@ -441,35 +349,25 @@ def run(programs, folder, rng, seconds, **limits) -> dict[str, int]:
         except Stalled:
             counts["stalls"] += 1
         at += 1
-    if lacking(counts, ways):
-        raise Failure(f"too few {lacking(counts, ways)[0]}: {dict(counts)}")
+    has_least(counts, ways)
     return counts
 
 
-def lacking(counts, ways) -> list[str]:
-    """Of which transfers there are too few."""
-    return [way for way in ways if counts[way] < LEAST]
-
-
-def run_once(programs, folder, rng, seconds, **limits) -> dict[str, int]:
+def run_once(programs, folder, rng, seconds, **limits) -> Counter[str]:
     """Returns the counts of a trial."""
     trial = Trial(programs["tftpd"], folder, rng, seconds + LAST, **limits)
     try:
         trial.run(seconds)
-        files, megabytes = trial.finish()
-        if files > 7 or megabytes > (MOST_MEGABYTES if not trial.server.has_checks() else MOST_CHECKED):
-            raise Failure(f"{files} open files and {megabytes:.1f} MB at the end")
-        has_files(folder, trial.port.files)
-        gets(programs, folder, trial.server.word, next(iter(trial.files)), trial.port.files)
+        trial.finish(programs["tftp"])
         return trial.counts
     finally:
         trial.close()
 
 
-def gets(programs, folder, server, name, files) -> None:
+def gets(tftp, folder, server, name, files) -> None:
     """A get by `tftp` has what the model says: a mutated request may have been a put that replaced the file."""
-    get = Program([programs["tftp"], "get", server, name.decode(), "got", "--no-dally"], folder, 60)
-    ended = get.ended()
+    with Program([tftp, "get", server, name.decode(), "got", "--no-dally"], folder, 60) as get:
+        ended = get.ended()
     if ended[0] or (folder / "got").read_bytes() != files[name]:
         raise Failure(f"a get at the end: {ended}")
 

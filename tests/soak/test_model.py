@@ -1,6 +1,8 @@
 """The model agrees with worked examples: those of RFC 1350, RFC 2347 to 2349 and RFC 764, and others by hand."""
-from model import (Ack, Client, Data, Error, Fault, Oack, Request, RequestPort, ack, agrees, answer, data, decode, error,
-                   host_text, may_go_on, oack, path_of, wire_text)
+import pytest
+
+from model import (Ack, Client, Data, Error, Fault, Oack, Receiver, Refused, Request, RequestPort, Sender, ack, agrees, answer,
+                   data, decode, error, host_text, may_go_on, oack, path_of, wire_text)
 
 # datagrams as hexadecimal digits, and their packets or first faults
 PACKETS = [
@@ -45,8 +47,8 @@ ANSWERS = [
      [(b"blksize", 1_428), (b"timeout", 3), (b"tsize", 600)]),
     ([(b"blksize", b"7"), (b"timeout", b"0"), (b"tsize", b"1"), (b"windowsize", b"4")], "RRQ", []),
     ([(b"blksize", b"0512"), (b"blksize2", b"9")], "RRQ", []),
-    ([(b"blksize", b"x"), (b"BlkSize", b"512")], "RRQ", "option refused"),
-    ([(b"tsize", b"1001")], "WRQ", "disk full"),
+    ([(b"blksize", b"x"), (b"BlkSize", b"512")], "RRQ", ("option refused",)),
+    ([(b"tsize", b"1001")], "WRQ", ("disk full",)),
 ]
 
 # what a client that asked for blocks of 1,428 and the length accepts
@@ -59,26 +61,29 @@ AGREEMENTS = [
 ]
 
 
-def equal(found, expected, what) -> None:
-    if found != expected:
-        raise AssertionError(f"{what}: {found!r}; expected {expected!r}")
+def told(call, *words) -> object:
+    """What a function returns, or what it refuses by."""
+    try:
+        return call(*words)
+    except Refused as refused:
+        return refused.args
+
+
+ROWS = [
+    *((decode, [bytes.fromhex(digits)], packet) for digits, packet in PACKETS),
+    *((wire_text, [b"netascii", content], text) for content, text in TEXTS),
+    *((host_text, [b"netascii", text], content) for content, text in TEXTS),
+    *((may_go_on, [b"netascii", text], False) for text in (b"\n", b"\ra", b"a\r\r\n")),
+    (may_go_on, [b"netascii", b"a\r"], True),
+    *((path_of, [name], path) for name, path in NAMES),
+    *((answer, [options, kind, b"octet", 600, 1_428, 1_000], expected) for options, kind, expected in ANSWERS),
+    *((agrees, [{b"blksize": 1_428, b"tsize": 0}, "RRQ", b"octet", options, 1_000], agreed) for options, agreed in AGREEMENTS),
+]
 
 
 def test_small_parts() -> None:
-    for digits, packet in PACKETS:
-        equal(decode(bytes.fromhex(digits)), packet, digits)
-    for content, text in TEXTS:
-        equal(wire_text(b"netascii", content), text, content)
-        equal(host_text(b"netascii", text), content, text)
-    for text in (b"\n", b"\ra", b"a\r\r\n"):
-        equal(may_go_on(b"netascii", text), False, text)
-    equal(may_go_on(b"netascii", b"a\r"), True, "a text that is cut in a pair")
-    for name, path in NAMES:
-        equal(path_of(name), path, name)
-    for options, kind, expected in ANSWERS:
-        equal(answer(options, kind, b"octet", 600, 1_428, 1_000), expected, options)
-    for options, expected in AGREEMENTS:
-        equal(agrees({b"blksize": 1_428, b"tsize": 0}, "RRQ", b"octet", options, 1_000), expected, options)
+    for call, words, expected in ROWS:
+        assert told(call, *words) == expected, f"{call.__name__}{words}"
 
 
 def test_exchanges() -> None:
@@ -86,20 +91,39 @@ def test_exchanges() -> None:
     client, stranger, port = ("127.0.0.1", 1), ("127.0.0.1", 2), RequestPort({b"a": b"x" * 600}, [])
     request = b"\0\1a\0octet\0blksize\x00512\0"
     first, end = port.on_datagram(client, request)
-    equal(first, oack([(b"blksize", 512)]), "the answer to a request")
-    equal(port.on_datagram(client, request), (None, None), "the answer to a repeated request")
-    equal(end.on_datagram(client, ack(0)), data(1, b"x" * 512), "the answer to ACK 0")
-    equal(end.on_datagram(stranger, ack(1)), error("unknown transfer id"), "the answer to a stranger")
-    equal(end.on_datagram(client, ack(1)), data(2, b"x" * 88), "the answer to ACK 1")
-    equal(end.on_datagram(client, ack(1)), None, "the answer to a repeated ACK")
-    equal(end.on_timeout(), data(2, b"x" * 88), "the retransmission")
-    equal((end.on_datagram(client, ack(2)), end.outcome), (None, "Complete"), "the last ACK")
+    assert first == oack([(b"blksize", 512)])
+    assert port.on_datagram(client, request) == (None, None)
+    assert end.on_datagram(client, ack(0)) == data(1, b"x" * 512)
+    assert end.on_datagram(stranger, ack(1)) == error("unknown transfer id")
+    assert end.on_datagram(client, ack(1)) == data(2, b"x" * 88)
+    assert end.on_datagram(client, ack(1)) is None
+    assert end.on_timeout() == data(2, b"x" * 88)
+    assert (end.on_datagram(client, ack(2)), end.outcome) == (None, "Complete")
     first, end = port.on_datagram(client, b"\0\2n\0octet\0")
-    equal(first, ack(0), "the answer to a write request")
-    equal(end.on_datagram(client, data(1, b"ABC")), ack(1), "the answer to the last DATA")
-    equal(end.on_datagram(client, data(1, b"ABC")), ack(1), "the answer to the last DATA, repeated")
-    equal(port.files[b"n"], b"ABC", "the file")
-    equal((end.on_timeout(), end.outcome, end.on_timeout(), end.outcome), (None, None, None, "Complete"), "the dally")
+    assert first == ack(0)
+    assert [end.on_datagram(client, data(1, b"ABC")) for _ in range(2)] == [ack(1), ack(1)]
+    assert port.files[b"n"] == b"ABC"
+    assert (end.on_timeout(), end.outcome, end.on_timeout(), end.outcome) == (None, None, None, "Complete")
     reader = Client(client, "RRQ", b"octet", {}, 5)
-    equal(reader.on_datagram(stranger, data(1, b"A")), ack(1), "the answer of a client to DATA 1 of any port")
-    equal(reader.end.peer, stranger, "its peer")
+    assert reader.on_datagram(stranger, data(1, b"A")) == ack(1) and reader.end.peer == stranger
+
+
+def gives_up(limit, slack, retries) -> bool:
+    """Whether a client gives up while its server goes on. Its datagram is received after so many timeouts of the
+    client, the answer is sent some timeouts later, and as many as at first pass until that is received."""
+    options = [(b"blksize", 8)]
+    server = Sender("client", options, retries, bytes(20), 0, oack(options))
+    client = Receiver("server", options, retries, b"octet", lambda _: None, ack(0), True)
+    for _ in range(limit):
+        client.on_timeout()
+    answer = server.on_datagram("client", ack(0))
+    for _ in range(slack + limit):
+        client.on_timeout()
+    return client.on_datagram("server", answer) is None and client.outcome == "TimedOut" and not server.outcome
+
+
+@pytest.mark.parametrize("limit", [1, 2, 3])
+@pytest.mark.parametrize("slack", [0, 1, 2])
+def test_the_bound_of_loss_is_tight(limit, slack) -> None:
+    """`2 * limit + slack` retries are enough (`an_end_outlasts_loss` of `tftp_lives`), and one fewer is not."""
+    assert gives_up(limit, slack, 2 * limit + slack - 1) and not gives_up(limit, slack, 2 * limit + slack)

@@ -1,8 +1,8 @@
 """`tftp` and `tftpd` for some time against a model, a bad network and a bad host.
 
-SOAK_SECONDS, else 30, and SOAK_SEED, else the first digits of the commit, say how many steps there are, and what each draws,
-however long they take. A trial has numbers of its own from the seed. A failure shows the seed, and the last datagrams as lines
-for tftp-show.
+SOAK_SECONDS, else 30, and SOAK_SEED, else the first digits of the commit, say how many steps there are, and what each
+draws, however long they take. A trial has numbers of its own from the seed. A failure shows the seed, and the last
+datagrams as lines for tftp-show.
 """
 import os
 import random
@@ -14,7 +14,6 @@ from typing import Any, Callable
 
 import faults
 import hostile
-import longest
 import lossy
 import pytest
 import raw
@@ -23,9 +22,8 @@ from lib.programs import programs
 from lib.seeds import commit_seed
 
 SECONDS, SEED = float(os.environ.get("SOAK_SECONDS", "30")), int(os.environ.get("SOAK_SEED") or commit_seed())
-# From this time on a file of 65,535 blocks is fetched over the bad network, too, in seconds
-LONG_TRIAL = 120
-# Where so many transfers were opened, each ERROR of a server has to have been seen; and the raw clients open some a second
+# Where so many transfers were opened, each ERROR of a server has to have been seen; and the raw clients open some a
+# second
 MANY, EACH_SECOND = 300, 1
 # Servers of raw clients: with what limits each of them is started
 RAW: dict[str, dict[str, Any]] = {
@@ -36,11 +34,11 @@ RAW: dict[str, dict[str, Any]] = {
 pytestmark = pytest.mark.timeout(SECONDS + 2_000)
 
 
-def tried(run: Callable[..., dict[str, int]], number: int, folder: Path, **limits: Any) -> "Counter[str]":
+def tried(run: Callable[..., "Counter[str]"], number: int, folder: Path, **limits: Any) -> "Counter[str]":
     """The counts of a trial, which are printed."""
     folder.mkdir(exist_ok=True)
     try:
-        counts = Counter(run(programs(["tftp", "tftpd"]), folder, random.Random(SEED * 1_000 + number), SECONDS, **limits))
+        counts = run(programs(["tftp", "tftpd"]), folder, random.Random(SEED * 1_000 + number), SECONDS, **limits)
     except Failure as failure:
         seen = "\n".join(f"  {datagram.hex()}" for datagram in failure.datagrams)
         raise AssertionError(f"seed {SEED}: {failure}\n{seen}") from failure
@@ -61,16 +59,9 @@ def test_raw_clients(tmp_path) -> None:
 
 
 TRIALS = {"hostile servers": hostile.run, "hostile servers, second": hostile.run, "lossy network": lossy.run,
-          "longest file": longest.run, "faults of the host": faults.run}
+          "faults of the host": faults.run}
 
 
 @pytest.mark.parametrize("name", TRIALS)
 def test_trial(name, tmp_path) -> None:
-    counts = tried(TRIALS[name], len(RAW) + [*TRIALS].index(name), tmp_path)
-    if skipped := [what for what in counts if what.startswith("skipped")]:
-        pytest.skip(", ".join(skipped))
-
-
-if SECONDS >= LONG_TRIAL:
-    def test_65535_blocks(tmp_path) -> None:
-        tried(lossy.run, len(RAW) + len(TRIALS), tmp_path, is_long=True)
+    tried(TRIALS[name], len(RAW) + [*TRIALS].index(name), tmp_path)

@@ -1,5 +1,6 @@
-"""Rows of `tftp-play`: what it prints for a script, and its status. The output in scripts.txt is written by hand from RFC 1350,
-sections 2 and 4 to 7, RFC 1123, section 4.2.3.1, and RFC 2347 to 2349."""
+"""Rows of `tftp-play`: what it prints for a script, and its status. The output in scripts.txt is written by hand from
+RFC 1350, sections 2 and 4 to 7, RFC 1123, section 4.2.3.1, and RFC 2347 to 2349. A row has the name of its kind, as
+`play_first`."""
 import hashlib
 import re
 import resource
@@ -14,17 +15,19 @@ from lib.tool import Tool, has_parts
 
 HERE = Path(__file__).resolve().parent
 SCRIPTS, FAULTS = sections(HERE / "scripts.txt"), table(HERE / "faults.txt")
-# A script, its first lines, and command lines with the status, how the message begins, and how the output does
-READ, FIRST = "file a 414243\nget a octet\nsettle 0\n", "#0 10.0.0.2:1024 > 10.0.0.1:69 RRQ a octet\n"
+# A script, its first line, and command lines with the status, how the message begins, and how the output does
+READ, = [row for row in SCRIPTS if row.kind == "play_first"]
+FIRST = READ.printed.splitlines(True)[0]
+GONE = "no such file or directory"
 STATUSES = [
     (["read.script"], 0, "", FIRST), (["/dev/null"], 0, "", ""), (["/dev/null", "--svg", "/dev/null"], 0, "", ""),
     (["get.script"], 1, "", FIRST), (["refused.script", "--events"], 1, "", f"{FIRST}- refuse 1024\n{FIRST.replace('#0', '#1')}"),
     (["--svg"], 2, "error: ", ""), (["--verbose"], 2, "error: ", ""), (["read.script", "read.script"], 2, "error: ", ""),
     ([b"caf\xe9"], 2, "error: ", ""),
     *(([path], 2, f"script: unreadable\ntftp-play: {path}: {reason}\n", "") for path, reason in [
-        ("/missing/a.script", "no such file or directory"), ("missing.script", "no such file or directory"),
-        ("/", "is a directory"), (".", "is a directory")]),
-    (["--svg", "missing/a.svg", "read.script"], 2, "svg: unwritable\ntftp-play: missing/a.svg: no such file or directory\n", "#0 "),
+        ("/missing/a.script", GONE), ("missing.script", GONE), ("/", "is a directory"), (".", "is a directory")]),
+    *((["--svg", path, "read.script"], 2, f"svg: unwritable\ntftp-play: {path}: {reason}\n", READ.printed) for path, reason in [
+        ("missing/a.svg", GONE), ("/missing/a.svg", GONE), ("/dev/full", "no space left on the device")]),
 ]
 
 
@@ -33,89 +36,20 @@ def play(tmp_path) -> Tool:
     return Tool(programs.program("tftp-play"), tmp_path)
 
 
-def of_kinds(*kinds: str) -> pytest.MarkDecorator:
-    """The scripts of these kinds."""
-    rows = [row for row in SCRIPTS if row.kind in kinds]
-    return pytest.mark.parametrize("row", rows, ids=[row.title for row in rows])
-
-
-@of_kinds("first")
-def test_play_first(play, row) -> None:
-    play.prints(row.given, row.printed, row.status)
-
-
-@of_kinds("reads", "quiet")
-def test_read_rows(play, row) -> None:
-    play.prints(row.given, row.printed, row.status)
-
-
-@of_kinds("writes", "unopened")
-def test_write_rows(play, row) -> None:
-    play.prints(row.given, row.printed, row.status)
-
-
-@of_kinds("overwrites")
-def test_overwrite_rows(play, row) -> None:
-    play.prints(row.given, row.printed, row.status)
-
-
-@of_kinds("strays")
-def test_stray_rows(play, row) -> None:
-    play.prints(row.given, row.printed, row.status)
-
-
-@of_kinds("settings")
-def test_settings(play, row) -> None:
-    play.prints(row.given, row.printed, row.status)
-
-
-@of_kinds("refused")
-def test_fault_rows(play, row) -> None:
-    """A block and a commit that are refused. Sources that fail are tried in the crates of tests."""
-    play.prints(row.given, row.printed, row.status)
-
-
-@of_kinds("repeats", "repeated")
-def test_repeat_rows(play, row) -> None:
-    """A repeated request."""
-    play.prints(row.given, row.printed, row.status)
-
-
-def sent(play: Tool, script: str) -> list[str]:
-    """The datagrams that a script prints."""
+def lines_of(play: Tool, script: str) -> list[str]:
+    """What a script without a fault prints."""
     status, printed, errors = play.ran(script)
     expect((status in (0, 1), errors), (True, ""), script)
-    return [line for line in printed.splitlines() if line.startswith("#")]
+    return printed.splitlines()
 
 
-@of_kinds("options")
-def test_option_rows(play, row) -> None:
-    play.prints(row.given, row.printed, row.status)
-
-
-def test_blocks_of_options(play) -> None:
-    """Reads of a full block, which an empty one follows, and of the most blocks there are: with options a request, its OACK
-    and ACK 0, and a DATA and an ACK of each block."""
-    for options, count in [("", 5), (" blksize=512", 7)]:
-        lines = sent(play, f"file a 00*512\nget a octet{options}\nsettle 0\n")
-        expect((len(lines), lines[-2]), (count, f"#{count - 2} 10.0.0.1:1025 > 10.0.0.2:1024 DATA 2 0"), options)
-    most = sent(play, "file a 61*524279\nget a octet blksize=8\nsettle 0\n")
-    expect((len(most), most[-2]), (131_073, "#131071 10.0.0.1:1025 > 10.0.0.2:1024 DATA 65535 7"), "the most blocks")
-
-
-@of_kinds("netascii")
-def test_netascii_rows(play, row) -> None:
-    play.prints(row.given, row.printed, row.status)
-
-
-# Reads in netascii: the content, as a script has it, and the length of each block on the wire
-@pytest.mark.parametrize("content, lengths", [("0D0A41", [5]), ("0A*256", [512, 0]), (511 * "41" + "0A", [512, 1])],
-                         ids=["a CR and an LF", "LF alone", "an LF between two blocks"])
-def test_blocks_of_netascii(play, content, lengths) -> None:
-    lines = sent(play, f"file a {content}\nget a netascii\nsettle 0\n")
-    blocks = [f"DATA {at} {length}" for at, length in enumerate(lengths, 1)]
-    expect([line.split(" > 10.0.0.2:1024 ")[1] for line in lines[1::2]], blocks, "the blocks")
-    expect(len(lines), 1 + 2 * len(blocks), "the datagrams")
+@pytest.mark.parametrize("row", SCRIPTS, ids=lambda row: f"{row.kind}: {row.title}")
+def test_scripts(play, row) -> None:
+    if row.kind == "drawn":
+        # each drawn event prints a line at least
+        assert len(lines_of(play, row.given)) > 10_000
+    else:
+        play.prints(row.given, row.printed, row.status)
 
 
 @pytest.mark.parametrize("number, flaw, script", FAULTS, ids=[f"{row[2][:40]!r}" for row in FAULTS])
@@ -126,9 +60,9 @@ def test_faulty_lines(play, number, flaw, script) -> None:
 
 @pytest.mark.parametrize("words, status, errors, output", STATUSES, ids=[f"{row[0]}" for row in STATUSES])
 def test_statuses(scene, words, status, errors, output) -> None:
-    for name, script in [("read", READ), ("get", "get a octet\n"), ("refused", "get a octet\nrefuse 1024\ntimeout 1024\n")]:
+    for name, script in [("read", READ.given), ("get", "get a octet\n"), ("refused", "get a octet\nrefuse 1024\ntimeout 1024\n")]:
         scene.make(f"{name}.script", script.encode())
-    scene.ends("tftp-play", words, status, errors, output, begins=True)
+    scene.ends("tftp-play", words, status, errors, output, begins=output != READ.printed)
 
 
 def test_help(scene) -> None:
@@ -138,7 +72,8 @@ def test_help(scene) -> None:
 @pytest.mark.parametrize("rows", [requests.PORT, requests.READS, requests.WRITES, requests.REPEATS],
                          ids=["the request port", "reads", "writes", "repeats"])
 def test_port_rows(play, rows) -> None:
-    """Each datagram to the request port has the answer of its row, and opens an end or none; repeats are of one client."""
+    """Each datagram to the request port has the answer of its row, and opens an end or none; repeats are of one
+    client."""
     script, expected, ends = requests.FILES, "", []
     for at, (what, datagram, answer) in enumerate(rows):
         sender = 2000 if rows is requests.REPEATS else 2000 + at
@@ -157,17 +92,10 @@ def test_port_rows(play, rows) -> None:
 
 def test_drawn_events_happen(play) -> None:
     """Nothing is drawn in a world without ends, and no drawn event is refused: each prints a line at least."""
-    status, printed, errors = play.ran("random 7 5\nput n octet 414243\nrandom 7 100\n")
-    shown = [line for line in printed.splitlines() if not line.startswith("end ")]
-    expect((status in (0, 1), shown[0], errors), (True, "#0 10.0.0.2:1024 > 10.0.0.1:69 WRQ n octet", ""), "the first line")
-    assert len(shown) > 100 and "refused" not in printed
-
-
-@of_kinds("drawn")
-def test_drawn_events(play, row) -> None:
-    """Each event prints a line at least, and the script has no fault."""
-    status, printed, errors = play.ran(row.given)
-    assert (status in (0, 1), errors) == (True, "") and len(printed.splitlines()) > 10_000
+    lines = lines_of(play, "random 7 5\nput n octet 414243\nrandom 7 100\n")
+    shown = [line for line in lines if not line.startswith("end ")]
+    expect(shown[0], "#0 10.0.0.2:1024 > 10.0.0.1:69 WRQ n octet", "the first line")
+    assert len(shown) > 100 and not any("refused" in line for line in lines)
 
 
 def test_an_output_takes_nothing(play) -> None:
@@ -175,6 +103,12 @@ def test_an_output_takes_nothing(play) -> None:
 
 
 # ---- limits
+
+
+def test_the_most_blocks(play) -> None:
+    """A request, an OACK and its ACK, and a DATA and an ACK of each block."""
+    sent = [line for line in lines_of(play, "file a 61*524279\nget a octet blksize=8\nsettle 0\n") if line.startswith("#")]
+    expect((len(sent), sent[-2]), (131_073, "#131071 10.0.0.1:1025 > 10.0.0.2:1024 DATA 65535 7"), "the last block")
 
 
 def test_many_files(play) -> None:
@@ -197,8 +131,8 @@ def test_the_longest_content(play) -> None:
 
 
 def test_settle_is_cut(play) -> None:
-    """A `settle` delivers 1,000,000 datagrams at most. Eight clients read 65,535 blocks of 8 bytes each: a request, an
-    OACK, and then an ACK and a DATA of each client in turn, 125,000 for each of the eight."""
+    """A `settle` delivers 1,000,000 datagrams at most. Eight clients read 65,535 blocks of 8 bytes each: a request,
+    an OACK, and then an ACK and a DATA of each client in turn, 125,000 for each of the eight."""
     blocks = (125_000 - 2) // 2
     gets = "get a octet blksize=8\n" * 8
     status, printed, errors = play.ran(f"file a 61*524279\n{gets}settle 0\n")
@@ -210,20 +144,9 @@ def test_settle_is_cut(play) -> None:
     assert "\n#1000007 " in printed and "\n#1000008 " not in printed
 
 
-# Reads and writes in both modes, with and without options, two writes of one name, and drawn events; and the digest of the run
-# on the day on which it was written, which shows that a run of one seed is the same on each day and host
-RANDOM = """\
-file a 61*700
-file b 0D0A*300
-get a octet
-get b netascii
-get a octet blksize=8 timeout=3 tsize
-get b netascii blksize=100
-put n octet 42*600
-put n netascii 0A*300
-put m octet 43*1024 blksize=8 tsize
-random 7 10000
-"""
+# Reads and writes in both modes, with and without options, two writes of one name, and drawn events; and the digest
+# of the run on the day on which it was written, which shows that a run of one seed is the same on each day and host
+RANDOM = (HERE / "random.script").read_text()
 DIGEST = "7a4791433036927cd41efffa6302f35a17a977853c4fe9a7042f598a93c81c18"
 END = re.compile(r"(?m)^end (\d+) (\S+) peer=(\S+) size=(\d+) number=(\d+) complete=(yes|no) (\S+)$")
 
@@ -261,30 +184,12 @@ def test_a_picture(play, row) -> None:
     has_parts(drawn(play, row.given), row.parts())
 
 
-def test_a_name_of_any_bytes(play) -> None:
-    """The special characters of XML are written as its entities (XML 1.0, section 4.6); the bytes of a name that are
-    not visible ASCII are digits already."""
-    svg = drawn(play, "get <&\">'\x01\xff octet\n")
-    has_parts(svg, [(">#0 RRQ &lt;&amp;&quot;&gt;'%01%ff octet<", 1), ("RRQ <", 0)])
-
-
 def test_comments(play) -> None:
-    """A comment is between the events around it. It is escaped, and cut after 96 letters; an empty one is not drawn."""
+    """A comment is between the events around it. It is escaped, and cut after 96 letters; an empty one is not
+    drawn."""
     svg = drawn(play, "# a <&>\nfile a 41\nget a octet\n#\n# \n#b\x01\xff\nsettle 0\n# " + 97 * "c" + "\n")
     texts = ["a &lt;&amp;&gt;", "#0 RRQ a octet", "b??", "#1 DATA 1 1", "#2 ACK 1", "closed Complete", 96 * "c" + ".."]
     heights = [re.findall(rf' y="(\d+)"[^>]*>{re.escape(text)}<', svg) for text in texts]
     expect([len(found) for found in heights], [1] * len(texts), "how often each stands")
     expect(heights, sorted(heights, key=lambda found: int(found[0])), "their order")
     has_parts(svg, [('class="code quiet"', 3)])
-
-
-def test_a_long_run(play) -> None:
-    """200 rows are drawn: the request, and of 250 deliveries 199."""
-    svg = drawn(play, "get a octet\n" + "deliver 0\n" * 250)
-    has_parts(svg, [(">The 51 events after these are not drawn.<", 1), (">#0 again<", 198)])
-
-
-@pytest.mark.parametrize("path, reason", [("/missing/a.svg", "no such file or directory"), ("/dev/full", "no space left on the device")])
-def test_no_picture(play, path, reason) -> None:
-    """If the picture is not written, the output is that without it."""
-    play.fails("deliver 0\n", f"svg: unwritable\ntftp-play: {path}: {reason}\n", ["--svg", path], "refused NoSuchDatagram\n")

@@ -1,41 +1,80 @@
-"""What shows only at length: files beyond 16 MB, retries to their end, each block of a long transfer, 3,000 transfers of one
-server with its memory, its descriptors and the numbers of its log, and how long a block takes."""
+"""What shows only at length: the most blocks of a file, and those of any size; retries to their end, each block of a
+long transfer, 3,000 transfers of one server with its memory, its descriptors and the numbers of its log, and how long
+a block takes."""
 import os
+import random
 import re
 import shutil
 import sys
-import threading
 import time
 from collections import Counter
 from pathlib import Path
 from statistics import median
-from typing import Any
 
 import pytest
 
 from lib.ends import (
-    FILE_NOT_FOUND, PATIENCE, PATIENT, STOP, UNKNOWN, End, ack, bytes_of, data, expect, free_ports, oack, rrq, wrq)
-from lib.exchanges import COUNTED, INTERVAL, has_checks, random_bytes, times_of, usage_of, were_counted
+    FILE_NOT_FOUND, PATIENCE, PATIENT, STOP, UNKNOWN, End, ack, bytes_of, data, expect, free_ports, oack, rrq,
+    wait_until, wrq)
+from lib.exchanges import (
+    COUNTED, INTERVAL, UNHURRIED, has_checks, random_bytes, times_of, usage_of, were_counted)
 from lib.scene import LIFE, Server
+from lib.seeds import commit_seed
 
-# A file beyond what a put may have unsynced, and of no whole number of blocks
-LONG = 20_000_003
+# the longest life of a client of so many blocks, in seconds: they take some, and minutes on a busy host
+LONG_LIFE = 540
+# the most blocks of a transfer, of which the last is shorter; and what a long file repeats: its length is no multiple
+# of a block's
+MOST_BLOCKS, PIECE = 65_535, 1_000_003
+# how many sizes of blocks are tried: a get and a put of each run at once
+SIZES = 12
+
+
+def arrive(scene, content, get_words, put_words) -> None:
+    """A file is got and put at the same time, each byte compared. The copies are removed: they are long."""
+    scene.make("long", content)
+    server = scene.serve("--max-block", "65464", "--forever")
+    more = ["--timeout", f"{2 * UNHURRIED}"]
+    get = scene.tftp("get", server.word, "long", "got", "--no-dally", *more, *get_words)
+    put = scene.tftp("put", server.word, "long", "new", *more, *put_words)
+    get.completes(len(content), LONG_LIFE)
+    put.completes(len(content), LONG_LIFE)
+    for name in ["got", "new"]:
+        found, wrong = scene.content(name), None
+        if found != content:
+            wrong = next((at for at, (one, other) in enumerate(zip(found, content)) if one != other), None)
+        expect((len(found), wrong), (len(content), None), f"the length of {name}, and the first byte that differs")
+    for name in ["long", "got", "new"]:
+        (scene.folder / name).unlink()
 
 
 def test_twenty_megabytes_arrive(scene) -> None:
-    """A get and a put, each byte compared."""
-    content = random_bytes(LONG)
-    scene.make("served/out", content)
-    server = scene.serve("--max-block", "65464", "--forever", root="served")
-    get = scene.tftp("get", server.word, "out", "got", "--blksize", "8192", "--no-dally", "--timeout", "20")
-    put = scene.tftp("put", server.word, "served/out", "in", "--blksize", "65464", "--timeout", "20")
-    get.completes(LONG)
-    put.completes(LONG)
-    for name in ["got", "served/in"]:
-        found = (scene.folder / name).read_bytes()
-        wrong = next((at for at, (one, other) in enumerate(zip(found, content)) if one != other), None) \
-            if found != content else None
-        expect((len(found), wrong), (LONG, None), f"the length of {name}, and the first byte that differs")
+    """A file beyond what a put may have unsynced, and of no whole number of blocks."""
+    arrive(scene, random_bytes(20_000_003), ["--blksize", "8192"], ["--blksize", "65464"])
+
+
+@pytest.mark.parametrize("size, words", [(512, []), (1_428, ["--blksize", "1428"])], ids=["512", "1428"])
+def test_the_most_blocks(scene, size, words) -> None:
+    """More than 32 MB, and more than 93."""
+    length = MOST_BLOCKS * size - 1
+    arrive(scene, (random_bytes(PIECE) * (length // PIECE + 1))[:length], words, words)
+
+
+def test_blocks_of_any_size(scene) -> None:
+    """From 8 bytes to 65,464, by the seed of the commit, of which some have full blocks at their end."""
+    rng = random.Random(seed := commit_seed())
+    sizes = sorted(rng.sample(range(8, 65_465), SIZES - 2) + [8, rng.randrange(9, 512)])
+    contents = {f"{size}": random_bytes(size * rng.randrange(1, 5) + rng.choice([-1, 0, 1])) for size in sizes}
+    scene.make_all(contents)
+    server = scene.serve("--max-block", "65464", "--cap", "64", "--forever")
+    clients = [(scene.tftp(*words, "--blksize", size, "--timeout", f"{UNHURRIED}"), len(content))
+               for size, content in contents.items()
+               for words in [["get", server.word, size, f"{size}.got", "--no-dally"],
+                             ["put", server.word, size, f"{size}.put"]]]
+    for client, length in clients:
+        client.completes(length)
+    print(f"seed {seed}")
+    scene.has_files({f"{size}{ending}": content for size, content in contents.items() for ending in ["", ".got", ".put"]})
 
 
 # ---- retries
@@ -45,19 +84,18 @@ def test_retries_of_a_server_to_their_end(scene) -> None:
     says and once more, a timeout apart, and then the transfer closes."""
     scene.make("a", b"ABC")
     # (a server each, whose waits no other transfer cuts short)
-    servers = [scene.serve("--retries", f"{COUNTED}") for _ in range(3)]
-    silent, reader, writer = (scene.port().is_timed() for _ in servers)
-    silent.send(rrq("a", timeout=INTERVAL), servers[0].address)
-    writer.send(wrq("n", timeout=INTERVAL), servers[1].address)
-    reader.send(rrq("a", timeout=INTERVAL), servers[2].address)
-    answer, transfer = reader.receive()
-    expect(answer, oack(timeout=INTERVAL), "the answer")
-    reader.send(ack(0), transfer)
+    servers = [scene.serve("--retries", f"{retries}") for retries in [COUNTED] * 3 + [0]]
+    silent, reader, writer, once = (scene.port().is_timed() for _ in servers)
+    reading, writing = rrq("a", timeout=INTERVAL), wrq("n", timeout=INTERVAL)
+    for server, port in zip(servers, [silent, writer, reader, once]):
+        server.asked(writing if port is writer else reading, port)
+    reader.opened(oack(timeout=INTERVAL)).send(ack(0))
     for server in servers:
         server.has_closed("TimedOut")
     were_counted(times_of(silent, oack(timeout=INTERVAL)), "an OACK to a reader")
     were_counted(times_of(writer, oack(timeout=INTERVAL)), "an OACK to a writer")
     were_counted(times_of(reader, data(1, b"ABC")), "a DATA")
+    expect(len(times_of(once, oack(timeout=INTERVAL))), 1, "how often an OACK comes with --retries 0")
 
 
 # ---- each block, and who is its client
@@ -66,13 +104,12 @@ MANY_BLOCKS, SMALL = 700, 8
 
 
 def test_each_block_comes_once(scene) -> None:
-    """Of a long get each DATA, and of a long put each ACK, comes once: nothing is sent twice, and nothing beside it."""
+    """Of a long get each DATA, and of a long put each ACK, comes once: nothing is sent twice, and nothing beside
+    it."""
     content = bytes_of(MANY_BLOCKS * SMALL + 3)
     scene.make("a", content)
     server = scene.serve("--rounds", "100000")
-    asked = {"blksize": SMALL, **PATIENT}
-    get = server.opens(rrq("a", **asked), oack(**asked))
-    put = server.opens(wrq("n", **asked), oack(**asked))
+    get, put = server.reads("a", blksize=SMALL), server.writes("n", blksize=SMALL)
     get.newest = put.newest = None
     for number in range(MANY_BLOCKS + 1):
         block = content[number * SMALL:(number + 1) * SMALL]
@@ -85,51 +122,37 @@ def test_each_block_comes_once(scene) -> None:
     scene.has(a=content, n=content)
 
 
-def twin_of(scene, port) -> Any:
-    """A port of the same number at another address."""
-    return scene.port(port.address[1], address=f"{scene.address.rpartition('.')[0]}.254")
-
-
-def ports_with_twins(scene, count) -> list[tuple[Any, Any]]:
-    """Ports that nobody has at the other address either."""
-    first = free_ports(count)
-    return [(port, twin_of(scene, port)) for port in (scene.port(first + at) for at in range(count))]
-
-
 def test_the_same_port_of_another_address_is_foreign(scene) -> None:
     """To a transfer of a server and to one of a client it gets ERROR 5, whatever it sends, and changes nothing
     (RFC 1350, section 4)."""
-    scene.make("a", bytes_of(1_000))
+    content, beside, first = bytes_of(1_000), f"{scene.address.rpartition('.')[0]}.254", free_ports(2)
+    scene.make("a", content)
     server = scene.serve()
-    [(port, twin), (own, other)] = ports_with_twins(scene, 2)
-    unknown = UNKNOWN
-    port.send(rrq("a", **PATIENT), server.address)
-    answer, transfer = port.receive()
-    end = End(port, transfer, answer)
+    # (ports that nobody has at the other address either)
+    (port, twin), (own, other) = [(scene.port(first + at), scene.port(first + at, beside)) for at in range(2)]
+    end = server.reads("a", port=port)
     for datagram in [ack(0), ack(1), rrq("a")]:
-        twin.send(datagram, transfer)
-        expect(twin.receive(), (unknown, transfer), "the answer to the other address")
-    end.is_answered(ack(0), data(1, bytes_of(1_000)[:512]))
-    twin.send(STOP, transfer)
-    end.is_answered(ack(1), data(2, bytes_of(1_000)[512:]))
+        twin.send(datagram, end.peer)
+        expect(twin.receive(), (UNKNOWN, end.peer), "the answer to the other address")
+    end.is_answered(ack(0), data(1, content[:512]))
+    twin.send(STOP, end.peer)
+    end.is_answered(ack(1), data(2, content[512:]))
     end.send(ack(2))
     server.has_closed("Complete")
-    requests = scene.port()
-    client = scene.tftp("get", requests.word, "a", "got", "--no-dally", "--timeout", f"{PATIENT['timeout']}")
-    _, peer = requests.receive()
-    end = End(own, peer)
+    client, asked = scene.begun_get("--no-dally")
+    end = End(own, asked.peer)
     end.is_answered(oack(**PATIENT), ack(0))
-    other.send(data(1, b"of another"), peer)
-    expect(other.receive(), (unknown, peer), "the answer to the other address")
+    other.send(data(1, b"of another"), end.peer)
+    expect(other.receive(), (UNKNOWN, end.peer), "the answer to the other address")
     end.is_answered(data(1, b"ABC"), ack(1))
     client.completes(3)
-    expect((scene.folder / "got").read_bytes(), b"ABC", "the file")
+    expect(scene.content("local"), b"ABC", "the file")
 
 
 def test_ports_cannot_be_foretold(scene) -> None:
-    """Ports of the system's choice, of two servers and of clients: they rise and fall, hardly a step from one to the next
-    comes again, nor does the step of that step, and a server that is started anew has others. So nobody foretells the next
-    from the last ones."""
+    """Ports of the system's choice, of two servers and of clients: they rise and fall, hardly a step from one to the
+    next comes again, nor does the step of that step, and a server that is started anew has others. So nobody
+    foretells the next from the last ones."""
     scene.make("a", b"ABC")
     orders = []
     for _ in range(2):
@@ -159,15 +182,9 @@ def test_client_ports_of_the_whole_range(scene) -> None:
     """Each is served by one server, and gets a file from another port than its own."""
     scene.make("a", b"ABC")
     server = scene.serve("--cap", "64", "--forever")
-    numbers = [number for number in CLIENT_PORTS if number > 1_023 or os.geteuid() == 0]
-    for number in numbers:
-        port = scene.port(number)
-        port.send(rrq("a", **PATIENT), server.address)
-        answer, transfer = port.receive()
-        expect(answer, oack(**PATIENT), f"the answer to port {number}")
-        end = End(port, transfer, answer)
-        end.is_answered(ack(0), data(1, b"ABC"))
-        end.send(ack(1))
+    for number in CLIENT_PORTS:
+        if number > 1_023 or os.geteuid() == 0:
+            server.reads("a", port=scene.port(number)).gets(b"ABC")
 
 
 # ---- many transfers
@@ -179,72 +196,51 @@ PUT_EACH, WAIT_EACH, WAIT = 50, 200, 0.15
 MOST_MORE = 1_000
 # by how many milliseconds the time of its log may be off, since the clock is read once a round
 NEARLY = 20
-
-
-class Log:
-    """The lines that a server prints and logs, as they come: a server whose pipe is full would stop."""
-
-    def __init__(self, process) -> None:
-        self.printed, self.logged = [], []
-        self.threads = [threading.Thread(target=self.take, args=it, daemon=True)
-                        for it in [(process.stdout, self.printed), (process.stderr, self.logged)]]
-        for thread in self.threads:
-            thread.start()
-
-    @staticmethod
-    def take(stream, lines) -> None:
-        with open(stream.fileno(), closefd=False) as text:
-            for line in text:
-                lines.append(line.rstrip("\n"))
-
-    def has(self, lines, count, kind="") -> None:
-        """Waits until there are so many lines that begin so."""
-        end = time.monotonic() + PATIENCE
-        while (found := sum(line.startswith(kind) for line in list(lines))) < count:
-            expect(time.monotonic() < end, True, f"whether {count} lines {kind!r} come, not {found}: {lines[-3:]}")
-            time.sleep(0.02)
-
-
-def has_no_more(pid, fds) -> None:
-    """A process comes to have so many descriptors at most: a port is closed behind the line of its transfer."""
-    end = time.monotonic() + PATIENCE
-    while (found := usage_of(pid)[0]) > fds:
-        expect(time.monotonic() < end, True, f"whether {found} descriptors become {fds}")
-        time.sleep(0.02)
+B_OF = bytes_of(600)
 
 
 class Transfers:
-    """Transfers one after the other, and what the log of each has to say, by its client's port."""
+    """Transfers of a server one after the other, and the lines that their closes are to have in the log."""
 
-    def __init__(self, scene, server, log) -> None:
-        self.scene, self.server, self.log, self.closes = scene, server, log, {}
+    def __init__(self, scene) -> None:
+        """(The server writes into files: it would stop where nobody reads a pipe.)"""
+        self.printed, self.logged = scene.beside("printed"), scene.beside("logged")
+        words = [".", "--listen", f"{scene.address}:0", "--log", "--forever", "--cap", "64", "--retries", "10"]
+        with self.printed.open("wb") as printed, self.logged.open("wb") as logged:
+            process = scene.start("tftpd", words, stdout=printed, stderr=logged)
+        wait_until(self.logged.read_bytes, "the first lines")
+        process.stdout, process.stderr = self.printed.open("rb"), self.logged.open("rb")
+        self.server, self.closes, self.asked = Server(scene, process), Counter[str](), 0
         # how long those that wait are open for their client at least, and at most, in seconds
-        self.waits = {}
-        # how many were asked for, and how many opened
-        self.asked, self.count = 0, 0
+        self.waits = dict[str, tuple[float, float]]()
 
-    def expects(self, end, request, answer, count, again, outcome) -> None:
+    def has(self, path, words, count) -> None:
+        """The server comes to have written these words so many times."""
+        wait_until(lambda: path.read_text().count(words) >= count, f"{count} lines with {words!r}")
+
+    def expects(self, end, request, count, again=0, outcome="Complete") -> None:
         """The line of a close, without its milliseconds."""
-        line = f"closed {end.peer[1]} {end.port.word} {request}: {answer}, {count} bytes, N ms, {again} sent again, {outcome}"
+        answer = f"OACK {request.split()[-1]}"
+        line = (f"closed {end.peer[1]} {end.port.word} {request}: {answer}, {count} bytes, N ms, {again} sent again, "
+                f"{outcome}")
         # (the system may choose a port again)
-        self.closes[line] = self.closes.get(line, 0) + 1
-        self.count += 1
+        self.closes[line] += 1
+        end.port.close()
 
     def one(self) -> None:
         self.asked += 1
         if self.asked % WAIT_EACH == 7:
-            self.get("b", bytes_of(600), WAIT)
+            self.get("b", B_OF, WAIT)
         elif self.asked % PUT_EACH == 0:
             self.put()
         elif self.asked % 10 == 3:
-            self.stopped()
+            end = self.server.first_block("b", B_OF[:512])
+            end.send(STOP)
+            self.expects(end, "RRQ b octet timeout=255", 512, outcome="PeerError(0), ERROR 0 (stop)")
         else:
             self.get("a", b"ABC")
         if self.asked % 10 == 6:
             self.server.refuses(rrq("none"), FILE_NOT_FOUND)
-
-    def close(self, end) -> None:
-        end.port.close()
 
     def get(self, name, content, wait=0.0) -> None:
         asked = time.monotonic()
@@ -255,65 +251,52 @@ class Transfers:
             time.sleep(wait)
         least = time.monotonic() - begun
         end.send(ack(len(blocks)))
-        self.expects(end, f"RRQ {name} octet timeout=255", "OACK timeout=255", len(content), 0, "Complete")
+        self.expects(end, f"RRQ {name} octet timeout=255", len(content))
         if wait:
-            self.log.has(self.log.printed, self.count)
+            self.has(self.printed, f"{end.peer[1]} {end.port.address[1]} Complete\n", 1)
             self.waits[f"{end.peer[1]} {end.port.word}"] = least, time.monotonic() - asked
-        self.close(end)
 
     def put(self) -> None:
         """The last block comes twice, so that its acknowledgement is sent again."""
-        name = f"n{self.asked}"
-        end = self.server.opens(wrq(name, timeout=1), oack(timeout=1))
-        end.is_answered(data(1, b"ABC"), ack(1))
-        end.newest = None
-        end.is_answered(data(1, b"ABC"), ack(1))
-        self.expects(end, f"WRQ {name} octet timeout=1", "OACK timeout=1", 3, 1, "Complete")
-        self.close(end)
-
-    def stopped(self) -> None:
-        end = self.server.reads("b")
-        end.is_answered(ack(0), data(1, bytes_of(600)[:512]))
-        end.send(STOP)
-        self.expects(end, "RRQ b octet timeout=255", "OACK timeout=255", 512, 0, "PeerError(0), ERROR 0 (stop)")
-        self.close(end)
+        end = self.server.opens(wrq(f"n{self.asked}", timeout=1), oack(timeout=1))
+        for _ in range(2):
+            end.newest = None
+            end.is_answered(data(1, b"ABC"), ack(1))
+        self.expects(end, f"WRQ n{self.asked} octet timeout=1", 3, again=1)
 
 
 def test_three_thousand_transfers(scene) -> None:
     """One server opens and closes 3,000, with refusals between them: it has no more descriptors than after the first
     thousand, no more memory, a line for each close, and each number of a line is the client's own."""
-    scene.make("a", b"ABC")
-    scene.make("b", bytes_of(600))
-    words = [".", "--listen", f"{scene.address}:0", "--log", "--forever", "--cap", "64", "--retries", "10"]
-    server = Server(scene, scene.start("tftpd", words))
-    log, usages = Log(server.process), []
-    them = Transfers(scene, server, log)
+    scene.make_all({"a": b"ABC", "b": B_OF})
+    them, usages = Transfers(scene), []
+    pid = them.server.process.pid
     for count in [FIRST, SECOND]:
         for _ in range(count):
             them.one()
-        log.has(log.printed, them.count)
-        usages.append(usage_of(server.process.pid))
+        # (the first line says where it listens)
+        them.has(them.printed, "\n", 1 + them.closes.total())
+        usages.append(usage_of(pid))
     (fds, before), (_, after) = usages
-    log.has(log.logged, them.count, "closed ")
-    has_no_more(server.process.pid, fds)
-    is_slow = has_checks(server.process.pid)
-    server.kill()
-    for thread in log.threads:
-        thread.join(PATIENCE)
-    expect(them.count, FIRST + SECOND, "the transfers that opened")
+    them.has(them.logged, "\nclosed ", them.closes.total())
+    # (a port is closed behind the line of its transfer)
+    wait_until(lambda: usage_of(pid)[0] <= fds, f"{fds} descriptors")
+    is_slow = has_checks(pid)
+    them.server.kill()
     expect(is_slow or after - before < MOST_MORE, True, f"whether {after - before} KB more are few")
-    closed = [line for line in log.logged if line.startswith("closed ")]
+    log = them.logged.read_text().splitlines()
+    closed = [line for line in log if line.startswith("closed ")]
     found = Counter(re.sub(r", \d+ ms,", ", N ms,", line) for line in closed)
-    missing = Counter(them.closes) - found
-    expect((len(closed), list(missing)[:3], list(found - Counter(them.closes))[:3]), (them.count, [], []), "the closes")
-    expect(sum(line.startswith("opened ") for line in log.logged), them.count, "the lines of openings")
-    # the clock is read before a transfer opens and before it closes: of those that wait most have a time between the two of
-    # their client
-    early, late = [], []
+    missing, others = [*(them.closes - found)][:3], [*(found - them.closes)][:3]
+    expect((missing, others), ([], []), "the closes that are missing, and others")
+    count = them.closes.total()
+    expect((count, sum(line.startswith("opened ") for line in log)), (FIRST + SECOND, count), "the lines of openings")
+    # the clock is read before a transfer opens and before it closes: of those that wait most have a time between the
+    # two of their client
+    early, late = list[float](), list[float]()
     for line in closed:
-        own = them.waits.get(" ".join(line.split()[1:3]))
-        if own:
-            millis = int(re.search(r", (\d+) ms,", line)[1])
+        if own := them.waits.get(" ".join(line.split()[1:3])):
+            millis = int(re.findall(r", (\d+) ms,", line)[0])
             early.append(1_000 * own[0] - millis)
             late.append(millis - 1_000 * own[1])
     is_own = len(late) >= 10 and median(early) < NEARLY and median(late) < NEARLY
@@ -327,22 +310,18 @@ O_CLOEXEC = 0o2000000
 
 def test_descriptors_close_on_exec(scene) -> None:
     """A program that either of them started would have none of their files and sockets."""
-    scene.make("a", bytes_of(1_000))
-    scene.make("b", bytes_of(1_000))
+    scene.make_all({"a": bytes_of(1_000), "b": bytes_of(1_000)})
     server = scene.serve("--log", "--overwrite", "--cap", "64")
     server.reads("a")
     server.writes("b")
-    requests = scene.port()
-    client = scene.tftp("get", requests.word, "a", "got", "--timeout", f"{PATIENT['timeout']}")
-    _, peer = requests.receive()
-    End(scene.port(), peer).is_answered(oack(**PATIENT), ack(0))
+    client, _ = scene.patient_get()
     for process in [server.process, client.process]:
         folder, own = Path(f"/proc/{process.pid}"), 0
         for fd in (folder / "fd").iterdir():
-            flags = re.search(r"(?m)^flags:\s*(\d+)", (folder / "fdinfo" / fd.name).read_text())
+            flags = re.findall(r"(?m)^flags:\s*(\d+)", (folder / "fdinfo" / fd.name).read_text())[0]
             if int(fd.name) > 2:
                 own += 1
-                expect(bool(int(flags[1], 8) & O_CLOEXEC), True, f"whether {os.readlink(fd)} is closed on exec")
+                expect(bool(int(flags, 8) & O_CLOEXEC), True, f"whether {os.readlink(fd)} is closed on exec")
         expect(own >= 2, True, f"whether {own} descriptors are more than one")
 
 
@@ -355,8 +334,8 @@ while True:
     port.sendto(datagram, peer)
 """
 ROUNDS, BLOCKS_OF_ROUND = 8, 120
-# what the fastest block may take beside twice the fastest echo, in seconds, the time on a processor and the waits that it
-# may take on average: of all these the host's other work changes little
+# what the fastest block may take beside twice the fastest echo, in seconds, the time on a processor and the waits
+# that it may take on average: of all these the host's other work changes little
 BESIDE_AN_ECHO, ON_A_PROCESSOR, WAITS = 0.000_5, 0.000_15, 1.3
 
 
@@ -378,8 +357,8 @@ def spent_by(pid) -> tuple[float, int]:
 
 
 def test_a_block_takes_little_longer_than_an_echo(scene) -> None:
-    """In turns a server answers ACKs by blocks and a bare loop echoes them: the fastest block takes hardly longer than the
-    fastest echo, and each block some time of a processor and one wait."""
+    """In turns a server answers ACKs by blocks and a bare loop echoes them: the fastest block takes hardly longer
+    than the fastest echo, and each block some time of a processor and one wait."""
     count = ROUNDS * BLOCKS_OF_ROUND
     scene.make("a", bytes_of(512 * count))
     server = scene.serve("--forever")
@@ -397,10 +376,12 @@ def test_a_block_takes_little_longer_than_an_echo(scene) -> None:
         echoes += durations(other, echo, datagrams)
     seconds, waits = ((after - before) / count for after, before in zip(spent_by(pid), (seconds, waits)))
     told = f"{min(blocks) * 1e6:.0f} microseconds, and {min(echoes) * 1e6:.0f} of an echo"
-    expect(min(blocks) < 2 * min(echoes) + BESIDE_AN_ECHO, True, f"whether a block takes little longer than an echo: {told}")
+    is_little = min(blocks) < 2 * min(echoes) + BESIDE_AN_ECHO
+    expect(is_little, True, f"whether a block takes little longer than an echo: {told}")
     expect(waits < WAITS, True, f"whether {waits:.2f} waits a block are few")
     if not has_checks(pid):
-        expect(seconds < ON_A_PROCESSOR, True, f"whether {seconds * 1e6:.0f} microseconds of a processor a block are few")
+        told = f"{seconds * 1e6:.0f} microseconds of a processor a block"
+        expect(seconds < ON_A_PROCESSOR, True, f"whether {told} are few")
 
 
 # the instructions of the program itself a block of 512 bytes are some 1,300 (docs/PERFORMANCE.md)
@@ -417,8 +398,7 @@ def instructions(scene, blocks) -> int:
     at = int(server.stdout.readline().rpartition(b":")[2])
     port = scene.port()
     port.send(rrq(f"{blocks}", **PATIENT), (scene.address, at))
-    answer, transfer = port.receive()
-    end = End(port, transfer, answer)
+    end = port.opened(oack(**PATIENT))
     for number in range(blocks):
         end.answer_to(ack(number))
     end.send(ack(blocks))
@@ -427,8 +407,7 @@ def instructions(scene, blocks) -> int:
 
 
 def test_instructions_of_a_block(scene) -> None:
-    """By callgrind, which counts what the program does and not the host: a long get less a short one, divided by the
-    blocks between them."""
+    """By callgrind, which counts what the program does and not the host: a long get less a short one, for each block."""
     if not shutil.which("valgrind"):
         pytest.skip("no valgrind")
     each = (instructions(scene, LONG_GET) - instructions(scene, SHORT_GET)) / (LONG_GET - SHORT_GET)

@@ -1,67 +1,108 @@
-"""Help texts, and invalid command lines: each fault names the option and its range."""
-from lib.ends import PATIENCE, expect
+"""Command lines of both programs: help, what is invalid, and a `tftpd` that does not start or that cannot print."""
+import os
+import re
+import resource
+import signal
+import subprocess
+from pathlib import Path
+from typing import Callable
 
-GET, PUT = (("tftp", way, "127.0.0.1:69", "a", "b") for way in ("get", "put"))
-TWO = ("--listen", "127.0.0.1:69", "--listen", "127.0.0.2:69")
+import pytest
 
-# Command lines that end with status 0, and a part of what they print
-HELP = [
-    (("tftpd", "--version"), "tftpd 0.1.0 (logic "),
-    (("tftp", "--version"), "tftp 0.1.0 (logic "),
-    (("tftpd", "--help"), "Examples:\n  tftpd "),
-    (("tftp", "--help"), "Examples:\n  tftp get "),
-    (("tftp", "get", "--help"), "--blksize <8..65464>"),
-    (("tftp", "get", "--help"), "--no-dally "),
-]
+from lib.ends import PATIENCE, expect, rrq, wait_until
+from lib.scene import RETRIES, few_files, next_line, written_by
+from lib.sections import table
 
-# Command lines that end with status 2, and a part of what they write to standard error
-FAULTS = [
-    ((*PUT, "--no-dally"), "'--no-dally'"),
-    (("tftpd", ".", "--max-block", "7"), "'--max-block <8..65464>'"),
-    (("tftpd", ".", "--max-file", "18446744073709551616"), "'--max-file <0..2^64-1>'"),
-    (("tftpd", ".", "--retries", "11"), "'--retries <0..10>'"),
-    (("tftpd", ".", "--cap", "65"), "'--cap <1..64>'"),
-    (("tftpd", ".", "--per-client", "65"), "'--per-client <1..64>'"),
-    (("tftpd", ".", "--per-client", "0"), "'--per-client <1..64>'"),
-    (("tftpd", ".", "--longest", "0"), "'--longest <1..4294967295>'"),
-    (("tftpd", ".", "--length-memory", "18446744073709551616"), "'--length-memory <0..2^64-1>'"),
-    (("tftpd", ".", "--transfers", "0"), "'--transfers <1..4294967295>'"),
-    (("tftpd", ".", "--rounds", "0"), "'--rounds <1..4294967295>'"),
-    (("tftpd", ".", "--forever", "--transfers", "2"),
-     "'--forever' cannot be used with '--transfers <1..4294967295>'"),
-    (("tftpd", ".", "--rounds", "2", "--forever"), "'--forever' cannot be used with '--rounds <1..4294967295>'"),
-    (("tftpd", ".", "--log-time"), "the argument '--log-time' needs '--log'"),
-    (("tftpd", ".", "--read-only", "--uploads", "in"), "'--read-only' cannot be used with '--uploads <FOLDER>'"),
-    (("tftpd", ".", "--listen", "localhost:69"), "invalid value 'localhost:69' for '--listen <ADDR:PORT|stdin>'"),
-    (("tftpd", ".", *TWO, "--listen", "127.0.0.1", "--forever"),
-     "invalid value '127.0.0.1' for '--listen <ADDR:PORT|stdin>'"),
-    (("tftpd", ".", *TWO), "more than one '--listen <ADDR:PORT|stdin>' needs '--forever'"),
-    (("tftpd", ".", *TWO, "--listen", "127.0.0.2:69", "--forever"), "two of '--listen <ADDR:PORT|stdin>' are the same"),
-    (("tftpd", ".", *TWO, "--listen", "stdin", "--forever"), "'--listen stdin' cannot be used with another '--listen"),
-    (("tftpd", ".", *TWO, "--servers", "33", "--forever"), "ask for more than 64 servers"),
-    (("tftpd", ".", *TWO, "--ports", "9:9", "--forever"), "'--ports <A:B>': fewer ports than servers"),
-    (("tftpd", ".", "--ports", "9:8"), "invalid value '9:8' for '--ports <A:B>'"),
-    (("tftp", "get", "a:69", "a", "b"), "invalid value 'a:69' for '<ADDR:PORT>'"),
-    (("tftp", "get", "127.0.0.1:0", "a", "b"), "invalid value '127.0.0.1:0' for '<ADDR:PORT>'"),
-    (("tftp", "get", "a:69", "a", "b"), "Usage: tftp get [OPTIONS] <ADDR:PORT> <NAME> <LOCAL>\n"),
-    (("tftp", "put", "a:69", "a", "b"), "Usage: tftp put [OPTIONS] <ADDR:PORT> <LOCAL> <NAME>\n"),
-    ((*GET, "--blksize", "65465"), "'--blksize <8..65464>'"),
-    ((*PUT, "--timeout", "0"), "'--timeout <1..255>'"),
-    ((*PUT, "--retries", "11"), "'--retries <0..10>'"),
-]
+ROWS = table(Path(__file__).with_name("command_lines.txt"))
+RANGES, FAULTS, STARTS = ([row[1:] for row in ROWS if row[0] == kind] for kind in ["range", "fault", "start"])
+# what is said of a line that cannot be printed
+UNWRITABLE = "tftpd: output fault\ntftpd: standard output: cannot be written\n"
 
 
-def writes(scene, words, status, parts) -> None:
-    """A command ends with this status, and what it writes to standard output and error has these parts, or is empty."""
+@pytest.mark.parametrize("command, part", [("tftpd", "Examples:\n  tftpd "), ("tftp", "Examples:\n  tftp get "),
+                                           ("tftp get", "--no-dally "), ("tftp put", "")])
+def test_help(scene, command, part) -> None:
+    expect(part in scene.has_help(*command.split()), True, f"whether {part!r} is in the help of {command}")
+
+
+def is_fault(scene, words, part) -> None:
+    """A command line is not understood, and what is said has this part."""
     process = scene.start(words[0], words[1:])
-    wrote = [text.decode() for text in process.communicate(timeout=PATIENCE)]
-    expect(process.returncode, status, f"the status of {words}")
-    for text, part in zip(wrote, parts):
-        expect(part in text if part else not text, True, f"what {words} writes, {text!r}, has {part!r}")
+    printed, errors = written_by(process, PATIENCE)
+    found = (process.returncode, printed, errors[:7], part in errors)
+    expect(found, (2, "", "error: ", True), f"whether {words} has {part!r} in {errors!r}")
+
+
+@pytest.mark.parametrize("command, option, numbers, below, above", RANGES)
+def test_ranges(scene, command, option, numbers, below, above) -> None:
+    """Each fault names the option and its range."""
+    for value in [below, above, "x", ""]:
+        is_fault(scene, [*command.split(), f"{option}={value}"], f"'{option} {numbers}'")
 
 
 def test_help_and_faults(scene) -> None:
-    for words, part in HELP:
-        writes(scene, words, 0, (part, ""))
-    for words, part in FAULTS:
-        writes(scene, words, 2, ("", part))
+    scene.make_all({"served/below/a": b"", "folder": None})
+    for command, part in FAULTS:
+        is_fault(scene, command.split(), part)
+
+
+def test_server_faults(scene) -> None:
+    """Status 2, in the order command line, ROOT, port: each fault also where a later one holds, too. No file is
+    made."""
+    scene.make_all({"abc": b"ABC", "served/below/a": b"A", "down": "served/below", "runs": None, "same": "runs"})
+    names = {"FREE": f"{scene.address}:0", "TAKEN": scene.port().word, "HERE": str(scene.folder)}
+    before = sorted(scene.folder.rglob("*"))
+    for row in STARTS:
+        command, said = (re.sub("FREE|TAKEN|HERE", lambda found: names[found[0]], text) for text in row)
+        scene.fails("tftpd", command.split(), f"tftpd: {said}\n")
+        scene.is_usage_fault("tftpd", *command.split(), "--cap", "0")
+    expect(sorted(scene.folder.rglob("*")), before, "the files")
+    free = ["served", "--listen", names["FREE"]]
+    fault = f"tftpd: socket fault\ntftpd: {names['FREE']}: too many open files\n"
+    scene.fails("tftpd", [*free, "--rounds", "1"], fault, preexec_fn=few_files(4))
+    fault = "tftpd: server fault\ntftpd: a server did not start: too many open files\n"
+    scene.fails("tftpd", [*free, "--servers", "3", "--forever"], fault, preexec_fn=few_files(6))
+    with open("/dev/full", "wb") as full:
+        scene.fails("tftpd", [*free, "--rounds", "1"], UNWRITABLE, stdout=full)
+    # a server that nobody asks ends after its waits
+    scene.ends("tftpd", [*free, "--rounds", "1"], 0, "", f"listening {scene.address}:", begins=True)
+
+
+def short_files(length) -> Callable[[], None]:
+    """Has the program write no file beyond so many bytes: the write is refused, and the signal of it ignored."""
+    def limit() -> None:
+        signal.signal(signal.SIGXFSZ, signal.SIG_IGN)
+        resource.setrlimit(resource.RLIMIT_FSIZE, (length, length))
+    return limit
+
+
+@pytest.mark.parametrize("is_pipe", [True, False], ids=["a pipe", "a file"])
+def test_unprinted_close(scene, is_pipe) -> None:
+    """Status 2 where the line of a close cannot be printed, though `listening` was: the reader of a pipe has gone, or
+    a file may not grow to hold it. The client has its file by then; another transfer that is open is given up."""
+    scene.make("served/a", b"ABC")
+    words = ["served", "--listen", f"{scene.address}:0", "--rounds", "2000", *RETRIES, "--log"]
+    printed = scene.folder / "printed"
+    with open(printed, "wb") as file:
+        how = {"stdout": subprocess.PIPE} if is_pipe else {"stdout": file, "preexec_fn": short_files(40)}
+        server = scene.start("tftpd", words, **how)
+    if is_pipe:
+        listening = next_line(server.stdout)
+        server.stdout.close()
+    else:
+        wait_until(lambda: printed.read_bytes().endswith(b"\n"), "the first line")
+        listening = printed.read_text()
+    at = listening.split()[1]
+    host, _, port = at.partition(":")
+    scene.port().send(rrq("a", timeout=200), (host, int(port)))
+    scene.gets(at, "a", "got", 3)
+    errors = server.stderr.read().decode()
+    status = server.wait(PATIENCE)
+    # (where the host is slow the client asks again, which is ignored)
+    lines = [line.split()[0] for line in errors.splitlines()[:-2] if not line.startswith("ignored ")]
+    last = "".join(errors.splitlines(True)[-2:])
+    found, wanted = (status, lines, last), (2, ["listening", "opened", "opened", "closed"], UNWRITABLE)
+    expect(found, wanted, f"how it ends, with {errors}")
+    # of the file's second line there is as much as it may hold
+    if not is_pipe:
+        expect((os.stat(printed).st_size <= 40, printed.read_text()[:len(listening)]), (True, listening), "the file")

@@ -1,9 +1,9 @@
-"""What shows only in quantity: 64 transfers at a time, each byte compared, puts that are synced one after the other, thousands of
-requests, a hundred thousand datagrams, and hours of silence by a clock that runs fast."""
+"""What shows only in quantity: 64 transfers at a time, each byte compared, puts that are synced one after the other,
+thousands of requests, a hundred thousand datagrams, and hours of silence by a clock that runs fast."""
 import time
 
 from lib.disk import serve
-from lib.ends import BUSY, FILE_NOT_FOUND, ILLEGAL, PATIENT, UNKNOWN, End, ack, data, expect, oack, rrq, wrq
+from lib.ends import BUSY, FILE_NOT_FOUND, ILLEGAL, UNKNOWN, End, ack, data, expect, oack, rrq, wrq
 from lib.exchanges import has_checks, random_bytes, usage_of
 from lib.scene import LIFE
 
@@ -11,34 +11,26 @@ from lib.scene import LIFE
 GETS, PUTS, BLOCKS, SIZE = 32, 32, 4, 512
 
 
-def blocks_of(content) -> list[bytes]:
-    return [content[at:at + SIZE] for at in range(0, len(content) + 1, SIZE)]
-
-
 def test_sixty_four_at_once(scene) -> None:
-    """Gets and puts in turn, none of which ends before all have their last block but one: each has its own bytes."""
-    contents = {f"{way}{at}": random_bytes(BLOCKS * SIZE + 7 * at + 1) for way, count in [("get", GETS), ("put", PUTS)]
-                for at in range(count)}
-    for name, content in contents.items():
-        if name.startswith("get"):
-            scene.make(f"served/{name}", content)
+    """Gets and puts, none of which ends before all have their last block but one: each has its own bytes."""
+    gets, puts = ({f"{way}{at}": random_bytes(BLOCKS * SIZE + 7 * at + 1) for at in range(count)}
+                  for way, count in [("get", GETS), ("put", PUTS)])
+    scene.make_all({f"served/{name}": content for name, content in gets.items()})
     server = scene.serve("--cap", "64", "--forever", root="served")
-    ends = {name: server.opens((rrq if name.startswith("get") else wrq)(name, **PATIENT), oack(**PATIENT))
-            for name in contents}
+    readers, writers = {name: server.reads(name) for name in gets}, {name: server.writes(name) for name in puts}
     for number in range(BLOCKS + 1):
-        for name, end in ends.items():
-            block = blocks_of(contents[name])[number]
-            if name.startswith("get"):
-                end.is_answered(ack(number), data(number + 1, block))
-            else:
-                end.is_answered(data(number + 1, block), ack(number + 1))
-    for name, end in ends.items():
-        if name.startswith("get"):
-            end.send(ack(BLOCKS + 1))
-    scene.has_files({f"served/{name}": content for name, content in contents.items()})
+        at = slice(number * SIZE, (number + 1) * SIZE)
+        for name, end in readers.items():
+            end.is_answered(ack(number), data(number + 1, gets[name][at]))
+        for name, end in writers.items():
+            end.is_answered(data(number + 1, puts[name][at]), ack(number + 1))
+    for end in readers.values():
+        end.send(ack(BLOCKS + 1))
+    scene.has_files({f"served/{name}": content for name, content in {**gets, **puts}.items()})
 
 
-# more than a server may have open: the last of them wait until the first are closed, two timeouts behind their last block
+# more than a server may have open: the last of them wait until the first are closed, two timeouts behind their last
+# block
 MANY_PUTS, QUICK = 100, {"timeout": 1}
 
 
@@ -46,8 +38,7 @@ def put_begun(scene, server, name) -> End:
     """A put is accepted, once the server is busy no more."""
     port, until = scene.port(), time.monotonic() + LIFE
     while time.monotonic() < until:
-        port.send(wrq(name, **QUICK), server.address)
-        answer, transfer = port.receive()
+        answer, transfer = server.asked(wrq(name, **QUICK), port).receive()
         if transfer != server.address:
             expect(answer, oack(**QUICK), "the answer")
             return End(port, transfer, answer)
@@ -64,7 +55,7 @@ def test_each_of_many_puts_is_synced(scene) -> None:
         end = put_begun(scene, server, f"n{number}")
         disk.forget()
         end.is_answered(data(1, b"N"), ack(1))
-        expect(disk.calls(), "wsols", f"the calls of the commit of put {number}")
+        disk.has_made("wsols", f"the commit of put {number}")
     server.kill()
 
 
@@ -79,7 +70,7 @@ def test_six_thousand_requests(scene) -> None:
     for number in range(MANY_REQUESTS):
         port.send(rrq("none"), server.address)
         expect(port.receive(), (FILE_NOT_FOUND, server.address), f"the answer to request {number}")
-    server.first_block("a", b"ABC").send(ack(1))
+    server.gives("a", b"ABC")
 
 
 # how many datagrams are sent before their answers are read, and how many KB more a server may have at the end
@@ -117,13 +108,11 @@ FASTER, SILENCES = 600, [70, 310, 3_700]
 def test_an_hour_of_silence(scene) -> None:
     """By a clock that runs fast: before and after each silence a get, a put and a refusal are answered."""
     scene.make("a", b"ABC")
-    server = scene.serve_preloaded("quick_time.c", "--forever", "--log", QUICKER=FASTER)
+    server = scene.serve_preloaded("other_time.c", "--forever", "--log", QUICKER=FASTER)
     for number, silence in enumerate([0, *SILENCES]):
         time.sleep(silence / FASTER)
-        get = server.first_block("a", b"ABC")
-        get.send(ack(1))
-        put = server.writes(f"n{number}")
-        put.is_answered(data(1, b"N"), ack(1))
+        server.gives("a", b"ABC")
+        server.writes(f"n{number}").gives(b"N")
         server.refuses(rrq("none"), FILE_NOT_FOUND)
         expect(server.process.poll(), None, f"the status of the server after {silence} s of silence")
     scene.has(a=b"ABC", **{f"n{number}": b"N" for number in range(len(SILENCES) + 1)})

@@ -1,8 +1,11 @@
-"""A request that comes again to several servers at one port, because its answer was lost: another opens a second transfer."""
+"""A request that comes again to several servers at one port, because its answer was lost: another opens a second
+transfer."""
 import re
 import select
 import threading
 import time
+
+import pytest
 
 from lib.ends import PATIENCE, Port, ack, data, expect, oack, wait_until, wrq
 from lib.proxy import MOMENT
@@ -14,7 +17,7 @@ def other_transfers(port, request, server, sender) -> set[int]:
     answers, end = {sender}, time.monotonic() + PATIENCE
     while len(answers) < 2:
         expect(time.monotonic() < end, True, "whether another server answers")
-        port.send(request, server.address)
+        server.asked(request, port)
         port.socket.settimeout(0.2)
         try:
             answers.add(port.socket.recvfrom(65_536)[1][1])
@@ -23,34 +26,37 @@ def other_transfers(port, request, server, sender) -> set[int]:
     return answers
 
 
+def closings(server, transfers) -> dict[int, str]:
+    """How these transfers closed, and others by then, once they have."""
+    outcomes = dict[int, str]()
+    while not set(transfers) <= set(outcomes):
+        line = re.fullmatch(MARKED + r"(\d+) \d+ (\S+)\n", server.process.stdout.readline().decode())
+        outcomes[int(line[2])] = line[3]
+    return outcomes
+
+
 def test_a_request_that_comes_again_reaches_another_server(scene) -> None:
     """Its first answer was lost: another server opens a second transfer. The client goes on with either, and of a put
     one draft is committed."""
     server = scene.serve_several(4, "--retries", "0")
-    port, request = scene.port(), wrq("new", timeout=6)
-    port.send(request, server.address)
-    answer, transfer = port.receive()
-    expect(answer, oack(timeout=6), "the answer")
-    both = other_transfers(port, request, server, transfer[1])
+    request = wrq("new", timeout=6)
+    end = server.opens(request, oack(timeout=6))
+    both = other_transfers(end.port, request, server, end.peer[1])
     chosen = max(both)
-    port.send(data(1, b"ABC"), (transfer[0], chosen))
-    port.socket.settimeout(PATIENCE)
-    while port.receive()[0] != ack(1):
+    end.port.send(data(1, b"ABC"), (end.peer[0], chosen))
+    while end.port.receive()[0] != ack(1):
         pass
     wait_until(lambda: scene.files().get("new") == b"ABC", "the file")
-    outcomes = {}
-    while not both <= set(outcomes):
-        line = re.fullmatch(MARKED + r"(\d+) \d+ (\w+)\n", server.process.stdout.readline().decode())
-        outcomes[int(line[2])] = line[3]
-    expect(outcomes[chosen], "Complete", "how the transfer ended that the client chose")
-    expect(set(outcomes.values()) - {"Complete"}, {"TimedOut"}, "how the others ended")
-    expect(scene.files()["new"], b"ABC", "the file")
+    outcomes = closings(server, both)
+    expect(outcomes.pop(chosen), "Complete", "how the transfer ended that the client chose")
+    expect(set(outcomes.values()), {"TimedOut"}, "how the others ended")
+    expect(scene.content("new"), b"ABC", "the file")
 
 
 class Relay:
     """A network between one client and several servers. It loses what the first transfer sends until another one has
-    answered, and if `loses_first` all that it sends; else the client hears of both, each from a port of its own, and what
-    it sends to the other is lost until it has answered the first. In a thread until it is closed."""
+    answered, and if `loses_first` all that it sends; else the client hears of both, each from a port of its own, and
+    what it sends to the other is lost until it has answered the first. In a thread until it is closed."""
 
     def __init__(self, server, loses_first) -> None:
         self.host, self.server, self.loses_first = server.address[0], server.address, loses_first
@@ -67,9 +73,6 @@ class Relay:
         self.thread.join()
         for port in (self.requests, self.ours, *self.sides.values()):
             port.close()
-
-    def transfers(self) -> list[int]:
-        return [transfer[1] for transfer in list(self.sides)]
 
     def run(self) -> None:
         while not self.is_closed.is_set():
@@ -99,54 +102,27 @@ class Relay:
         return transfer == next(iter(self.sides))
 
 
-def closings(server, transfers) -> dict[int, str]:
-    """How these transfers closed, once they have."""
-    outcomes = {}
-    while not set(transfers) <= set(outcomes):
-        line = re.fullmatch(MARKED + r"(\d+) \d+ (\S+)\n", server.process.stdout.readline().decode())
-        outcomes[int(line[2])] = line[3]
-    return outcomes
-
-
-# Whether what the first transfer sends is lost, how that one closes (it times out, or has the ERROR for a stranger), and how
-# often it sends again: it must still do so when the client has an answer of the second
-OTHERS = [(True, "TimedOut", "2"), (False, "PeerError(5)", "10")]
-
-
-def completes_with_the_second(scene, server, relay, length, words, other) -> list[int]:
-    """A client whose first answer is lost asks again, and completes with the second transfer. Returns the ports of both,
-    which have closed."""
+# Whether what the first transfer sends is lost, how that one closes (it times out, or has the ERROR for a third
+# party), and how often it sends again: it must still do so when the client has an answer of the second
+@pytest.mark.parametrize("loses_first, other, retries", [(True, "TimedOut", "2"), (False, "PeerError(5)", "10")],
+                         ids=["lost", "late"])
+@pytest.mark.parametrize("words, stored", [(["get", "a", "got", "--no-dally"], "got"),
+                                           (["put", "local", "new"], "served/new")], ids=["get", "put"])
+def test_a_first_answer_is_lost(scene, words, stored, loses_first, other, retries) -> None:
+    """The client asks again, and completes with the second transfer: its file is whole, and the first one closes. A
+    put has two drafts, of which one is committed; the other stays a draft without a byte."""
+    content = bytes(at % 251 for at in range(5_000))
+    scene.make_all({"served/a": content, "local": content})
+    server = scene.serve_several(4, "--retries", retries, root="served")
+    relay = Relay(server, loses_first)
     scene.ending.callback(relay.close)
-    client = scene.tftp(*words)
+    client = scene.tftp(words[0], relay.word, *words[1:])
     wait_until(lambda: len(relay.sides) == 2, "another server that answers")
-    client.completes(length)
+    client.completes(len(content))
     expect(relay.asked > 1, True, "whether the client asked again")
-    first, second = relay.transfers()
+    first, second = [transfer[1] for transfer in list(relay.sides)]
     outcomes = closings(server, [first, second])
     expect((outcomes[second], outcomes[first]), ("Complete", other), "how the second transfer ended, and the first")
-    return [first, second]
-
-
-def test_a_get_whose_first_answer_is_lost(scene) -> None:
-    """Its file is whole, and the other transfer closes."""
-    content = bytes(at % 251 for at in range(5_000))
-    scene.make("served/a", content)
-    for number, (loses_first, other, retries) in enumerate(OTHERS):
-        server = scene.serve_several(4, "--retries", retries, root="served")
-        words = ["get", (relay := Relay(server, loses_first)).word, "a", f"got{number}", "--no-dally"]
-        completes_with_the_second(scene, server, relay, len(content), words, other)
-        expect(scene.files()[f"got{number}"], content, "the file")
-
-
-def test_a_put_whose_first_answer_is_lost(scene) -> None:
-    """It has two drafts, of which one is committed; the other stays a draft without a byte."""
-    content = bytes(at % 251 for at in range(5_000))
-    scene.make("local", content)
-    scene.make_folder("served")
-    for number, (loses_first, other, retries) in enumerate(OTHERS):
-        server = scene.serve_several(4, "--retries", retries, root="served")
-        words = ["put", (relay := Relay(server, loses_first)).word, "local", f"new{number}"]
-        first, _ = completes_with_the_second(scene, server, relay, len(content), words, other)
-        expect(scene.files()[f"served/new{number}"], content, "the file")
-        expect(f"served/.tftp-{first}" in scene.drafts(), True, f"whether a draft of {first} is among {scene.drafts()}")
-        expect(scene.files()[f"served/.tftp-{first}"], b"", "the draft")
+    expect(scene.content(stored), content, "the file")
+    if words[0] == "put":
+        expect(scene.files().get(f"served/.tftp-{first}"), b"", f"the draft of {first} among {scene.drafts()}")

@@ -7,14 +7,17 @@ import pytest
 from lib.ends import (
     ACCESS_VIOLATION, BUSY, FILE_NOT_FOUND, PATIENCE, PATIENT, STOP, End, ack, bytes_of, data, expect, free_ports,
     oack, rrq, wrq)
-from lib.scene import LIFE, Server, next_line
+from lib.scene import LIFE, next_line, written_by
 
 # each test runs over two servers at one port as well
 OVER_SEVERAL = True
 
+TWO_BLOCKS = bytes_of(600)
+
+
 def watched(server) -> dict[str, int]:
     """The counts that `watch_calls.c` writes at the end of a server, by their names."""
-    counts = re.fullmatch(r"watched (.*)\n", server.process.communicate(timeout=LIFE)[1].decode().splitlines(True)[-1])
+    counts = re.fullmatch(r"watched (.*)", written_by(server.process)[1].splitlines()[-1])
     return {name: int(count) for count, name in (part.split(" ", 1) for part in counts[1].split(", "))}
 
 
@@ -52,14 +55,13 @@ def test_the_log_has_the_time_of_the_clock(scene) -> None:
 
 @pytest.mark.one_server("the calls of one process are counted")
 def test_a_datagram_that_is_not_sent_is_logged(scene) -> None:
-    """The system refuses one datagram of the server: the first of a transfer, a later one, an ERROR. It is logged with
-    the port that it was to leave from, and a datagram of a transfer is sent again."""
-    scene.make("a", bytes_of(600))
-    blocks = [data(1, bytes_of(600)[:512]), data(2, bytes_of(600)[512:])]
+    """The system refuses one datagram of the server: the first of a transfer, a later one, an ERROR. It is logged
+    with the port that it was to leave from, and a datagram of a transfer is sent again."""
+    scene.make("a", TWO_BLOCKS)
     for unsent in (1, 2):
         server = scene.serve_preloaded("watch_calls.c", "--log", UNSENT=unsent)
-        end = server.opens(rrq("a"), blocks[0])
-        end.is_answered(ack(1), blocks[1])
+        end = server.opens(rrq("a"), data(1, TWO_BLOCKS[:512]))
+        end.is_answered(ack(1), data(2, TWO_BLOCKS[512:]))
         end.send(ack(2))
         server.logs(server.has_closed("Complete")[:-1], [
             r"opened \d+ \S+ RRQ a octet: DATA 1 512",
@@ -67,11 +69,9 @@ def test_a_datagram_that_is_not_sent_is_logged(scene) -> None:
             r"closed \d+ \S+ RRQ a octet: DATA 1 512, 600 bytes, \d+ ms, [1-9]\d* sent again, Complete",
         ])
     server = scene.serve_preloaded("watch_calls.c", "--log", UNSENT=1)
-    scene.port().send(rrq("none"), server.address)
-    server.logs(server.has_logged(2), [
-        r"refused \S+ RRQ none octet: ERROR 1 \(file not found\)",
-        rf"unsent {server.address[1]} \S+ RRQ none octet: permission denied",
-    ])
+    server.asked(rrq("none"))
+    server.has_logged_only(r"refused \S+ RRQ none octet: ERROR 1 \(file not found\)",
+                           rf"unsent {server.address[1]} \S+ RRQ none octet: permission denied")
 
 
 @pytest.mark.one_server("the calls of one process are counted")
@@ -79,18 +79,16 @@ def test_a_transfer_that_waits_makes_no_polls(scene) -> None:
     """A get whose client waits between its blocks costs a few polls a block, also beside a put that has finished and
     waits for its last block, and beside a client that is silent. However slow the host is, a poll that finds nothing
     takes a second, or half of one once after each block."""
-    began = time.monotonic()
-    scene.make("a", bytes_of(512 * 40))
+    began, content = time.monotonic(), bytes_of(512 * 40)
+    scene.make("a", content)
     server = scene.serve_preloaded("watch_calls.c", "--transfers", "1", UNSENT=0)
-    put = server.writes("n")
-    put.is_answered(data(1, b"N"), ack(1))
+    server.writes("n").gives(b"N")
     server.reads("a")
     time.sleep(0.7)
     end = server.reads("a")
     for number in range(41):
         time.sleep(0.002)
-        block = bytes_of(512 * 40)[512 * number:512 * (number + 1)]
-        end.is_answered(ack(number), data(number + 1, block))
+        end.is_answered(ack(number), data(number + 1, content[512 * number:512 * (number + 1)]))
     end.send(ack(41))
     polls, seconds = watched(server)["polls"], time.monotonic() - began
     expect(polls < 41 * 4 + 60 + 3 * seconds, True, f"whether {polls} polls are few in {seconds:.1f} s")
@@ -98,40 +96,39 @@ def test_a_transfer_that_waits_makes_no_polls(scene) -> None:
 
 @pytest.mark.one_server("the calls of one process are counted")
 def test_requests_take_turns_with_transfers(scene) -> None:
-    """Twenty requests wait at the request port. The server polls between two that it opens, so that no transfer waits for
-    all of them."""
+    """Twenty requests wait at the request port. The server polls between two that it opens, so that no transfer waits
+    for all of them."""
     scene.make("a", b"ABC")
     server = scene.serve_preloaded("watch_calls.c", "--cap", "64", "--transfers", "20", UNSENT=0)
     ports = [scene.port() for _ in range(20)]
     server.stop()
     for port in ports:
-        port.send(rrq("a", **PATIENT), server.address)
+        server.asked(rrq("a", **PATIENT), port)
     server.go_on()
     for port in ports:
-        port.send(STOP, port.receive()[1])
+        port.opened(oack(**PATIENT)).send(STOP)
     expect(watched(server)["at once"] < 3, True, "whether few requests were answered after one poll")
 
 
 @pytest.mark.one_server("the slots of one server")
 def test_what_is_left_behind_progress_is_read_soon(scene) -> None:
-    """Of two ACKs that arrive together the first brings the transfer on, and the second ends it: that is read within half a
-    second, long before the timeout of 255. Until then the server is busy, and then the slot is free."""
-    scene.make("a", bytes_of(600))
+    """Of two ACKs that arrive together the first brings the transfer on, and the second ends it: that is read within
+    half a second, long before the timeout of 255. Until then the server is busy, and then the slot is free."""
+    scene.make("a", TWO_BLOCKS)
     server = scene.serve("--cap", "1", "--transfers", "2")
-    end = server.first_block("a", bytes_of(600)[:512])
+    end = server.first_block("a", TWO_BLOCKS[:512])
     server.stop()
     end.send(ack(1))
     end.send(ack(2))
     server.go_on()
-    expect(end.port.receive(end.newest)[0], data(2, bytes_of(600)[512:]), "the second block")
+    expect(end.port.receive(end.newest)[0], data(2, TWO_BLOCKS[512:]), "the second block")
     other, until, answer = scene.port(), time.monotonic() + PATIENCE, BUSY
     while answer == BUSY:
         expect(time.monotonic() < until, True, "whether the slot is freed soon")
-        other.send(rrq("a", **PATIENT), server.address)
-        answer, transfer = other.receive()
+        answer, transfer = server.asked(rrq("a", **PATIENT), other).receive()
         time.sleep(0.02)
     expect(answer, oack(**PATIENT), "the answer once the slot is free")
-    other.send(STOP, transfer)
+    End(other, transfer).send(STOP)
     server.has_closed("Complete", "PeerError(0)")
 
 
@@ -141,12 +138,11 @@ PAUSE, MEGABYTE = 20, 17
 
 @pytest.mark.one_server("the calls of one process are counted")
 def test_a_sync_waits_until_no_port_is_ready(scene) -> None:
-    """A long put is synced before its last block, a megabyte at a time, and each time after a poll that found nothing.
-    That comes for certain where the client sends nothing until then; where it is slow it may come earlier. Between two
-    of its waits there are always enough bytes for one sync, and never for two."""
+    """A long put is synced before its last block, a megabyte at a time, and each time after a poll that found
+    nothing. That comes for certain where the client sends nothing until then; where it is slow it may come earlier.
+    Between two of its waits there are always enough bytes for one sync, and never for two."""
     server = scene.serve_preloaded("watch_calls.c", "--max-block", "65464", UNSENT=0)
-    asked = {"blksize": 65_464, **PATIENT}
-    end = server.opens(wrq("n", **asked), oack(**asked))
+    end = server.writes("n", blksize=65_464)
     for number in range(1, 4 * PAUSE + 1):
         end.is_answered(data(number, bytes(65_464)), ack(number))
         if number % PAUSE == 0:
@@ -157,25 +153,22 @@ def test_a_sync_waits_until_no_port_is_ready(scene) -> None:
     expect((counts["syncs"], counts["hasty"]), (4, 0), f"the syncs, and those that were hasty: {counts}")
 
 
+# how many times as fast the time of a server goes in a test of its waits, and how much later than its wait by that
+# time, in seconds, a timeout may come: a round, and what a busy host takes
+QUICKER, LATE = 10, 4
 # How long what takes long takes, in milliseconds; a transfer's timeout is a second
 LONG = 1_300
 
 
-# how many times as fast the time of a server goes in a test of its waits, and how much later than its wait by that time, in
-# seconds, a timeout may come: a round, and what a busy host takes
-QUICKER, LATE = 10, 4
-
-
-def serve_quickly(scene, *words) -> Server:
-    """A server of four retries whose time goes faster."""
-    return scene.serve_preloaded("quick_time.c", "--retries", "4", "--transfers", "1", *words, QUICKER=QUICKER)
-
-
-def waits_of(scene, *words) -> list[float]:
-    """How long a server waits for each of its timeouts, in seconds of its own time, while a client that gets a file is silent;
-    the last ends in the close."""
-    server, port, times = serve_quickly(scene, *words), scene.port().is_timed(), []
-    port.send(rrq("a"), server.address)
+@pytest.mark.parametrize("words, expected", [(["--backoff"], [1, 2, 4, 8, 8]), ([], [1, 1, 1, 1, 1])])
+def test_waits_double(scene, words, expected) -> None:
+    """With `--backoff` a server waits twice as long after each timeout, up to eight times, and else as long each
+    time, while a client that gets a file is silent: in seconds of its own time, of which the last ends in the
+    close."""
+    scene.make("a", b"ABC")
+    words = ["--retries", "4", "--transfers", "1", *words]
+    server = scene.serve_preloaded("other_time.c", *words, QUICKER=QUICKER)
+    port, times = server.asked(rrq("a"), scene.port().is_timed()), []
     for _ in range(5):
         # (the block, and the same again)
         found, when, _ = port.arrived()
@@ -183,30 +176,9 @@ def waits_of(scene, *words) -> list[float]:
         times.append(when)
     server.has_closed("TimedOut")
     times.append(time.time())
-    return [(later - earlier) * QUICKER for earlier, later in zip(times, times[1:])]
-
-
-def test_waits_double(scene) -> None:
-    """With `--backoff` a server waits twice as long after each timeout, up to eight times, and else as long each time."""
-    scene.make("a", b"ABC")
-    for words, expected in [(["--backoff"], [1, 2, 4, 8, 8]), ([], [1, 1, 1, 1, 1])]:
-        waits = waits_of(scene, *words)
-        are_so = [wait - 0.2 <= found <= wait + LATE for found, wait in zip(waits, expected)]
-        expect(are_so, [True] * 5, f"whether the waits {waits} are about {expected} s, with {words}")
-
-
-def test_a_receiver_that_repeats_nothing_completes(scene) -> None:
-    """A client whose timer starts anew at each datagram takes what comes once it has waited, as some do for five seconds: with
-    `--backoff` the server still has retries then, and without them it has closed."""
-    scene.make("a", b"ABC")
-    for words, outcome in [(["--backoff"], "Complete"), ([], "TimedOut")]:
-        server, port = serve_quickly(scene, *words), scene.port()
-        port.send(rrq("a"), server.address)
-        block, transfer = port.receive()
-        expect(block, data(1, b"ABC"), "the block")
-        time.sleep(9 / QUICKER)
-        port.send(ack(1), transfer)
-        server.has_closed(outcome)
+    waits = [(later - earlier) * QUICKER for earlier, later in zip(times, times[1:])]
+    are_so = [wait - 0.2 <= found <= wait + LATE for found, wait in zip(waits, expected)]
+    expect(are_so, [True] * 5, f"whether the waits {waits} are about {expected} s, with {words}")
 
 
 def test_a_deadline_runs_from_a_slow_opening(scene) -> None:
@@ -214,12 +186,12 @@ def test_a_deadline_runs_from_a_slow_opening(scene) -> None:
     timeout after it was sent, not at once."""
     scene.make("slow", b"ABC")
     server = scene.serve_preloaded("slow_calls.c", DELAY=LONG)
-    port = scene.port().is_timed()
-    port.send(rrq("slow", timeout=1), server.address)
+    port = server.asked(rrq("slow", timeout=1), scene.port().is_timed())
     answer, first, transfer = port.arrived()
     copy, again, _ = port.arrived()
     expect([answer, copy], [oack(timeout=1)] * 2, "the answer and its copy")
-    expect(again - first > 0.99, True, f"whether the answer is sent again after a second, not after {again - first:.3f} s")
+    waited = again - first
+    expect(waited > 0.99, True, f"whether the answer is sent again after a second, not after {waited:.3f} s")
     End(port, transfer).send(STOP)
 
 
@@ -228,8 +200,7 @@ def test_a_deadline_runs_from_a_slow_commit(scene) -> None:
     """The commit of a put takes longer than the timeout of its transfer. The server still dallies for two timeouts
     after its last ACK."""
     server = scene.serve_preloaded("slow_calls.c", DELAY=LONG)
-    port = scene.port().is_timed()
-    port.send(wrq("new", timeout=1), server.address)
+    port = server.asked(wrq("new", timeout=1), scene.port().is_timed())
     answer, _, transfer = port.arrived()
     End(port, transfer).send(data(1, b"ABC"))
     stored_by, stored, _ = port.arrived()
@@ -239,16 +210,6 @@ def test_a_deadline_runs_from_a_slow_commit(scene) -> None:
     expect(lasted > 1.99, True, f"whether the server dallied for two seconds, not for {lasted:.3f} s")
 
 
-def served_ports(scene, server, count) -> list[int]:
-    """The ports of so many transfers, one after the other."""
-    ports = []
-    for _ in range(count):
-        end = server.first_block("a", b"ABC")
-        end.send(ack(1))
-        ports.append(end.peer[1])
-    return ports
-
-
 def are_apart(places, least) -> bool:
     """Whether no two of these are nearer than that."""
     return all(later - earlier >= least for earlier, later in zip(places, places[1:]))
@@ -256,14 +217,14 @@ def are_apart(places, least) -> bool:
 
 @pytest.mark.one_server("the range of ports is divided")
 def test_ports_are_drawn_anew(scene) -> None:
-    """Transfers use the ports of `--ports` alone. What was seen of them does not foretell the next: a second round has another
-    order, and so has another server. No port comes again before half of the range was used."""
+    """Transfers use the ports of `--ports` alone. What was seen of them does not foretell the next: a second round
+    has another order, and so has another server. No port comes again before half of the range was used."""
     scene.make("a", b"ABC")
     first = free_ports(12)
     last, orders = first + 11, []
     for _ in range(2):
         server = scene.serve("--ports", f"{first}:{last}", "--transfers", "48")
-        ports = served_ports(scene, server, 48)
+        ports = [server.gives("a", b"ABC").peer[1] for _ in range(48)]
         server.has_closed(*["Complete"] * 48)
         expect([port for port in ports if not first <= port <= last], [], "the ports beside the range")
         for port in set(ports):
@@ -275,15 +236,15 @@ def test_ports_are_drawn_anew(scene) -> None:
 
 @pytest.mark.one_server("the range of ports is divided")
 def test_a_port_that_refuses_a_write_comes_after_others(scene) -> None:
-    """A draft that cannot be replaced is in the way at one port of four: a write is refused there, and not the next two, nor
-    another. What stands there is a folder here; it may be a file of another user in a folder whose sticky bit is set."""
+    """A draft that cannot be replaced is in the way at one port of four: a write is refused there, and not the next
+    two, nor another. What stands there is a folder here; it may be a file of another user in a folder whose sticky
+    bit is set."""
     first = free_ports(4)
     scene.make_folder(f".tftp-{first + 2}")
     server = scene.serve("--ports", f"{first}:{first + 3}", "--transfers", "100")
     answers = []
     for number in range(24):
-        port = scene.port()
-        port.send(wrq(f"n{number}", **PATIENT), server.address)
+        port = server.asked(wrq(f"n{number}", **PATIENT))
         answer, transfer = port.receive()
         answers.append(answer)
         if transfer != server.address:
@@ -303,11 +264,9 @@ def test_ports_in_use_are_passed_over(scene) -> None:
     server = scene.serve("--ports", f"{first}:{first + 3}", "--log", "--transfers", "3")
     ends = [server.reads("a") for _ in range(3)]
     expect(sorted(end.peer[1] for end in ends), [first, first + 2, first + 3], "the ports")
-    lost = scene.port()
-    lost.send(rrq("a"), server.address)
+    lost = server.asked(rrq("a"))
     for end in ends:
-        end.is_answered(ack(0), data(1, b"ABC"))
-        end.send(ack(1))
+        end.gets(b"ABC")
     log = server.has_closed(*["Complete"] * 3)
     found = [line for line in log if line.startswith("lost ")]
     server.logs(found, [rf"lost {lost.word} RRQ a octet: no port, address in use"])

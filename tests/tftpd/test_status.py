@@ -1,17 +1,18 @@
-"""The file of --status: its text while a server serves, beside its log, of several servers, and where it cannot be."""
+"""The file of --status: its text while a server serves, beside its log, of several servers, and where it cannot
+be."""
 import os
 import re
 import stat
-import subprocess
 import threading
 import time
 from itertools import product
 from pathlib import Path
 from typing import Optional
 
-from lib.ends import PATIENCE, PATIENT, ack, data, expect, oack, rrq, wait_until, wrq
+from lib.ends import PATIENT, ack, data, expect, oack, rrq, wait_until, wrq
 from lib.metrics import Sample, metrics, promtool_says, value
-from lib.scene import Server, children_of, unmarked, wait_for_servers
+from lib.packets import request_of
+from lib.scene import Server, unmarked, written_by
 
 # The served folder and the file that ends a server; what is counted is beside both
 ROOT, DRAIN, STATUS = "served", "drain.now", "tftpd.prom"
@@ -19,7 +20,8 @@ ROOT, DRAIN, STATUS = "served", "drain.now", "tftpd.prom"
 CLOSED = re.compile(r"closed .*, (\d+) bytes, \d+ ms, (\d+) sent again, (\w+)")
 # how old the text of a server gets at most, in seconds, with a second for its wait and more on a busy host
 LONGEST_AGE = 90
-# how many files a server has open at most, as docs/OPERATING.md says: with 64 puts, one of which is synced or --status written
+# how many files a server has open at most, as docs/OPERATING.md says: with 64 puts, one of which is synced or
+# --status written
 OPEN_FILES = 134
 OUTCOMES = {"Complete": "complete", "TimedOut": "timed_out", "PeerError": "peer_error"}
 
@@ -31,19 +33,28 @@ def read(path) -> dict[Sample, int]:
     return metrics(text)
 
 
-def serve(scene, *words) -> Server:
+def serve(scene, *words, status=STATUS, **how) -> Server:
     """A server of the folder, which reports."""
-    drain = [] if "--drain" in words else ["--drain", DRAIN]
-    server = scene.serve("--forever", "--log", "--status", STATUS, *drain, *words, root=ROOT)
-    wait_until((scene.folder / STATUS).exists, "the first text")
-    return server
+    return scene.serve("--forever", "--log", "--status", status, "--drain", DRAIN, *words, root=ROOT, **how)
+
+
+def first_text(scene, status=STATUS) -> dict[Sample, int]:
+    """The samples of the file once it is there."""
+    wait_until((scene.folder / status).exists, "the first text")
+    return read(scene.folder / status)
+
+
+def shows(scene, pattern) -> None:
+    """The file comes to have such a line."""
+    wait_until(lambda: re.search(rf"(?m)^{pattern}$", (scene.folder / STATUS).read_text()), f"the line {pattern}")
 
 
 def drained(scene, server) -> list[str]:
     """The log of a server that is ended by its file."""
     scene.make(DRAIN, b"")
-    log = server.output()[1]
-    expect(server.process.returncode, 0, "the status of the server")
+    status, _, log = server.ended()
+    (scene.folder / DRAIN).unlink()
+    expect(status, 0, "the status of the server")
     return log
 
 
@@ -51,14 +62,13 @@ def has_counted(found, log) -> None:
     """The samples are those of the lines of a log."""
     begins = [line.split()[0] for line in log]
     busy = sum(line.startswith("refused ") and "(server busy)" in line for line in log)
-    expected = {"opened": begins.count("opened"), "refused": begins.count("refused") - busy, "busy": busy,
-                "ignored": begins.count("ignored"), "lost": begins.count("lost")}
+    expected = {answer: begins.count(answer) for answer in ("opened", "ignored", "lost")}
+    expected.update(busy=busy, refused=begins.count("refused") - busy)
     expect({answer: value(found, "tftpd_requests_total", answer=answer) for answer in expected}, expected, "requests")
     closed = [CLOSED.match(line) for line in log if line.startswith("closed ")]
     outcomes = [line[3] if line else "no outcome" for line in closed]
-    expected = {name: outcomes.count(name) for name in OUTCOMES}
     counted = {name: value(found, "tftpd_transfers_total", outcome=label) for name, label in OUTCOMES.items()}
-    expect(counted, expected, "transfers")
+    expect(counted, {name: outcomes.count(name) for name in OUTCOMES}, "transfers")
     sums = [value(found, name) for name in ("tftpd_bytes_total", "tftpd_blocks_sent_again_total")]
     expect(sums, [sum(int(line[at]) for line in closed if line) for at in (1, 2)], "bytes, and what was sent again")
 
@@ -68,41 +78,31 @@ def test_a_status_file_counts_as_the_log(scene) -> None:
     scene.make(f"{ROOT}/a", b"\7" * 512 + b"ABC")
     before = int(time.time())
     server = serve(scene)
-    first = read(scene.folder / STATUS)
-    expect([value(first, f"tftpd_{name}_total") for name in ("requests", "transfers", "bytes")], [0, 0, 0], "the first text")
+    first = first_text(scene)
+    names = ("requests", "transfers", "bytes")
+    expect([value(first, f"tftpd_{name}_total") for name in names], [0, 0, 0], "the first text")
     expect(value(first, "tftpd_transfers_limit"), 16, "the limit")
     for metric in ("start", "report"):
-        expect(before - 1 <= value(first, f"tftpd_{metric}_time_seconds") <= time.time(), True, f"the time of the {metric}")
+        is_now = before - 1 <= value(first, f"tftpd_{metric}_time_seconds") <= time.time()
+        expect(is_now, True, f"the time of the {metric}")
     for name in ["one", "two"]:
-        scene.tftp("get", server.word, "a", name, "--no-dally").completes(515)
+        scene.gets(server, "a", name, 515)
     scene.tftp("put", server.word, "one", "b").completes(515)
-    port = scene.port()
     for request in [rrq("missing"), wrq("a")]:
-        port.send(request, server.address)
-        port.receive()
+        server.asked(request).receive()
     log = drained(scene, server)
     last = read(scene.folder / STATUS)
     has_counted(last, log)
-    expect([value(last, "tftpd_transfers_total", direction=way) for way in ("read", "write")], [2, 1], "the directions")
+    directions = [value(last, "tftpd_transfers_total", direction=way) for way in ("read", "write")]
+    expect(directions, [2, 1], "the directions")
     expect(value(last, "tftpd_transfers_open"), 0, "the open transfers")
-    expect((scene.folder / f"{STATUS}~").exists(), False, "whether a temporary file is left")
-
-
-def test_an_open_transfer_has_a_line(scene) -> None:
-    """With its bytes so far, and the length of the file."""
-    scene.make(f"{ROOT}/a", bytes(5_000))
-    server = serve(scene)
-    asked = {"timeout": 255, "blksize": 1000}
-    end = server.opens(rrq("a", **asked, tsize=0), oack(**asked, tsize=5000))
-    wanted = re.compile(rf"^# {end.peer[1]} {end.port.word} RRQ a octet .*: 0 bytes of 5000, \d+ s, 0 sent again$", re.MULTILINE)
-    wait_until(lambda: wanted.search((scene.folder / STATUS).read_text()), "the line of the transfer")
-    expect(value(read(scene.folder / STATUS), "tftpd_transfers_open", direction="read"), 1, "the open transfers")
-    server.process.kill()
+    scene.lacks(f"{STATUS}~")
 
 
 # the labels of each metric, with the values of each; `server` is that of one of several
 WAYS = ["read", "write"]
-ENDS = ["complete", "timed_out", "peer_error", "illegal", "refused", "too_large", "store_fault", "source_fault", "not_netascii"]
+ENDS = ["complete", "timed_out", "peer_error", "illegal", "refused", "too_large", "store_fault", "source_fault",
+        "not_netascii"]
 LABELS: dict[str, dict[str, list[str]]] = {
     "tftpd_requests_total": {"answer": ["opened", "refused", "busy", "ignored", "lost"]},
     "tftpd_transfers_total": {"direction": WAYS, "outcome": ENDS}, "tftpd_bytes_total": {"direction": WAYS},
@@ -112,33 +112,28 @@ LABELS: dict[str, dict[str, list[str]]] = {
 
 
 def test_each_sample(scene) -> None:
-    """Each metric has each of its labels, as tftpd(8) lists them, and the version is that of `--version`; an open transfer is
-    shown with its mode and its options; everybody may read the file."""
+    """Each metric has each of its labels, as tftpd(8) lists them, and the version is that of `--version`; an open
+    transfer is shown with its mode and its options, its bytes so far and the length of the file; everybody may read
+    the file."""
     scene.make(f"{ROOT}/a", b"a line\n" * 100)
     server = serve(scene)
-    found = read(scene.folder / STATUS)
+    found = first_text(scene)
     for name, labels in LABELS.items():
         samples = [dict(has) for (metric, has) in found if metric == name]
         expected = [dict(zip(labels, values)) for values in product(*labels.values())]
         own = [{label: text for label, text in sample.items() if label in labels} for sample in samples]
         expect(sorted(map(str, own)), sorted(map(str, expected)), f"the samples of {name}")
-    printed = subprocess.run([scene.programs["tftpd"], "--version"], capture_output=True, text=True, check=True).stdout
-    version = printed.strip().removeprefix("tftpd ")
+    version = written_by(scene.start("tftpd", ["--version"]))[0].strip().removeprefix("tftpd ")
     expect(value(found, "tftpd_build_info", version=version), 1, f"the version among {[*found][-1]}")
-    wanted = []
-    for at, (mode, options) in enumerate([("octet", {"blksize": 100}), ("netascii", {"timeout": 200}), ("octet", {"timeout": 250})]):
-        port, request = scene.port(), (rrq("a", mode, **options) if at < 2 else wrq("n", mode, **options))
-        port.send(request, server.address)
-        _, transfer = port.receive()
-        ask = " ".join([f"{transfer[1]} {port.word} {'RRQ a' if at < 2 else 'WRQ n'} {mode}"] +
-                       [f"{name}={number}" for name, number in options.items()])
-        wanted.append(re.compile(rf"(?m)^# {re.escape(ask)}: .*0 bytes.*, \d+ s, \d+ sent again$"))
-    for pattern in wanted:
-        wait_until(lambda: pattern.search((scene.folder / STATUS).read_text()), f"the line {pattern.pattern}")
-    mode = stat.S_IMODE((scene.folder / STATUS).stat().st_mode)
+    for asked, count in [("RRQ a octet blksize=99 timeout=100 tsize=0", "0 bytes of 700"), ("RRQ a netascii timeout=200", "0 bytes.*"),
+                         ("WRQ n octet timeout=250", "0 bytes.*")]:
+        port = server.asked(request_of(asked))
+        transfer = port.receive()[1][1]
+        shows(scene, rf"# {transfer} {re.escape(port.word)} {asked}: .*{count}, \d+ s, \d+ sent again")
+    wait_until(lambda: value(read(scene.folder / STATUS), "tftpd_transfers_open", direction="read") == 2, "two reads")
     mask = os.umask(0)
     os.umask(mask)
-    expect(f"{mode:o}", f"{0o666 & ~mask:o}", "the permissions of the file")
+    expect(f"{scene.mode_of(STATUS):o}", f"{0o666 & ~mask:o}", "the permissions of the file")
     server.process.kill()
 
 
@@ -150,7 +145,8 @@ def scraped(path, is_over, seen) -> Optional[str]:
             found = metrics(path.read_text(encoding="ascii"))
         except (OSError, ValueError) as fault:
             return f"{type(fault).__name__}: {fault}"
-        less = [sample for sample, count in newest.items() if sample[0].endswith("_total") and found.get(sample, -1) < count]
+        less = [sample for sample, count in newest.items()
+                if sample[0].endswith("_total") and found.get(sample, -1) < count]
         if less:
             return f"counts that went down: {less}"
         newest = found
@@ -162,6 +158,7 @@ def test_no_scrape_has_half_a_file(scene) -> None:
     """While 64 gets run at once and the server stops."""
     scene.make(f"{ROOT}/a", bytes(400_000))
     server = serve(scene, "--cap", "64")
+    first_text(scene)
     is_over, said, seen = threading.Event(), [], []
     scraper = threading.Thread(target=lambda: said.append(scraped(scene.folder / STATUS, is_over, seen)))
     scraper.start()
@@ -181,13 +178,10 @@ def test_no_scrape_has_half_a_file(scene) -> None:
 def test_each_of_several_servers_has_a_file(scene) -> None:
     """Named by its number, with a label; together they have what the log has."""
     scene.make(f"{ROOT}/a", b"ABC")
-    words = [ROOT, "--listen", f"{scene.address}:0", "--servers", "2", "--forever", "--log", "--status", STATUS, "--drain", DRAIN]
-    server = scene.served(scene.start("tftpd", words), 2)
+    server = scene.serve_several(2, "--log", "--status", STATUS, "--drain", DRAIN, root=ROOT)
     for number in range(8):
-        scene.tftp("get", server.word, "a", f"got{number}", "--no-dally").completes(3)
-    scene.make(DRAIN, b"")
-    status, _, log = server.ended()
-    expect(status, 0, "the status of the supervisor")
+        scene.gets(server, "a", f"got{number}", 3)
+    log = drained(scene, server)
     found = {}
     for number in ("1", "2"):
         own = read(scene.folder / f"tftpd.{number}.prom")
@@ -195,18 +189,18 @@ def test_each_of_several_servers_has_a_file(scene) -> None:
         expect(labels, {(number, server.word)}, "the labels")
         found.update(own)
     has_counted(found, [unmarked(line) for line in log])
-    expect((scene.folder / STATUS).exists(), False, "whether there is a file of all")
+    scene.lacks(STATUS)
 
 
 def test_a_status_file_that_cannot_be_written(scene) -> None:
     """That is said once, nothing stops, and it is written once it can be."""
     scene.make(f"{ROOT}/a", b"ABC")
-    server = scene.serve("--forever", "--log", "--drain", DRAIN, "--status", f"later/{STATUS}", root=ROOT)
+    server = serve(scene, status=f"later/{STATUS}")
     expect(server.log_line(), "tftpd: --status: not found", "what is said")
-    scene.tftp("get", server.word, "a", "one", "--no-dally").completes(3)
+    scene.gets(server, "a", "one", 3)
     time.sleep(2.5)
     scene.make_folder("later")
-    wait_until((scene.folder / "later" / STATUS).exists, "a text")
+    first_text(scene, f"later/{STATUS}")
     log = drained(scene, server)
     expect([line for line in log if "--status" in line], [], "what is said again")
     has_counted(read(scene.folder / "later" / STATUS), log)
@@ -220,9 +214,7 @@ def lies_at(path) -> tuple[int, int]:
 
 def test_a_status_file_replaces_a_file_or_nothing(scene) -> None:
     """A FIFO, a link and a device stay, at its path and at that of its temporary file. That is said once."""
-    scene.make(f"{ROOT}/a", b"ABC")
-    scene.make("other", b"kept")
-    os.symlink("other", scene.folder / "link")
+    scene.make_all({f"{ROOT}/a": b"ABC", "other": b"kept", "link": "other"})
     for name in ("fifo", "draft~"):
         os.mkfifo(scene.folder / name)
     places = [("fifo", "fifo"), ("link", "link"), ("draft", "draft~")]
@@ -231,21 +223,20 @@ def test_a_status_file_replaces_a_file_or_nothing(scene) -> None:
         places.append(("null", "null"))
     for name, place in places:
         before = lies_at(scene.folder / place)
-        server = scene.serve("--forever", "--log", "--drain", DRAIN, "--status", name, root=ROOT)
+        server = serve(scene, status=name)
         expect(server.log_line(), "tftpd: --status: not a file", f"what is said of {name}")
-        scene.tftp("get", server.word, "a", f"{name}.got", "--no-dally").completes(3)
+        scene.gets(server, "a", f"{name}.got", 3)
         log = drained(scene, server)
-        os.remove(scene.folder / DRAIN)
         expect([line for line in log if "--status" in line], [], "what is said again")
         expect(lies_at(scene.folder / place), before, f"what lies at {place}")
-    expect((scene.folder / "other").read_bytes(), b"kept", "what the link leads to")
+    expect(scene.content("other"), b"kept", "what the link leads to")
 
 
 def test_an_idle_server_writes_its_file_each_minute(scene) -> None:
     """So it is told from one that hangs: nothing has changed but the time."""
     scene.make_folder(ROOT)
     serve(scene)
-    first = read(scene.folder / STATUS)
+    first = first_text(scene)
     began = time.monotonic()
     while (second := read(scene.folder / STATUS)) == first and time.monotonic() < began + LONGEST_AGE:
         time.sleep(0.1)
@@ -259,10 +250,10 @@ def test_a_datagram_that_the_system_refuses_is_not_sent(scene) -> None:
     """It does not count as one that was sent."""
     scene.make("a", b"ABC")
     # (the server serves the whole folder of the test)
-    place = scene.folder.with_name(f"{scene.folder.name}.prom")
+    place = scene.beside("prom")
     server = scene.serve_preloaded("watch_calls.c", "--log", "--status", place, UNSENT=1)
     wait_until(place.exists, "the first text")
-    scene.port().send(rrq("a", **PATIENT), server.address)
+    server.asked(rrq("a", **PATIENT))
     wait_until(lambda: value(read(place), "tftpd_datagrams_total", way="received") == 1, "the request")
     expect(value(read(place), "tftpd_datagrams_total", way="sent"), 0, "the datagrams that were sent")
     server.process.kill()
@@ -271,13 +262,12 @@ def test_a_datagram_that_the_system_refuses_is_not_sent(scene) -> None:
 def test_open_files_of_64_puts(scene) -> None:
     """They are enough for each put, its sync and the file of --status."""
     scene.make_folder(ROOT)
-    server = scene.serve("--forever", "--log", "--cap", "64", "--drain", DRAIN, "--status", STATUS, root=ROOT,
-                         limit=f"-n {OPEN_FILES}")
+    server = serve(scene, "--cap", "64", limit=f"-n {OPEN_FILES}")
+    first_text(scene)
     # (a put dallies for two of these timeouts)
     asked = {"timeout": 5}
     puts = [server.opens(wrq(f"f{number}", **asked), oack(**asked)) for number in range(64)]
-    wanted = {"direction": "write"}
-    wait_until(lambda: value(read(scene.folder / STATUS), "tftpd_transfers_open", **wanted) == 64, "64 puts")
+    wait_until(lambda: value(read(scene.folder / STATUS), "tftpd_transfers_open", direction="write") == 64, "64 puts")
     for put in puts:
         put.is_answered(data(1, b"ABC"), ack(1))
     log = drained(scene, server)
@@ -285,53 +275,13 @@ def test_open_files_of_64_puts(scene) -> None:
     has_counted(read(scene.folder / STATUS), log)
 
 
-def test_words_of_a_status_file(scene) -> None:
-    """No name, or a place that it may not have."""
+def test_the_files_of_several_servers_and_of_drain(scene) -> None:
+    """One of them would be the file of --drain. (The first server may listen by then, and write its file.)"""
     scene.make_folder(ROOT)
-    scene.make_folder(f"{ROOT}/below")
-    os.symlink(f"{ROOT}/below", scene.folder / "link")
-    for words in [["--status", ""], ["--status", "folder/"], ["--status", ".."], ["--status", ROOT],
-                  ["--status", f"{ROOT}/a.prom"], ["--status", f"{ROOT}//below/a.prom"],
-                  ["--status", "a", "--drain", "a"], ["--status", "a", "--drain", "a~"]]:
-        said = refused(scene, words)
-        expect(said.startswith("error: invalid value '") and "for '--status <FILE>'" in said, True, f"{words}: {said}")
-    for words in [["--status", "link/a.prom"], ["--status", f"{scene.folder}/{ROOT}/a.prom"],
-                  ["--status", "link/a.prom", "--servers", "2", "--forever"]]:
-        said = f"tftpd: file fault\ntftpd: --status {words[1]}: in ROOT or below it\n"
-        expect(refused(scene, words), said, f"what is said of {words}")
-    # the file of --drain by another spelling
-    scene.make_folder("runs")
-    os.symlink("runs", scene.folder / "same")
-    for file, drain in [("a", "./a"), ("a", f"{scene.folder}//a"), (f"{scene.folder}/a", "a~"), ("runs/a", "same/a"),
-                        ("same/../runs/a", f"{ROOT}/../runs/./a")]:
-        said = f"tftpd: file fault\ntftpd: --status {file}: of this server it would be the file of --drain\n"
-        expect(refused(scene, ["--status", file, "--drain", drain]), said, f"what is said of {file} and {drain}")
-    # (the first server may listen by then, and write its file)
-    words = ["--status", "a.prom", "--drain", "a.2.prom", "--servers", "2", "--forever"]
-    said = refused(scene, words, printed=r"(listening .*\n)?")
-    expect("of this server it would be the file of --drain" in said, True, f"what is said of a server's file: {said}")
-    expect([name for name in scene.files() if name not in ("a.1.prom", "a.1.prom~", "runs", "same")], [], "the files")
-
-
-def refused(scene, words, printed="") -> str:
-    """What a server says that does not start, and prints no more than this."""
-    process = scene.start("tftpd", [ROOT, "--listen", f"{scene.address}:0", *words])
-    output, errors = (text.decode() for text in process.communicate(timeout=PATIENCE))
-    expect((process.returncode, bool(re.fullmatch(printed, output))), (2, True), f"how {words} ends, with {output!r}")
-    return errors
-
-
-def test_as_many_servers_as_processors(scene) -> None:
-    """Those that the process may run on."""
-    scene.make_folder(ROOT)
-    mine = sorted(os.sched_getaffinity(0))
-    for count in {1, len(mine)}:
-        words = [ROOT, "--listen", f"{scene.address}:0", "--servers", "auto", "--forever"]
-        process = scene.start("tftpd", words, preexec_fn=lambda: os.sched_setaffinity(0, mine[:count]))
-        Server(scene, process)
-        if count > 1:
-            wait_for_servers(process, count)
-        expect(len(children_of(process)), count if count > 1 else 0, "the servers")
-        process.kill()
-    expect(refused(scene, ["--servers", "some"]).split("\n")[0],
-           "error: invalid value 'some' for '--servers <1..64|auto>': neither a number from 1 to 64 nor 'auto'", "the words")
+    process = scene.start_several(2, "--status", "a.prom", "--drain", "a.2.prom", root=ROOT)
+    printed, errors = written_by(process)
+    found = (process.returncode, bool(re.fullmatch(r"(listening .*\n)?", printed)))
+    expect(found, (2, True), f"how it ends, {printed!r}")
+    is_said = "of this server it would be the file of --drain" in errors
+    expect(is_said, True, f"what is said of a server's file: {errors}")
+    expect([name for name in scene.files() if name not in ("a.1.prom", "a.1.prom~")], [], "the files")

@@ -8,7 +8,6 @@ why each is not. It takes some minutes, and is no check. A test that looks at th
 """
 import os
 import re
-import shutil
 import struct
 import subprocess
 import sys
@@ -19,72 +18,52 @@ sys.path[:0] = [str(Path(__file__).resolve().parents[1])]
 from lib.preload import compiled
 from lib.programs import NAMES, TOP, programs
 
-SOURCE = Path(__file__).with_name("coverage.c")
-LIMIT = 3_000
-# the folders of tests/ that run each program, and what runs two of them
+SOURCE, LIMIT = Path(__file__).with_name("coverage.c"), 3_000
+# the folders of tests/ that run each program
 TESTS = {"tftp-show": ["tftp_show", "captures"], "tftp-play": ["tftp_play"], "tftp": ["tftp", "tftpd"], "tftpd": ["tftpd"]}
 SHARED = ["mutated", "memory"]
-# what is written in a crate of this repository
-GIVEN = r"tftp(?!.*(::Destruct\+\+|\+Destruct::drop|\+Fn(Once|Mut)?::call))"
-
-
-def plain(name: str) -> str:
-    """A function without what tells its instances apart."""
-    return re.sub(r"::<.*", "", name)
+# what is written in a crate of this repository, and not made by the compiler to drop values or to call closures
+GIVEN = r"(?m)^([0-9a-f]+) [tT] (tftp(?!.*(?:::Destruct\+\+|\+Destruct::drop|\+Fn(?:Once|Mut)?::call)).*)$"
 
 
 def functions(path: str) -> dict[int, str]:
-    """The functions of the repository's crates in a program, by their places, in rising order, without what the compiler
-    makes to drop values and to call closures."""
-    done = subprocess.run(["nm", path], capture_output=True, text=True, check=True)
-    found = (re.match(r"([0-9a-f]+) [tT] (.*)", line) for line in done.stdout.splitlines())
-    return dict(sorted((int(it[1], 16), it[2]) for it in found if it and re.match(GIVEN, it[2])))
+    """The functions of the repository's crates in a program, by their places, in rising order, without what tells the instances of
+    one apart."""
+    text = subprocess.run(["nm", path], capture_output=True, text=True, check=True).stdout
+    return dict(sorted((int(place, 16), re.sub(r"::<.*", "", name)) for place, name in re.findall(GIVEN, text)))
 
 
-def wrapped(paths: dict[str, str], folder: Path) -> None:
-    """Scripts that run the programs and note what they reach."""
-    shim = compiled(folder, SOURCE)
-    for name, path in paths.items():
-        places = functions(path)
-        (folder / f"{name}.list").write_bytes(struct.pack(f"<{len(places)}Q", *places))
-        (folder / f"{name}.seen").write_bytes(bytes(len(places)))
-        words = {"COVERAGE_OF": os.path.realpath(path), "COVERAGE_LIST": folder / f"{name}.list",
-                 "COVERAGE_SEEN": folder / f"{name}.seen", "LD_PRELOAD": f"{shim}${{LD_PRELOAD:+:$LD_PRELOAD}}"}
-        script = folder / name
-        script.write_text("#!/bin/sh\n" + "".join(f'{key}="{value}" ' for key, value in words.items()) + f'exec {path} "$@"\n')
-        script.chmod(0o755)
-
-
-def reached(name: str, path: str, folder: Path) -> set[str]:
-    """The functions of a program that were entered."""
-    seen = (folder / f"{name}.seen").read_bytes()
-    return {plain(function) for function, is_seen in zip(functions(path).values(), seen) if is_seen}
+def wrapped(name: str, path: str, folder: Path) -> None:
+    """A script that runs a program and notes what it reaches."""
+    places, seen = functions(path), folder / f"{name}.seen"
+    (folder / f"{name}.list").write_bytes(struct.pack(f"<{len(places)}Q", *places))
+    seen.write_bytes(bytes(len(places)))
+    seen.chmod(0o666)
+    (folder / name).write_text(f"""#!/bin/sh
+export COVERAGE_OF={os.path.realpath(path)} COVERAGE_LIST={folder / name}.list COVERAGE_SEEN={seen}
+LD_PRELOAD="{compiled(folder, SOURCE)}${{LD_PRELOAD:+:$LD_PRELOAD}}" exec {path} "$@"
+""")
+    (folder / name).chmod(0o755)
 
 
 def main() -> int:
     if sys.argv[1:2] in (["-h"], ["--help"]):
         sys.exit(__doc__)
-    if not shutil.which("nm"):
-        print("coverage: skipped: no nm (binutils)")
-        return 0
-    paths = programs(NAMES)
+    paths, wanted = programs(NAMES), sys.argv[1:] or NAMES
     with tempfile.TemporaryDirectory(prefix="coverage-") as room:
         folder = Path(room)
         folder.chmod(0o755)  # (some tests run a program as another user)
-        wrapped(paths, folder)
-        for name in paths:
-            (folder / f"{name}.seen").chmod(0o666)
-        env = {**os.environ, "TFTP_PROGRAMS": str(folder)}
-        wanted = sys.argv[1:] or list(NAMES)
-        folders = {f"tests/{it}" for name in wanted for it in [*TESTS[name], *SHARED]}
-        words = ["/usr/bin/python3", "-m", "pytest", "-q", *sorted(folders)]
-        done = subprocess.run(words, cwd=TOP, env=env, stdin=subprocess.DEVNULL, capture_output=True, text=True, timeout=LIMIT)
-        print(f"coverage: {' '.join(sorted(folders))}: {done.stdout.splitlines()[-1:]}", flush=True)
+        for name, path in paths.items():
+            wrapped(name, path, folder)
+        folders = sorted({f"tests/{it}" for name in wanted for it in [*TESTS[name], *SHARED]})
+        done = subprocess.run(["pytest-3", "-q", *folders], cwd=TOP, env={**os.environ, "TFTP_PROGRAMS": room}, stdin=subprocess.DEVNULL,
+                              capture_output=True, text=True, timeout=LIMIT)
+        print(f"coverage: {' '.join(folders)}: {done.stdout.splitlines()[-1:]}", flush=True)
         for name in wanted:
-            there, seen = {*map(plain, functions(paths[name]).values())}, reached(name, paths[name], folder)
-            missed = sorted(there - seen)
-            print(f"{name}: {len(there) - len(missed)} of {len(there)} functions are reached; not:")
-            print(*(f"  {function}" for function in missed), sep="\n")
+            there, seen = functions(paths[name]).values(), (folder / f"{name}.seen").read_bytes()
+            reached = {function for function, is_seen in zip(there, seen) if is_seen}
+            missed = sorted({*there} - reached)
+            print(f"{name}: {len(reached)} of {len({*there})} functions are reached; not:", *missed, sep="\n  ")
     return 0
 
 

@@ -1,57 +1,52 @@
-/* Feeds the library for C with datagrams that are made from a corpus, and keeps those that reach new code: fuzz CORPUS
-   SECONDS SEED BLOCKS. It is linked with AddressSanitizer and libtftp.a, not as PIE. BLOCKS is a file with the addresses at
-   which pieces of the library's code begin, eight bytes each: at each of them stands a breakpoint until it is reached once,
-   so that nothing has to be built again to know what an input reaches. The first byte of an input says which call it is for.
-   It is for Linux on x86-64. Prints the counts; a fault ends it by AddressSanitizer's report, with the input in CORPUS/last. */
+/* Feeds the library for C with datagrams by libFuzzer, with AddressSanitizer. The library is the archive as it is built: at the
+   beginning of each piece of its code stands a breakpoint until an input reaches it, which libFuzzer sees as a counter of its
+   own. PLACES in the environment names a file with the addresses of these pieces in rising order, eight bytes each (fuzz.py). The
+   program is no PIE. The first byte of an input says which call it is for. It is for Linux on x86-64. */
 #define _GNU_SOURCE
 #include "tftp.h"
-#include <dirent.h>
 #include <signal.h>
 #include <stdio.h>
 #include <stdlib.h>
 #include <string.h>
 #include <sys/mman.h>
-#include <time.h>
 #include <ucontext.h>
-#include <unistd.h>
 
-enum { LONGEST = 1600, MOST = 4096, PLACES = 1 << 20 };
+enum { PLACES = 1 << 18 };
 
 static uint64_t places[PLACES];
 static uint8_t old[PLACES];
-static size_t count, reached, is_new;
+static size_t count, reached;
+/* a section that libFuzzer looks at after each input */
+__attribute__((section("__libfuzzer_extra_counters"))) static uint8_t is_reached[PLACES];
 
-/* the place of an address, by halves */
-static long place_of(uint64_t at) {
-    size_t low = 0, high = count;
-    while (low < high) {
-        size_t middle = (low + high) / 2;
-        if (places[middle] < at)
-            low = middle + 1;
-        else
-            high = middle;
-    }
-    return low < count && places[low] == at ? (long)low : -1;
+static int by_address(const void *one, const void *other) {
+    uint64_t first = *(const uint64_t *)one, second = *(const uint64_t *)other;
+    return (first > second) - (first < second);
 }
 
 static void on_breakpoint(int number, siginfo_t *info, void *context) {
     greg_t *registers = ((ucontext_t *)context)->uc_mcontext.gregs;
-    long place = place_of((uint64_t)registers[REG_RIP] - 1);
+    uint64_t at = (uint64_t)registers[REG_RIP] - 1, *place = bsearch(&at, places, count, sizeof at, by_address);
     (void)number, (void)info;
-    if (place < 0)
+    if (!place)
         abort();
-    *(uint8_t *)places[place] = old[place];
-    registers[REG_RIP] -= 1;
+    *(uint8_t *)at = old[place - places];
+    registers[REG_RIP] = (greg_t)at;
+    is_reached[place - places] = 1;
     reached++;
-    is_new = 1;
 }
 
-static void put_breakpoints(const char *path) {
-    FILE *file = fopen(path, "rb");
+static void tell(void) {
+    printf("%zu of %zu pieces of code reached\n", reached, count);
+}
+
+int LLVMFuzzerInitialize(int *words, char ***word) {
+    FILE *file = fopen(getenv("PLACES"), "rb");
     struct sigaction action = {.sa_sigaction = on_breakpoint, .sa_flags = SA_SIGINFO | SA_NODEFER};
+    (void)words, (void)word;
     if (!file)
         exit(2);
-    count = fread(places, 8, PLACES, file);
+    count = fread(places, sizeof *places, PLACES, file);
     fclose(file);
     sigaction(SIGTRAP, &action, NULL);
     for (size_t at = 0; at < count; at++) {
@@ -61,108 +56,8 @@ static void put_breakpoints(const char *path) {
         old[at] = *(uint8_t *)places[at];
         *(uint8_t *)places[at] = 0xcc;
     }
-}
-
-/* ---- the corpus */
-
-static uint8_t *inputs[MOST];
-static size_t lengths[MOST], number_of_inputs;
-
-static void keep(const uint8_t *bytes, size_t length) {
-    if (number_of_inputs == MOST)
-        return;
-    inputs[number_of_inputs] = malloc(length + 1);
-    memcpy(inputs[number_of_inputs], bytes, length);
-    lengths[number_of_inputs++] = length;
-}
-
-static void write_to(const char *folder, const char *name, const uint8_t *bytes, size_t length) {
-    char path[512];
-    snprintf(path, sizeof path, "%s/%s", folder, name);
-    FILE *file = fopen(path, "wb");
-    if (file) {
-        fwrite(bytes, 1, length, file);
-        fclose(file);
-    }
-}
-
-static void read_corpus(const char *folder) {
-    static uint8_t bytes[LONGEST];
-    char path[512];
-    DIR *entries = opendir(folder);
-    struct dirent *entry;
-    while (entries && (entry = readdir(entries))) {
-        snprintf(path, sizeof path, "%s/%s", folder, entry->d_name);
-        FILE *file = strncmp(entry->d_name, "in-", 3) == 0 ? fopen(path, "rb") : NULL;
-        if (file) {
-            keep(bytes, fread(bytes, 1, sizeof bytes, file));
-            fclose(file);
-        }
-    }
-    if (entries)
-        closedir(entries);
-}
-
-static uint64_t state;
-
-static uint32_t drawn(uint32_t below) {
-    state = state * 6364136223846793005ull + 1442695040888963407ull;
-    return (uint32_t)(state >> 33) % below;
-}
-
-/* bytes that are worth a try beside those that are there */
-static const char *const WORDS[] = {"octet", "netascii", "blksize", "timeout", "tsize", "8", "512", "65464", "255", "0",
-                                    "18446744073709551615", "a", "..", "/", "\r", "\n"};
-
-static size_t mutate(uint8_t *bytes, size_t length) {
-    for (uint32_t times = 1 + drawn(4); times > 0; times--) {
-        size_t at = length ? drawn((uint32_t)length) : 0;
-        const char *word = WORDS[drawn(sizeof WORDS / sizeof *WORDS)];
-        size_t more = strlen(word) + drawn(2);
-        switch (drawn(7)) {
-        case 0:
-            if (length)
-                bytes[at] = (uint8_t)drawn(256);
-            break;
-        case 1:
-            if (length)
-                bytes[at] ^= (uint8_t)(1u << drawn(8));
-            break;
-        case 2:
-            length = at;
-            break;
-        case 3:
-            if (length + more < LONGEST) {
-                memmove(bytes + at + more, bytes + at, length - at);
-                memcpy(bytes + at, word, more);
-                length += more;
-            }
-            break;
-        case 4:
-            if (length > at) {
-                memmove(bytes + at, bytes + at + 1, length - at - 1);
-                length--;
-            }
-            break;
-        case 5:
-            more = drawn(LONGEST);
-            if (length + more < LONGEST) {
-                memset(bytes + length, (int)drawn(256), more);
-                length += more;
-            }
-            break;
-        default:
-            if (number_of_inputs) {
-                size_t other = drawn((uint32_t)number_of_inputs), from = lengths[other] ? drawn((uint32_t)lengths[other]) : 0;
-                more = lengths[other] - from;
-                if (at + more < LONGEST) {
-                    memcpy(bytes + at, inputs[other] + from, more);
-                    length = at + more;
-                }
-            }
-        }
-    }
-    return length;
+    atexit(tell);
+    return 0;
 }
 
 /* ---- the calls */
@@ -279,47 +174,9 @@ static void try_server(const uint8_t *rest, size_t left) {
     tftp_server_close(&server);
 }
 
-static void try_input(const uint8_t *bytes, size_t length) {
-    switch (length ? bytes[0] % 3 : 0) {
-    case 0:
-        try_decode(bytes + (length > 0), length - (length > 0));
-        break;
-    case 1:
-        try_receive(bytes + 1, length - 1);
-        break;
-    default:
-        try_server(bytes + 1, length - 1);
-    }
-}
-
-int main(int words, char **word) {
-    static uint8_t bytes[LONGEST + 8];
-    char name[32];
-    uint64_t tries = 0;
-    if (words != 5)
-        return 2;
-    read_corpus(word[1]);
-    keep((const uint8_t *)"", 0);
-    state = strtoull(word[3], NULL, 10) * 2 + 1;
-    time_t end = time(NULL) + atol(word[2]);
-    put_breakpoints(word[4]);
-    for (size_t at = 0; at < number_of_inputs; at++)
-        try_input(inputs[at], lengths[at]);
-    for (; tries % 1024 || time(NULL) < end; tries++) {
-        size_t from = drawn((uint32_t)number_of_inputs), length = lengths[from];
-        memcpy(bytes, inputs[from], length);
-        length = mutate(bytes, length);
-        is_new = 0;
-        if (tries % 4096 == 0)
-            write_to(word[1], "last", bytes, length);
-        try_input(bytes, length);
-        if (is_new) {
-            keep(bytes, length);
-            snprintf(name, sizeof name, "in-%zu", number_of_inputs);
-            write_to(word[1], name, bytes, length);
-        }
-    }
-    printf("%llu inputs, %zu of %zu pieces of code reached, %zu inputs in the corpus\n", (unsigned long long)tries, reached,
-           count, number_of_inputs);
+int LLVMFuzzerTestOneInput(const uint8_t *bytes, size_t length) {
+    static void (*const CALLS[])(const uint8_t *, size_t) = {try_decode, try_receive, try_server};
+    if (length)
+        CALLS[bytes[0] % 3](bytes + 1, length - 1);
     return 0;
 }

@@ -12,7 +12,7 @@ import sys
 import tempfile
 import time
 from pathlib import Path
-from typing import Any, Iterator
+from typing import Any
 
 TOP = Path(__file__).resolve().parents[2]
 sys.path[:0] = [str(TOP / "tools"), str(TOP / "tests/soak")]
@@ -29,31 +29,27 @@ MODES = [b"octet", b"netascii", b"OCTET", b"NetASCII", b"mail"]
 OPTIONS = [(b"blksize", b"1428"), (b"BLKSIZE", b"8"), (b"timeout", b"3"), (b"tsize", b"0"), (b"windowsize", b"4"), (b"x", b""),
            (b"a=b", b"%"), (b"utimeout", b"100000")]
 TEXTS = [b"", b"file not found", b"a= %\n", b"\xff" * 30]
-# in this many of the packets something is wrong
-WRONG = 0.5
-# what tshark is asked for, and how it parts the values of one field
+# what tshark is asked for, and how it parts the fields, and the values of one field
 FIELDS = ["tftp.opcode", "tftp.block", "tftp.error.code", "tftp.source_file", "tftp.destination_file", "tftp.type",
           "tftp.option.name", "tftp.option.value"]
-APART = "\x1f"
+BETWEEN, APART = "\x1e", "\x1f"
 LIMIT = 900
 
 
-def right(rng: random.Random) -> bytes:
-    """A packet."""
-    kind, options = rng.randrange(6), rng.sample(OPTIONS, rng.choice([0, 0, 1, 2, 3]))
-    if kind < 2:
-        return request(kind + 1, rng.choice(NAMES), rng.choice(MODES), options)
-    if kind == 2:
-        return data(rng.randrange(1, 65_536), rng.randbytes(rng.choice([0, 1, 8, 511, 512, 1_428])))
-    if kind == 3:
-        return ack(rng.randrange(65_536))
-    if kind == 4:
-        return error(rng.randrange(10), rng.choice(TEXTS))
-    return b"\0\6" + b"".join(name + b"\0" + value + b"\0" for name, value in options) if options else oack(tsize=7)
-
-
 def drawn(rng: random.Random) -> bytes:
-    return mutated(rng, right(rng)) if rng.random() < WRONG else right(rng)
+    """A packet, in half of which something is wrong."""
+    options = rng.sample(OPTIONS, rng.choice([0, 0, 1, 2, 3]))
+    right = rng.choice([
+        request(rng.randrange(1, 3), rng.choice(NAMES), rng.choice(MODES), options),
+        request(rng.randrange(1, 3), rng.choice(NAMES), rng.choice(MODES), options),
+        data(rng.randrange(1, 65_536), rng.randbytes(rng.choice([0, 1, 8, 511, 512, 1_428]))), ack(rng.randrange(65_536)),
+        error(rng.randrange(10), rng.choice(TEXTS)),
+        b"\0\6" + b"".join(name + b"\0" + value + b"\0" for name, value in options) if options else oack(tsize=7)])
+    return mutated(rng, right) if rng.random() < 0.5 else right
+
+
+def options_of(packet: Any) -> Any:
+    return getattr(packet, "options", ())
 
 
 def escaped(text: bytes, more: bytes = b"") -> str:
@@ -61,26 +57,45 @@ def escaped(text: bytes, more: bytes = b"") -> str:
     return "".join(chr(each) if (0x21 <= each <= 0x7E and each not in b"%=") or each in more else f"%{each:02x}" for each in text)
 
 
-def listed(options) -> str:
-    return "".join(f" {escaped(name)}={escaped(value)}" for name, value in options)
-
-
 def shown(packet: Any) -> str:
     """The line of a packet or of its first fault."""
+    options = "".join(f" {escaped(name)}={escaped(value)}" for name, value in options_of(packet))
     if isinstance(packet, model.Fault):
         return f"fault {packet.kind} {packet.at}"
     if isinstance(packet, model.Request):
-        return f"{packet.kind} {escaped(packet.name)} {packet.mode.decode()}{listed(packet.options)}"
+        return f"{packet.kind} {escaped(packet.name)} {packet.mode.decode()}{options}"
     if isinstance(packet, model.Data):
         return f"DATA {packet.number} {len(packet.block)}"
     if isinstance(packet, model.Ack):
         return f"ACK {packet.number}"
     if isinstance(packet, model.Error):
         return f"ERROR {packet.code} ({escaped(packet.text, b' =')})"
-    return f"OACK{listed(packet.options)}"
+    return f"OACK{options}"
 
 
-def differences(given: list[bytes], show: str) -> list[str]:
+def fields_of(packet: Any) -> dict[str, str]:
+    """The fields of a packet as tshark has them."""
+    names, values = ([each[at].decode() for each in options_of(packet)] for at in (0, 1))
+    found = {"tftp.option.name": APART.join(names), "tftp.option.value": APART.join(values)}
+    if isinstance(packet, model.Request):
+        file = "tftp.source_file" if packet.kind == "RRQ" else "tftp.destination_file"
+        return {**found, "tftp.opcode": "1" if packet.kind == "RRQ" else "2", file: packet.name.decode(), "tftp.type": packet.mode.decode()}
+    if isinstance(packet, (model.Data, model.Ack)):
+        return {"tftp.opcode": "3" if isinstance(packet, model.Data) else "4", "tftp.block": f"{packet.number}"}
+    if isinstance(packet, model.Error):
+        return {"tftp.opcode": "5", "tftp.error.code": f"{packet.code}"}
+    return {**found, "tftp.opcode": "6"}
+
+
+def is_plain(packet: Any) -> bool:
+    """Whether tshark writes the texts of a packet as they are, and has a meaning for its options."""
+    texts = [packet.name] if isinstance(packet, model.Request) else []
+    texts += [each for pair in options_of(packet) for each in pair]
+    # (an empty text has no field; tshark puts numbers beside some names)
+    return all(each and all(0x21 <= byte <= 0x7E and byte not in b'\\"' for byte in each) for each in texts)
+
+
+def by_show(given: list[bytes], show: str) -> list[str]:
     """Where the program and the model differ."""
     text = "".join(f"{datagram.hex()}\n" for datagram in given)
     done = subprocess.run([show], input=text, capture_output=True, text=True, timeout=LIMIT)
@@ -91,59 +106,25 @@ def differences(given: list[bytes], show: str) -> list[str]:
             for datagram, line, other in zip(given, lines, wanted) if line != other]
 
 
-# ---- tshark
-
-
-def is_plain(packet: Any) -> bool:
-    """Whether tshark writes the texts of a packet as they are, and has a meaning for its options."""
-    texts = [packet.name] if isinstance(packet, model.Request) else []
-    texts += [each for pair in getattr(packet, "options", ()) for each in pair]
-    # (an empty text has no field; tshark puts numbers beside some names)
-    return all(each and all(0x21 <= byte <= 0x7E and byte not in b'\\"' for byte in each) for each in texts)
-
-
-def wanted_of(packet: Any) -> list[str]:
-    """The fields of a packet as tshark has them."""
-    options = [[each[at].decode() for each in getattr(packet, "options", ())] for at in (0, 1)]
-    tail = [APART.join(each) for each in options]
-    if isinstance(packet, model.Request):
-        names = [packet.name.decode(), ""] if packet.kind == "RRQ" else ["", packet.name.decode()]
-        return ["1" if packet.kind == "RRQ" else "2", "", "", *names, packet.mode.decode(), *tail]
-    if isinstance(packet, model.Data):
-        return ["3", f"{packet.number}", *[""] * 6]
-    if isinstance(packet, model.Ack):
-        return ["4", f"{packet.number}", *[""] * 6]
-    if isinstance(packet, model.Error):
-        return ["5", "", f"{packet.code}", *[""] * 5]
-    return ["6", *[""] * 5, *tail]
-
-
-def frames_of(packets: list[tuple[bytes, Any]]) -> Iterator[tuple[int, bytes]]:
-    """Each to the port of requests, from an endpoint of its own: tshark puts nothing together."""
-    for at, (datagram, _) in enumerate(packets):
-        source = f"10.{1 + (at >> 16)}.{at >> 8 & 255}.{at & 255}"
-        yield at * 1_000, frames.ipv4(source, "192.0.2.1", frames.udp(1_024 + at % 60_000, 69, datagram))
-
-
-def tshark_differences(given: list[bytes], folder: Path) -> tuple[int, list[str]]:
-    """Of how many packets tshark was asked, and where it differs from the model."""
-    packets = [(datagram, packet) for datagram in given for packet in [model.decode(datagram)]
-               if not isinstance(packet, model.Fault) and is_plain(packet)]
-    path = folder / "packets.pcap"
-    path.write_bytes(frames.classic(frames_of(packets), frames.RAW))
-    words = ["tshark", "-r", str(path), "-T", "fields", "-E", "separator=\x1e", "-E", f"aggregator={APART}",
+def by_tshark(packets: list[tuple[bytes, Any]], path: Path) -> list[str]:
+    """Where tshark and the model differ. Each packet comes to the port of requests, from an endpoint of its own: tshark puts
+    nothing together."""
+    path.write_bytes(frames.classic([
+        (at * 1_000, frames.ipv4(f"10.{1 + (at >> 16)}.{at >> 8 & 255}.{at & 255}", "192.0.2.1",
+                                 frames.udp(1_024 + at % 60_000, 69, datagram))) for at, (datagram, _) in enumerate(packets)], frames.RAW))
+    words = ["tshark", "-r", str(path), "-T", "fields", "-E", f"separator={BETWEEN}", "-E", f"aggregator={APART}",
              *[word for field in FIELDS for word in ("-e", field)]]
     done = subprocess.run(words, capture_output=True, text=True, errors="replace", timeout=LIMIT)
     lines = done.stdout.removesuffix("\n").split("\n")
     if len(lines) != len(packets):
-        return 0, [f"tshark has {len(lines)} lines of {len(packets)} packets: {done.stderr[-200:]}"]
+        return [f"tshark has {len(lines)} lines of {len(packets)} packets: {done.stderr[-200:]}"]
     found = []
     for (datagram, packet), line in zip(packets, lines):
-        fields = line.split("\x1e")
-        fields[5] = fields[5].lower()
-        if fields != wanted_of(packet):
-            found.append(f"{datagram[:80].hex()}: tshark: {fields}; the model: {wanted_of(packet)}")
-    return len(packets), found
+        fields = {name: value for name, value in zip(FIELDS, line.split(BETWEEN)) if value}
+        fields |= {name: fields[name].lower() for name in fields.keys() & {"tftp.type"}}
+        if fields != (wanted := {name: value for name, value in fields_of(packet).items() if value}):
+            found.append(f"{datagram[:80].hex()}: tshark: {fields}; the model: {wanted}")
+    return found
 
 
 def main() -> int:
@@ -152,16 +133,17 @@ def main() -> int:
     count, seed = int((sys.argv[1:2] or [100_000])[0]), int((sys.argv[2:3] or [commit_seed()])[0])
     began, rng = time.monotonic(), random.Random(seed)
     given = [drawn(rng) for _ in range(count)]
-    found = differences(given, str((sys.argv[3:4] or [program("tftp-show")])[0]))
-    asked, told = 0, "; skipped: tshark is not installed"
+    found = by_show(given, str((sys.argv[3:4] or [program("tftp-show")])[0]))
+    packets = [(datagram, packet) for datagram in given for packet in [model.decode(datagram)]
+               if not isinstance(packet, model.Fault) and is_plain(packet)]
+    told = "; skipped: tshark is not installed"
     if shutil.which("tshark"):
+        told = ""
         with tempfile.TemporaryDirectory(prefix="second-reader-") as folder:
-            asked, more = tshark_differences(given, Path(folder))
-        found, told = found + more, ""
-    for line in found[:10]:
-        print(line)
-    print(f"second reader: seed {seed}, {count} packets by the model, {asked} by tshark, in {time.monotonic() - began:.0f} s; "
-          f"{len(found)} differ{told}")
+            found += by_tshark(packets, Path(folder, "packets.pcap"))
+    print(*found[:10], sep="\n", end="\n" * bool(found))
+    print(f"second reader: seed {seed}, {count} packets by the model, {0 if told else len(packets)} by tshark, in "
+          f"{time.monotonic() - began:.0f} s; {len(found)} differ{told}")
     return 1 if found else 0
 
 

@@ -10,75 +10,44 @@ by the gate. The last line is a count; the status is 1 if a trial failed.
 """
 import os
 import re
+import select
 import shutil
 import signal
 import subprocess
 import sys
 import tempfile
 import time
+from concurrent.futures import ThreadPoolExecutor
 from contextlib import ExitStack, suppress
 from pathlib import Path
 from typing import Any
 
 sys.path[:0] = [str(Path(__file__).resolve().parents[1])]
-from lib.units import SETTINGS, settings_of
-from lib.ends import expect
+from lib import hosts
+from lib.ends import End, Port, error, expect, oack, rrq
 from lib.hosts import BLOCK, CLIENT, MANY, PATIENCE, SERVER, Host
-from lib.programs import TOP
+from lib.programs import NAMES, TOP
+from lib.units import SETTINGS, settings_of
 
-SUITE, ARCHIVE = "bookworm", "http://deb.debian.org/debian"
+APART = [word for word in hosts.APART if word != "--map-root-user"]
+DEBIAN = ["bookworm", "http://deb.debian.org/debian"]
 PACKAGES = "systemd,systemd-sysv,dbus,nftables,iproute2,util-linux"
 # The longest time until systemd has started, and of all, in seconds
 BOOT, LIMIT = 120, 900
 # CAP_NET_BIND_SERVICE alone, as /proc has it
-BIND = f"{1 << 10:016x}"
-NOTHING = "0" * 16
+BIND, NOTHING = f"{1 << 10:016x}", "0" * 16
 # No interface has it at first
 LATE = "192.0.2.9"
-# A client of this script, with the folder of lib/ and the server's address as words: it begins a get, and goes on once it
-# is told to
-HOLDS = """
-import socket, sys
-sys.path.append(sys.argv[1])
-from lib.packets import ack, rrq
-udp = socket.socket(socket.AF_INET, socket.SOCK_DGRAM)
-udp.settimeout(60)
-udp.sendto(rrq("a", timeout=255), (sys.argv[2], 69))
-peer, length, count = udp.recvfrom(600)[1], 0, 0
-print("begun", flush=True)
-sys.stdin.readline()
-while length == 512 * count:
-    udp.sendto(ack(count), peer)
-    count, length = count + 1, length + len(udp.recv(600)) - 4
-udp.sendto(ack(count), peer)
-print(length)
-"""
-# Clients that ask once each within two seconds; of each answer the sender is told that it is enough
-MANY_ASK = """
-import select, socket, sys, time
-sys.path.append(sys.argv[1])
-from lib.packets import error, rrq
-waiting, answered, end = [], 0, time.monotonic() + 40
-print("begun", flush=True)
-while answered < 64 and time.monotonic() < end:
-    if len(waiting) + answered < 64:
-        waiting.append(socket.socket(socket.AF_INET, socket.SOCK_DGRAM))
-        waiting[-1].sendto(rrq("a"), (sys.argv[2], 69))
-    for udp in select.select(waiting, [], [], 0.03)[0]:
-        udp.sendto(error(0, "enough"), udp.recvfrom(600)[1])
-        waiting.remove(udp)
-        answered += 1
-print(answered, "of 64")
-"""
-APART = ["unshare", "--net", "--mount", "--pid", "--fork", "--kill-child", "--mount-proc"]
+INSTANCES = [f"tftpd@{port}" for port in range(6901, 6909)]
+DENIED = "tftp: PeerError(2)\ntftp: the server says: access violation\n"
+EXISTS = "tftp: PeerError(6)\ntftp: the server says: file exists\n"
 
 
 def own_group(stack) -> None:
     """Puts this process into a control group of its own, below which systemd makes others."""
-    name = f"units-{time.monotonic_ns()}"
     for top in map(Path, ["/sys/fs/cgroup/systemd", "/sys/fs/cgroup/unified", "/sys/fs/cgroup"]):
         if (top / "cgroup.procs").exists():
-            group = top / name
+            group = top / f"units-{time.monotonic_ns()}"
             group.mkdir()
             (group / "cgroup.procs").write_text("0")
             stack.callback(remove_group, top, group)
@@ -95,27 +64,19 @@ def remove_group(top, group) -> None:
         time.sleep(0.1)
 
 
-def until(what, test, seconds=PATIENCE) -> Any:
-    """Waits until this is so, and returns what it gave."""
+def until(what, test, seconds=PATIENCE) -> None:
+    """Waits until this is so."""
     end = time.monotonic() + seconds
-    while time.monotonic() < end:
-        found = test()
-        if found:
-            return found
+    while not test():
+        expect(time.monotonic() < end, True, f"whether {what} within {seconds} seconds")
         time.sleep(0.2)
-    raise AssertionError(f"not so after {seconds} seconds: {what}")
 
 
-def for_writes(unit, user) -> str:
+def for_writes(unit) -> str:
     """The lines in the comments of a unit, as `systemctl edit` takes them."""
     text = (TOP / "packaging" / unit).read_text()
     lines = re.search(r"(?m)^# For writes these lines .*\n((?:#\S.*\n)+)", text)
-    return "[Service]\n" + lines[1].replace("#", "").replace("User=USER", f"User={user}")
-
-
-def without_read_only(unit) -> str:
-    """The options of a unit that accepts writes."""
-    return settings_of(unit)["OPTIONS"].replace(" --read-only", "")
+    return "[Service]\n" + lines[1].replace("#", "").replace("User=USER", "User=uploader")
 
 
 def two_servers(unit) -> str:
@@ -125,8 +86,7 @@ def two_servers(unit) -> str:
 
 def packed(version) -> bytes:
     """The bytes of a package of this version."""
-    words = [TOP / "debian/pack.sh", version]
-    done = subprocess.run(words, check=True, stdout=subprocess.PIPE, text=True)
+    done = subprocess.run([TOP / "debian/pack.sh", version], check=True, stdout=subprocess.PIPE, text=True)
     package = TOP / done.stdout.strip()
     try:
         return package.read_bytes()
@@ -138,7 +98,7 @@ class Container:
     """A Debian whose systemd runs, at the server's end of a link, and a client at the other."""
 
     def __init__(self, folder, room, stack) -> None:
-        self.room, self.content, self.first = Path(room), os.urandom(12 * BLOCK + 7), ""
+        self.room, self.content, self.first, self.stack = Path(room), os.urandom(12 * BLOCK + 7), "", stack
         (self.room / "a").write_bytes(self.content)
         installed = self.room / "installed"
         words = [TOP / "tools/install.sh", "install", f"DESTDIR={installed}"]
@@ -150,11 +110,11 @@ class Container:
         addresses = "; ".join(f"ip address add {host}/24 dev wire" for host in [CLIENT, *MANY])
         self.client.run(f"{addresses}; ip route add 192.0.2.0/24 dev wire")
         own_group(stack)
-        self.console = open(self.room / "console", "wb")
+        console = stack.enter_context(open(self.room / "console", "wb"))
         words = ["systemd-nspawn", "--directory", folder, "--volatile=overlay", "--boot", "--console=pipe",
                  "--register=no", "--keep-unit", f"--network-namespace-path=/proc/{self.server.process.pid}/ns/net",
                  "--capability=CAP_NET_ADMIN", f"--bind-ro={installed}/usr/local:/usr/local"]
-        self.process = subprocess.Popen(words, stdin=subprocess.DEVNULL, stdout=self.console, stderr=self.console)
+        self.process = subprocess.Popen(words, stdin=subprocess.DEVNULL, stdout=console, stderr=console)
         stack.callback(self.end)
         until("systemd has started", self.is_running, BOOT)
 
@@ -165,7 +125,6 @@ class Container:
         else:
             self.process.terminate()
         self.process.wait(PATIENCE)
-        self.console.close()
 
     def is_running(self) -> bool:
         if self.process.poll() is not None:
@@ -173,17 +132,19 @@ class Container:
         self.first = Path(f"/proc/{self.process.pid}/task/{self.process.pid}/children").read_text().strip()
         return bool(self.first) and self.told("systemctl is-system-running").strip() in ("running", "degraded")
 
-    def words(self, *words) -> list[str]:
-        return ["nsenter", "--target", self.first, "--mount", "--uts", "--ipc", "--net", "--pid", "--cgroup", *words]
+    # ---- what runs in the container
 
-    def told(self, script, **how) -> str:
+    def words(self, script) -> list[str]:
+        return ["nsenter", "--target", self.first, "--mount", "--uts", "--ipc", "--net", "--pid", "--cgroup", "bash", "-ec", script]
+
+    def told(self, script) -> str:
         """What a shell prints in the container, whatever its status is."""
-        done = subprocess.run(self.words("sh", "-c", script), capture_output=True, text=True, timeout=PATIENCE, **how)
+        done = subprocess.run(self.words(script), capture_output=True, text=True, timeout=PATIENCE)
         return done.stdout + done.stderr
 
-    def run(self, script, **how) -> str:
-        """Runs shell commands in the container."""
-        done = subprocess.run(self.words("bash", "-ec", script), capture_output=True, timeout=3 * PATIENCE, **how)
+    def run(self, script, given=b"") -> str:
+        """Runs shell commands in the container, with this input."""
+        done = subprocess.run(self.words(script), input=given, capture_output=True, timeout=3 * PATIENCE)
         if done.returncode:
             raise AssertionError(f"{script}: {done.stderr.decode()}")
         return done.stdout.decode()
@@ -191,14 +152,23 @@ class Container:
     def property(self, unit, name) -> str:
         return self.run(f"systemctl show --value --property {name} {unit}").strip()
 
+    def processes_of(self, unit) -> list[str]:
+        """The process of a unit, and those of its servers, if it is their supervisor."""
+        main = self.property(unit, "MainPID")
+        return [main, *self.told(f"cat /proc/{main}/task/{main}/children").split()] if main != "0" else []
+
+    def log(self, unit, *more) -> list[str]:
+        """The lines in the journal of a unit's processes."""
+        return self.run(f"journalctl --quiet --output=cat _SYSTEMD_UNIT={unit}.service {' '.join(more)}").splitlines()
+
     def begin(self, unit, change="", **settings) -> None:
         """Starts a unit, with these settings and these lines of `systemctl edit`."""
         if settings:
             text = "".join(f'{name}="{value}"\n' for name, value in settings.items())
-            self.run(f"mkdir -p /etc/default; cat > {SETTINGS}", input=text.encode())
+            self.run(f"mkdir -p /etc/default; cat > {SETTINGS}", text.encode())
         if change:
             place = f"/etc/systemd/system/{unit}.service.d"
-            self.run(f"mkdir -p {place}; cat > {place}/override.conf; systemctl daemon-reload", input=change.encode())
+            self.run(f"mkdir -p {place}; cat > {place}/override.conf; systemctl daemon-reload", change.encode())
         # (where the program ends at once, this fails, and systemd starts it again)
         self.told(f"systemctl restart {unit}")
 
@@ -207,22 +177,64 @@ class Container:
         change = f"/etc/systemd/system/{unit}.service.d"
         self.run(f"systemctl disable --now {unit}; rm -rf {change} {SETTINGS}; systemctl daemon-reload")
 
-    def log(self, unit) -> list[str]:
-        return self.run(f"journalctl --quiet --output=cat _SYSTEMD_UNIT={unit}").splitlines()
+    def install(self, package) -> None:
+        self.run("cat > /it.deb; dpkg -i /it.deb", self.packages[package])
 
-    def process_of(self, unit) -> dict[str, str]:
-        """What the system has of a unit's process, by the names in /proc/PID/status."""
-        text = self.run(f"cat /proc/{self.property(unit, 'MainPID')}/status")
-        return dict(line.split(":\t", 1) for line in text.splitlines() if ":\t" in line)
+    # ---- what the client sees
+
+    def ran(self, verb, *words) -> "subprocess.CompletedProcess[str]":
+        command = self.client.words(TOP / "bin/tftp", verb, *words, "--blksize", BLOCK)
+        return subprocess.run(command, capture_output=True, text=True, timeout=PATIENCE)
+
+    def is_served(self, address=SERVER, port=69) -> bool:
+        """Whether the client gets the file."""
+        local = self.room / "local"
+        done = self.ran("get", f"{address}:{port}", "a", local, "--no-dally", "--retries", 1)
+        is_whole = local.exists() and local.read_bytes() == self.content
+        for left in [local, self.room / "local.part"]:
+            left.unlink(missing_ok=True)
+        expect(is_whole, done.returncode == 0, f"whether the file is whole where {done} says so")
+        return is_whole
+
+    def serves(self, address=SERVER, port=69) -> None:
+        until(f"{address}:{port} is served", lambda: self.is_served(address, port))
+
+    def answers_once(self, when) -> None:
+        """A request that comes now is answered without a further one."""
+        expect(self.is_served(), True, f"whether a request is answered {when}")
+
+    def put(self, name, port=69) -> str:
+        """What the client says that puts the file."""
+        done = self.ran("put", f"{SERVER}:{port}", self.room / "a", name)
+        return done.stdout + done.stderr
+
+    def port(self, address=CLIENT) -> Port:
+        """A port of the client's host."""
+        with self.client.inside():
+            port = Port(address)
+        self.stack.callback(port.close)
+        return port
+
+    def opened(self, address=CLIENT, **options) -> End:
+        """A get whose first answer is not acknowledged yet."""
+        port = self.port(address)
+        port.send(rrq("a", **options), (SERVER, 69))
+        first, peer = port.receive()
+        expect(first, oack(**options), "the first answer")
+        return End(port, peer, first)
+
+    # ---- what a unit's processes are
 
     def may(self, unit, user, capabilities=BIND) -> str:
-        """The unit's process has this user, a dynamic one for none, these capabilities, and cannot get others."""
-        found = self.process_of(unit)
-        number = found["Uid"].split()[0]
-        is_own = 61_184 <= int(number) <= 65_519
-        expect(self.run(f"id -u {user}").strip() == number if user else is_own, True, f"whether {number} is the user")
-        names = ["CapEff", "CapPrm", "CapBnd", "NoNewPrivs", "Seccomp"]
-        expect([found[name] for name in names], [capabilities] * 3 + ["1", "2"], f"{names} of {unit}")
+        """The unit's processes have this user, a dynamic one for none, these capabilities, and cannot get others."""
+        for process in self.processes_of(unit):
+            text = self.run(f"cat /proc/{process}/status")
+            found = dict(line.split(":\t", 1) for line in text.splitlines() if ":\t" in line)
+            number = found["Uid"].split()[0]
+            is_own = 61_184 <= int(number) <= 65_519
+            expect(self.run(f"id -u {user}").strip() == number if user else is_own, True, f"whether {number} is the user")
+            names = ["CapEff", "CapPrm", "CapBnd", "NoNewPrivs", "Seccomp"]
+            expect([found[name] for name in names], [capabilities] * 3 + ["1", "2"], f"{names} of {unit}")
         return number
 
     def sees(self, unit, writable) -> None:
@@ -230,40 +242,62 @@ class Container:
         inside = f"nsenter --target {self.property(unit, 'MainPID')} --mount"
         expect(self.run(f"{inside} ls /srv").split(), ["tftp"], "what is in /srv")
         for folder in ["/etc", "/usr", "/usr/local", "/srv", "/var/lib", "/srv/tftp"]:
-            wanted = folder == "/srv/tftp" and writable
             told = self.told(f"{inside} sh -c 'touch {folder}/x && rm {folder}/x'")
-            expect("Read-only file system" not in told, wanted, f"whether {folder} is writable: {told}")
+            expect("Read-only file system" not in told, writable and folder == "/srv/tftp", f"whether {folder} is writable: {told}")
 
-    def is_served(self, address=SERVER, port=69) -> bool:
-        """Whether the client gets the file."""
-        local = self.room / "local"
-        words = [TOP / "bin/tftp", "get", f"{address}:{port}", "a", local, "--blksize", BLOCK, "--no-dally",
-                 "--retries", 1]
-        done = subprocess.run(self.client.words(*map(str, words)), capture_output=True, timeout=PATIENCE)
-        is_whole = local.exists() and local.read_bytes() == self.content
-        for left in [local, self.room / "local.part"]:
-            left.unlink(missing_ok=True)
-        expect(is_whole, done.returncode == 0, f"whether the file is whole where {done} says so")
-        return is_whole
+    def reads_alone(self, unit, capabilities, writer="") -> None:
+        """It refuses writes, has no more than it needs, and the journal has each transfer once, with the server if there are
+        several. Of these lines the refused write is a warning."""
+        expect(self.put("new"), DENIED, "the answer to a write")
+        self.may(unit, None, capabilities)
+        self.sees(unit, False)
+        of_run = f"_SYSTEMD_INVOCATION_ID={self.property(unit, 'InvocationID')}"
+        events = [re.match(rf"{writer}(listening|opened|closed|refused) ", line) for line in self.log(unit, of_run)]
+        words = [event[1] for event in events if event]
+        wanted = ["listening", "opened", "closed", "refused"]
+        expect(sorted({*words}) if writer else words, sorted(wanted) if writer else wanted, "the lines of the journal")
+        warned = [re.sub(rf"^{writer}", "", line) for line in self.log(unit, of_run, "--priority=warning")]
+        expect([line.split()[0] for line in warned], ["refused"], "the warnings of the journal")
 
-    def client_of(self, script) -> "subprocess.Popen[str]":
-        """Starts a script at the client's host."""
-        words = self.client.words(sys.executable, "-c", script, str(TOP / "tools"), SERVER)
-        return subprocess.Popen(words, stdin=subprocess.PIPE, stdout=subprocess.PIPE, text=True)
+    def drains(self, unit) -> None:
+        """A restart finishes the get that is in flight, and ends with status 0."""
+        before, since = self.property(unit, "MainPID"), self.run("date +%s").strip()
+        journal = f"journalctl --quiet --output=cat --unit={unit}.service --since=@{since}"
+        held = self.opened(timeout=255)
+        self.run(f"systemctl --no-block restart {unit}")
+        drains = r"(?m)^(server \d: )?draining: 1 transfers open$"
+        until("it drains", lambda: re.search(drains, self.run(journal)))
+        expect(self.property(unit, "ActiveState"), "deactivating", f"{unit} while it drains")
+        held.gets(self.content)
+        until("the process has ended", lambda: self.property(unit, "MainPID") != before)
+        found = [line for line in self.run(journal).splitlines() if "Main process exited" in line or "Failed" in line]
+        expect(found, [], f"how {unit} ended")
 
-    def put(self, name, port=69) -> str:
-        """What the client says that puts the file."""
-        words = [TOP / "bin/tftp", "put", f"{SERVER}:{port}", self.room / "a", name, "--blksize", BLOCK]
-        done = subprocess.run(self.client.words(*map(str, words)), capture_output=True, text=True, timeout=PATIENCE)
-        return done.stdout + done.stderr
+    def loses_no_request(self) -> None:
+        """Where systemd holds the port, a request is answered that comes while the server is away. 64 clients ask once each
+        within two seconds, during a restart: each is answered, and tells the sender that it is enough."""
+        for verb in ["stop", "restart"]:
+            self.told(f"systemctl {verb} tftpd-socket")
+            self.answers_once(f"after a {verb}")
+        restart = subprocess.Popen(self.words("systemctl restart tftpd-socket"))
+        waiting, answered, end = list[Port](), 0, time.monotonic() + 40
+        while answered < 64 and time.monotonic() < end:
+            if len(waiting) + answered < 64:
+                waiting.append(self.port())
+                waiting[-1].send(rrq("a"), (SERVER, 69))
+            for ready in select.select([port.socket for port in waiting], [], [], 0.03)[0]:
+                ready.sendto(error(0, "enough"), ready.recvfrom(600)[1])
+                waiting = [port for port in waiting if port.socket != ready]
+                answered += 1
+        expect((answered, restart.wait(PATIENCE)), (64, 0), "how many clients are answered that ask once, during a restart")
 
 
 def try_no_folder(it) -> None:
     """Without its folder a start fails, and the journal says so; once the folder is there, it serves."""
-    for unit in ["tftpd", "tftpd@6901"]:
+    for unit in ["tftpd", INSTANCES[0]]:
         told = it.told(f"systemctl enable --now {unit} 2>&1 || echo status $?")
         expect(f"Job for {unit}.service failed" in told and told.endswith("status 1\n"), True, f"whether a start fails: {told}")
-        expect("/srv/tftp: no folder" in it.log(f"{unit}.service"), True, "whether the journal has the reason")
+        expect("/srv/tftp: no folder" in it.log(unit), True, "whether the journal has the reason")
         found = [it.property(unit, name) for name in ["MainPID", "MemoryMax"]]
         expect(found, ["0", "infinity"], f"{unit} without a folder")
         it.run(f"systemctl disable --now {unit}")
@@ -271,26 +305,19 @@ def try_no_folder(it) -> None:
 
 def try_settings(it) -> None:
     """The file of settings names another folder, another address, and other options."""
-    it.run("mkdir -p /var/lib/other; cat > /var/lib/other/a", input=it.content)
+    it.run("mkdir -p /var/lib/other; cat > /var/lib/other/a", it.content)
     it.begin("tftpd", ROOT="/var/lib/other", ADDRESS=SERVER, OPTIONS="--cap 1 --read-only --log")
-    until("another folder is served", it.is_served)
-    listening = [line for line in it.log("tftpd.service") if line.startswith("listening ")]
+    it.serves()
+    listening = [line for line in it.log("tftpd") if line.startswith("listening ")]
     expect(listening[-1], f"listening {SERVER}:69", "the address that is served")
     it.revert("tftpd")
 
 
 def try_reading(it) -> None:
-    """It serves the folder, refuses writes, and has no more than it needs. The journal has each transfer once."""
-    it.run("mkdir /srv/tftp /srv/other; cat > /srv/tftp/a", input=it.content)
+    it.run("mkdir /srv/tftp /srv/other; cat > /srv/tftp/a", it.content)
     it.run("systemctl enable --now tftpd")
-    until("port 69 is served", it.is_served)
-    expect(it.put("new"), "tftp: PeerError(2)\ntftp: the server says: access violation\n", "the answer to a write")
-    lines = [line.split()[0] for line in it.log("tftpd.service") if re.search("192|198|0[.]0[.]0[.]0", line)]
-    expect(lines, ["listening", "opened", "closed", "refused"], "the lines of the journal")
-    warnings = it.run("journalctl --quiet --output=cat --priority=warning _SYSTEMD_UNIT=tftpd.service").splitlines()
-    expect([line.split()[0] for line in warnings], ["refused"], "the warnings of the journal")
-    it.may("tftpd", None)
-    it.sees("tftpd", False)
+    it.serves()
+    it.reads_alone("tftpd", BIND)
 
 
 def try_kill(it) -> None:
@@ -300,174 +327,43 @@ def try_kill(it) -> None:
     until("another process serves", lambda: it.property("tftpd", "MainPID") not in ("0", before) and it.is_served())
 
 
-def drained(it, unit, verb) -> None:
-    """A stop or a restart finishes the get that is in flight, and ends with status 0."""
-    before, since = it.property(unit, "MainPID"), it.run("date +%s").strip()
-    journal = f"journalctl --quiet --output=cat --unit={unit}.service --since=@{since}"
-    with it.client_of(HOLDS) as held:
-        expect(held.stdout.readline(), "begun\n", "what the client says")
-        it.run(f"systemctl --no-block {verb} {unit}")
-        drains = r"(?m)^(server \d: )?draining: 1 transfers open$"
-        until("it drains", lambda: re.search(drains, it.run(journal)))
-        expect(it.property(unit, "ActiveState"), "deactivating", f"{unit} while it drains")
-        told = held.communicate("\n", timeout=PATIENCE)[0]
-    expect(told, f"{len(it.content)}\n", "what the client says at its end")
-    until("the process has ended", lambda: it.property(unit, "MainPID") != before)
-    found = [line for line in it.run(journal).splitlines() if "Main process exited" in line or "Failed" in line]
-    expect(found, [], f"how {unit} ended")
-
-
 def try_drain(it) -> None:
     """A stop finishes what is open, for half a minute at most; one without transfers takes no time."""
-    drained(it, "tftpd", "restart")
-    until("port 69 is served", it.is_served)
+    it.drains("tftpd")
+    it.serves()
     began = time.monotonic()
     it.run("systemctl restart tftpd")
     expect(time.monotonic() - began < 10, True, "whether a restart takes no time without transfers")
-    until("port 69 is served", it.is_served)
-    with it.client_of(HOLDS) as held:
-        expect(held.stdout.readline(), "begun\n", "what the client says")
-        began = time.monotonic()
-        it.run("systemctl restart tftpd")
-        expect(25 < time.monotonic() - began < 60, True, "whether half a minute is the limit")
-        held.kill()
-    until("port 69 is served", it.is_served)
-
-
-def try_late_address(it) -> None:
-    """It is started again and again, more often than systemd's limit of five, until its address is there."""
-    it.begin("tftpd", ADDRESS=LATE)
-    until("it was started seven times", lambda: int(it.property("tftpd", "NRestarts")) >= 7, 3 * PATIENCE)
-    it.server.run(f"ip address add {LATE}/24 dev wire")
-    until("it serves its address", lambda: it.is_served(LATE))
-    reason = f"tftpd: {LATE}:69: address not available"
-    expect(reason in it.log("tftpd.service"), True, "whether the journal has the reason")
-    it.server.run(f"ip address delete {LATE}/24 dev wire")
-    it.revert("tftpd")
+    it.serves()
+    it.opened(timeout=255)
+    began = time.monotonic()
+    it.run("systemctl restart tftpd")
+    expect(25 < time.monotonic() - began < 60, True, "whether half a minute is the limit")
+    it.serves()
 
 
 def try_socket(it) -> None:
-    """systemd holds the port of tftpd.socket, and a request starts its server, which has no capability. One that comes
-    while the server is away is answered, too."""
+    """systemd holds the port of tftpd.socket, and a request starts its server, which has no capability."""
     it.run("systemctl disable --now tftpd; systemctl enable --now tftpd.socket")
     expect(it.property("tftpd-socket", "ActiveState"), "inactive", "the server before a request")
-    expect(it.is_served(), True, "whether the first request is answered")
-    expect(it.put("new"), "tftp: PeerError(2)\ntftp: the server says: access violation\n", "the answer to a write")
-    it.may("tftpd-socket", None, NOTHING)
-    it.sees("tftpd-socket", False)
-    lines = [line.split()[0] for line in it.log("tftpd-socket.service") if re.search("192|198|0[.]0[.]0[.]0", line)]
-    expect(lines, ["listening", "opened", "closed", "refused"], "the lines of the journal")
+    it.answers_once("first")
+    it.reads_alone("tftpd-socket", NOTHING)
     before = it.property("tftpd-socket", "MainPID")
     it.run(f"kill -KILL {before}")
-    expect(it.is_served(), True, "whether a request is answered that comes after a kill")
+    it.answers_once("after a kill")
     expect(it.property("tftpd-socket", "MainPID") in ("0", before), False, "whether another process serves")
-    for verb in ["stop", "restart"]:
-        it.told(f"systemctl {verb} tftpd-socket")
-        expect(it.is_served(), True, f"whether a request is answered that comes after a {verb}")
-    drained(it, "tftpd-socket", "restart")
-    with it.client_of(MANY_ASK) as many:
-        expect(many.stdout.readline(), "begun\n", "what the clients say")
-        it.run("systemctl restart tftpd-socket")
-        told = many.communicate(timeout=PATIENCE)[0]
-    expect(told, "64 of 64\n", "how many clients are answered that ask once, during a restart")
+    it.drains("tftpd-socket")
+    it.loses_no_request()
     it.run("systemctl disable --now tftpd.socket; systemctl stop tftpd-socket; systemctl enable --now tftpd")
-    until("port 69 is served", it.is_served)
-
-
-def takes_writes(it, unit, template, port, capabilities) -> None:
-    """With the lines of the comments it takes writes, as the user whose folder it is."""
-    it.begin(unit, for_writes(template, "uploader"), OPTIONS=without_read_only(template))
-    until("the port is served", lambda: it.is_served(port=port))
-    expect(it.put(f"new{port}", port), f"complete {len(it.content)}\n", "the answer to a write")
-    sent = subprocess.run(it.words("cat", f"/srv/tftp/new{port}"), capture_output=True, check=True).stdout
-    expect(sent == it.content, True, "whether the file is what was sent")
-    expect(it.run(f"stat --format '%U %a' /srv/tftp/new{port}"), "uploader 644\n", "its owner and its mode")
-    exists = "tftp: PeerError(6)\ntftp: the server says: file exists\n"
-    expect(it.put(f"new{port}", port), exists, "the answer to a second write")
-    it.may(unit, "uploader", capabilities)
-    it.sees(unit, True)
-    it.revert(unit)
-
-
-def try_writing(it) -> None:
-    it.run("useradd --system uploader; chown uploader /srv/tftp")
-    takes_writes(it, "tftpd", "tftpd.service", 69, BIND)
-    takes_writes(it, "tftpd@6901", "tftpd@.service", 6901, NOTHING)
-
-
-def try_instances(it) -> None:
-    """Eight instances behind the rules of tftpd.nft serve 200 clients that ask port 69 at once. They share a user."""
-    units = [f"tftpd@{port}" for port in range(6901, 6909)]
-    it.run("systemctl enable --now tftpd@{6901..6908}; nft -f /usr/local/share/doc/fanjuvery/tftpd.nft")
-    for port in range(6901, 6909):
-        until(f"port {port} is served", lambda: it.is_served(port=port))
-    words = [sys.executable, TOP / "tests/network/clients.py", SERVER, BLOCK, 20, "fetch", it.room / "a", *MANY]
-    done = subprocess.run(it.client.words(*map(str, words)), capture_output=True, text=True, timeout=3 * PATIENCE)
-    expect(done.stdout.split(), [str(len(MANY))], f"how many files are whole: {done.stderr}")
-    opened = [line.split()[2].split(":")[0] for unit in units for line in it.log(f"{unit}.service")
-              if line.startswith("opened ")]
-    is_each_once = sorted(host for host in opened if host != CLIENT) == sorted(MANY)
-    expect(is_each_once, True, "whether each client was opened once")
-    expect(len({it.may(unit, None, NOTHING) for unit in units}), 1, "how many users the instances have")
-    expect(it.run("systemctl is-enabled tftpd@{6901..6908}").split(), ["enabled"] * 8, "whether they start at boot")
-
-
-def try_grade(it) -> None:
-    """What `systemd-analyze security` says of each, from 0.0 to 10.0 where all is exposed."""
-    for unit in ["tftpd", "tftpd@6901", "tftpd-socket"]:
-        told = it.told(f"systemd-analyze --no-pager security {unit}")
-        found = re.search(r"Overall exposure level .*: ([\d.]+)", told)
-        print(f"units: exposure of {unit}: {found and found[1]}")
-
-
-def process_ids(it, *units) -> list[str]:
-    return [it.property(unit, "MainPID") for unit in units]
-
-
-def try_package(it) -> None:
-    """An installation starts nothing, an upgrade starts again what runs, a removal stops it, a purge leaves no link."""
-    units = ["tftpd", "tftpd@6901"]
-    it.run("nft flush ruleset; systemctl disable --now tftpd tftpd@{6901..6908}; umount /usr/local; "
-           "systemctl daemon-reload")
-    install = "cat > /it.deb; dpkg -i /it.deb"
-    it.run(install, input=it.packages[0])
-    expect([it.property(unit, "ActiveState") for unit in units], ["inactive"] * 2, "the units after an installation")
-    it.run(f"systemctl enable --now {' '.join(units)}")
-    until("port 69 is served", it.is_served)
-    before = process_ids(it, *units)
-    it.run(install, input=it.packages[1])
-    until("port 69 is served after the upgrade", it.is_served)
-    after = process_ids(it, *units)
-    expect([one in ("0", other) for one, other in zip(after, before)], [False] * 2, f"whether {before} is {after}")
-    it.run("systemctl disable --now tftpd; systemctl enable --now tftpd.socket")
-    expect(it.is_served(), True, "whether the port is served that is handed over")
-    before = process_ids(it, "tftpd-socket")
-    it.run(install, input=it.packages[0])
-    expect(it.is_served(), True, "whether it is served after another installation")
-    expect(process_ids(it, "tftpd-socket") in (["0"], before), False, "whether another process serves it")
-    upgrades_several(it)
-    it.run("dpkg -r fanjuvery")
-    left = it.told("readlink /proc/[0-9]*/exe | grep tftpd")
-    expect(left, "", "the processes that a removal leaves")
-    it.run("dpkg -P fanjuvery")
-    left = it.told("find /etc /lib /usr/lib /usr/bin /usr/share -name '*tftpd*'")
-    expect(left, "", "the files that a purge leaves")
-
-
-def servers_of(it, unit) -> list[str]:
-    """The processes of the servers of a unit, whose main process is their supervisor."""
-    main = it.property(unit, "MainPID")
-    return it.told(f"cat /proc/{main}/task/{main}/children").split() if main != "0" else []
+    it.serves()
 
 
 def serves_by_two(it, unit) -> list[str]:
     """The port is served, by two servers and their supervisor, and by no other process. Returns the three."""
-    until("the port is served", it.is_served)
-    main, servers = it.property(unit, "MainPID"), servers_of(it, unit)
-    expect(len(servers), 2, f"how many servers {unit} has")
-    found = it.told("for it in /proc/[0-9]*; do test \"$(readlink $it/exe)\" = /usr/local/bin/tftpd && echo ${it#/proc/}; done")
-    expect(sorted(found.split()), sorted([main, *servers]), "the processes of tftpd")
-    return [main, *servers]
+    it.serves()
+    found = it.told("for it in /proc/[0-9]*; do test \"$(readlink $it/exe)\" != /usr/local/bin/tftpd || echo ${it#/proc/}; done").split()
+    expect((sorted(it.processes_of(unit)), len(found)), (sorted(found), 3), f"the processes of {unit}")
+    return found
 
 
 def try_several_in(it, unit, capabilities) -> None:
@@ -475,22 +371,13 @@ def try_several_in(it, unit, capabilities) -> None:
     a stop drains both, and the journal has each line with its server."""
     it.begin(unit, OPTIONS=two_servers(unit))
     for place in [0, 1, 2]:
-        before = serves_by_two(it, unit)
+        serves_by_two(it, unit)
+        before = it.processes_of(unit)
         it.run(f"kill -KILL {before[place]}")
-        until("others serve", lambda: it.is_served() and not set(before) & {it.property(unit, "MainPID"), *servers_of(it, unit)})
-    after = serves_by_two(it, unit)
-    for pid in after:
-        text = it.run(f"cat /proc/{pid}/status")
-        expect(re.search(r"CapEff:\t(\w+)", text)[1], capabilities, f"the capabilities of {pid} of {after}")
-    it.may(unit, None, capabilities)
-    it.sees(unit, False)
-    expect(it.put("new"), "tftp: PeerError(2)\ntftp: the server says: access violation\n", "the answer to a write")
-    journal = f"journalctl --quiet --output=cat _SYSTEMD_INVOCATION_ID={it.property(unit, 'InvocationID')}"
-    said = re.findall(r"(?m)^(?:server ([12]): )?(listening|opened|closed|refused) ", it.run(journal))
-    expect(sorted({number for number, _ in said}), ["1", "2"], f"the servers of the lines {said}")
-    warned = re.findall(r"(?m)^server [12]: (.*)$", it.run(f"{journal} --priority=warning"))
-    expect([line.split()[0] for line in warned], ["refused"], "the warnings of the journal")
-    drained(it, unit, "restart")
+        until("others serve", lambda: it.is_served() and not {*before} & {*it.processes_of(unit)})
+    serves_by_two(it, unit)
+    it.reads_alone(unit, capabilities, "server [12]: ")
+    it.drains(unit)
     serves_by_two(it, unit)
 
 
@@ -500,34 +387,95 @@ def try_several(it) -> None:
     it.revert("tftpd")
     it.run("systemctl enable --now tftpd.socket")
     try_several_in(it, "tftpd-socket", NOTHING)
-    for verb in ["stop", "restart"]:
-        it.told(f"systemctl {verb} tftpd-socket")
-        expect(it.is_served(), True, f"whether a request is answered that comes after a {verb}")
-    with it.client_of(MANY_ASK) as many:
-        expect(many.stdout.readline(), "begun\n", "what the clients say")
-        it.run("systemctl restart tftpd-socket")
-        told = many.communicate(timeout=PATIENCE)[0]
-    expect(told, "64 of 64\n", "how many clients are answered that ask once, during a restart of both")
+    it.loses_no_request()
     it.run("systemctl disable --now tftpd.socket")
     it.revert("tftpd-socket")
     it.run("systemctl enable --now tftpd")
-    until("port 69 is served", it.is_served)
+    it.serves()
 
 
-def upgrades_several(it) -> None:
-    """An upgrade starts two servers again that systemd hands the port to, and no request is lost."""
-    it.run("systemctl stop tftpd-socket")
-    it.begin("tftpd-socket", OPTIONS=two_servers("tftpd-socket"))
-    expect(it.is_served(), True, "whether two servers serve the port that is handed over")
-    before = [it.property("tftpd-socket", "MainPID"), *servers_of(it, "tftpd-socket")]
-    expect(len(before), 3, f"how many processes there are: {before}")
-    it.run("cat > /it.deb; dpkg -i /it.deb", input=it.packages[1])
-    expect(it.is_served(), True, "whether the port is served after an upgrade")
-    after = {it.property("tftpd-socket", "MainPID"), *servers_of(it, "tftpd-socket")}
-    expect((after & set(before), len(after)), (set(), 3), f"the processes after an upgrade, {before} before")
+def try_late_address(it) -> None:
+    """It is started again and again, more often than systemd's limit of five, until its address is there."""
+    it.begin("tftpd", ADDRESS=LATE)
+    until("it was started seven times", lambda: int(it.property("tftpd", "NRestarts")) >= 7, 3 * PATIENCE)
+    it.server.run(f"ip address add {LATE}/24 dev wire")
+    it.serves(LATE)
+    expect(f"tftpd: {LATE}:69: address not available" in it.log("tftpd"), True, "whether the journal has the reason")
+    it.server.run(f"ip address delete {LATE}/24 dev wire")
+    it.revert("tftpd")
 
 
-TRIALS = [try_no_folder, try_settings, try_reading, try_kill, try_drain, try_socket, try_several, try_late_address, try_writing, try_instances, try_grade, try_package]
+def try_writing(it) -> None:
+    """With the lines of the comments it takes writes, as the user whose folder it is."""
+    it.run("useradd --system uploader; chown uploader /srv/tftp")
+    for unit, template, port, capabilities in [("tftpd", "tftpd.service", 69, BIND), (INSTANCES[0], "tftpd@.service", 6901, NOTHING)]:
+        it.begin(unit, for_writes(template), OPTIONS=settings_of(template)["OPTIONS"].replace(" --read-only", ""))
+        it.serves(port=port)
+        expect(it.put(f"new{port}", port), f"complete {len(it.content)}\n", "the answer to a write")
+        sent = subprocess.run(it.words(f"cat /srv/tftp/new{port}"), capture_output=True, check=True).stdout
+        expect(sent == it.content, True, "whether the file is what was sent")
+        expect(it.run(f"stat --format '%U %a' /srv/tftp/new{port}"), "uploader 644\n", "its owner and its mode")
+        expect(it.put(f"new{port}", port), EXISTS, "the answer to a second write")
+        it.may(unit, "uploader", capabilities)
+        it.sees(unit, True)
+        it.revert(unit)
+
+
+def try_instances(it) -> None:
+    """Eight instances behind the rules of tftpd.nft serve 200 clients that ask port 69 at once. They share a user."""
+    it.run(f"systemctl enable --now {' '.join(INSTANCES)}; nft -f /usr/local/share/doc/fanjuvery/tftpd.nft")
+    for unit in INSTANCES:
+        it.serves(port=int(unit.split("@")[1]))
+    with ThreadPoolExecutor(len(MANY)) as pool:
+        gets = [*pool.map(lambda host: it.opened(host, blksize=BLOCK, timeout=20), MANY)]
+        for got in [pool.submit(end.gets, it.content, BLOCK) for end in gets]:
+            got.result()
+    opened = [line.split()[2].split(":")[0] for unit in INSTANCES for line in it.log(unit) if line.startswith("opened ")]
+    is_each_once = sorted(host for host in opened if host != CLIENT) == sorted(MANY)
+    expect(is_each_once, True, "whether each client was opened once")
+    expect(len({it.may(unit, None, NOTHING) for unit in INSTANCES}), 1, "how many users the instances have")
+    expect(it.run(f"systemctl is-enabled {' '.join(INSTANCES)}").split(), ["enabled"] * 8, "whether they start at boot")
+
+
+def try_grade(it) -> None:
+    """What `systemd-analyze security` says of each, from 0.0 to 10.0 where all is exposed."""
+    for unit in ["tftpd", INSTANCES[0], "tftpd-socket"]:
+        found = re.search(r"Overall exposure level .*: ([\d.]+)", it.told(f"systemd-analyze --no-pager security {unit}"))
+        print(f"units: exposure of {unit}: {found and found[1]}")
+
+
+def try_package(it) -> None:
+    """An installation starts nothing, an upgrade starts again what runs, a removal stops it, a purge leaves no link. Where systemd
+    holds the port, an upgrade loses no request, of one server and of two."""
+    units = ["tftpd", INSTANCES[0]]
+    it.run(f"nft flush ruleset; systemctl disable --now tftpd {' '.join(INSTANCES)}; umount /usr/local; systemctl daemon-reload")
+    it.install(0)
+    expect([it.property(unit, "ActiveState") for unit in units], ["inactive"] * 2, "the units after an installation")
+    it.run(f"systemctl enable --now {' '.join(units)}")
+    it.serves()
+    before = {it.property(unit, "MainPID") for unit in units}
+    it.install(1)
+    it.serves()
+    after = {it.property(unit, "MainPID") for unit in units}
+    expect((after & {*before, "0"}, len(after)), (set(), 2), f"the processes after an upgrade, {before} before")
+    it.run("systemctl disable --now tftpd; systemctl enable --now tftpd.socket")
+    for count, package in [(1, 0), (3, 1)]:
+        it.answers_once("where the port is handed over")
+        processes = it.processes_of("tftpd-socket")
+        expect(len(processes), count, f"how many processes there are: {processes}")
+        it.install(package)
+        it.answers_once("after an upgrade")
+        expect({*it.processes_of("tftpd-socket")} & {*processes}, set(), "the processes that an upgrade leaves")
+        it.run("systemctl stop tftpd-socket")
+        it.begin("tftpd-socket", OPTIONS=two_servers("tftpd-socket"))
+    it.run("dpkg -r fanjuvery")
+    expect(it.told("readlink /proc/[0-9]*/exe | grep tftpd"), "", "the processes that a removal leaves")
+    it.run("dpkg -P fanjuvery")
+    expect(it.told("find /etc /lib /usr/lib /usr/bin /usr/share -name '*tftpd*'"), "", "the files that a purge leaves")
+
+
+TRIALS = [try_no_folder, try_settings, try_reading, try_kill, try_drain, try_socket, try_several, try_late_address, try_writing,
+          try_instances, try_grade, try_package]
 
 
 def run(folder) -> int:
@@ -535,13 +483,12 @@ def run(folder) -> int:
     began = time.monotonic()
     with tempfile.TemporaryDirectory(prefix="units-") as room, ExitStack() as stack:
         it = Container(folder, room, stack)
-        print("units:", it.run("systemctl --version").splitlines()[0], f"started in {time.monotonic() - began:.0f} s")
+        print("units:", it.run("systemctl --version").splitlines()[0], f"started in {time.monotonic() - began:.0f} s", flush=True)
         for trial in TRIALS:
             try:
                 trial(it)
             except (AssertionError, subprocess.SubprocessError, OSError) as fault:
-                print(f"units: {trial.__name__}: {fault}")
-                print(it.told("journalctl --no-pager --lines 20"))
+                print(f"units: {trial.__name__}: {fault}", it.told("journalctl --no-pager --lines 20"), sep="\n")
                 return 1
     print(f"units: {len(TRIALS)} trials in {time.monotonic() - began:.0f} s, 0 failed")
     return 0
@@ -552,17 +499,14 @@ def main() -> None:
         sys.exit(run(sys.argv[2]))
     if len(sys.argv) > 2 or sys.argv[1:2] == ["--help"]:
         sys.exit(__doc__)
-    needed = ["debootstrap", "systemd-nspawn", "ip", "nft", "unshare", "nsenter"]
-    missing = [name for name in needed if not shutil.which(name)]
-    built = [f"bin/{name}" for name in ["tftp", "tftpd", "tftp-show", "tftp-play"]]
-    missing += [path for path in built if not (TOP / path).exists()]
-    missing += ["root"] * (os.geteuid() != 0)
+    missing = [name for name in ["debootstrap", "systemd-nspawn", "ip", "nft", "unshare", "nsenter"] if not shutil.which(name)]
+    missing += [f"bin/{name}" for name in NAMES if not (TOP / "bin" / name).exists()] + ["root"] * (os.geteuid() != 0)
     if missing:
         sys.exit(f"units: needs {', '.join(missing)}")
     folder = Path(sys.argv[1] if len(sys.argv) > 1 else TOP / "out/debian").resolve()
     if not (folder / "usr/lib/systemd/systemd").exists():
         folder.parent.mkdir(exist_ok=True)
-        words = ["debootstrap", "--variant=minbase", f"--include={PACKAGES}", SUITE, folder, ARCHIVE]
+        words: list[Any] = ["debootstrap", "--variant=minbase", f"--include={PACKAGES}", DEBIAN[0], folder, DEBIAN[1]]
         subprocess.run(words, check=True, stdout=subprocess.DEVNULL)
     try:
         sys.exit(subprocess.run([*APART, sys.executable, __file__, "--in", folder], timeout=LIMIT).returncode)

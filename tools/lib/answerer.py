@@ -1,4 +1,5 @@
-"""A server in place of tftpd, for checks of a client: it answers each datagram by one, from the port that it came to."""
+"""A server in place of tftpd, for checks of a client: it answers each datagram by one, from the port that it came
+to."""
 import socket
 import threading
 from typing import Callable, Optional

@@ -1,6 +1,7 @@
-"""A folder with packages of this host and what they need, file by file as the host's packages list them, as the root of
-commands: no part of this repository is in it, and not the toolchain that proves."""
+"""A folder with packages of this host and what they need, file by file as the host's packages list them, as the root
+of commands: no part of this repository is in it, and not the toolchain that proves."""
 import os
+import re
 import shutil
 import subprocess
 from pathlib import Path
@@ -16,31 +17,17 @@ ROOM = "/room"
 ENTER = 'mount -t proc proc "$0/proc" && exec chroot "$0" /usr/bin/env -C "${PWD#"$0"}" "$@"'
 
 
-def closure(names: list[str]) -> list[str]:
+def closure(names: Sequence[str]) -> list[str]:
     """These packages of the host and those that they depend on, as far as they are installed."""
-    listed = run("dpkg-query", "-W", "-f", "${binary:Package}\t${db:Status-Abbrev}\t${Depends}, ${Pre-Depends}\t${Provides}\n")
-    needs: dict[str, str] = {}
-    given: dict[str, str] = {}
-    for line in listed.splitlines():
-        package, status, depends, provides = line.split("\t")
-        if status.startswith("ii"):
-            for name in [package, package.split(":")[0], *[it.split()[0] for it in provides.split(",") if it.strip()]]:
-                given.setdefault(name, package)
-            needs[package] = depends
-    found: set[str] = set()
-    left = [given[name] for name in names if name in given]
-    while left:
-        package = left.pop()
-        if package not in found:
-            found.add(package)
-            for need in needs[package].split(","):
-                choices = [it.split()[0].split(":")[0] for it in need.split("|") if it.strip()]
-                left += [given[it] for it in choices if it in given][:1]
-    return sorted(found)
+    known = subprocess.run(["dpkg-query", "-W", "-f", "${Package}\n", *names], capture_output=True, text=True, check=False)
+    left_out = [f"--no-{kind}" for kind in ["recommends", "suggests", "conflicts", "breaks", "replaces", "enhances"]]
+    needed = run("apt-cache", "depends", "--recurse", "--installed", *left_out, *known.stdout.split())
+    return sorted({*re.findall(r"(?m)^(\w[^\s:]*)", needed)})
 
 
 def place(root: Path, path: str) -> None:
-    """A file, a link or a folder of the host at the same path of the folder: a file is linked, not copied, where it may be."""
+    """A file, a link or a folder of the host at the same path of the folder: a file is linked, not copied, where it
+    may be."""
     source, to = Path(path), root / path.lstrip("/")
     if source.is_symlink():
         to.parent.mkdir(parents=True, exist_ok=True)
@@ -58,7 +45,7 @@ def furnish(root: Path, names: Sequence[str], has_rust: bool = False) -> None:
     for name in ["bin", "sbin", "lib", "lib32", "lib64", "libx32"]:
         (root / "usr" / name).mkdir(parents=True, exist_ok=True)
         place(root, f"/{name}")
-    for path in run("dpkg-query", "-L", *closure([*names])).splitlines():
+    for path in run("dpkg-query", "-L", *closure(names)).splitlines():
         if path.startswith(("/usr/", "/bin/", "/lib/", "/lib64/", "/sbin/")) and not path.startswith("/usr/share/doc/"):
             place(root, path)
     for name, like in [("cc", "gcc"), ("python3", "python3")]:
@@ -87,7 +74,7 @@ def is_possible(root: Path) -> str:
     """Why no process can enter a folder, or nothing."""
     if os.geteuid() != 0:
         return "only root may enter a chroot"
-    for program in ["dpkg-query", "dpkg-deb", "ldconfig", "unshare", "gcc"]:
+    for program in ["apt-cache", "dpkg-query", "dpkg-deb", "ldconfig", "unshare", "gcc"]:
         if not shutil.which(program, path=f"{os.environ['PATH']}:/usr/sbin:/sbin"):
             return f"no {program}"
     (root / "proc").mkdir()

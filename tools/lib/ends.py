@@ -10,20 +10,22 @@ from typing import Any, Optional
 from lib.packets import ack, data, error, oack, rrq, wrq
 
 # (the tests have the packets from here, too)
-__all__ = ["PATIENCE", "PATIENT", "End", "Port", "ack", "bytes_of", "data", "error", "expect", "free_ports", "is_bound", "oack",
-           "rrq", "text_of", "wait_until", "wrq"]
+__all__ = ["PATIENCE", "PATIENT", "End", "Port", "ack", "bytes_of", "data", "error", "expect", "free_ports",
+           "is_bound", "oack", "rrq", "text_of", "wait_until", "wrq"]
 
-# The longest wait for a datagram or a line, in seconds; TESTS_PATIENCE in the environment is less, as where a fault is to be
-# noticed
+# The longest wait for a datagram or a line, in seconds; TESTS_PATIENCE in the environment is less, as where a fault
+# is to be noticed
 PATIENCE = int(os.environ.get("TESTS_PATIENCE", "60"))
 # The options of a transfer in which nothing is sent again however slow the host is, since no timeout is due
 PATIENT = {"timeout": 255}
 # Datagrams come with the time of the kernel, of `asm/socket.h`
 SO_TIMESTAMPNS = 35
 
-FILE_NOT_FOUND, ACCESS_VIOLATION, DISK_FULL = error(1, "file not found"), error(2, "access violation"), error(3, "disk full")
-ILLEGAL, UNKNOWN, FILE_EXISTS = error(4, "illegal operation"), error(5, "unknown transfer id"), error(6, "file exists")
-BUSY, FILE_CHANGED, TOO_LARGE, STOP = (error(0, text) for text in ["server busy", "file changed", "file too large", "stop"])
+FILE_NOT_FOUND, ACCESS_VIOLATION, DISK_FULL, ILLEGAL, UNKNOWN, FILE_EXISTS = (
+    error(code, text) for code, text in enumerate([
+        "file not found", "access violation", "disk full", "illegal operation", "unknown transfer id", "file exists"], 1))
+BUSY, FILE_CHANGED, TOO_LARGE, STOP = (
+    error(0, text) for text in ["server busy", "file changed", "file too large", "stop"])
 
 
 def expect(found: Any, expected: Any, what: str) -> None:
@@ -81,6 +83,12 @@ class Port:
             if datagram != other_than:
                 return datagram, sender
 
+    def opened(self, expected: bytes) -> "End":
+        """Receives the answer to a request, which is this. Returns the end of the transfer."""
+        answer, transfer = self.receive()
+        expect(answer, expected, "the answer")
+        return End(self, transfer, answer)
+
     def waiting(self) -> list[tuple[bytes, tuple[str, int]]]:
         """The datagrams that wait at this port, each with its sender."""
         found = []
@@ -92,15 +100,16 @@ class Port:
             return found
 
     def arrived(self, patience: float = PATIENCE) -> tuple[bytes, float, tuple[str, int]]:
-        """The next datagram, when it came in seconds by the clock of the kernel, and from where; of a port that is timed."""
+        """The next datagram, when it came in seconds by the clock of the kernel, and from where; of a port that is
+        timed."""
         self.socket.settimeout(patience)
         found, notes, _, sender = self.socket.recvmsg(65_536, 64)
         seconds, nanos = struct.unpack("qq", notes[0][2])
         return found, seconds + nanos / 1e9, sender
 
     def is_timed(self) -> "Port":
-        """From now on its datagrams have the time at which they came. The system begins to note times a moment after it is
-        asked to: what came before has the time at which it is read."""
+        """From now on its datagrams have the time at which they came. The system begins to note times a moment after
+        it is asked to: what came before has the time at which it is read."""
         self.socket.setsockopt(socket.SOL_SOCKET, SO_TIMESTAMPNS, 1)
 
         def is_noted() -> bool:
@@ -127,7 +136,8 @@ def free_ports(count: int) -> int:
     lowest, highest = map(int, Path("/proc/sys/net/ipv4/ip_local_port_range").read_text().split())
     taken = {int(line.split()[1].split(":")[1], 16) for line in Path("/proc/net/udp").read_text().splitlines()[1:]}
     below, above = range(4_001, lowest - count, count), range(highest + 1, 65_536 - count, count)
-    # where the system may choose any port, one that it seldom chooses: it takes those with the parity of its first alike
+    # where the system may choose any port, one that it seldom chooses: it takes those with the parity of its first
+    # alike
     for first in [*below, *above] or range(4_001, 65_536 - count, count):
         if taken.isdisjoint(range(first, first + count)):
             return first
@@ -168,8 +178,8 @@ class End:
         expect(self.answer_to(datagram, expected), expected, "the answer")
 
     def takes(self, content: bytes, size: int = 512) -> None:
-        """Acknowledges each block of a file from what opened the transfer on, and receives the next one, up to the last,
-        which is not acknowledged."""
+        """Acknowledges each block of a file from what opened the transfer on, and receives the next one, up to the
+        last, which is not acknowledged."""
         for number in range(len(content) // size + 1):
             self.is_answered(ack(number), data(number + 1, content[number * size:(number + 1) * size]))
 

@@ -23,13 +23,15 @@ FLAGS = {
 # and one without a C library
 ALONE = ["-O2", "-static", "-nostdlib", "-ffreestanding", "-fno-builtin", "-fno-stack-protector",
          "-fno-tree-loop-distribute-patterns"]
-# what the archive calls and does not have: a program without a C library has these, or a heap in place of the first three
+# what the archive calls and does not have: a program without a C library has these, or a heap in place of the first
+# three
 OF_C = {"malloc", "realloc", "free", "memcpy", "memmove", "memset", "memcmp"}
 VALGRIND = ["valgrind", "-q", "--error-exitcode=99"]
 LEAKS = [*VALGRIND, "--leak-check=full", "--errors-for-leak-kinds=all"]
 # (the runtime of Rust still reaches a block of its own when it ends)
 LOST = [*VALGRIND, "--leak-check=full", "--errors-for-leak-kinds=definite,indirect,possible"]
-# (an interpreter's own code may jump by a table that valgrind takes for uninitialised; what the library does still counts)
+# (an interpreter's own code may jump by a table that valgrind takes for uninitialised; what the library does still
+# counts)
 INTERPRETER = "".join(f"{{\nits own\nMemcheck:{kind}\nobj:*/{name}*\n}}\n"
                       for kind in ["Cond", "Value8", "Addr4", "Addr8"] for name in ["libpython3", "python3"])
 RUST_TARGET = "x86_64-unknown-linux-gnu"
@@ -135,8 +137,9 @@ def refused(*words: Word) -> str:
 
 
 def in_c_alone(place: Host) -> Built:
-    """The client without an operating system, linked to the library and to no C library: it has all that the library calls. A
-    standard before C99, and a processor that the library is not built for, are refused by a line that says so."""
+    """The client without an operating system, linked to the library and to no C library: it has all that the library
+    calls. A standard before C99, and a processor that the library is not built for, are refused by a line that says
+    so."""
     others = [["gcc", "-m32"], ["gcc", "-mx32"], *[[it] for it in ["riscv64-linux-gnu-gcc"] if shutil.which(it)]]
     for words, said in [(["gcc", "-std=c89"], "needs C99"), (["gcc", "-std=gnu90"], "needs C99"),
                         *[(words, "no other processor") for words in others]]:
@@ -171,8 +174,8 @@ def copied(place: Any, name: str) -> str:
 
 
 def in_go(place: Any) -> Built:
-    """The package's test is run, and its client is built: Go checks each pointer that is passed, and valgrind does not know
-    the stacks of Go."""
+    """The package's test is run, and its client is built: Go checks each pointer that is passed, and valgrind does
+    not know the stacks of Go."""
     it, folder, client = Built("Go"), copied(place, "go"), place.path("go-client")
     # (from 1.21 on the strictest check of pointers at run time is an experiment of the build)
     checks = "2" if re.match(r"go1\.(18|19|20)\b", run("go", "env", "GOVERSION")) else "1"
@@ -186,7 +189,8 @@ def in_go(place: Any) -> Built:
 
 
 def in_rust(place: Any, checker: str) -> Built:
-    """The tests of both crates are run, those of their documentation too, and the example is built; they are formatted."""
+    """The tests of both crates are run, those of their documentation too, and the example is built; they are
+    formatted."""
     folder, env = copied(place, "rust"), dict(place.rust)
     if checker == "sanitized":
         # a stable compiler has the sanitizer's runtime, and no stable flag for it
@@ -203,8 +207,8 @@ def in_rust(place: Any, checker: str) -> Built:
 
 
 def in_python(place: Any, checker: str) -> Built:
-    """The module for Python, whose tests are run, and as a program, whose buffers are blocks of malloc, with the library that
-    it loads."""
+    """The module for Python, whose tests are run, and as a program, whose buffers are blocks of malloc, with the
+    library that it loads."""
     python, before, env = sys.executable if place.is_host else "python3", list[str](), {"PYTHONMALLOC": "malloc", **place.python}
     if checker == "sanitized":
         # (the interpreter frees not all at its end)

@@ -2,12 +2,10 @@
 import os
 import random
 import re
-from itertools import product
 from pathlib import Path
 from typing import Callable
 
 from lib.ends import FILE_CHANGED, End, Port, ack, bytes_of, data, expect
-from lib.scene import Scene, Server
 
 
 # Blocks of at least the length of one read of a file: six full ones and a short one
@@ -16,8 +14,8 @@ CUT_FILE = bytes_of(200_000)
 
 
 def is_given_up(end: End, first: bytes, cut: Callable[[], None]) -> None:
-    """The datagram `first` is answered by block 1, and then the file is cut short. No short block follows, which would be
-    mistaken for the last (RFC 1350, section 6): the sender gives up before."""
+    """The datagram `first` is answered by block 1, and then the file is cut short. No short block follows, which
+    would be mistaken for the last (RFC 1350, section 6): the sender gives up before."""
     blocks = [CUT_FILE[at:at + CUT_SIZE] for at in range(0, len(CUT_FILE), CUT_SIZE)]
     end.is_answered(first, data(1, blocks[0]))
     cut()
@@ -33,8 +31,8 @@ def random_bytes(length: int) -> bytes:
     return random.Random(length).randbytes(length)
 
 
-# how many retries are counted, and their interval in seconds; one of a few intervals is hardly longer however busy the
-# host is, and one that is half as long again is none of them
+# how many retries are counted, and their interval in seconds; one of a few intervals is hardly longer however busy
+# the host is, and one that is half as long again is none of them
 COUNTED, INTERVAL, HARDLY_LONGER = 5, 1, 1.25
 
 
@@ -59,7 +57,8 @@ def were_counted(times: list[float], what: str) -> None:
 
 
 def has_checks(pid: int) -> bool:
-    """Whether `rt try` compiled a program with its checks on (AddressSanitizer): then it is slow, and keeps what it frees."""
+    """Whether `rt try` compiled a program with its checks on (AddressSanitizer): then it is slow, and keeps what it
+    frees."""
     return "\n7fff7000-" in "\n" + Path(f"/proc/{pid}/maps").read_text()[:4_000]
 
 
@@ -70,44 +69,11 @@ def usage_of(pid: int) -> tuple[int, int]:
 
 
 MODES: dict[str, list[str]] = {"octet": [], "netascii": ["--netascii"]}
-# The timeout of transfers of which many run at once, in seconds: once it is agreed, with the most retries, an end waits
-# for its turn almost two minutes. A server goes on for two timeouts after a put
+# The timeout of transfers of which many run at once, in seconds: once it is agreed, with the most retries, an end
+# waits for its turn almost two minutes. A server goes on for two timeouts after a put
 UNHURRIED = 10
 
 
 def length_on_wire(content: bytes, mode: str) -> int:
     """The bytes of the DATA of a file: in netascii LF is CR LF, and CR is CR NUL (RFC 764)."""
     return len(content) + (mode == "netascii") * (content.count(b"\n") + content.count(b"\r"))
-
-
-def transfers_at_once(scene: Scene, server: Server, way: str, mode: str, size: int, files: dict[str, bytes]) -> tuple[dict[str, bytes], list[str]]:
-    """Gets or puts these files at once, in blocks of this size. Returns the copies, and for each the end of its line in
-    the log."""
-    clients, copies, lines = [], dict[str, bytes](), list[str]()
-    for name, content in files.items():
-        copy = f"{way}.{mode}.{name}"
-        words = [way, server.word, name, copy, "--blksize", f"{size}", "--timeout", f"{UNHURRIED}", *MODES[mode]]
-        clients.append((scene.tftp(*words, *["--no-dally"] * (way == "get")), len(content)))
-        copies[copy] = content
-        request = f"RRQ {name}" if way == "get" else f"WRQ {copy}"
-        options = f"blksize={size} timeout={UNHURRIED}"
-        lines.append(f"{request} {mode} {options}: OACK {options}, {length_on_wire(content, mode)} bytes")
-    for client, length in clients:
-        client.completes(length)
-    return copies, lines
-
-
-def serves_blocks(scene: Scene, size: int, lengths: list[int]) -> None:
-    """Files of these lengths arrive in blocks of this size, in both modes, those of a mode and a direction at once."""
-    files = {f"file{length}": bytes_of(length) for length in lengths}
-    for name, content in files.items():
-        scene.make(name, content)
-    server = scene.serve("--max-block", "65464", "--cap", "64", "--transfers", "24", "--log")
-    copies, lines = dict[str, bytes](), list[str]()
-    for way, mode in product(["get", "put"], MODES):
-        more_copies, more_lines = transfers_at_once(scene, server, way, mode, size, files)
-        copies, lines = {**copies, **more_copies}, lines + more_lines
-    log = server.has_closed(*["Complete"] * 24)
-    scene.has_files({**files, **copies})
-    found = [re.fullmatch(r"closed \d+ \S+ (.*), \d+ ms, \d+ sent again, Complete", line) for line in log]
-    expect(sorted(line[1] for line in found if line), sorted(lines), "the transfers in the log")

@@ -51,7 +51,8 @@ def link(kind: int, packet: bytes, *, tags: Sequence[int] = (), protocol: int = 
     return packet
 
 
-def classic(frames: Iterable[Timed], kind: int, *, order: str = "<", magic: int = MICROS, snap: int = 262144) -> bytes:
+def classic(frames: Iterable[Timed], kind: int, *, order: str = "<", magic: int = MICROS,
+            snap: int = 262144) -> bytes:
     """A capture in the classic format: pairs of a time in microseconds and a frame."""
     parts = [struct.pack(order + "IHHiIII", magic, 2, 4, 0, 0, snap, kind)]
     for at, frame in frames:
@@ -103,7 +104,8 @@ def pcapng(frames: Iterable[Timed], kind: int, *, order: str = "<", resolution: 
 
 def exchange(client_port: int = 54359, server_port: int = 38225, at: int = 1_764_000_000_000_000,
              name: str = "tiny") -> list[Datagram]:
-    """A get of 20 bytes in blocks of 8, DATA 2 of which is sent again after a second: (time, source, target, payload)."""
+    """A get of 20 bytes in blocks of 8, DATA 2 of which is sent again after a second: (time, source, target,
+    payload)."""
     client, server = (CLIENT, client_port), (SERVER, server_port)
     told = [
         (0, client, (SERVER, 69), rrq(name, blksize=8)),

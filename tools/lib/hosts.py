@@ -1,8 +1,9 @@
 """Hosts as network namespaces, joined by links. Nothing leaves them, and nothing is left of them."""
+import ctypes
 import shutil
 import subprocess
-from contextlib import ExitStack
-from typing import Sequence
+from contextlib import ExitStack, contextmanager
+from typing import Iterator, Sequence
 
 PATIENCE = 120
 # the addresses of the tests, and the size of their blocks
@@ -11,6 +12,8 @@ MANY = [f"198.51.100.{host}" for host in range(20, 220)]
 BLOCK = 1428
 # a process apart from this host's networks, mounts and processes
 APART = ["unshare", "--map-root-user", "--net", "--mount", "--pid", "--fork", "--kill-child", "--mount-proc"]
+# the kind of a namespace of networks, of `sched.h`
+CLONE_NEWNET = 0x40000000
 
 
 class Host:
@@ -27,6 +30,22 @@ class Host:
 
     def words(self, *words: object) -> list[str]:
         return ["nsenter", "--target", str(self.process.pid), "--net", *map(str, words)]
+
+    @contextmanager
+    def inside(self) -> Iterator[None]:
+        """The sockets that this thread makes meanwhile are of this host."""
+        with open("/proc/thread-self/ns/net") as own, open(f"/proc/{self.process.pid}/ns/net") as other:
+            self.enter(other.fileno())
+            try:
+                yield
+            finally:
+                self.enter(own.fileno())
+
+    def enter(self, namespace: int) -> None:
+        # (os.setns is there from Python 3.12 on)
+        libc = ctypes.CDLL(None, use_errno=True)
+        if libc.setns(namespace, CLONE_NEWNET):
+            raise OSError(ctypes.get_errno(), "setns")
 
     def run(self, script: str) -> None:
         """Runs shell commands here."""

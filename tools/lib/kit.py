@@ -1,6 +1,7 @@
-"""The crates of the repository as the toolchain has them, and what it has built of them."""
+"""The crates of the repository by crates.txt and as the toolchain has them, and what it has built of them."""
 import shutil
 import sys
+from functools import lru_cache
 from pathlib import Path
 from typing import Any
 
@@ -15,8 +16,23 @@ def kit() -> Path:
     return found.parent
 
 
+@lru_cache(None)
+def listed() -> dict[str, list[str]]:
+    """The crates of crates.txt, each with the words behind its name and the libraries that it uses."""
+    lines = [line.partition("#")[0].partition(":") for line in (TOP / "crates.txt").read_text().splitlines()]
+    return {name.split()[0]: [*name.split()[1:], *uses.split()] for name, _, uses in lines if name.strip()}
+
+
+@lru_cache(None)
+def below(name: str) -> set[str]:
+    """All crates of the repository that one is built on."""
+    found = listed()
+    own = set(found[name]) & {*found}
+    return own.union(*map(below, own))
+
+
 def crates() -> dict[str, Any]:
-    """The crates by their names."""
+    """The crates by their names, as rt has them."""
     kit()
     import rtlib
     return {crate.name: crate for crate in rtlib.crates_below(str(TOP))}

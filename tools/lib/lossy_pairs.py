@@ -1,10 +1,10 @@
 """Counts the transfers that complete while datagrams are lost, with and without --backoff.
 
-`tftp` and `tftpd` transfer a file with Debian's clients and servers, both ways, between two hosts that each lose a share of the
-datagrams that arrive (nft). A pair makes all its transfers at once. Counted are the files that are whole where they were to
-come, and of these the transfers that the client reports as complete: the last acknowledgement of a put may be lost for good."""
+`tftp` and `tftpd` transfer a file with Debian's clients and servers, both ways, between two hosts that each lose a
+share of the datagrams that arrive (nft). A pair makes all its transfers at once. Counted are the files that are whole
+where they were to come, and of these the transfers that the client reports as complete: the last acknowledgement of a
+put may be lost for good."""
 import os
-import shutil
 import subprocess
 import tempfile
 import time
@@ -13,6 +13,7 @@ from dataclasses import dataclass
 from pathlib import Path
 from typing import Sequence
 
+from lib import others
 from lib.hosts import Host
 
 SERVER, CLIENT = "192.0.2.1", "192.0.2.2"
@@ -20,31 +21,6 @@ SERVER, CLIENT = "192.0.2.1", "192.0.2.2"
 PROGRAMS = {"tftpd-hpa": "in.tftpd", "atftpd": "atftpd", "tftp-hpa": "tftp", "atftp": "atftp", "busybox": "busybox", "curl": "curl"}
 OURS, SERVERS = ["tftpd", "tftpd --backoff"], ["tftpd-hpa", "atftpd"]
 PEERS = ["tftp-hpa", "atftp", "busybox", "curl"]
-
-
-def server_words(name: str, tftpd: str, root: str, port: int) -> list[str]:
-    """The words that serve a folder at a port."""
-    if name == "tftpd-hpa":
-        return ["in.tftpd", "--foreground", "--address", f"{SERVER}:{port}", "--create", "--user", "root", "--secure", root]
-    if name == "atftpd":
-        return ["atftpd", "--daemon", "--no-fork", "--bind-address", SERVER, "--port", f"{port}", "--user", "root.root",
-                "--logfile", "/dev/null", root]
-    return [tftpd, root, "--listen", f"{SERVER}:{port}", "--forever", "--cap", "64", *name.split()[1:]]
-
-
-def client_words(pair: "Pair", tftp: str, port: int, name: str, local: str) -> list[str]:
-    """The words that transfer the file of this name, which is `local` here."""
-    if pair.client == "tftp-hpa":
-        names = ["put", local, name] if pair.is_put else ["get", name, local]
-        return ["tftp", "-m", "binary", SERVER, f"{port}", "-c", *names]
-    if pair.client == "atftp":
-        return ["atftp", "--put" if pair.is_put else "--get", "-r", name, "-l", local, SERVER, f"{port}"]
-    if pair.client == "busybox":
-        return ["busybox", "tftp", "-p" if pair.is_put else "-g", "-r", name, "-l", local, SERVER, f"{port}"]
-    if pair.client == "curl":
-        return ["curl", "-s", "-T" if pair.is_put else "-o", local, f"tftp://{SERVER}:{port}/{name}"]
-    verb = ["put", f"{SERVER}:{port}", local, name] if pair.is_put else ["get", f"{SERVER}:{port}", name, local]
-    return [tftp, *verb, *pair.client.split()[1:]]
 
 
 @dataclass
@@ -62,34 +38,46 @@ class Pair:
 
 
 def is_installed(name: str) -> bool:
-    return name not in PROGRAMS or bool(shutil.which(PROGRAMS[name]))
+    return name not in PROGRAMS or others.is_installed(PROGRAMS[name])
 
 
 class Transfers:
     """The transfers of a pair that run at once, in folders of their own."""
 
-    def __init__(self, pair: Pair, programs: Sequence[str], port: int, count: int, content: bytes, hosts: list[Host], stack: ExitStack) -> None:
+    def __init__(self, pair: Pair, programs: Sequence[str], port: int, count: int, content: bytes, hosts: list[Host],
+                 stack: ExitStack) -> None:
         self.pair, self.content, self.port, self.count = pair, content, port, count
         self.tftp, self.client, self.began = programs[0], hosts[0], 0.0
         room = Path(stack.enter_context(tempfile.TemporaryDirectory()))
-        room.chmod(0o777)
         self.root, self.local = room / "root", room / "local"
-        for folder in [self.root, self.local]:
-            folder.mkdir()
+        for folder in [room, self.root, self.local]:
+            folder.mkdir(exist_ok=True)
             folder.chmod(0o777)
             (folder / "f").write_bytes(content)
-        words = server_words(pair.server, programs[1], str(self.root), port)
+        if pair.server in PROGRAMS:
+            words = others.server(PROGRAMS[pair.server], (SERVER, port), self.root, "root", "root")
+        else:
+            more = ["--forever", "--cap", "64", *pair.server.split()[1:]]
+            words = [programs[1], str(self.root), "--listen", f"{SERVER}:{port}", *more]
         self.server = subprocess.Popen(hosts[1].words(*words), stdout=subprocess.DEVNULL, stderr=subprocess.DEVNULL)
         stack.callback(self.server.wait)
         stack.callback(self.server.kill)
         self.running: dict[int, tuple[subprocess.Popen[bytes], Path]] = {}
 
+    def words(self, name: str, local: str) -> list[str]:
+        """The words that transfer the file of this name, which is `local` here."""
+        verb = "put" if self.pair.is_put else "get"
+        if self.pair.client in PROGRAMS:
+            return others.command(PROGRAMS[self.pair.client], verb, (SERVER, self.port), name, local)
+        names = [local, name] if self.pair.is_put else [name, local]
+        return [self.tftp, verb, f"{SERVER}:{self.port}", *names, *self.pair.client.split()[1:]]
+
     def begin(self) -> None:
         """Starts the clients. What each says is in a file of its own."""
         self.began = time.monotonic()
         for i in range(self.count):
-            names = (f"p-{i}", "f") if self.pair.is_put else ("f", f"g-{i}")
-            words, said = client_words(self.pair, self.tftp, self.port, *names), self.local / f"said-{i}"
+            words = self.words(f"p-{i}", "f") if self.pair.is_put else self.words("f", f"g-{i}")
+            said = self.local / f"said-{i}"
             with said.open("wb") as output:
                 self.running[i] = (subprocess.Popen(self.client.words(*words), cwd=self.local, stdin=subprocess.DEVNULL,
                                                     stdout=output, stderr=subprocess.STDOUT), said)
@@ -112,9 +100,9 @@ class Transfers:
 
     def end(self) -> None:
         """Ends those that run still, and counts the files."""
+        self.look()
         for process, _ in self.running.values():
             process.kill()
-        for process, _ in self.running.values():
             process.wait()
         self.running = {}
         self.pair.whole = sum(self.has_copy(i) for i in range(self.count))
@@ -127,7 +115,8 @@ def lose(hosts: list[Host], share: int) -> None:
         host.rules(f"table inet lossy {{\n chain input {{\n type filter hook input priority 0;\n {rule}\n }}\n}}")
 
 
-def try_pairs(pairs: list[Pair], programs: Sequence[str], share: int, count: int, length: int, limit: float, hosts: list[Host]) -> None:
+def try_pairs(pairs: list[Pair], programs: Sequence[str], share: int, count: int, length: int, limit: float,
+              hosts: list[Host]) -> None:
     """Makes so many transfers of each of these pairs, of a file of this length, all at once."""
     content = os.urandom(length)
     with ExitStack() as stack:
@@ -146,7 +135,6 @@ def try_pairs(pairs: list[Pair], programs: Sequence[str], share: int, count: int
                 trial.look()
             time.sleep(0.1)
         for trial in trials:
-            trial.look()
             trial.end()
 
 

@@ -1,4 +1,5 @@
-"""Reads a text in Prometheus' text format, strictly: each metric once, with its help and its type before its samples."""
+"""Reads a text in Prometheus' text format, strictly: each metric once, with its help and its type before its
+samples."""
 import re
 import shutil
 import subprocess
@@ -7,8 +8,10 @@ from typing import Optional
 # The name and the labels of a sample, the labels by their names
 Sample = tuple[str, tuple[tuple[str, str], ...]]
 NAME, LABEL = r"[a-zA-Z_:][a-zA-Z0-9_:]*", r'([a-zA-Z_][a-zA-Z0-9_]*)="((?:[^"\\\n]|\\[\\"n])*)"'
-SAMPLE = re.compile(rf"({NAME})(?:\{{({LABEL}(?:,{LABEL})*)\}})? (\d+)")
-HEAD = re.compile(rf"# (HELP|TYPE) ({NAME}) (.+)")
+SAMPLE = re.compile(rf"{NAME}(?:\{{{LABEL}(?:,{LABEL})*\}})? \d+")
+# A metric with its samples; comments may stand before it and between them
+COMMENT = r"(?!# (?:HELP|TYPE) )#.*\n"
+METRIC = re.compile(rf"(?:{COMMENT})*# HELP ({NAME}) .+\n# TYPE \1 (counter|gauge)\n((?:{COMMENT}|[^#\n].*\n)+)")
 
 
 class MetricsFault(ValueError):
@@ -16,46 +19,33 @@ class MetricsFault(ValueError):
 
 
 def metrics(text: str) -> dict[Sample, int]:
-    """The samples of a text. Its last line has its end, and no metric comes in two parts or lacks its help or type."""
-    if not text.endswith("\n"):
-        raise MetricsFault(f"the text ends within a line: {text[-80:]!r}")
+    """The samples of a text. Its last line has its end, and no metric comes in two parts or lacks its help, its type
+    or a sample; the name of a counter has its ending."""
     found: dict[Sample, int] = {}
-    heads: dict[str, dict[str, str]] = {}
-    newest = ""
-    for line in text.splitlines():
-        if head := HEAD.fullmatch(line):
-            kind, name, what = head.groups()
-            known = heads.setdefault(name, {})
-            if kind in known or (known and name != newest) or (kind == "TYPE" and what not in ("counter", "gauge")):
-                raise MetricsFault(f"a second or a wrong head: {line!r}")
-            known[kind], newest = what, name
-        elif not line.startswith("#"):
+    at, names = 0, set[str]()
+    while at < len(text) or not found:
+        part = METRIC.match(text, at)
+        if not part or part[1] in names or (part[2] == "counter") != part[1].endswith("_total"):
+            raise MetricsFault(f"no metric, or a second one of a name: {text[at:at + 80]!r}")
+        samples = [line for line in part[3].splitlines() if not line.startswith("#")]
+        for line in samples:
             sample, value = sample_in(line)
-            if sample in found or sample[0] != newest or set(heads.get(newest, {})) != {"HELP", "TYPE"}:
-                raise MetricsFault(f"a sample that stands twice, or without its help and type before it: {line!r}")
+            if sample in found or sample[0] != part[1]:
+                raise MetricsFault(f"a sample that stands twice, or is of another metric: {line!r}")
             found[sample] = value
-    check_names(heads, found)
+        if not samples:
+            raise MetricsFault(f"{part[1]} has no sample")
+        names.add(part[1])
+        at = part.end()
     return found
 
 
 def sample_in(line: str) -> tuple[Sample, int]:
     """The sample in a line."""
-    parts = SAMPLE.fullmatch(line)
-    if not parts:
-        raise MetricsFault(f"no sample: {line!r}")
-    labels = re.findall(LABEL, parts[2] or "")
-    if len(dict(labels)) != len(labels):
-        raise MetricsFault(f"a label twice: {line!r}")
-    return (parts[1], tuple(sorted(labels))), int(parts[parts.lastindex or 0])
-
-
-def check_names(heads: dict[str, dict[str, str]], found: dict[Sample, int]) -> None:
-    """Each metric has a sample, and the name of each counter its ending."""
-    for name, head in heads.items():
-        if name not in {sample[0] for sample in found}:
-            raise MetricsFault(f"{name} has no sample")
-        if (head["TYPE"] == "counter") != name.endswith("_total"):
-            raise MetricsFault(f"{name} is a {head['TYPE']}")
+    labels = re.findall(LABEL, line)
+    if not SAMPLE.fullmatch(line) or len(dict(labels)) != len(labels):
+        raise MetricsFault(f"no sample, or one with a label twice: {line!r}")
+    return (re.split(r"[{ ]", line)[0], tuple(sorted(labels))), int(line.rpartition(" ")[2])
 
 
 def value(found: dict[Sample, int], name: str, **labels: str) -> int:

@@ -1,8 +1,8 @@
-"""The options of the four programs by their help texts, and those that a manual, a completion or a page names."""
+"""The options of the four programs by their help texts, and those that a manual or a page names."""
 import re
 import subprocess
 from functools import lru_cache
-from typing import Iterable
+from typing import Iterable, NamedTuple
 
 from lib.programs import program
 
@@ -22,13 +22,24 @@ def long_ones(options: Iterable[str]) -> set[str]:
     return {option for option in options if option.startswith("--")}
 
 
+class Entry(NamedTuple):
+    """An entry of a help text: the names of an option, its value or that of an argument, and what is said of it."""
+    names: tuple[str, ...]
+    value: str
+    text: str
+
+
 @lru_cache(None)
-def of_help(name: str, verb: str = "") -> frozenset[str]:
+def of_section(name: str, verb: str, title: str) -> list[Entry]:
+    """The entries of a section, as `Options`, in the help of a program or of its subcommand."""
+    listed = re.search(rf"^{title}:\n((?:.+\n)+)", printed(name, *verb.split(), "--help"), re.M)
+    lines = re.findall(r"(?m)^ +((?:-\w, )?--[\w-]+)? ?(?:<(.*?)>|\[(\w+)\]|([a-z]+))?  +(.*)$", listed[1] if listed else "")
+    return [Entry(tuple(filter(None, names.split(", "))), "".join(values), text) for names, *values, text in lines]
+
+
+def of_help(name: str, verb: str = "") -> set[str]:
     """The options that a help text lists."""
-    listed = re.search(r"^Options:\n((?:.+\n)+)", printed(name, *verb.split(), "--help"), re.M)
-    lines = listed[1].splitlines() if listed else []
-    heads = [re.match(r"\s+((?:-\w, )?--[\w-]+|-\w)", line) for line in lines]
-    return frozenset(option for head in heads if head for option in OPTION.findall(head[1]))
+    return {each for it in of_section(name, verb, "Options") for each in it.names}
 
 
 def known(name: str) -> set[str]:
@@ -49,37 +60,6 @@ def of_mdoc(line: str) -> set[str]:
             dashes = ""
         elif word not in (",", "|"):
             is_flag, dashes = False, ""
-    return found
-
-
-def of_bash(text: str, verb: str, has_verbs: bool) -> set[str]:
-    """The words of the line that sets `options`, for a subcommand."""
-    label = re.escape(f"{verb or '*'})") if has_verbs else ""
-    line = re.search(rf"^\s*{label}\s*options='([^']*)'", text, re.M)
-    return set(line[1].split()) if line else set()
-
-
-def of_zsh(text: str, verb: str, has_verbs: bool) -> set[str]:
-    """The specifications that `_arguments` is given, for a subcommand."""
-    given = text
-    if has_verbs:
-        branch = re.search(rf"^{re.escape(verb or '*')}\)\n(.*?)^  ;;", text, re.M | re.S)
-        given = branch[1] if branch else ""
-        for shared in re.findall(r"\$(\w+)", given):
-            given += "".join(re.findall(rf"^{shared}=\((.*?)^\)", text, re.M | re.S))
-    # behind the options that it excludes, a list in braces, or one option up to its value or its text
-    specs = re.findall(r"(?m)^\s*'(?:\([^)]*\)'?)?\*?(\{[^}]*\}|--?[\w-]+(?=[=\[]))", given)
-    return {option for spec in specs for option in OPTION.findall(spec)}
-
-
-def of_fish(text: str, verb: str, has_verbs: bool) -> set[str]:
-    """The options of the lines whose condition is that of a subcommand."""
-    found = set[str]()
-    for line in re.sub(r" -d '[^']*'", "", text).splitlines():
-        seen = re.search(r" -n '__fish_seen_subcommand_from ([^']*)'", line)
-        if line.startswith("complete ") and (not has_verbs or verb in (seen[1].split() if seen else [""])):
-            found.update("--" + it for it in re.findall(r" -l ([\w-]+)", line))
-            found.update("-" + it for it in re.findall(r" -s (\w)\b", line))
     return found
 
 

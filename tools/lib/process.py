@@ -1,5 +1,5 @@
-"""Processes with limits: one wrapper of a program and of a server for all checks. What a process writes is read while it
-runs, so that no pipe fills; each wait has an end; and nothing outlives its check, whatever happens to that."""
+"""Processes with limits: one wrapper of a program and of a server for all checks. What a process writes is read while
+it runs, so that no pipe fills; each wait has an end; and nothing outlives its check, whatever happens to that."""
 import os
 import select
 import subprocess
@@ -10,7 +10,8 @@ from typing import Any, Optional, Sequence, TypeVar, Union
 
 # The longest wait for a line or for an end, in seconds
 PATIENCE = 120
-# A shell script that runs a program under a limit of `ulimit`. A write beyond a file's limit is an error and no signal.
+# A shell script that runs a program under a limit of `ulimit`. A write beyond a file's limit is an error and no
+# signal.
 LIMITED = "trap '' XFSZ; ulimit $0; exec \"$@\""
 
 Words = Sequence[Union[str, Path]]
@@ -25,14 +26,6 @@ class Failure(Exception):
         self.datagrams = list(datagrams)
 
 
-def next_line(stream: Any) -> bytes:
-    """The next line that a process writes to this stream, or nothing at its end."""
-    if not select.select([stream], [], [], PATIENCE)[0]:
-        raise Failure(f"no line after {PATIENCE} seconds")
-    line: bytes = stream.readline()
-    return line
-
-
 class Program:
     """A process, with what it has written so far. It is ended by its own number, after `life` seconds at most."""
 
@@ -40,7 +33,8 @@ class Program:
                  **how: Any) -> None:
         command = ["sh", "-c", LIMITED, limit, *words] if limit else words
         how = {"stdin": subprocess.DEVNULL, "stdout": subprocess.PIPE, "stderr": subprocess.PIPE, **how}
-        self.process = subprocess.Popen(["timeout", "--foreground", "-s", "KILL", str(life), *command], cwd=folder, **how)
+        lives = ["timeout", "--foreground", "-s", "KILL", str(life)]
+        self.process = subprocess.Popen([*lives, *command], cwd=folder, **how)
         self.name = Path(words[0]).name
         self.output: Any = self.process.stdout
         self.texts = {pipe: b"" for pipe in (self.process.stdout, self.process.stderr) if pipe}
@@ -146,7 +140,8 @@ class Server(Program):
         return len(os.listdir(f"/proc/{pid}/fd")), kilobytes / 1024
 
     def has_checks(self) -> bool:
-        """Whether `rt try` compiled it with its checks on: then what it frees is kept for a while, to find its use."""
+        """Whether `rt try` compiled it with its checks on: then what it frees is kept for a while, to find its
+        use."""
         # (where the shadow memory of AddressSanitizer begins)
         with open(f"/proc/{self.pid()}/maps") as text:
             return text.readline().startswith("7fff7000-")

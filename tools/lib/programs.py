@@ -1,6 +1,9 @@
 """The programs that the checks run: those of bin/, as `make` builds them and the gate leaves them, or else those that
-`rt ci` left in crates/*/out/; before these, those of the folder that TFTP_PROGRAMS names in the environment, if it does."""
+`rt ci` left in crates/*/out/; before these, those of the folder that TFTP_PROGRAMS names in the environment, if it
+does."""
 import os
+import shutil
+import subprocess
 import sys
 from pathlib import Path
 from typing import Optional, Sequence
@@ -29,15 +32,24 @@ def program(name: str) -> Path:
     """The path of a program. Without it a check ends with status 2."""
     path = found(name)
     if path is None:
-        print(f"there is no {' and no '.join(map(str, places_of(name)))}: run `make` or `rt ci` first", file=sys.stderr)
+        places = " and no ".join(map(str, places_of(name)))
+        print(f"there is no {places}: run `make` or `rt ci` first", file=sys.stderr)
         sys.exit(2)
     return path
 
 
 def programs(names: Sequence[str], given: Sequence[str] = ()) -> dict[str, str]:
-    """The absolute paths of programs by their names: those that a command line gives in this order, or those found."""
-    paths = {name: os.path.abspath(path) for name, path in zip(names, given or [str(program(name)) for name in names])}
+    """The absolute paths of programs by their names: those that a command line gives in this order, or those
+    found."""
+    places = given or [str(program(name)) for name in names]
+    paths = {name: os.path.abspath(path) for name, path in zip(names, places)}
     for path in paths.values():
         if not os.path.isfile(path):
             sys.exit(f"{path} is not there")
     return paths
+
+
+def may_trace() -> bool:
+    """Whether strace is here and may trace."""
+    words = ["strace", "-o", "/dev/null", "true"]
+    return shutil.which("strace") is not None and subprocess.run(words, capture_output=True).returncode == 0

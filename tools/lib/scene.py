@@ -1,4 +1,5 @@
-"""What one test has: a folder and an address of its own, the two programs, ports and proxies. All end with the test."""
+"""What one test has: a folder and an address of its own, the two programs, ports and proxies. All end with the
+test."""
 import os
 import re
 import resource
@@ -8,15 +9,18 @@ import subprocess
 from collections import Counter
 from contextlib import ExitStack, contextmanager
 from pathlib import Path
-from typing import Any, Callable, Iterator, Optional, Sequence
+from typing import Any, Callable, Iterator, Optional, Sequence, Union
 
-from lib.ends import PATIENCE, PATIENT, BUSY, End, Port, ack, data, expect, free_ports, oack, rrq, wait_until, wrq
+from lib.ends import BUSY, PATIENCE, PATIENT, End, Port, ack, data, expect, free_ports, oack, rrq, wait_until, wrq
+from lib.packets import line_of
 from lib.preload import compiled
+from lib.process import LIMITED
 from lib.programs import TOP
 from lib.proxy import Proxy
 
-__all__ = ["BUSY", "closed_pipe", "few_files", "LIFE", "PATIENTLY", "Client", "Scene", "Server", "Servers", "children_of", "first_line", "free_ports", "is_gone", "next_line",
-           "preloaded", "unmarked", "wait_for_servers"]
+__all__ = ["BUSY", "LIFE", "PATIENTLY", "Client", "Scene", "Server", "Servers", "children_of", "closed_pipe",
+           "drain_of", "few_files", "first_line", "free_ports", "is_gone", "next_line", "preloaded", "unmarked",
+           "wait_for_servers", "written_by"]
 # The longest life of a program, in seconds: it ends before a timeout of a patient transfer is due
 LIFE = 180
 # How often a program sends again what is not answered, unless the test says otherwise: as often as it can
@@ -25,12 +29,12 @@ RETRIES = ["--retries", "10"]
 END = ".end"
 # The words of a patient transfer. A client that ends at all in a test ends before its first timeout
 PATIENTLY = ["--timeout", f"{PATIENT['timeout']}"]
-# A shell script that runs a program under a limit of `ulimit`. A write beyond a file's limit is an error and no signal.
-LIMITED = "trap '' XFSZ; ulimit $1; shift; exec \"$@\""
 # where the number of a server stands in a line, behind the priority that the journal takes
 MARKED = r"server (\d+): "
 # how a transfer closes whose client goes on with another
 UNCHOSEN = (" TimedOut", " PeerError(5)")
+# what lies at a path: the bytes of a file, the target of a link, or a folder
+Content = Union[bytes, str, None]
 
 
 def next_line(stream: Any) -> str:
@@ -45,10 +49,16 @@ def first_line(process: Any) -> str:
     return next_line(process.stdout)
 
 
+def written_by(process: Any, patience: float = LIFE) -> tuple[str, str]:
+    """What a program has printed and written as errors, once it has ended."""
+    printed, errors = ((text or b"").decode(errors="replace") for text in process.communicate(timeout=patience))
+    return printed, errors
+
+
 def preloaded(scene: "Scene", source: str, **values: Any) -> dict[str, str]:
     """The environment of a program with a library of this source of tests/shims, which reads these variables."""
     # (beside the folder of the test, which may be served)
-    folder = scene.folder.with_name(f"{scene.folder.name}.libraries")
+    folder = scene.beside("libraries")
     folder.mkdir(exist_ok=True)
     library = compiled(folder, TOP / "tests/shims" / source)
     return {**os.environ, "LD_PRELOAD": str(library), **{name: str(value) for name, value in values.items()}}
@@ -57,11 +67,6 @@ def preloaded(scene: "Scene", source: str, **values: Any) -> dict[str, str]:
 def patiently(words: Sequence[Any]) -> list[Any]:
     """The words of a command line, with the most retries if they name none."""
     return [*words, *([] if "--retries" in words else RETRIES)]
-
-
-def ending(words: Sequence[Any]) -> list[Any]:
-    """The words of a server, which ends by itself, whatever happens to the test."""
-    return [*words, *([] if {"--rounds", "--forever"} & set(words) else ["--rounds", "2000"])]
 
 
 def endless(words: Sequence[Any]) -> list[Any]:
@@ -91,21 +96,14 @@ class Client:
         self.ends(0, f"complete {length}\n", life=life)
 
     def fails(self, outcome: str, cause: Optional[str] = None) -> None:
-        """It reports a transfer that failed with this outcome, and then its cause, in a line on standard error each."""
-        printed, errors = [text.decode() for text in self.process.communicate(timeout=LIFE)]
+        """It reports a transfer that failed with this outcome, and then its cause, in a line on standard error
+        each."""
+        printed, errors = written_by(self.process)
         lines = errors.splitlines()
         expect((self.process.returncode, printed, lines[:1]), (1, "", [f"tftp: {outcome}"]), "the client")
         expect([line[:6] for line in lines[1:]], ["tftp: "], f"how the cause begins in {lines}")
         if cause:
             expect(lines[1], f"tftp: {cause}", "the cause")
-
-    def completes_or_times_out(self, length: int) -> bool:
-        """It reports either. Returns whether the transfer is complete."""
-        if self.process.wait(LIFE) == 0:
-            self.completes(length)
-        else:
-            self.fails("TimedOut")
-        return bool(self.process.returncode == 0)
 
 
 class Server:
@@ -119,19 +117,22 @@ class Server:
         if not found:
             raise AssertionError(f"the first line of the server: {line!r}")
         self.word, self.address = found[1], (found[2], int(found[3]))
-        if "--log" in process.args and "--servers" not in process.args:
+        if "--log" in process.args and not {"--servers", "--log-time"} & set(process.args):
             expect(next_line(process.stderr), line, "the first line of the log")
 
     # ---- what clients send to it
 
-    def opens(self, request: bytes, expected: bytes, port: Optional[Port] = None) -> End:
-        """Answers a request by this from a new port. Returns the end of the transfer."""
+    def asked(self, request: bytes, port: Optional[Port] = None) -> Port:
+        """A port, new if none is given, that has sent this to the request port."""
         port = port or self.scene.port()
         port.send(request, self.address)
-        answer, transfer = port.receive()
-        expect(answer, expected, "the answer")
-        expect(transfer != self.address, True, "whether the transfer has a port of its own")
-        return End(port, transfer, answer)
+        return port
+
+    def opens(self, request: bytes, expected: bytes, port: Optional[Port] = None) -> End:
+        """Answers a request by this from a new port. Returns the end of the transfer."""
+        end = self.asked(request, port).opened(expected)
+        expect(end.peer != self.address, True, "whether the transfer has a port of its own")
+        return end
 
     def reads(self, name: str, mode: str = "octet", port: Optional[Port] = None, **options: Any) -> End:
         """Opens a read of which nothing is sent again, and which has no block yet."""
@@ -147,9 +148,20 @@ class Server:
         end.is_answered(ack(0), data(1, block))
         return end
 
-    def refuses(self, request: bytes, expected: bytes) -> None:
-        """The request port answers a request by this ERROR."""
-        End(self.scene.port(), self.address).is_answered(request, expected)
+    def gives(self, name: str, block: bytes) -> End:
+        """Serves a file of one block."""
+        end = self.first_block(name, block)
+        end.send(ack(1))
+        return end
+
+    def refuses(self, request: bytes, expected: bytes, why: Optional[str] = None) -> None:
+        """The request port answers a request by this ERROR. With a reason, also an empty one, the next line of the
+        log has it."""
+        end = End(self.scene.port(), self.address)
+        end.is_answered(request, expected)
+        if why is not None:
+            reason = f"ERROR {expected[3]} ({expected[4:-1].decode()}){', ' if why else ''}{why}"
+            expect(self.log_line(), f"refused {end.port.word} {line_of(request)}: {reason}", "the line of a refusal")
 
     # ---- its end, and what it has written
 
@@ -157,58 +169,57 @@ class Server:
         """Its status, once it has ended by its count."""
         return int(self.process.wait(LIFE))
 
-    def output(self) -> tuple[list[str], list[str]]:
-        """What it has printed and its log, once it has ended."""
-        printed, log = (text.decode().splitlines() for text in self.process.communicate(timeout=LIFE))
-        return printed, log
-
     def ended(self) -> tuple[int, list[str], list[str]]:
         """Its status, what it printed and its log, once nobody has its pipes any more."""
-        printed, log = (text.decode().splitlines() for text in self.process.communicate(timeout=PATIENCE))
+        printed, log = (text.splitlines() for text in written_by(self.process))
         return self.process.returncode, printed, log
 
-    def in_order(self, lines: Any) -> list[str]:
-        """Lines, to be compared in the order in which they are to come."""
-        return list(lines)
-
-    def has_closed(self, *outcomes: str) -> list[str]:
-        """It ends with status 0, and has printed a line for each closed transfer, with these outcomes. Returns the
-        lines of its log, without those of requests that a client repeated because the host is slow."""
-        printed, log = self.output()
+    def has_closed(self, *outcomes: str, why: str = "") -> list[str]:
+        """It ends with status 0, and has printed a line for each closed transfer, with these outcomes; the log ends
+        with the last of them and this reason. Returns the log, without requests that a client repeated because the
+        host is slow."""
+        status, printed, log = self.ended()
         found = [re.fullmatch(r"\d+ \d+ (\S+)", line) for line in printed]
-        outcomes_found = [line[1] if line else "no outcome" for line in found]
-        expect(self.in_order(outcomes_found), self.in_order(outcomes), f"the outcomes in {printed}, {log}")
-        expect(self.process.returncode, 0, "the status of the server")
+        order: Any = sorted if self.count > 1 else list
+        outcomes_found = order(line[1] if line else "no outcome" for line in found)
+        expect(outcomes_found, order(outcomes), f"the outcomes in {printed}, {log}")
+        expect(status, 0, "the status of the server")
+        if why:
+            expect(log[-1].endswith(f", {outcomes[-1]}, {why}"), True, f"whether the log {log} has {why}")
         return [line for at, line in enumerate(log) if not line.startswith("ignored ")
                 and not (line.startswith("refused ") and line in log[:at])]
-
-    def closes_for(self, outcome: str, reason: str) -> None:
-        """It ends with a transfer of this outcome, and its log has the reason."""
-        log = self.has_closed(outcome)
-        expect(log[-1].endswith(f"{outcome}, {reason}"), True, f"whether the log {log} has {reason}")
 
     def log_line(self) -> str:
         """The next line of its log."""
         return next_line(self.process.stderr).rstrip("\n")
 
-    def unmarked_log(self, lines: list[str]) -> list[str]:
-        return lines
+    def closes(self, *reasons: str) -> None:
+        """The next lines of its log are those of a transfer that opens and closes, and end with these."""
+        lines = [self.log_line() for _ in range(2)]
+        expect([line.split()[0] for line in lines], ["opened", "closed"], f"the log {lines}")
+        expect(lines[1].endswith(f", {', '.join(reasons)}"), True, f"whether the log {lines} has {reasons}")
 
     def has_logged(self, count: int) -> list[str]:
         """Waits for so many lines of its log, and kills it. Returns them, and any that came behind."""
         lines = [self.log_line() for _ in range(count)]
         self.process.kill()
-        rest = self.process.communicate(timeout=LIFE)[1].decode().splitlines()
-        return [line.strip() for line in lines] + self.unmarked_log(rest)
+        return [line.strip() for line in lines] + self.own_lines(written_by(self.process)[1].splitlines())
 
-    def logs(self, log: list[str], patterns: list[str]) -> None:
-        """A log has exactly these lines."""
-        fits = len(log) == len(patterns) and all(map(re.fullmatch, patterns, log))
-        expect(bool(fits), True, f"the log {log}")
+    def own_lines(self, log: list[str]) -> list[str]:
+        return log
+
+    def logs(self, log: list[str], patterns: Sequence[str]) -> None:
+        """A log has exactly these lines, of several servers in any order."""
+        left = list(log)
+        for pattern in patterns:
+            found = [line for line in (left if self.count > 1 else left[:1]) if re.fullmatch(pattern, line)]
+            expect(bool(found), True, f"whether a line of {left} is {pattern}")
+            left.remove(found[0])
+        expect(left, [], f"the lines of the log beside {patterns}")
 
     def has_logged_only(self, *patterns: str) -> None:
         """Its log has these lines, and is killed."""
-        self.logs(self.has_logged(len(patterns)), list(patterns))
+        self.logs(self.has_logged(len(patterns)), patterns)
 
     def pids(self) -> list[int]:
         return [self.process.pid]
@@ -261,7 +272,8 @@ def is_serving(pid: int) -> bool:
 
 def wait_for_servers(process: Any, count: int) -> list[int]:
     """Waits until so many servers of a supervisor serve, or have ended with it, and returns them."""
-    wait_until(lambda: sum(map(is_serving, children_of(process))) == count or process.poll() is not None, "servers that wait")
+    wait_until(lambda: sum(map(is_serving, children_of(process))) == count or process.poll() is not None,
+               "servers that wait")
     return children_of(process)
 
 
@@ -271,8 +283,9 @@ def unmarked(line: str) -> str:
 
 
 class Servers(Server):
-    """Several servers at one port, started by one command, which a test uses as it uses one: a drain ends them, which closes
-    what is open, and their lines are read without their numbers."""
+    """Several servers at one port, started by one command, which a test uses as it uses one: a drain ends them, which
+    closes what is open, and their lines are read without their numbers, in any order: a server may write behind its
+    answer, when another has written of the next one."""
 
     def __init__(self, scene: "Scene", process: Any, count: int) -> None:
         self.count, self.drain = count, drain_of(process)
@@ -287,40 +300,28 @@ class Servers(Server):
             self.drain.touch()
         return super().wait()
 
-    def output(self) -> tuple[list[str], list[str]]:
+    def ended(self) -> tuple[int, list[str], list[str]]:
         """Without what a request opened that a client repeated, because the host is slow, and another server took."""
         if self.drain:
             self.drain.touch()
-        printed, log = super().output()
+        status, printed, log = super().ended()
         expect([line for line in printed if not re.match(MARKED, line)], [], "the lines without a number")
         printed = [unmarked(line) for line in printed]
         clients = Counter(line.split()[1] for line in printed)
         again = {line.split()[0] for line in printed if clients[line.split()[1]] > 1 and line.endswith(UNCHOSEN)}
-        log = [line for line in self.unmarked_log(log) if line.split()[1] not in again]
-        return [line for line in printed if line.split()[0] not in again], log
-
-    def in_order(self, lines: Any) -> list[str]:
-        """In any: a server may write behind its answer, when another has written of the next one."""
-        return sorted(lines)
-
-    def logs(self, log: list[str], patterns: list[str]) -> None:
-        left = list(log)
-        for pattern in patterns:
-            found = [line for line in left if re.fullmatch(pattern, line)]
-            expect(bool(found), True, f"whether a line of {log} is {pattern}")
-            left.remove(found[0])
-        expect(left, [], f"the lines of the log beside {patterns}")
+        log = [line for line in self.own_lines(log) if line.split()[1] not in again]
+        return status, [line for line in printed if line.split()[0] not in again], log
 
     def log_line(self) -> str:
-        while not (line := self.unmarked_log([super().log_line()])):
+        while not (line := self.own_lines([super().log_line()])):
             pass
         return line[0]
 
-    def unmarked_log(self, lines: list[str]) -> list[str]:
+    def own_lines(self, log: list[str]) -> list[str]:
         """The lines that one server would write: none of where they listen, nor of a drain that the test did not ask
         for."""
         ours = ("listening ", *["draining: "] * (self.drain is not None))
-        return [line for line in map(unmarked, lines) if not line.startswith(ours)]
+        return [line for line in map(unmarked, log) if not line.startswith(ours)]
 
     def kill(self) -> None:
         """Kills the supervisor; its servers end by themselves."""
@@ -345,14 +346,30 @@ class Scene:
 
     # ---- files
 
-    def make(self, name: str, content: bytes) -> None:
-        """Makes a file, and the folders on its path."""
+    def beside(self, name: str) -> Path:
+        """A path of the test beside its folder."""
+        return self.folder.with_name(f"{self.folder.name}.{name}")
+
+    def make(self, name: str, content: Content) -> None:
+        """Makes a file, a link or a folder, and the folders on its path."""
         path = self.folder / name
         path.parent.mkdir(parents=True, exist_ok=True)
-        path.write_bytes(content)
+        if content is None:
+            path.mkdir()
+        elif isinstance(content, str):
+            path.symlink_to(content)
+        else:
+            path.write_bytes(content)
+
+    def make_all(self, contents: dict[str, Content]) -> None:
+        for name, content in contents.items():
+            self.make(name, content)
 
     def make_folder(self, name: str) -> None:
-        (self.folder / name).mkdir()
+        self.make(name, None)
+
+    def content(self, name: str) -> bytes:
+        return (self.folder / name).read_bytes()
 
     def mode_of(self, name: str) -> int:
         return (self.folder / name).stat().st_mode & 0o7777
@@ -370,8 +387,9 @@ class Scene:
         self.has_files(files)
 
     def has_files(self, files: dict[str, bytes]) -> None:
-        """The folder and those below have these regular files, with these bytes, and no other. (Of several servers another
-        may have a request, too, that a client repeats because the host is slow: what that one leaves is a draft.)"""
+        """The folder and those below have these regular files, with these bytes, and no other. (Of several servers
+        another may have a request, too, that a client repeats because the host is slow: what that one leaves is a
+        draft.)"""
         is_left = self.servers > 1
         found = {name: content for name, content in self.files().items()
                  if name in files or not is_left or not Path(name).name.startswith(".tftp-")}
@@ -379,9 +397,9 @@ class Scene:
         for name, content in files.items():
             expect(found[name], content, name)
 
-    def lacks(self, name: str) -> None:
-        """No file has this name."""
-        expect(os.path.lexists(self.folder / name), False, f"whether there is {name}")
+    def lacks(self, *names: str) -> None:
+        """No file has one of these names."""
+        expect([name for name in names if os.path.lexists(self.folder / name)], [], f"which of {names} are there")
 
     # ---- programs
 
@@ -390,7 +408,7 @@ class Scene:
         """Starts a program, under a limit, or with one of the standard streams closed."""
         command = [self.programs.get(program, program), *words]
         if limit:
-            command = ["sh", "-c", LIMITED, "sh", limit, *command]
+            command = ["sh", "-c", LIMITED, limit, *command]
         if closed is not None:
             command = ["sh", "-c", f'exec "$@" {closed}>&-', "sh", *command]
         how = {"stdin": subprocess.DEVNULL, "stdout": subprocess.PIPE, "stderr": subprocess.PIPE, **how}
@@ -398,11 +416,11 @@ class Scene:
         self.ending.callback(end, process)
         return process
 
-    def ends(self, program: str, words: Sequence[Any], status: int, errors: str = "", printed: str = "", begins: bool = False,
-             **how: Any) -> None:
+    def ends(self, program: str, words: Sequence[Any], status: int, errors: str = "", printed: str = "",
+             begins: bool = False, **how: Any) -> None:
         """A program ends at once with this status, and has written exactly this, or what begins so."""
         process = self.start(program, words, **how)
-        wrote = [(text or b"").decode(errors="replace") for text in process.communicate(timeout=PATIENCE)]
+        wrote = written_by(process, PATIENCE)
         found = [text[:len(wanted)] if begins else text for text, wanted in zip(wrote, [printed, errors])]
         expect((process.returncode, *found), (status, printed, errors), f"{program} {words}, which wrote {wrote}")
 
@@ -413,18 +431,26 @@ class Scene:
         """The command line is not understood."""
         self.ends(program, words, 2, "error: ", begins=True, **how)
 
-    def has_help(self, program: str, *words: str) -> None:
-        """Help and version end with 0, and write on standard output alone. Where a text was read, in tests/help, it is that."""
-        done = subprocess.run([self.programs[program], *words, "--help"], capture_output=True, text=True, timeout=PATIENCE)
+    def has_help(self, program: str, *words: str) -> str:
+        """Help and version end with 0, and write on standard output alone. Returns the help, which is the text of
+        tests/help, if any."""
+        process = self.start(program, [*words, "--help"])
+        printed, errors = written_by(process, PATIENCE)
         text = TOP / f"tests/help/{'-'.join([program, *words])}.txt"
-        expect((done.returncode, done.stderr, "Usage:" in done.stdout), (0, "", True), f"{program} {words} --help")
-        expect(done.stdout, text.read_text() if text.exists() else done.stdout, "the help")
+        expect((process.returncode, errors, "Usage:" in printed), (0, "", True), f"{program} {words} --help")
+        expect(printed, text.read_text() if text.exists() else printed, "the help")
         if not words:
-            self.ends(program, ["--version"], 0, "", f"{program} ", begins=True)
+            version = re.findall(r"(?m)^VERSION := (.*)$", (TOP / "Makefile").read_text())[0]
+            self.ends(program, ["--version"], 0, "", f"{program} {version} (logic ", begins=True)
+        return printed
 
     def tftp(self, *words: Any, **how: Any) -> Client:
         """Starts a client with these words."""
         return Client(self.start("tftp", patiently(words), **how))
+
+    def gets(self, at: Any, name: str, local: str, length: int, *words: Any) -> None:
+        """A client gets a file of this length of a server, which is the word of its address or has one."""
+        self.tftp("get", getattr(at, "word", at), name, local, "--no-dally", *words).completes(length)
 
     def asked(self, requests: Port, expected: bytes) -> End:
         """Receives a request at a port. Returns the server's end of the transfer."""
@@ -432,12 +458,16 @@ class Scene:
         expect(request, expected, "the request")
         return End(self.port(), client)
 
-    def begun_get(self, *words: Any, **how: Any) -> tuple[Client, End]:
-        """Starts a get of `a` into `local`, in which nothing is sent again, and receives its request. Returns the client and
-        the server's end, which has not answered."""
+    def asks(self, verb: str, names: Sequence[str], expected: bytes, *words: Any, **how: Any) -> tuple[Client, End]:
+        """Starts a client with these names and words, and receives its request. Returns it and the server's end,
+        which has not answered."""
         requests = self.port()
-        client = self.tftp("get", requests.word, "a", "local", *PATIENTLY, *words, **how)
-        return client, self.asked(requests, rrq("a", **PATIENT))
+        client = self.tftp(verb, requests.word, *names, *words, **how)
+        return client, self.asked(requests, expected)
+
+    def begun_get(self, *words: Any, **how: Any) -> tuple[Client, End]:
+        """The same for a get of `a` into `local`, in which nothing is sent again."""
+        return self.asks("get", ["a", "local"], rrq("a", **PATIENT), *PATIENTLY, *words, **how)
 
     def patient_get(self, *words: Any, **how: Any) -> tuple[Client, End]:
         """The same once the client has acknowledged its options."""
@@ -462,11 +492,12 @@ class Scene:
         return [root, "--listen", f"{address}:0", *self.ending_words(words)]
 
     def ending_words(self, words: Sequence[Any]) -> list[Any]:
-        """The words of a server that ends by itself, or of several, which end once there is a file."""
+        """The words of a server that ends by itself, whatever happens to the test, or of several, which end once
+        there is a file."""
         if self.servers == 1:
-            return patiently(ending(words))
+            return patiently([*words, *([] if {"--rounds", "--forever"} & set(words) else ["--rounds", "2000"])])
         self.commands += 1
-        drain = [] if "--drain" in words else ["--drain", self.folder.with_name(f"{self.folder.name}{self.commands}{END}")]
+        drain = [] if "--drain" in words else ["--drain", self.beside(f"{self.commands}{END}")]
         return [*patiently(endless(words)), "--servers", str(self.servers), *drain]
 
     def server_of(self, process: Any) -> Server:
@@ -476,7 +507,8 @@ class Scene:
     def start_several(self, count: int, *words: Any, root: str = ".", **how: Any) -> Any:
         """Starts so many servers of a folder by one command."""
         listen = ["stdin"] if "stdin" in how else [f"{self.address}:0"]
-        return self.start("tftpd", [root, "--listen", *listen, "--servers", f"{count}", "--forever", *patiently(words)], **how)
+        command = [root, "--listen", *listen, "--servers", f"{count}", "--forever", *patiently(words)]
+        return self.start("tftpd", command, **how)
 
     def served(self, process: Any, count: int) -> Server:
         """Waits until each of so many servers serves, whose lines have their numbers."""
@@ -487,12 +519,6 @@ class Scene:
     def serve_several(self, count: int, *words: Any, **how: Any) -> Server:
         """Starts so many servers of a folder, and waits until each serves."""
         return self.served(self.start_several(count, *words, **how), count)
-
-    def end_of(self, process: Any) -> int:
-        """The status of such a process, once it has ended."""
-        if self.servers > 1 and (drain := drain_of(process)):
-            drain.touch()
-        return int(process.wait(LIFE))
 
     def port(self, number: int = 0, address: Optional[str] = None) -> Port:
         """The UDP port of this number, which the system chooses for 0, at the address of the test or another."""

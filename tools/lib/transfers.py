@@ -1,11 +1,10 @@
-"""What the examples over the library for C do at servers: each that gets or puts does so at tftpd, at the example that serves,
-and at servers of other projects, through a good network and through one that loses, duplicates and reorders datagrams; each
-file is compared byte for byte, and each example is refused a file that is not there. Trials run side by side, each in a folder
-and at an address of its own."""
+"""What the examples over the library for C do at servers: each that gets or puts does so at tftpd, at the example
+that serves, and at servers of other projects, through a good network and through one that loses, duplicates and
+reorders datagrams; each file is compared byte for byte, and each example is refused a file that is not there. Trials
+run side by side, each in a folder and at an address of its own."""
 import os
 import random
 import re
-import shutil
 import subprocess
 import tempfile
 import time
@@ -14,6 +13,7 @@ from functools import partial
 from pathlib import Path
 from typing import Any, Callable, Iterator, Optional
 
+from lib import others
 from lib.addresses import own_network
 from lib.ends import ack, expect, free_ports, is_bound
 from lib.examples import run
@@ -22,8 +22,8 @@ from lib.scene import Scene, next_line
 PATIENCE = 300
 # How many trials run at a time: they wait more than they compute
 AT_ONCE = 10
-# How often a transfer through a bad network is tried, and how an example says that it was not complete: its peer has not
-# answered six times in a row, or has ended before its last ACK arrived
+# How often a transfer through a bad network is tried, and how an example says that it was not complete: its peer has
+# not answered six times in a row, or has ended before its last ACK arrived
 TRIES = 8
 TIMED_OUT = re.compile(r"timed out|outcome 2 ")
 # Lengths of files: none, and around blocks of 512 and of 1428 bytes; and those of a bad network or a slow checker
@@ -44,39 +44,19 @@ def together(jobs) -> None:
 
 # ---- what an example does at a server
 
-# The words of an example that gets f<length> and stores it, or puts it, by its name; and what they are in the environment
-Words = tuple[list[str], dict[str, str]]
+LANGUAGES = ["", " in C++", " in Rust", " in Go", " in Python"]
+EXAMPLES = ["bare", *(f"{verb}{language}" for verb in ["get", "put"] for language in LANGUAGES)]
 
 
-def of_bare(example, built, way, name, local, _) -> Words:
-    return built.command(example), {"SERVER": way[0], "PORT": way[1], "NAME": name, "LOCAL": local}
-
-
-def of_rust(example, built, way, name, local, blksize, *mode) -> Words:
-    return built.command(example, ":".join(way), *named(example, name, local), blksize, *mode), {}
-
-
-def of_client(example, built, way, name, local, blksize, *mode) -> Words:
-    return built.command(example, *way, *named(example, name, local), blksize, *mode), {}
-
-
-def in_c(example, built, way, name, local, blksize, *mode) -> Words:
-    return built.command(example, *way, name, local, blksize, *mode), {}
-
-
-def named(example, name, local) -> list[str]:
-    """The name at the server, and the file: a put takes the file that a get would ask for, and names it as that is stored."""
-    return [local, name] if example.startswith("put") else [name, local]
-
-
-WORDS: dict[str, Callable[..., Words]] = {
-    "get": partial(in_c, "get"),
-    "put": partial(in_c, "put"),
-    "bare": partial(of_bare, "bare"),
-    **{f"{verb} in Rust": partial(of_rust, f"{verb} in Rust") for verb in ["get", "put"]},
-    **{f"{verb} in {language}": partial(of_client, f"{verb} in {language}") for verb in ["get", "put"]
-       for language in ["C++", "Python", "Go"]},
-}
+def words_of(example, built, way, name, local, blksize, *mode) -> dict[str, Any]:
+    """What starts an example that gets f<length> and stores it, or puts it: its words, and its environment. A put
+    takes the file that a get would ask for, and names it as that is stored."""
+    if example == "bare":
+        more = {"SERVER": way[0], "PORT": way[1], "NAME": name, "LOCAL": local}
+        return {"args": built.command(example), "env": {**os.environ, **more}}
+    names = [local, name] if puts(example) and example != "put" else [name, local]
+    address = [":".join(way)] if example.endswith(" in Rust") else way
+    return {"args": built.command(example, *address, *names, blksize, *mode), "env": {**os.environ}}
 
 
 def puts(example) -> bool:
@@ -95,28 +75,27 @@ class Site:
 
 
 def transfers(site, built, example, seed, length, blksize, compare=None) -> None:
-    """An example gets or puts a file of this length, which is compared. Through a bad network it has some tries: one that
-    is not complete has to say so."""
+    """An example gets or puts a file of this length, which is compared. Through a bad network it has some tries: one
+    that is not complete has to say so."""
     scene = site.scene
     for number in range(TRIES if site.lossy else 1):
         stored = f"{re.sub('[^a-z0-9]', '', example.lower())}{length}.{number}"
-        words, more = WORDS[example](built, site.way(seed + 100 * number), f"f{length}", stored, blksize)
-        done = subprocess.run(words, cwd=scene.folder, env={**os.environ, **more}, stdin=subprocess.DEVNULL,
-                              capture_output=True, text=True, timeout=PATIENCE)
+        how = words_of(example, built, site.way(seed + 100 * number), f"f{length}", stored, blksize)
+        done = subprocess.run(**how, cwd=scene.folder, stdin=subprocess.DEVNULL, capture_output=True, text=True, timeout=PATIENCE)
         if done.returncode == 0:
             if site.name == "atftpd" and puts(example):
                 has_written(scene.folder / stored, length)
             (compare or is_stored)(scene, stored, length, example)
             return
-        how = f"{example} of {length} bytes: status {done.returncode}: {done.stdout[-2000:]}{done.stderr[-2000:]}"
-        expect((done.returncode, bool(TIMED_OUT.search(done.stdout)), site.lossy), (1, True, True), how)
+        said = f"{example} of {length} bytes: status {done.returncode}: {done.stdout[-2000:]}{done.stderr[-2000:]}"
+        expect((done.returncode, bool(TIMED_OUT.search(done.stdout)), site.lossy), (1, True, True), said)
     raise AssertionError(f"{example} of {length} bytes was complete in none of {TRIES} tries")
 
 
 def refused(site, built, example) -> None:
     """A file that the server has not: the example says that it is not complete."""
-    words, more = WORDS[example](built, site.way(0), "none.at.all", "none.got", 0)
-    run(*words, cwd=site.scene.folder, env={**os.environ, **more}, status=1)
+    how = words_of(example, built, site.way(0), "none.at.all", "none.got", 0)
+    run(*how["args"], cwd=site.scene.folder, env=how["env"], status=1)
 
 
 def has_written(path, length) -> None:
@@ -132,7 +111,7 @@ def is_stored(scene, local, length, what) -> None:
 
 def at_server(site, built, put=True) -> None:
     """All that these examples do at a server, at the same time."""
-    examples = [it for it in WORDS if built.has(it) and (put or not puts(it))]
+    examples = [it for it in EXAMPLES if built.has(it) and (put or not puts(it))]
     jobs: list[Callable[[], None]] = [partial(refused, site, built, it) for it in examples
                                       if it.startswith("get") and not site.lossy]
     for number, length in enumerate(lengths(built, site.lossy)):
@@ -149,7 +128,7 @@ def lengths(built, lossy) -> list[int]:
 # ---- tftpd
 
 def by_tftpd(scene, built, lossy) -> None:
-    each = len([it for it in WORDS if built.has(it)])
+    each = len([it for it in EXAMPLES if built.has(it)])
     # a request that is refused is no transfer
     count = each * len(lengths(built, lossy)) + 3 * len(languages(built))
     server = scene.serve(*(["--forever"] if lossy else ["--transfers", str(count)]))
@@ -159,11 +138,8 @@ def by_tftpd(scene, built, lossy) -> None:
         expect(server.process.wait(PATIENCE), 0, "the status of tftpd")
 
 
-# The languages whose examples take both modes, as the ends of their names
-LANGUAGES = ["", " in C++", " in Rust", " in Go", " in Python"]
-
-
 def languages(built) -> list[str]:
+    """Those whose examples take both modes, as the ends of their names."""
     return [it for it in LANGUAGES if built.has(f"get{it}") and built.has(f"put{it}")]
 
 
@@ -174,8 +150,8 @@ def in_netascii(scene, built, server) -> None:
     way = server.word.split(":")
 
     def moves(verb, language, name, local, blksize, *mode) -> None:
-        words, more = WORDS[f"{verb}{language}"](built, way, name, local, blksize, *mode)
-        run(*words, cwd=scene.folder, env={**os.environ, **more})
+        how = words_of(f"{verb}{language}", built, way, name, local, blksize, *mode)
+        run(*how["args"], cwd=scene.folder, env=how["env"])
 
     def is_same(language) -> None:
         lines = f"lines{LANGUAGES.index(language)}"
@@ -190,7 +166,8 @@ def in_netascii(scene, built, server) -> None:
 # ---- the example that serves files in memory
 
 def serving_port(scene) -> "At":
-    """A port of the scene's address that nothing is bound to, and that the system chooses for no other socket meanwhile."""
+    """A port of the scene's address that nothing is bound to, and that the system chooses for no other socket
+    meanwhile."""
     return At(scene.address, free_ports(1))
 
 
@@ -222,7 +199,7 @@ def by_library(scene, built, lossy) -> None:
         scene.tftp("get", at, name, f"{name}.read", "--blksize", "1000").completes(length)
         is_stored(scene, f"{name}.read", length, f"tftp, of {what},")
 
-    examples = [it for it in WORDS if built.has(it)]
+    examples = [it for it in EXAMPLES if built.has(it)]
     together([partial(transfers, site, built, it, seed, FEW[seed % 2], [0, 1428][seed % 2],
                       is_read_by_tftp if puts(it) else None) for seed, it in enumerate(examples)]
              + [partial(is_read_by_tftp, scene, "memory", 3_000, "memory", 10)])
@@ -234,8 +211,8 @@ def by_library(scene, built, lossy) -> None:
 
 
 def is_aborted(scene, built, way, process) -> None:
-    """A get whose file cannot be stored, as on a disk that is full: its server has an ERROR in place of a silent client, and
-    ends the transfer at once. A client that leaves in silence is one that has timed out (outcome 2)."""
+    """A get whose file cannot be stored, as on a disk that is full: its server has an ERROR in place of a silent
+    client, and ends the transfer at once. A client that leaves in silence is one that has timed out (outcome 2)."""
     run(*built.command("get", *way, "memory", "/dev/full"), cwd=scene.folder, status=1)
     begun = time.monotonic()
     while "read memory" not in (line := next_line(process.stdout)) or not re.search("outcome [^1]", line):
@@ -262,48 +239,33 @@ class At:
         self.word, self.address = f"{host}:{number}", (host, number)
 
 
-def in_tftpd(folder, at) -> list[Any]:
-    return ["--foreground", "--address", at.word, "--user", "nobody", "--create", "--secure", folder]
-
-
-def atftpd(folder, at) -> list[Any]:
-    return ["--daemon", "--no-fork", "--bind-address", at.address[0], "--port", str(at.address[1]), "--retry-timeout", "1",
-            "--user", "nobody.nogroup", "--logfile", "/dev/null", "--verbose=0", folder]
-
-
-def dnsmasq(folder, at) -> list[Any]:
-    return ["--no-daemon", "--conf-file=/dev/null", "--user=root", f"--listen-address={at.address[0]}", "--port=0",
-            "--bind-interfaces", "--enable-tftp", f"--tftp-root={folder}", "--quiet-tftp"]
-
-
-# Each by its program: its words; whether it takes puts; and with which more words it acknowledges a last DATA that comes
-# again a second later: an in.tftpd (5.2) does once, for as long as it waits at first, which is a second by itself; an
-# atftpd (0.8) has forgotten the transfer. A dnsmasq (2.90) takes no put.
-PEERS: dict[str, tuple[Callable[..., list[Any]], bool, Optional[list[str]]]] = {
-    "in.tftpd": (in_tftpd, True, ["--retransmit", "2500000"]), os.environ.get("ATFTPD", "atftpd"): (atftpd, True, None),
-    "dnsmasq": (dnsmasq, False, None)}
-PATH = os.environ["PATH"] + ":/usr/sbin:/sbin"
+# Each by its program: whether it takes puts; and with which more words it acknowledges a last DATA that comes again a
+# second later: an in.tftpd (5.2) does once, for as long as it waits at first, which is a second by itself; an atftpd
+# (0.8) has forgotten the transfer. A dnsmasq (2.90) takes no put.
+PEERS: dict[str, tuple[bool, Optional[list[str]]]] = {
+    "in.tftpd": (True, ["--retransmit", "2500000"]), os.environ.get("ATFTPD", "atftpd"): (True, None), "dnsmasq": (False, None)}
 
 
 def peers() -> list[str]:
     """The servers of other projects that are here and may be started: only root may."""
-    return [name for name in PEERS if os.geteuid() == 0 and shutil.which(name, path=PATH)]
+    return [name for name in PEERS if os.geteuid() == 0 and others.is_installed(name)]
 
 
 def started(scene, peer, *more) -> At:
     """Starts it over the folder, with these words, too, and returns where it is."""
-    words = PEERS[peer][0]
     os.chmod(scene.folder, 0o777)
-    at = At(scene.address, 69) if words is dnsmasq else serving_port(scene)
-    program = str(shutil.which(peer, path=PATH))
-    process = scene.start(program, [*words(scene.folder, at), *more], stdout=subprocess.DEVNULL, stderr=subprocess.DEVNULL)
+    at = At(scene.address, 69) if peer == "dnsmasq" else serving_port(scene)
+    command, *words = others.server(peer, at.address, scene.folder)
+    # (an atftpd repeats a block after a second)
+    more = (*more, "--retry-timeout", "1") if "--logfile" in words else more
+    process = scene.start(command, [*more, *words], stdout=subprocess.DEVNULL, stderr=subprocess.DEVNULL)
     is_bound(at.word, process)
     return at
 
 
 def by_peer(scene, built, lossy, peer) -> None:
     """The clients against another project's server over the folder."""
-    at_server(Site(Path(peer).name, scene, started(scene, peer), lossy), built, PEERS[peer][1])
+    at_server(Site(Path(peer).name, scene, started(scene, peer), lossy), built, PEERS[peer][0])
 
 
 class Loses:
@@ -321,9 +283,9 @@ class Loses:
 
 
 def last_ack(scene, built, peer) -> None:
-    """A put whose last ACK is lost. It is complete where the server acknowledges a DATA that comes again; where it does
-    not, the put is not complete, and says so, although the file is stored."""
-    again = PEERS[peer][2]
+    """A put whose last ACK is lost. It is complete where the server acknowledges a DATA that comes again; where it
+    does not, the put is not complete, and says so, although the file is stored."""
+    again = PEERS[peer][1]
     proxy = scene.proxy(started(scene, peer, *(again or [])), 0)
     proxy.to_server, proxy.to_client = Loses(), Loses(ack(2))
     scene.make("f513", content(513))
@@ -335,24 +297,11 @@ def last_ack(scene, built, peer) -> None:
 
 # ---- other projects' clients
 
-# The clients whose gets go through a bad network, too, and whose puts do not. A curl (7.88) sends a DATA again after 72
-# seconds, when a server that has stored the last one has ended its dally; it takes an OACK that comes twice for a new one,
-# and begins its numbers again: a get does not end, a put leaves out a block. A busybox that puts may end well without the
-# ACK of its last block, and an atftp that gets gives up after some blocks that come twice.
+# The clients whose gets go through a bad network, too, and whose puts do not. A curl (7.88) sends a DATA again after
+# 72 seconds, when a server that has stored the last one has ended its dally; it takes an OACK that comes twice for a
+# new one, and begins its numbers again: a get does not end, a put leaves out a block. A busybox that puts may end
+# well without the ACK of its last block, and an atftp that gets gives up after some blocks that come twice.
 THROUGH_LOSS = ["busybox", "tftp"]
-
-
-# how each gets a file of the server, and how it puts one
-CLIENTS: dict[str, Callable[[str, str, str], tuple[list[str], list[str]]]] = {
-    "curl": lambda host, port, name: (["curl", "-s", "-o", "got", f"tftp://{host}:{port}/{name}"],
-                                      ["curl", "-s", "-T", "disk", f"tftp://{host}:{port}/curl"]),
-    "atftp": lambda host, port, name: (["atftp", "-g", "-r", name, "-l", "got", host, port],
-                                       ["atftp", "-p", "-r", "atftp", "-l", "disk", host, port]),
-    "busybox": lambda host, port, name: (["busybox", "tftp", "-g", "-r", name, "-l", "got", host, port],
-                                         ["busybox", "tftp", "-p", "-r", "busybox", "-l", "disk", host, port]),
-    "tftp": lambda host, port, name: (["tftp", "-m", "binary", host, port, "-c", "get", name, "got"],
-                                      ["tftp", "-m", "binary", host, port, "-c", "put", "disk", "tftp"]),
-}
 
 
 def by_others(scene, built, program) -> None:
@@ -361,10 +310,9 @@ def by_others(scene, built, program) -> None:
     good = server.word.split(":")
     bad = [scene.proxy(server, 0).word.split(":")] if program in THROUGH_LOSS else []
     for way, name in [(good, "memory"), (good, program), *((way, "memory") for way in bad)]:
-        get, put = CLIENTS[program](*way, name)
         if name == program:
-            run(*put, cwd=scene.folder)
-        run(*get, cwd=scene.folder)
+            run(*others.command(program, "put", way, name, "disk"), cwd=scene.folder)
+        run(*others.command(program, "get", way, name, "got"), cwd=scene.folder)
         is_stored(scene, "got", 3_000, program)
     ended(process)
 
@@ -373,7 +321,8 @@ def by_others(scene, built, program) -> None:
 
 
 def layout(scene, built) -> None:
-    """The header is that of the library, and many transfers go on at once (tests/library/layout.c, examples/c/shards.c)."""
+    """The header is that of the library, and many transfers go on at once (tests/library/layout.c,
+    examples/c/shards.c)."""
     run(*built.command("layout"))
     expect(run(*built.command("shards")), "1000 transfers at once, 1000 complete\n", "what shards prints")
 
@@ -387,7 +336,7 @@ def trials_of(built) -> Iterator[tuple[str, Any]]:
             yield f"{server}, {network}", partial(test, built=built, lossy=lossy)
     if built.has("serve"):
         yield "header and memory", partial(layout, built=built)
-        for peer in [it for it in peers() if PEERS[it][1]]:
+        for peer in [it for it in peers() if PEERS[it][0]]:
             yield f"{Path(peer).name}, last ACK", partial(last_ack, built=built, peer=peer)
 
 

@@ -133,11 +133,12 @@ fn fetch(alloc: Global, server: &mut Server<MemStore>, sink: &mut MemSink) -> Re
         Ok(opened) if opened.tid.is_some() => {}
         _ => return Err(Fault::Refused),
     }
-    converse(&mut end, sink, server, sent, answer)
+    converse(&mut end, sink, server, answer)
 }
 
 /// Hands the client's end what the server answers, and the server what the end sends, until the
-/// client has stored and committed the whole file. The two buffers are those of the datagrams.
+/// client has stored and committed the whole file. The server appends its datagram to `answer`; the
+/// end lends the one that it keeps.
 ///
 /// A call over a receiver's file requires that the end receives, and ensures it again: that is the
 /// loop's invariant.
@@ -145,26 +146,23 @@ fn converse(
     end: &mut End,
     sink: &mut MemSink,
     server: &mut Server<MemStore>,
-    mut sent: Vec<u8>,
     mut answer: Vec<u8>,
 ) -> Result<(), Fault>
     requires { is_sender end.old.role.side ≡ false }
     ensures complete { OnOk result (is_complete end.new.position.phase ≡ true) }
 {
     for _ in 0..MOST {
-        sent.clear();
-        if end
-            .on_datagram_as_receiver(sink, TRANSFER, answer.as_slice(), &mut sent)
-            .is_err()
-        {
+        let Ok((_, outgoing)) = end.handle_datagram_as_receiver(sink, TRANSFER, answer.as_slice())
+        else {
             return Err(Fault::Stopped);
-        }
+        };
         if end.record().complete {
             return Ok(());
         }
         answer.clear();
+        let sent = end.bytes_of(outgoing);
         if server
-            .on_datagram(TRANSFER.port, CLIENT, sent.as_slice(), &mut answer)
+            .on_datagram(TRANSFER.port, CLIENT, sent, &mut answer)
             .is_err()
         {
             return Err(Fault::Stopped);

@@ -2,16 +2,13 @@
 use Rattle.tftp_c.proofs.Common.{ℕ, false, length, take, Option, Some, IsSome, refl, ap, sym, subst, ◌∙◌, Endpoint}
 use Rattle.tftp_c.proofs.Common.{Outgoing, EndState, ReceiverStep, Lends, reported, sink_through, at, TftpEndpoint}
 use Rattle.tftp_c.proofs.Common.{TftpEvent, endpoint_of, Table}
-use Rattle.std.specs.Prelude.{◌≡◌, ◌-◌, Bool, true, List, [], ◌∷◌}
-use mathlib.Core.Bool.{cond}
-use Rattle.std.specs.Map.{lookup, set_value}
-use Rattle.std.specs.BTreeMap.{is_at}
-use Rattle.std.specs.Ordering.{nat_cmp}
+use Rattle.std.specs.Prelude.{◌≡◌, ◌-◌, List}
 use Rattle.tftp_ends.specs.declared.record.Step.{Step}
 use Rattle.tftp_ends.specs.OneFile.{SenderStep}
 use Rattle.tftp_ends.specs.Step.{lent, timeout_turn}
 use Rattle.tftp_file.specs.Memory.{memory_sink, memory_source, new_mem_sink}
 use Rattle.tftp_server.specs.CallersFiles.{SendsLent, StoresLent}
+use Rattle.tftp_server.proofs.HeldLemmas.{next_there}
 use Rattle.tftp_server.specs.State.{with_next}
 use Rattle.tftp_server.specs.Steps.{TimesOutLent, with_end}
 use Rattle.tftp_c.specs.declared.slice_sink.SliceSink.{SliceSink}
@@ -20,25 +17,6 @@ use Rattle.tftp_c.specs.Reports.{Reports, Sends}
 use Rattle.tftp_c.specs.HeldServer.{CallersTransfer, StepsAt}
 use Rattle.tftp_c.proofs.ReplyLemmas.{steps_of, timed_out}
 use Rattle.tftp_c.proofs.StoredLemmas.{seen, stored_made}
-
--- the value that is set is found
-set_step : {T : Type 0} (test : ℕ → Bool) (e : ℕ × T) (es : List (ℕ × T)) (was now : T) (b : Bool) →
-    test e.0 ≡ b → (lookup test es ≡ Some was → lookup test (set_value test es now) ≡ Some now) →
-    cond b (Some e.1) (lookup test es) ≡ Some was →
-    lookup test (cond b ((e.0, now) ∷ es) (e ∷ set_value test es now)) ≡ Some now
-set_step {T = T} test e es was now true is more found =
-    ap (λ (b : Bool). cond b (Some now) (lookup test es)) is
-set_step {T = T} test e es was now false is more found =
-    ap (λ (b : Bool). cond b (Some e.1) (lookup test (set_value test es now))) is ∙ more found
-
-set_there : {T : Type 0} (test : ℕ → Bool) (es : List (ℕ × T)) (was now : T) →
-    lookup test es ≡ Some was → lookup test (set_value test es now) ≡ Some now
-set_there test [] was now h = absurd (cc)
-set_there test (e ∷ es) was now h = set_step test e es was now (test e.0) refl (set_there test es was now) h
-
-pub next_there : {T : Type 0} (tid : ℕ) (held : List (ℕ × T)) (was now : T) →
-    at tid held ≡ Some was → at tid (with_next tid now held) ≡ Some now
-next_there tid held was now h = set_there (is_at (nat_cmp tid)) held was now h
 
 some_of : {T : Type 0} (o : Option T) (x : T) → o ≡ Some x → IsSome o
 some_of {T = T} o x is = subst (λ (p : Option T). IsSome p) (sym is) refl

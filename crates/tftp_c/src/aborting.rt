@@ -23,8 +23,8 @@ pub(crate) enum AbortFault {
     Memory,
 }
 
-/// The number of a fault; `over` is that of a transfer which is over.
-pub(crate) fn number(fault: AbortFault, over: u8) -> u8
+/// The number that a call returns for this fault; `over` is that for a transfer which is over.
+pub(crate) fn abort_number(fault: AbortFault, over: u8) -> u8
     ensures { result ≡ abort_number over fault }
 {
     match fault {
@@ -105,6 +105,6 @@ pub(crate) fn abort_at(
             server.give_up(tid);
             0
         }
-        Err(fault) => number(fault, event::NO_TRANSFER),
+        Err(fault) => abort_number(fault, event::NO_TRANSFER),
     }
 }

@@ -56,7 +56,8 @@ pub(crate) fn start(alloc: Global, options: &[u8], transfers: u8) -> Result<Held
     }
 }
 
-pub(crate) fn number(fault: ServerFault) -> u8
+/// The number that a call returns for this fault.
+pub(crate) fn table_fault(fault: ServerFault) -> u8
     ensures { result ≡ table_fault fault }
 {
     match fault {
@@ -99,7 +100,7 @@ fn hold(
     let files = absent_files(&end, stated);
     match server.hold(admission, tid, end, files) {
         Ok(()) => 0,
-        Err(fault) => number(fault),
+        Err(fault) => table_fault(fault),
     }
 }
 

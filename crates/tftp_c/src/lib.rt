@@ -270,7 +270,7 @@ pub extern "C" fn tftp_abort(
             end.close(alloc);
             0
         }
-        Err(fault) => aborting::number(fault, event::CLOSED),
+        Err(fault) => aborting::abort_number(fault, event::CLOSED),
     }
 }
 

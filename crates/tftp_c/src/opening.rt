@@ -67,7 +67,8 @@ fn config(options: &TftpOptions) -> EndConfig
     }
 }
 
-pub(crate) fn number(fault: OpenFault) -> u8
+/// The number that a call returns for this fault.
+pub(crate) fn open_fault(fault: OpenFault) -> u8
     ensures { result ≡ open_fault fault }
 {
     match fault {
@@ -197,7 +198,7 @@ fn get_with(
             report_client(&client, to, request, event);
             Ok(client)
         }
-        Err(fault) => Err(number(fault)),
+        Err(fault) => Err(open_fault(fault)),
     }
 }
 
@@ -231,7 +232,7 @@ fn put_with(
             report_client(&client, to, request, event);
             Ok(client)
         }
-        Err(fault) => Err(number(fault)),
+        Err(fault) => Err(open_fault(fault)),
     }
 }
 

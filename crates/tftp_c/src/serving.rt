@@ -24,7 +24,7 @@ use crate::answering::answer;
 use crate::client::Client;
 use crate::event::{self, TftpEndpoint, TftpEvent, TftpOptions};
 use crate::given;
-use crate::opening::number;
+use crate::opening::open_fault;
 use crate::report::{endpoint, report_opening};
 use crate::slice_source::SliceSource;
 use crate::stated::stated_by;
@@ -210,7 +210,7 @@ pub(crate) fn serve_get(
                     };
                     match serve(alloc, read, &agreed, next) {
                         Ok(served) => fitting(served, room),
-                        Err(fault) => Err(number(fault)),
+                        Err(fault) => Err(open_fault(fault)),
                     }
                 }
                 Err(fault) => Err(fault),

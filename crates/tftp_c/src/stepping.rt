@@ -8,7 +8,7 @@ ghost use Rattle.tftp_ends.specs.Action.{Decodes, datagram_action};
 ghost use Rattle.tftp_ends.specs.End.{is_sender, record_of};
 ghost use Rattle.tftp_ends.specs.Fits.{ActionFits, BytesFit};
 ghost use Rattle.tftp_c.specs.Handled.{Received, Sent, Stored, Taken, TimedOut};
-ghost use Rattle.tftp_c.specs.Reports.{Reports, Sends, endpoint_of};
+ghost use Rattle.tftp_c.specs.Reports.{Reports, Sends};
 ghost use Rattle.tftp_c.specs.Stated.{Learns, LearnsFrom};
 ghost use Rattle.tftp_ends.specs.Step.{lent};
 ghost use Rattle.tftp_c.specs.Waits.{Waits};
@@ -21,7 +21,8 @@ use crate::slice_source::SliceSource;
 use crate::stated::stated_after;
 use tftp_ends::{End, EndFault, Endpoint, NextBlock, Outgoing, Step};
 
-fn number(fault: EndFault) -> u8
+/// The number that a call returns for this fault.
+fn end_fault(fault: EndFault) -> u8
     ensures { result ≡ 0 → ⊥ }
 {
     match fault {
@@ -185,43 +186,15 @@ pub(crate) fn receive(
     ensures backoff { client.new.backoff ≡ client.old.backoff }
     ensures err { (result ≡ 0 → ⊥) → (client.new ≡ client.old) × (event.new ≡ event.old) }
 {
-    match client.end.next_block(endpoint(from), datagram) {
-        Some(next) => receive_next(client, next, from, datagram, file, reply, event),
-        None => receive_any(client, from, datagram, file, reply, event),
-    }
-}
-
-/// As [`receive`], of the next block.
-#[inline(always)]
-fn receive_next(
-    client: &mut Client,
-    next: NextBlock,
-    from: &TftpEndpoint,
-    datagram: &[u8],
-    file: &mut [u8],
-    reply: &mut [u8],
-    event: &mut TftpEvent,
-) -> u8
-    requires phase { client.old.end.position.phase ≡ Receiving next.terms next.newest }
-    requires action { (decoded : Option Packet) × Decodes datagram.now decoded
-        × (Store next.terms next.number
-        ≡ datagram_action client.old.end (endpoint_of from.now) datagram.now decoded) }
-    requires fits { ActionFits client.old.end (Store next.terms next.number) }
-    requires bytes { BytesFit client.old.end datagram.now (Store next.terms next.number) }
-    ensures ok { result ≡ 0 → Received from.now datagram.now client.old.end client.new.end file.old
-        file.new reply.new event.new }
-    ensures learns { result ≡ 0 → LearnsFrom datagram.now client.old client.new }
-    ensures fits { result ≡ 0 → event.new.send_len ≤ length reply.old }
-    ensures waits { result ≡ 0 → Waits client.old.backoff client.new.end event.new }
-    ensures backoff { client.new.backoff ≡ client.old.backoff }
-    ensures err { (result ≡ 0 → ⊥) → (client.new ≡ client.old) × (event.new ≡ event.old) }
-{
+    let Some(next) = client.end.next_block(endpoint(from), datagram) else {
+        return receive_any(client, from, datagram, file, reply, event);
+    };
     match store_next(&mut client.end, next, endpoint(from), datagram, file) {
         Ok(made) => {
             conclude(client, Some(next.peer()), datagram, made, reply, event);
             0
         }
-        Err(fault) => number(fault),
+        Err(fault) => end_fault(fault),
     }
 }
 
@@ -252,7 +225,7 @@ fn receive_any(
             conclude(client, before.peer, datagram, made, reply, event);
             0
         }
-        Err(fault) => number(fault),
+        Err(fault) => end_fault(fault),
     }
 }
 
@@ -275,43 +248,15 @@ pub(crate) fn send(
     ensures backoff { client.new.backoff ≡ client.old.backoff }
     ensures err { (result ≡ 0 → ⊥) → (client.new ≡ client.old) × (event.new ≡ event.old) }
 {
-    match client.end.next_ack(endpoint(from), datagram) {
-        Some(block) => send_next(client, block, from, datagram, next, reply, event),
-        None => send_any(client, from, datagram, next, reply, event),
-    }
-}
-
-/// As [`send`], of the next block.
-#[inline(always)]
-fn send_next(
-    client: &mut Client,
-    block: NextBlock,
-    from: &TftpEndpoint,
-    datagram: &[u8],
-    next: &[u8],
-    reply: &mut [u8],
-    event: &mut TftpEvent,
-) -> u8
-    requires phase { client.old.end.position.phase ≡ Sending block.terms block.newest }
-    requires action { (decoded : Option Packet) × Decodes datagram.now decoded
-        × (Send block.terms block.number
-        ≡ datagram_action client.old.end (endpoint_of from.now) datagram.now decoded) }
-    requires fits { ActionFits client.old.end (Send block.terms block.number) }
-    requires bytes { BytesFit client.old.end datagram.now (Send block.terms block.number) }
-    ensures ok { result ≡ 0 → Sent from.now datagram.now client.old.end client.new.end next.now
-        reply.new event.new }
-    ensures learns { result ≡ 0 → LearnsFrom datagram.now client.old client.new }
-    ensures fits { result ≡ 0 → event.new.send_len ≤ length reply.old }
-    ensures waits { result ≡ 0 → Waits client.old.backoff client.new.end event.new }
-    ensures backoff { client.new.backoff ≡ client.old.backoff }
-    ensures err { (result ≡ 0 → ⊥) → (client.new ≡ client.old) × (event.new ≡ event.old) }
-{
+    let Some(block) = client.end.next_ack(endpoint(from), datagram) else {
+        return send_any(client, from, datagram, next, reply, event);
+    };
     match take_next(&mut client.end, block, endpoint(from), datagram, next) {
         Ok(made) => {
             conclude(client, Some(block.peer()), datagram, made, reply, event);
             0
         }
-        Err(fault) => number(fault),
+        Err(fault) => end_fault(fault),
     }
 }
 
@@ -342,7 +287,7 @@ fn send_any(
             conclude(client, before.peer, datagram, made, reply, event);
             0
         }
-        Err(fault) => number(fault),
+        Err(fault) => end_fault(fault),
     }
 }
 
@@ -360,6 +305,6 @@ pub(crate) fn time_out(client: &mut Client, reply: &mut [u8], event: &mut TftpEv
             report(&client.end, client.backoff, step, outgoing, reply, 0, event);
             0
         }
-        Err(fault) => number(fault),
+        Err(fault) => end_fault(fault),
     }
 }

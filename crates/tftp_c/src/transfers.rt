@@ -12,7 +12,7 @@ ghost use Rattle.tftp_c.specs.HeldServer.{CallersTransfer, ReceivedAt, SentAt, S
 
 use crate::elsewhere::Elsewhere;
 use crate::event::{TftpEndpoint, TftpEvent};
-use crate::holding::number;
+use crate::holding::table_fault;
 use crate::report::{endpoint, report_apart};
 use crate::slice_sink::SliceSink;
 use crate::slice_source::SliceSource;
@@ -126,7 +126,7 @@ pub(crate) fn receive(
             report_at(server, tid, backoff, step, outgoing, reply, count, event);
             0
         }
-        Err(fault) => number(fault),
+        Err(fault) => table_fault(fault),
     }
 }
 
@@ -154,7 +154,7 @@ pub(crate) fn send(
             report_at(server, tid, backoff, step, outgoing, reply, count, event);
             0
         }
-        Err(fault) => number(fault),
+        Err(fault) => table_fault(fault),
     }
 }
 
@@ -177,6 +177,6 @@ pub(crate) fn time_out(
             report_at(server, tid, backoff, step, outgoing, reply, 0, event);
             0
         }
-        Err(fault) => number(fault),
+        Err(fault) => table_fault(fault),
     }
 }

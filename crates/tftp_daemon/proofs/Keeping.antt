@@ -1,6 +1,6 @@
 -- What each call of a store keeps of it and of its drafts is kept by a run.
-use Rattle.std.proofs.Common.{◌≡◌, ℕ, Bool, true, false, List, [], ◌∷◌, Option, Some, None, refl, sym, ap, subst}
-use Rattle.std.proofs.Common.{inl, inr}
+use Rattle.std.proofs.Common.{◌≡◌, ℕ, Bool, true, false, List, [], ◌∷◌, Option, Some, None, refl, sym, ap, subst, inl}
+use Rattle.std.proofs.Common.{inr}
 use Rattle.std.specs.Prelude.{Result, Ok, Err, IfOk, IfSome, ⊤}
 use Rattle.tftp_wire.specs.declared.mode.Mode.{Mode}
 use Rattle.tftp_negotiate.specs.declared.known.Known.{Known}
@@ -19,21 +19,20 @@ use Rattle.tftp_store.specs.Drafts.{CallsKeep}
 use Rattle.tftp_store.specs.Store.{StoreMeaning}
 use Rattle.tftp_store.specs.declared.store.Opening.{Opening}
 use Rattle.tftp_server.specs.Draft.{Drafting, KeepsDraft, KeepsStore, drafting_sink, files_in}
-use Rattle.tftp_server.specs.Port.{Ask, Ignores, Refuses, Reads, Writes, Service, Silent, Refused, Sends, Takes, by_draft}
+use Rattle.tftp_server.specs.Port.{Ask, Ignores, Refuses, Reads, Writes, Service, Silent, Refused, Sends, Takes}
+use Rattle.tftp_server.specs.Port.{by_draft}
 use Rattle.tftp_server.specs.Request.{Came, Goes, Left, Sent, Taken, left_by}
 use Rattle.tftp_server.specs.State.{TransferState, ServerState, at, draft_of, with_new, with_next}
 use Rattle.tftp_server.specs.Steps.{KeepsHeld, StepIn, with_end}
 use Rattle.tftp_server.specs.Work.{FilesWork, WorksAt}
 use Rattle.tftp_loop.specs.Run.{Run, Start, Then}
 use Rattle.tftp_loop.specs.Steps.{PortStep, LoopStep, LoopState, PortState}
-use Rattle.tftp_loop.specs.Steps.PortStep.{A_datagram, A_lost_datagram, A_late_datagram, Nothing_found}
-use Rattle.tftp_loop.specs.Steps.PortStep.{A_failed_receive, A_timeout, A_missed_timeout, Work}
-use Rattle.tftp_loop.specs.Steps.LoopStep.{Waited, At_port, Request_received, No_request_found, Request_not_received}
-use Rattle.tftp_loop.specs.Steps.LoopStep.{Request_noted, Request_answered, Request_lost, Clock_read, Store_set}
-use Rattle.tftp_loop.specs.Steps.LoopStep.{Drain_begun, Transfer_closed}
-use Rattle.tftp_daemon.specs.Leaves.{HasOfServer, RunKeeps, RunLeaves}
+use Rattle.tftp_loop.specs.Steps.PortStep.{A_datagram, A_lost_datagram, A_timeout, Work}
+use Rattle.tftp_loop.specs.Steps.LoopStep.{At_port, Request_answered, Store_set, Transfer_closed}
+use Rattle.tftp_daemon.specs.Leaves.{RunKeeps, RunLeaves}
 use Rattle.tftp_loop.proofs.HeldLemmas.{held_any}
 use Rattle.tftp_daemon.proofs.HeldAtPorts.{AllAt, from_ports, new_at, next_at, one_at, to_ports, without_at}
+use Rattle.tftp_loop.proofs.NewStates.{state_is, server_is}
 
 -- each call of a store, refused or not, keeps a fact of the store and one of each of its drafts, which
 -- may depend on the port of its transfer: a draft is begun with it if the store is set to that port
@@ -179,9 +178,6 @@ module _ {S F D : Type 0} (OfStore : S → Type 0) (OfDraft : ℕ → D → Type
       t.held
   port_so now old new (A_lost_datagram d) has =
       held_so old.timer.port _ old.server new.server refl d.loses.keeps has
-  port_so now old new (A_late_datagram d) has = same_server old.server new.server d.server has
-  port_so now old new (Nothing_found d) has = same_server old.server new.server d.server has
-  port_so now old new (A_failed_receive d) has = same_server old.server new.server d.server has
   port_so now old new (A_timeout d) has =
       let t = d.times_out.times_out in
       next_so old.timer.port old.server new.server (with_end t.end t.transfer) has (
@@ -189,8 +185,8 @@ module _ {S F D : Type 0} (OfStore : S → Type 0) (OfDraft : ℕ → D → Type
         one_at OfTransfer old.timer.port old.server.held has.drafts t.found,
       )
       t.held
-  port_so now old new (A_missed_timeout d) has = same_server old.server new.server d.server has
   port_so now old new (Work d) has = works_so old.timer.port _ old.server new.server refl d.works.works has
+  port_so now old new does has = same_server old.server new.server (server_is does) has
 
   -- ---- at the request port
   module _ (old : ServerState S F D) (from : Endpoint) (bytes : List ℕ) (tid : ℕ) (has : OfServer old) where
@@ -248,21 +244,14 @@ module _ {S F D : Type 0} (OfStore : S → Type 0) (OfDraft : ℕ → D → Type
 
   does_so : (old new : LoopState S F D) → LoopStep meaning sources old new → OfServer old.server
       → OfServer new.server
-  does_so old new (Waited d) has = same_server old.server new.server (ap server_of d.is) has
   does_so old new (At_port d) has =
       subst OfServer (sym (ap server_of d.is)) (port_so old.now _ d.next d.does has)
-  does_so old new (Request_received d) has = same_server old.server new.server (ap server_of d.is) has
-  does_so old new (No_request_found d) has = same_server old.server new.server (ap server_of d.is) has
-  does_so old new (Request_not_received d) has = same_server old.server new.server (ap server_of d.is) has
-  does_so old new (Request_noted d) has = same_server old.server new.server (ap server_of d.is) has
   does_so old new (Request_answered d) has =
       let answered = goes_so old.server d.from d.bytes d.tid has _ d.steps.came d.steps.goes in
       let Set : Left S F D → Type 0 = λ l. IfSome l.opened.tid (λ _. meaning.is_set_to old.server.store d.tid) in
       let left = subst (λ (l : Left S F D). OfServer l.new) (sym d.steps.left)
       (answered (subst Set d.steps.left d.set)) in
       subst OfServer (sym (ap server_of d.is)) left
-  does_so old new (Request_lost d) has = same_server old.server new.server (ap server_of d.is) has
-  does_so old new (Clock_read d) has = same_server old.server new.server (ap server_of d.is) has
   does_so old new (Store_set d) has =
       subst OfServer (sym (ap server_of d.is))
       (record {
@@ -277,7 +266,7 @@ module _ {S F D : Type 0} (OfStore : S → Type 0) (OfDraft : ℕ → D → Type
         store = has.store;
         drafts = without_at OfTransfer d.timer.port old.server.held has.drafts;
       })
-  does_so old new (Drain_begun d) has = same_server old.server new.server (ap server_of d.is) has
+  does_so old new does has = same_server old.server new.server (ap server_of (state_is does)) has
 
   pub run_keeps_at : (old new : LoopState S F D) → Run (LoopStep meaning sources) old new → OfServer old.server
       → OfServer new.server

@@ -1,7 +1,6 @@
 -- A run over a store that begins drafts of some paths alone, or none, has no transfer that stores
 -- elsewhere.
-use Rattle.std.proofs.Common.{◌≡◌, ℕ, Bool, List, Option, Some, None, refl, sym, ap}
-use Rattle.std.proofs.Common.{subst, inl, inr}
+use Rattle.std.proofs.Common.{◌≡◌, ℕ, Bool, List, Option, Some, None, refl, sym, ap, subst, inl, inr}
 use Rattle.std.specs.Prelude.{◌⊎◌, Result, Ok, Err, IfSome, All, ⊤}
 use Rattle.std.specs.Map.{values_of}
 use Rattle.std.proofs.lemmas.List.Elements.{All-weaker}
@@ -16,20 +15,19 @@ use Rattle.tftp_ends.specs.Files.{AreSame, KeepsFiles}
 use Rattle.tftp_store.specs.Store.{StoreMeaning}
 use Rattle.tftp_store.specs.declared.store.Opening.{Opening}
 use Rattle.tftp_server.specs.Draft.{drafting_sink, files_in}
-use Rattle.tftp_server.specs.Port.{Ask, Ignores, Refuses, Reads, Writes, Service, Silent, Refused, Sends, Takes, by_draft}
+use Rattle.tftp_server.specs.Port.{Ask, Ignores, Refuses, Reads, Writes, Service, Silent, Refused, Sends, Takes}
+use Rattle.tftp_server.specs.Port.{by_draft}
 use Rattle.tftp_server.specs.Request.{Came, Goes, Left, Sent, Taken, left_by}
 use Rattle.tftp_server.specs.State.{TransferState, ServerState, at, draft_of}
 use Rattle.tftp_server.specs.Steps.{KeepsHeld, with_end}
 use Rattle.tftp_server.specs.Work.{FilesWork, WorksAt}
 use Rattle.tftp_loop.specs.Run.{Start, Then}
 use Rattle.tftp_loop.specs.Steps.{PortStep, LoopStep, LoopState, PortState}
-use Rattle.tftp_loop.specs.Steps.PortStep.{A_datagram, A_late_datagram, A_lost_datagram, Nothing_found}
-use Rattle.tftp_loop.specs.Steps.PortStep.{A_failed_receive, A_timeout, A_missed_timeout, Work}
-use Rattle.tftp_loop.specs.Steps.LoopStep.{Waited, At_port, Request_received, No_request_found, Request_not_received}
-use Rattle.tftp_loop.specs.Steps.LoopStep.{Request_noted, Request_answered, Request_lost, Clock_read, Store_set}
-use Rattle.tftp_loop.specs.Steps.LoopStep.{Drain_begun, Transfer_closed}
+use Rattle.tftp_loop.specs.Steps.PortStep.{A_datagram, A_lost_datagram, A_timeout, Work}
+use Rattle.tftp_loop.specs.Steps.LoopStep.{At_port, Request_answered, Transfer_closed}
 use Rattle.tftp_daemon.specs.Leaves.{NoneStores, RunKeepsHeld, RunLeaves, StoresOnly}
 use Rattle.tftp_loop.proofs.HeldLemmas.{held_at, held_new, held_next, held_without}
+use Rattle.tftp_loop.proofs.NewStates.{state_is, server_is}
 
 module _ {F D : Type 0} where
   -- ---- of the files of one transfer
@@ -112,16 +110,13 @@ module _ {S F D : Type 0} (Admits : S → Type 0) (May : List ℕ → Type 0) (m
       t.held
   port_fine now old new (A_lost_datagram d) fine =
       held_fine old.timer.port _ old.server new.server refl d.loses.keeps fine
-  port_fine now old new (A_late_datagram d) fine = same_fine old.server new.server d.server fine
-  port_fine now old new (Nothing_found d) fine = same_fine old.server new.server d.server fine
-  port_fine now old new (A_failed_receive d) fine = same_fine old.server new.server d.server fine
   port_fine now old new (A_timeout d) fine =
       let t = d.times_out.times_out in
       held_next (IsFine May) old.timer.port old.server.held new.server.held (with_end t.end t.transfer) fine
       (held_at (IsFine May) old.timer.port old.server.held fine t.found)
       t.held
-  port_fine now old new (A_missed_timeout d) fine = same_fine old.server new.server d.server fine
   port_fine now old new (Work d) fine = works_fine old.timer.port _ old.server new.server refl d.works.works fine
+  port_fine now old new does fine = same_fine old.server new.server (server_is does) fine
 
   -- ---- at the request port
   module _ (old : ServerState S F D) (from : Endpoint) (bytes : List ℕ) (tid : ℕ) (fine : FineIn old)
@@ -160,24 +155,16 @@ module _ {S F D : Type 0} (Admits : S → Type 0) (May : List ℕ → Type 0) (m
 
   does_fine : (old new : LoopState S F D) → LoopStep meaning sources old new → Admits old.server.store
       → FineIn old.server → FineIn new.server
-  does_fine old new (Waited d) admits fine = subst (AreFine May) (sym (ap held_in d.is)) fine
   does_fine old new (At_port d) admits fine =
       subst (AreFine May) (sym (ap held_in d.is)) (port_fine old.now _ d.next d.does fine)
-  does_fine old new (Request_received d) admits fine = subst (AreFine May) (sym (ap held_in d.is)) fine
-  does_fine old new (No_request_found d) admits fine = subst (AreFine May) (sym (ap held_in d.is)) fine
-  does_fine old new (Request_not_received d) admits fine = subst (AreFine May) (sym (ap held_in d.is)) fine
-  does_fine old new (Request_noted d) admits fine = subst (AreFine May) (sym (ap held_in d.is)) fine
   does_fine old new (Request_answered d) admits fine =
       let answered = goes_fine old.server d.from d.bytes d.tid fine admits _ d.steps.came d.steps.goes in
       let left = subst (λ (l : Left S F D). FineIn l.new) (sym d.steps.left) answered in
       subst (AreFine May) (sym (ap held_in d.is)) left
-  does_fine old new (Request_lost d) admits fine = subst (AreFine May) (sym (ap held_in d.is)) fine
-  does_fine old new (Clock_read d) admits fine = subst (AreFine May) (sym (ap held_in d.is)) fine
-  does_fine old new (Store_set d) admits fine = subst (AreFine May) (sym (ap held_in d.is)) fine
   does_fine old new (Transfer_closed d) admits fine =
       subst (AreFine May) (sym (ap held_in d.is))
       (held_without (IsFine May) d.timer.port old.server.held fine)
-  does_fine old new (Drain_begun d) admits fine = subst (AreFine May) (sym (ap held_in d.is)) fine
+  does_fine old new does admits fine = subst (AreFine May) (sym (ap held_in (state_is does))) fine
 
   module _ {Same : S → S → Type 0} (leaves : RunLeaves Same meaning sources)
       (keeps : (a b : S) → Same a b → Admits a → Admits b) where

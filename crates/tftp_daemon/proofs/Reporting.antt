@@ -1,34 +1,38 @@
 -- The report of a run is that of the configuration that its words name.
 use Rattle.std.proofs.Common.{◌≡◌, ◌∙◌, ℕ, List, [], ◌∷◌, Option, ap, refl, subst, sym}
-use Rattle.std.specs.Prelude.{Some, None, IfSome, option_map}
+use Rattle.std.specs.Prelude.{Some, None, IfSome, is_some, option_map}
 use Rattle.tftp_status.specs.StatusEvent.{StatusEvent, texts_in}
 use Rattle.tftp_status.specs.StatusEvent.StatusEvent.{Told, Moved, Handed}
-use Rattle.tftp_status.specs.StatusFile.{AllOwn, HandsCounts, KeepsCounts, Status, draft_of}
+use Rattle.tftp_status.specs.StatusFile.{AllOwn, HandsCounts, IsNewAt, KeepsCounts, Status, draft_of}
 use Rattle.tftp_daemon.specs.CommandLine.{IfExit, IfRun}
 use Rattle.tftp_daemon.specs.Reported.{AreTextsOf, ReportsWords, RunReportsAlone}
-use Rattle.tftp_daemon.specs.Reports.{IsReportOf, IsReported}
+use Rattle.tftp_daemon.specs.Reports.{IsReportOf, ReportsAt}
 use Rattle.tftp_daemon.specs.Words.{WordsConfigure}
 use Rattle.tftp_daemon.specs.declared.command_line.CommandLine.{CommandLine}
 use Rattle.tftp_daemon.specs.declared.command_line.CommandLine.TheVariants.{Run, Exit}
 use Rattle.tftp_daemon.specs.declared.daemon.DaemonConfig.{DaemonConfig}
 
--- a new report is one of its configuration
-reported : {config : DaemonConfig} {status : Status} → IsReported config status → IsReportOf config status
-reported r = record {
-  named = r.named;
-  is_named = r.is_named;
-  own = r.own;
-  is_own = r.is_own;
-  is_at = r.is_new.file_is;
-  drains = r.drains;
-  keeps = r.is_new.keeps;
+-- a new report at such a path is one of its configuration
+reported : {config : DaemonConfig} {own : List ℕ} {status : Status} → ReportsAt config own → IsNewAt own status
+    → IsReportOf config status
+reported {own = own} at new = record {
+  named = at.named;
+  is_named = at.is_named;
+  own = own;
+  is_own = at.is_own;
+  is_at = new.file_is;
+  drains = at.drains;
+  keeps = new.keeps;
 }
 
--- so it is, if there is one
-pub all_reported : {A : Type 0} (config : DaemonConfig) (report : Option A) (status : A → Status)
-    → IfSome report (λ a. IsReported config (status a)) → IfSome report (λ a. IsReportOf config (status a))
-all_reported config None status is = tt
-all_reported config (Some a) status is = reported is
+-- so it is, if there is one, with settings that have its path
+pub all_reported : {A B : Type 0} (config : DaemonConfig) (settings : Option B) (report : Option A) (path : B → List ℕ)
+    (status : A → Status) → is_some report ≡ is_some settings → IfSome settings (λ b. ReportsAt config (path b))
+    → IfSome settings (λ b. IfSome report (λ a. IsNewAt (path b) (status a)))
+    → IfSome report (λ a. IsReportOf config (status a))
+all_reported config settings None path status same at new = tt
+all_reported config None (Some a) path status same at new = absurd (cc)
+all_reported config (Some b) (Some a) path status same at new = reported at new
 
 -- without a report nothing is to hold of one
 pub none_reported : {A : Type 0} (P : A → Type 0) (report : Option A) → report ≡ None → IfSome report P
@@ -55,12 +59,12 @@ reports_on config (Some b) (Some a) status same keeps is =
     }
 
 -- the report is that of the configuration that the words name
-pub reports_words : {A : Type 0} (words : List (List ℕ)) (line : CommandLine) (before after : Option A) (status : A → Status)
-    → IfRun line (WordsConfigure words) → IfRun line (λ config. IfSome after (λ a. IsReportOf config (status a)))
-    → IfExit line (λ _. after ≡ before) → before ≡ None → IfSome after (λ a. ReportsWords words (status a))
-reports_words words line before None status names is same none = tt
-reports_words words (Run config) before (Some a) status names is same none = (config, names, is)
-reports_words words (Exit n) before (Some a) status names is same none = absurd (cc)
+pub reports_words : {A : Type 0} (words : List (List ℕ)) (line : CommandLine) (report : Option A) (status : A → Status)
+    → IfRun line (WordsConfigure words) → IfRun line (λ config. IfSome report (λ a. IsReportOf config (status a)))
+    → IfExit line (λ _. report ≡ None) → IfSome report (λ a. ReportsWords words (status a))
+reports_words words line None status names is none = tt
+reports_words words (Run config) (Some a) status names is none = (config, names, is)
+reports_words words (Exit n) (Some a) status names is none = absurd (cc)
 
 -- texts of what was noted are texts of that and one event more
 later_noted : (event : StatusEvent) (events : List StatusEvent) (texts : List (List ℕ)) → AreTextsOf events texts

@@ -7,10 +7,10 @@ use Rattle.tftp_daemon.specs.Configured.{servers_of}
 use Rattle.tftp_daemon.specs.Servers.{NamesServerOf}
 use Rattle.tftp_daemon.specs.Supervised.{AreServerLines, SupervisesConfig}
 use Rattle.tftp_daemon.specs.declared.daemon.DaemonConfig.{DaemonConfig}
-use Rattle.tftp_service.specs.PassedOn.{PassedOn}
-use Rattle.tftp_service.specs.ProcessEvent.{AllSucceeded, started_in}
+use Rattle.tftp_supervisor.specs.PassedOn.{PassedOn}
+use Rattle.tftp_supervisor.specs.ProcessEvent.{AllSucceeded, started_in}
 use Rattle.tftp_arguments.specs.Fault.{AskForText}
-use Rattle.tftp_service.specs.ProcessEvent.{ProcessEvent}
+use Rattle.tftp_supervisor.specs.ProcessEvent.{ProcessEvent}
 use Rattle.tftp_daemon.specs.CommandLine.{IfExit, IfRun}
 use Rattle.tftp_daemon.specs.Supervised.{MaySupervise, SupervisesWords}
 use Rattle.tftp_daemon.specs.Words.{WordsConfigure, tftpd_app}

@@ -17,6 +17,7 @@ use Rattle.tftp_daemon.specs.Words.{WordsConfigure, tftpd_app}
 use Rattle.tftp_daemon.specs.declared.daemon.DaemonConfig.{DaemonConfig}
 use Rattle.tftp_daemon.specs.declared.listen.Listen.{Listen}
 use Rattle.tftp_daemon.specs.declared.listen.Listen.TheVariants.{At, Handed}
+use Rattle.tftp_service.specs.declared.line_stamp.LineStamp.{LineStamp}
 use Rattle.tftp_folder.specs.Counted.{lengths_in}
 use Rattle.tftp_folder.specs.Effects.{changes_of}
 use Rattle.tftp_disk.specs.Changes.{changes}
@@ -50,6 +51,13 @@ service_at config at = record {
   drains = is_some config.drain;
   logs = config.logs;
   has_priority = config.has_priority;
+}
+
+-- what stands before the words of a line: which of several servers it is of, and its time
+abbrev pub stamp_of : DaemonConfig → LineStamp
+stamp_of config = record {
+  server = config.instance.server;
+  has_time = config.log_times;
 }
 
 -- the words ask for several servers

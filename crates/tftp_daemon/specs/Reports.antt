@@ -7,7 +7,7 @@ use Rattle.tftp_disk.specs.DiskTrace.{DiskEvent}
 use Rattle.tftp_disk.specs.DiskTrace.DiskEvent.{Followed, Resolved}
 use Rattle.tftp_disk.specs.declared.found.Found.{Found}
 use Rattle.tftp_status.specs.FileName.{IsFileOf}
-use Rattle.tftp_status.specs.StatusFile.{IsNewAt, KeepsCounts, Status, draft_of}
+use Rattle.tftp_status.specs.StatusFile.{KeepsCounts, Status, draft_of}
 use Rattle.tftp_daemon.specs.Refused.{name_in}
 use Rattle.tftp_daemon.specs.declared.daemon.DaemonConfig.{DaemonConfig}
 
@@ -75,14 +75,12 @@ IsGivenBy {V} log (Some path) =
     (view : V) × (found : Found) × (before : List DiskEvent)
     × (log view ≡ Followed path (Ok found) ∷ before)
 
--- the status file is a new one of the configuration: at the path that it names, and neither it nor its
+-- a server of the configuration reports at this path: the one that it names, and neither that nor its
 -- temporary file is the file that has the server drain
-pub record IsReported (config : DaemonConfig) (status : Status) : Type 0 where
+pub record ReportsAt (config : DaemonConfig) (own : List ℕ) : Type 0 where
   pub named : List ℕ
   pub is_named : option_map (λ file. file.now) config.status ≡ Some named
-  pub own : List ℕ
   pub is_own : IsOwnFile named config.instance.server own
-  pub is_new : IsNewAt own status
   pub drains : IfSome config.drain (λ path. (path.now ≢ own) × (path.now ≢ draft_of own))
 
 -- the status file is that of the configuration: at the path that it names, as a new one is, and it

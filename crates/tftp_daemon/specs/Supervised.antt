@@ -1,8 +1,8 @@
 -- What the supervisor of several servers did, by the words of its command line (own).
 use Rattle.std.specs.Prelude.{ℕ, ◌≡◌, ◌<◌, ◌+◌, ◌⊎◌, List, [], length, slice_index_or}
 use Rattle.tftp_arguments.specs.Fault.{AskForText}
-use Rattle.tftp_service.specs.PassedOn.{PassedOn}
-use Rattle.tftp_service.specs.ProcessEvent.{AllSucceeded, ProcessEvent, started_in}
+use Rattle.tftp_supervisor.specs.PassedOn.{PassedOn}
+use Rattle.tftp_supervisor.specs.ProcessEvent.{AllSucceeded, ProcessEvent, started_in}
 use Rattle.tftp_daemon.specs.Configured.{IsOfSeveral, servers_of}
 use Rattle.tftp_daemon.specs.Servers.{NamesServerOf}
 use Rattle.tftp_daemon.specs.Words.{WordsConfigure, tftpd_app}

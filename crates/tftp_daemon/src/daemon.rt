@@ -1,40 +1,35 @@
 //! `tftpd`: a server over UDP that serves the files of a folder.
 
-ghost use Rattle.std.specs.Prelude.{◌≡◌, ◌≤◌, [], IfOk, IfSome, IsFalse, IsTrue, None, OnOk, false};
-ghost use Rattle.std.specs.Prelude.{is_some, option_map};
-ghost use Rattle.std.specs.String.{string_bytes};
+ghost use Rattle.std.specs.Prelude.{◌≡◌, ◌≤◌, [], IfSome, IsFalse, IsTrue, None, OnOk, option_map};
 ghost use Rattle.tftp_server.specs.Config.{IsConfig};
-ghost use Rattle.tftp_folder.specs.Counted.{lengths_in};
-ghost use Rattle.tftp_folder.specs.Effects.{changes_of};
-ghost use Rattle.tftp_disk.specs.Changes.{changes};
-ghost use Rattle.tftp_folder.specs.Inside.{StaysInside};
-ghost use Rattle.tftp_folder.specs.Opened.{IsRootOf};
-ghost use Rattle.tftp_daemon.specs.Configured.{IsOfSeveral, IsServerOf, IsUploads, ListensAt};
-ghost use Rattle.tftp_daemon.specs.Configured.{MayServe, RunsService, drafts_in, servers_of};
-ghost use Rattle.tftp_daemon.specs.Configured.{service_at, daemon_status};
-ghost use Rattle.tftp_daemon.specs.Reports.{HasLooked, IsReportOf, LooksApart, LooksOutside};
-ghost use Rattle.tftp_daemon.specs.Reports.{folder_of};
+ghost use Rattle.tftp_daemon.specs.Configured.{IsOfSeveral, ListensAt, MayServe, RunsService};
+ghost use Rattle.tftp_daemon.specs.Configured.{daemon_status, servers_of, service_at, stamp_of};
+ghost use Rattle.tftp_daemon.specs.Reports.{IsReportOf, ReportsAt};
 ghost use Rattle.tftp_daemon.specs.Supervised.{MaySupervise, Supervised};
 ghost use Rattle.tftp_status.specs.StatusFile.{KeepsCounts};
 
+use crate::device::ServerDevice;
 use crate::drain_file::DrainFile;
+use crate::host::{Devices, Host};
 use crate::listen::Listen;
+use crate::opening::open_server;
 use crate::servers::supervise;
-use crate::status::{begin_reports, check_drain, check_place};
+use crate::setup::{DeviceSetup, setup_of};
+use crate::status::check_status;
 use std::alloc::{AllocError, Global};
-use std::io::{self, ErrorKind};
 use std::process::ExitStatus;
 use std::time::Clock;
 use tftp_disk::Disk;
 use tftp_ends::{Backoff, Endpoint};
 use tftp_file::Source;
 use tftp_folder::{FolderSource, FolderStore};
-use tftp_lines::{Reason, reason_of};
+use tftp_lines::Reason;
 use tftp_loop::{Ending, LoopConfig, LoopFault, PortRange};
 use tftp_server::{Config, Server, Store};
-use tftp_service::{HandedFault, HandedSocket, HandedUdp, Input, Supervise};
+use tftp_service::{HandedFault, Input, LineStamp};
 use tftp_sockets::{DrainSignal, ErrorLines, ServerUdp};
-use tftp_status::Counted;
+use tftp_status::Reporting;
+use tftp_supervisor::Supervise;
 
 /// The configuration of `tftpd`.
 #[derive(Drop)]
@@ -111,6 +106,16 @@ impl DaemonConfig<'_> {
         u8::try_from(count).ok()
     }
 
+    /// What stands before the words of a line on standard error.
+    pub(crate) fn stamp(&self) -> LineStamp
+        ensures { result ≡ stamp_of self.now }
+    {
+        LineStamp {
+            server: self.instance.server,
+            has_time: self.log_times,
+        }
+    }
+
     /// The configuration of the loop, with the request port at this endpoint.
     fn service_at(&self, listen: Endpoint) -> LoopConfig
         ensures { result ≡ service_at self.now listen }
@@ -174,350 +179,120 @@ impl From<AllocError> for DaemonFault {
 
 /// Serves until the configured number of transfers has closed, or of waits is over, or until the
 /// server has drained; of several servers it is the supervisor, and serves nothing itself.
-pub(crate) fn serve<P: Print + ErrorLines + Clock + Supervise, D: Disk, N: ServerUdp + Eprint>(
-    rt: &P,
-    alloc: Global,
-    disk: D,
-    net: &mut Counted<HandedUdp<N>, D>,
+pub(crate) fn serve<P: Print + ErrorLines + Clock + Supervise, N: ServerUdp + Eprint, D: Disk>(
+    host: Host<'_, P, N, D>,
     config: &DaemonConfig<'_>,
     input: Input,
-) -> Result<(), DaemonFault>
+) -> (Result<(), DaemonFault>, Devices<N, D>)
     requires { IsConfig config.now.config }
-    ensures status { daemon_status result ≤ 2 }
-    ensures runs { MayServe D.log (D.log disk) ⟦<FolderStore<D> as Store>⟧.meaning
-        ⟦<FolderSource<D::View> as Source>⟧.meaning
-        config.now (daemon_status result) (N.log net.old.net.net) (N.log net.new.net.net) }
-    ensures reports { net.old.report ≡ None → IfSome net.new.report
+    ensures status { daemon_status result.0 ≤ 2 }
+    ensures runs { MayServe D.log (D.log host.entry.served) ⟦<FolderStore<D> as Store>⟧.meaning
+        ⟦<FolderSource<D::View> as Source>⟧.meaning config.now (daemon_status result.0)
+        (N.log host.entry.net) (N.log result.1.net) }
+    ensures reports { IfSome result.1.reporting.report
         (λ report. IsReportOf config.now report.status) }
-    ensures several { MaySupervise P.supervised config.now (daemon_status result) }
+    ensures several { MaySupervise P.supervised config.now (daemon_status result.0) }
 {
-    if let Err(fault) = check_status(&disk, alloc, config) {
-        return Err(fault);
+    if let Err(fault) = check_status(&host.served, host.alloc, config) {
+        return (Err(fault), host.into_devices());
     }
     if config.is_of_several() {
-        return supervise_checked(rt, alloc, disk, config, input);
+        return supervise_checked(host, config, input);
     }
-    serve_alone(alloc, disk, net, config, input)
-}
-
-/// Refuses a status file in the folder of a configuration, and one that is the file of `--drain`,
-/// wherever links lead. Without one it asks nothing.
-fn check_status<D: Disk>(
-    disk: &D,
-    alloc: Global,
-    config: &DaemonConfig<'_>,
-) -> Result<(), DaemonFault>
-    ensures place { OnOk result (IfSome config.now.status (λ file.
-        HasLooked D.View.log (LooksOutside config.now.root.now (folder_of file.now)))) }
-    ensures drain { OnOk result (IfSome config.now.status (λ file. IfSome config.now.drain (λ drain.
-        HasLooked D.View.log (LooksApart config.now.instance.server drain.now file.now)))) }
-{
-    match config.status {
-        Some(file) => check_file(disk, alloc, config, file),
-        None => Ok(()),
-    }
-}
-
-/// As [`check_status`], of a status file with this path.
-fn check_file<D: Disk>(
-    disk: &D,
-    alloc: Global,
-    config: &DaemonConfig<'_>,
-    file: &str,
-) -> Result<(), DaemonFault>
-    ensures place { OnOk result (HasLooked D.View.log
-        (LooksOutside config.now.root.now (folder_of file.now))) }
-    ensures drain { OnOk result (IfSome config.now.drain (λ drain.
-        HasLooked D.View.log (LooksApart config.now.instance.server drain.now file.now))) }
-{
-    let mut looks = disk.view();
-    match check_place(&mut looks, alloc, config.root, file) {
-        Ok(()) => check_file_and_drain(disk, alloc, config, file),
-        Err(fault) => Err(fault),
-    }
-}
-
-/// Refuses a status file that is the file of `--drain`, if there is one.
-fn check_file_and_drain<D: Disk>(
-    disk: &D,
-    alloc: Global,
-    config: &DaemonConfig<'_>,
-    file: &str,
-) -> Result<(), DaemonFault>
-    ensures { OnOk result (IfSome config.now.drain (λ drain.
-        HasLooked D.View.log (LooksApart config.now.instance.server drain.now file.now))) }
-{
-    match config.drain {
-        Some(drain) => {
-            let mut looks = disk.view();
-            check_drain(&mut looks, alloc, config.instance.server, drain, file)
-        }
-        None => Ok(()),
-    }
+    serve_alone(host, config, input)
 }
 
 /// Supervises several servers, if the folder can be served: else each of them would say so.
-fn supervise_checked<P: Print + Eprint + Clock + Supervise, D: Disk>(
-    rt: &P,
-    alloc: Global,
-    disk: D,
+fn supervise_checked<P: Print + Eprint + Clock + Supervise, N: ServerUdp, D: Disk>(
+    host: Host<'_, P, N, D>,
     config: &DaemonConfig<'_>,
     input: Input,
-) -> Result<(), DaemonFault>
+) -> (Result<(), DaemonFault>, Devices<N, D>)
     requires { IsConfig config.now.config }
-    ensures { OnOk result (Supervised P.supervised config.now) }
+    ensures supervised { OnOk result.0 (Supervised P.supervised config.now) }
+    ensures log { N.log result.1.net ≡ N.log host.entry.net }
+    ensures none { result.1.reporting.report ≡ None }
 {
-    match open_server(disk, alloc, config) {
-        Ok(_) => supervise(rt, alloc, config, input),
-        Err(fault) => Err(fault),
+    let Host {
+        rt,
+        alloc,
+        net,
+        served,
+        counts,
+    } = host;
+    let reporting = Reporting::new(alloc, counts, None);
+    let devices = Devices { net, reporting };
+    match open_server(served, alloc, config) {
+        Ok(_) => (supervise(rt, alloc, config, input), devices),
+        Err(fault) => (Err(fault), devices),
     }
 }
 
-/// Serves alone. Standard input is closed again, unless requests arrive there.
-fn serve_alone<D: Disk, N: ServerUdp + Eprint>(
-    alloc: Global,
-    disk: D,
-    net: &mut Counted<HandedUdp<N>, D>,
+/// Serves alone.
+fn serve_alone<P, N: ServerUdp + Eprint, D: Disk>(
+    mut host: Host<'_, P, N, D>,
     config: &DaemonConfig<'_>,
     input: Input,
-) -> Result<(), DaemonFault>
+) -> (Result<(), DaemonFault>, Devices<N, D>)
     requires valid { IsConfig config.now.config }
     requires alone { config.now.instance.servers ≤ 1 }
     requires at_one_address { config.now.others.items ≡ [] }
-    ensures status { daemon_status result ≤ 2 }
-    ensures runs { MayServe D.log (D.log disk) ⟦<FolderStore<D> as Store>⟧.meaning
-        ⟦<FolderSource<D::View> as Source>⟧.meaning
-        config.now (daemon_status result) (N.log net.old.net.net) (N.log net.new.net.net) }
-    ensures reports { net.old.report ≡ None → IfSome net.new.report
+    ensures status { daemon_status result.0 ≤ 2 }
+    ensures runs { MayServe D.log (D.log host.entry.served) ⟦<FolderStore<D> as Store>⟧.meaning
+        ⟦<FolderSource<D::View> as Source>⟧.meaning config.now (daemon_status result.0)
+        (N.log host.entry.net) (N.log result.1.net) }
+    ensures reports { IfSome result.1.reporting.report
         (λ report. IsReportOf config.now report.status) }
 {
-    set_log(&mut net.net, alloc, config);
-    serve_where_asked(alloc, disk, net, config, input)
+    match setup_of(&mut host.net, host.alloc, config, input) {
+        Ok(setup) => serve_with(host, config, setup),
+        Err(fault) => (Err(fault), host.into_devices()),
+    }
 }
 
-/// Serves where requests arrive.
-fn serve_where_asked<D: Disk, N: ServerUdp + Eprint>(
-    alloc: Global,
-    disk: D,
-    net: &mut Counted<HandedUdp<N>, D>,
+/// Serves with the device that is made of this.
+fn serve_with<P, N: ServerUdp + Eprint, D: Disk>(
+    host: Host<'_, P, N, D>,
     config: &DaemonConfig<'_>,
-    input: Input,
-) -> Result<(), DaemonFault>
+    setup: DeviceSetup,
+) -> (Result<(), DaemonFault>, Devices<N, D>)
     requires valid { IsConfig config.now.config }
     requires alone { config.now.instance.servers ≤ 1 }
     requires at_one_address { config.now.others.items ≡ [] }
-    ensures status { daemon_status result ≤ 2 }
-    ensures runs { MayServe D.log (D.log disk) ⟦<FolderStore<D> as Store>⟧.meaning
-        ⟦<FolderSource<D::View> as Source>⟧.meaning
-        config.now (daemon_status result) (N.log net.old.net.net) (N.log net.new.net.net) }
-    ensures reports { net.old.report ≡ None → IfSome net.new.report
+    requires listens { ListensAt config.now.listen setup.port.at }
+    requires file { IfSome setup.reports (λ settings. ReportsAt config.now settings.paths) }
+    ensures status { daemon_status result.0 ≤ 2 }
+    ensures runs { MayServe D.log (D.log host.entry.served) ⟦<FolderStore<D> as Store>⟧.meaning
+        ⟦<FolderSource<D::View> as Source>⟧.meaning config.now (daemon_status result.0)
+        (N.log host.entry.net) (N.log result.1.net) }
+    ensures reports { IfSome result.1.reporting.report
         (λ report. IsReportOf config.now report.status) }
 {
-    match config.listen {
-        Listen::At(at) => {
-            drop(input);
-            serve_at(alloc, disk, net, config, at)
+    let Host {
+        alloc,
+        net,
+        served,
+        counts,
+        ..
+    } = host;
+    let service = config.service_at(setup.port.endpoint());
+    let signal = DrainFile::new(served.view(), config.drain);
+    match open_server(served, alloc, config) {
+        Ok(server) => {
+            let mut device = ServerDevice::new(net, alloc, counts, setup);
+            let result = serve_loop(&mut device, alloc, server, &service, &signal);
+            (result, device.into_devices())
         }
-        Listen::Handed => serve_handed(alloc, disk, net, config, input),
-    }
-}
-
-/// Has each line of the log begin with its time, if the configuration says so.
-fn set_log<N: ServerUdp>(net: &mut HandedUdp<N>, alloc: Global, config: &DaemonConfig<'_>)
-    ensures net { net.new.net ≡ net.old.net }
-    ensures times { net.old.times ≡ None → is_some net.new.times ≡ config.now.log_times }
-{
-    if config.log_times {
-        net.log_times(alloc);
-    }
-}
-
-/// Serves at the socket that is standard input.
-fn serve_handed<D: Disk, N: ServerUdp + Eprint>(
-    alloc: Global,
-    disk: D,
-    net: &mut Counted<HandedUdp<N>, D>,
-    config: &DaemonConfig<'_>,
-    input: Input,
-) -> Result<(), DaemonFault>
-    requires valid { IsConfig config.now.config }
-    requires alone { config.now.instance.servers ≤ 1 }
-    requires at_one_address { config.now.others.items ≡ [] }
-    requires handed { config.now.listen ≡ Listen.Handed }
-    ensures status { daemon_status result ≤ 2 }
-    ensures runs { MayServe D.log (D.log disk) ⟦<FolderStore<D> as Store>⟧.meaning
-        ⟦<FolderSource<D::View> as Source>⟧.meaning
-        config.now (daemon_status result) (N.log net.old.net.net) (N.log net.new.net.net) }
-    ensures reports { net.old.report ≡ None → IfSome net.new.report
-        (λ report. IsReportOf config.now report.status) }
-{
-    match HandedSocket::new(input) {
-        Ok(socket) => {
-            let at = socket.endpoint();
-            match hand_over(&mut net.net, alloc, config, socket) {
-                Ok(()) => serve_at(alloc, disk, net, config, at),
-                Err(error) => Err(DaemonFault::Loop(LoopFault::Socket(reason_of(&error)))),
-            }
+        Err(fault) => {
+            let reporting = Reporting::new(alloc, counts, None);
+            (Err(fault), Devices { net, reporting })
         }
-        Err(fault) => Err(DaemonFault::Handed(fault)),
-    }
-}
-
-/// Hands the request port over to the network of a server, alone or one of several.
-fn hand_over<N: ServerUdp>(
-    net: &mut HandedUdp<N>,
-    alloc: Global,
-    config: &DaemonConfig<'_>,
-    socket: HandedSocket,
-) -> io::Result<()>
-    ensures { N.log net.new.net ≡ N.log net.old.net }
-{
-    net.hand_over(socket);
-    match config.instance.server {
-        Some(server) => net.join_several(alloc, server),
-        None => Ok(()),
-    }
-}
-
-/// Serves with the request port at this endpoint.
-fn serve_at<D: Disk, N: ServerUdp + Eprint>(
-    alloc: Global,
-    disk: D,
-    net: &mut Counted<HandedUdp<N>, D>,
-    config: &DaemonConfig<'_>,
-    at: Endpoint,
-) -> Result<(), DaemonFault>
-    requires valid { IsConfig config.now.config }
-    requires alone { config.now.instance.servers ≤ 1 }
-    requires at_one_address { config.now.others.items ≡ [] }
-    requires listens { ListensAt config.now.listen at }
-    ensures status { daemon_status result ≤ 2 }
-    ensures runs { MayServe D.log (D.log disk) ⟦<FolderStore<D> as Store>⟧.meaning
-        ⟦<FolderSource<D::View> as Source>⟧.meaning
-        config.now (daemon_status result) (N.log net.old.net.net) (N.log net.new.net.net) }
-    ensures reports { net.old.report ≡ None → IfSome net.new.report
-        (λ report. IsReportOf config.now report.status) }
-{
-    match begin_reports(net, alloc, config, at) {
-        Ok(()) => serve_reported(alloc, disk, net, config, at),
-        Err(fault) => Err(fault),
-    }
-}
-
-/// As [`serve_at`], once its reports have begun.
-fn serve_reported<D: Disk, N: ServerUdp + Eprint>(
-    alloc: Global,
-    disk: D,
-    net: &mut Counted<HandedUdp<N>, D>,
-    config: &DaemonConfig<'_>,
-    at: Endpoint,
-) -> Result<(), DaemonFault>
-    requires valid { IsConfig config.now.config }
-    requires alone { config.now.instance.servers ≤ 1 }
-    requires at_one_address { config.now.others.items ≡ [] }
-    requires listens { ListensAt config.now.listen at }
-    ensures status { daemon_status result ≤ 2 }
-    ensures runs { MayServe D.log (D.log disk) ⟦<FolderStore<D> as Store>⟧.meaning
-        ⟦<FolderSource<D::View> as Source>⟧.meaning
-        config.now (daemon_status result) (N.log net.old.net.net) (N.log net.new.net.net) }
-    ensures reports { IfSome net.old.report (λ report. IsReportOf config.now report.status)
-        → IfSome net.new.report (λ report. IsReportOf config.now report.status) }
-{
-    let signal = DrainFile::new(disk.view(), config.drain);
-    match open_server(disk, alloc, config) {
-        Ok(server) => serve_loop(net, alloc, server, &config.service_at(at), &signal),
-        Err(fault) => Err(fault),
-    }
-}
-
-/// A server over the folder.
-fn open_server<D: Disk>(
-    disk: D,
-    alloc: Global,
-    config: &DaemonConfig<'_>,
-) -> Result<Server<FolderStore<D>>, DaemonFault>
-    requires { IsConfig config.now.config }
-    ensures { IfOk result (IsServerOf D.log (D.log disk) config.now) }
-{
-    match open_store(disk, alloc, config) {
-        Ok(store) => match Server::new(alloc, config.config, store) {
-            Ok(server) => Ok(server),
-            Err(_) => Err(DaemonFault::Memory),
-        },
-        Err(fault) => Err(fault),
-    }
-}
-
-/// The store over the folder, with its writes refused or kept below one folder.
-fn open_store<D: Disk>(
-    disk: D,
-    alloc: Global,
-    config: &DaemonConfig<'_>,
-) -> Result<FolderStore<D>, DaemonFault>
-    ensures root { IfOk result (λ store. IsRootOf config.now.root.now
-        (string_bytes store.folder.root) (D.log disk) (D.log store.disk)) }
-    ensures read_only { IfOk result (λ store. store.is_read_only ≡ config.now.read_only) }
-    ensures uploads { IfOk result (λ store.
-        IsUploads (option_map (λ folder. folder.now) config.now.uploads) store.uploads) }
-    ensures drafts { IfOk result (λ store. string_bytes store.folder.drafts
-        ≡ drafts_in (string_bytes store.folder.root) store.uploads) }
-    ensures unchanged { IfOk result (λ store. changes_of D.log store ≡ changes (D.log disk)) }
-    ensures inside { IfOk result (λ store. StaysInside (string_bytes store.folder.root)
-        (D.log disk) (D.log store.disk)) }
-    ensures lengths { IfOk result (λ store.
-        store.lengths.most ≡ lengths_in config.now.length_memory) }
-{
-    let mut store = match open_root(disk, alloc, config) {
-        Ok(store) => store,
-        Err(fault) => return Err(fault),
-    };
-    if config.read_only {
-        store.refuse_writes();
-    }
-    if let Some(folder) = config.uploads {
-        if let Err(error) = store.admit_uploads(alloc, folder) {
-            return Err(fault_of(&error, DaemonFault::Uploads(reason_of(&error))));
-        }
-    }
-    Ok(store)
-}
-
-/// The store over the folder, which takes writes everywhere.
-fn open_root<D: Disk>(
-    disk: D,
-    alloc: Global,
-    config: &DaemonConfig<'_>,
-) -> Result<FolderStore<D>, DaemonFault>
-    ensures root { IfOk result (λ store. IsRootOf config.now.root.now
-        (string_bytes store.folder.root) (D.log disk) (D.log store.disk)) }
-    ensures settings { IfOk result (λ store. (store.is_read_only ≡ false)
-        × (store.uploads ≡ None)) }
-    ensures drafts { IfOk result (λ store. string_bytes store.folder.drafts
-        ≡ string_bytes store.folder.root) }
-    ensures inside { IfOk result (λ store. StaysInside (string_bytes store.folder.root)
-        (D.log disk) (D.log store.disk)) }
-    ensures looks { IfOk result (λ store. changes (D.log store.disk) ≡ changes (D.log disk)) }
-    ensures lengths { IfOk result (λ store.
-        store.lengths.most ≡ lengths_in config.now.length_memory) }
-{
-    match FolderStore::new(disk, alloc, config.root, config.length_memory) {
-        Ok(store) => Ok(store),
-        Err(error) => Err(fault_of(&error, DaemonFault::Root(reason_of(&error)))),
-    }
-}
-
-/// The fault of a folder that could not be opened: out of memory, or else this one.
-fn fault_of(error: &io::Error, other: DaemonFault) -> DaemonFault {
-    if error.kind() == ErrorKind::OutOfMemory {
-        DaemonFault::Memory
-    } else {
-        other
     }
 }
 
 /// Serves from the request port.
-fn serve_loop<D: Disk, N: ServerUdp + Eprint, G: DrainSignal>(
-    net: &mut Counted<HandedUdp<N>, D>,
+fn serve_loop<N: ServerUdp + Eprint, D: Disk, G: DrainSignal>(
+    device: &mut ServerDevice<N, D>,
     alloc: Global,
     server: Server<FolderStore<D>>,
     service: &LoopConfig,
@@ -525,13 +300,13 @@ fn serve_loop<D: Disk, N: ServerUdp + Eprint, G: DrainSignal>(
 ) -> Result<(), DaemonFault>
     ensures runs { RunsService ⟦<FolderStore<D> as Store>⟧.meaning
         ⟦<FolderSource<D::View> as Source>⟧.meaning service.now server (daemon_status result)
-        (N.log net.old.net.net) (N.log net.new.net.net) }
-    ensures file { option_map (λ report. report.status.file) net.new.report
-        ≡ option_map (λ report. report.status.file) net.old.report }
-    ensures keeps { IfSome net.new.report (λ report. KeepsCounts report.status) }
+        (N.log device.old.net) (N.log device.new.net) }
+    ensures file { option_map (λ report. report.status.file) device.new.reporting.report
+        ≡ option_map (λ report. report.status.file) device.old.reporting.report }
+    ensures keeps { IfSome device.new.reporting.report (λ report. KeepsCounts report.status) }
 {
-    let served = tftp_loop::serve(net, alloc, server, service, signal);
-    net.keeps_counts();
+    let served = tftp_loop::serve(device, alloc, server, service, signal);
+    device.keeps_counts();
     match served {
         Ok(()) => Ok(()),
         Err(fault) => Err(DaemonFault::Loop(fault)),

@@ -1,6 +1,6 @@
 //! Runs `tftpd` by a command line.
 
-ghost use Rattle.std.specs.Prelude.{◌≡◌, ◌≤◌, [], IfSome, None, map};
+ghost use Rattle.std.specs.Prelude.{◌≡◌, ◌≤◌, IfSome, None, map};
 ghost use Rattle.tftp_server.specs.Config.{IsConfig};
 ghost use Rattle.tftp_daemon.specs.CommandLine.{IfExit, IfRun};
 ghost use Rattle.tftp_daemon.specs.Configured.{MayServe, ServesWords, daemon_status};
@@ -10,10 +10,10 @@ ghost use Rattle.tftp_daemon.specs.Supervised.{MaySupervise, SupervisesWords};
 
 use crate::command_line::{CommandLine, read_words};
 use crate::daemon::{DaemonConfig, DaemonFault, StatusFault, serve};
+use crate::host::{Devices, Host};
 use crate::options::Texts;
 use crate::shown::Shown;
 use crate::surroundings::Surroundings;
-use std::alloc::Global;
 use std::convert::AsStr;
 use std::net::Net;
 use std::random::RandomSource;
@@ -27,9 +27,10 @@ use tftp_folder::{FolderSource, FolderStore};
 use tftp_lines::Reason;
 use tftp_loop::LoopFault;
 use tftp_server::Store;
-use tftp_service::{HandedUdp, Input, Supervise};
+use tftp_service::Input;
 use tftp_sockets::{ErrorLines, ServerUdp, SystemUdp, WholeLines};
-use tftp_status::Counted;
+use tftp_status::UnusedDisk;
+use tftp_supervisor::Supervise;
 
 /// Runs `tftpd` with the program's own command line, and this standard input, and returns its status.
 ///
@@ -58,82 +59,44 @@ pub fn tftpd_words<
 >(rt: &R, words: &[S], input: Input) -> u8
     ensures { result ≤ 2 }
 {
-    let net = HandedUdp::new(SystemUdp::new(rt));
-    let disks = Disks {
-        served: SystemDisk::new(rt),
-        counts: SystemDisk::new(rt),
-    };
-    let surroundings = Surroundings::of(rt, words);
-    tftpd_over(rt, rt.alloc(), disks, net, words, input, surroundings)
-}
-
-/// The disks of a program: for the folder that it serves, and for what it has counted.
-#[derive(Drop)]
-struct Disks<D> {
-    served: D,
-    counts: D,
-}
-
-/// As [`tftpd_words`], over these disks and a network.
-fn tftpd_over<
-    P: Print + ErrorLines + Clock + Supervise,
-    D: Disk,
-    N: ServerUdp + Eprint + Drop,
-    S: AsStr,
->(
-    rt: &P,
-    alloc: Global,
-    disks: Disks<D>,
-    net: HandedUdp<N>,
-    words: &[S],
-    input: Input,
-    surroundings: Surroundings,
-) -> u8
-    requires { D.log disks.counts ≡ [] }
-    ensures { result ≤ 2 }
-{
-    let mut net = Counted::new(net, disks.counts);
-    tftpd_on(
+    let host = Host {
         rt,
-        alloc,
-        disks.served,
-        &mut net,
-        words,
-        input,
-        surroundings,
-    )
+        alloc: rt.alloc(),
+        net: SystemUdp::new(rt),
+        served: SystemDisk::new(rt),
+        counts: UnusedDisk::new(SystemDisk::new(rt)),
+    };
+    let (status, _devices) = tftpd_on(host, words, input, Surroundings::of(rt, words));
+    status
 }
 
-/// As [`tftpd_words`], over a disk and a network: it does nothing over UDP, as for `--help`, or runs
-/// one server with the configuration that the words name. With a status of 0 that server served to
-/// its end, or the words ask for the help or the version, or for several servers: then their
-/// supervisor has started each of them, and each has ended with status 0. If it reports, it does so in
-/// the file that the words name (`laws::a_run_reports_in_its_file_alone`).
+/// As [`tftpd_words`], on this host: it does nothing over UDP, as for `--help`, or runs one server with
+/// the configuration that the words name. With a status of 0 that server served to its end, or the
+/// words ask for the help or the version, or for several servers: then their supervisor has started
+/// each of them, and each has ended with status 0. If it reports, it does so in the file that the words
+/// name (`laws::a_run_reports_in_its_file_alone`).
 pub fn tftpd_on<
     P: Print + ErrorLines + Clock + Supervise,
-    D: Disk,
     N: ServerUdp + Eprint,
+    D: Disk,
     S: AsStr,
 >(
-    rt: &P,
-    alloc: Global,
-    disk: D,
-    net: &mut Counted<HandedUdp<N>, D>,
+    host: Host<'_, P, N, D>,
     words: &[S],
     input: Input,
     surroundings: Surroundings,
-) -> u8
-    ensures status { result ≤ 2 }
-    ensures runs { ServesWords D.log (D.log disk) ⟦<FolderStore<D> as Store>⟧.meaning
-        ⟦<FolderSource<D::View> as Source>⟧.meaning (map S.text words.now) result
-        (N.log net.old.net.net) (N.log net.new.net.net) }
-    ensures several { SupervisesWords P.supervised (map S.text words.now) result }
-    ensures reports { net.old.report ≡ None → IfSome net.new.report
+) -> (u8, Devices<N, D>)
+    ensures status { result.0 ≤ 2 }
+    ensures runs { ServesWords D.log (D.log host.entry.served) ⟦<FolderStore<D> as Store>⟧.meaning
+        ⟦<FolderSource<D::View> as Source>⟧.meaning (map S.text words.now) result.0
+        (N.log host.entry.net) (N.log result.1.net) }
+    ensures several { SupervisesWords P.supervised (map S.text words.now) result.0 }
+    ensures reports { IfSome result.1.reporting.report
         (λ report. ReportsWords (map S.text words.now) report.status) }
 {
-    match Texts::new(alloc) {
-        Ok(texts) => serve_texts(rt, alloc, disk, net, &texts, words, input, surroundings),
-        Err(_) => print_no_memory(rt, "tftpd"),
+    match Texts::new(host.alloc) {
+        Ok(texts) => serve_texts(host, &texts, words, input, surroundings),
+        Err(_) => (print_no_memory(host.rt, "tftpd"), host.into_devices()),
     }
 }
 
@@ -141,81 +104,73 @@ pub fn tftpd_on<
 fn serve_texts<
     'a,
     P: Print + ErrorLines + Clock + Supervise,
-    D: Disk,
     N: ServerUdp + Eprint,
+    D: Disk,
     S: AsStr,
 >(
-    rt: &P,
-    alloc: Global,
-    disk: D,
-    net: &mut Counted<HandedUdp<N>, D>,
+    host: Host<'_, P, N, D>,
     texts: &'a Texts,
     words: &'a [S],
     input: Input,
     surroundings: Surroundings,
-) -> u8
-    ensures status { result ≤ 2 }
-    ensures runs { ServesWords D.log (D.log disk) ⟦<FolderStore<D> as Store>⟧.meaning
-        ⟦<FolderSource<D::View> as Source>⟧.meaning (map S.text words.now) result
-        (N.log net.old.net.net) (N.log net.new.net.net) }
-    ensures several { SupervisesWords P.supervised (map S.text words.now) result }
-    ensures reports { net.old.report ≡ None → IfSome net.new.report
+) -> (u8, Devices<N, D>)
+    ensures status { result.0 ≤ 2 }
+    ensures runs { ServesWords D.log (D.log host.entry.served) ⟦<FolderStore<D> as Store>⟧.meaning
+        ⟦<FolderSource<D::View> as Source>⟧.meaning (map S.text words.now) result.0
+        (N.log host.entry.net) (N.log result.1.net) }
+    ensures several { SupervisesWords P.supervised (map S.text words.now) result.0 }
+    ensures reports { IfSome result.1.reporting.report
         (λ report. ReportsWords (map S.text words.now) report.status) }
 {
-    match read_words(rt, alloc, texts, words, surroundings) {
-        Ok(line) => serve_command_line(rt, alloc, disk, net, &line, input),
-        Err(_) => print_no_memory(rt, "tftpd"),
+    match read_words(host.rt, host.alloc, texts, words, surroundings) {
+        Ok(line) => serve_command_line(host, &line, input),
+        Err(_) => (print_no_memory(host.rt, "tftpd"), host.into_devices()),
     }
 }
 
 /// Does what the command line has the program do.
-fn serve_command_line<P: Print + ErrorLines + Clock + Supervise, D: Disk, N: ServerUdp + Eprint>(
-    rt: &P,
-    alloc: Global,
-    disk: D,
-    net: &mut Counted<HandedUdp<N>, D>,
+fn serve_command_line<P: Print + ErrorLines + Clock + Supervise, N: ServerUdp + Eprint, D: Disk>(
+    host: Host<'_, P, N, D>,
     line: &CommandLine<'_>,
     input: Input,
-) -> u8
+) -> (u8, Devices<N, D>)
     requires config { IfRun line.now (λ config. IsConfig config.config) }
     requires status { IfExit line.now (λ status. status ≤ 2) }
-    ensures status { result ≤ 2 }
-    ensures same { IfExit line.now (λ status. result ≡ status) }
-    ensures runs { IfRun line.now (λ config. MayServe D.log (D.log disk)
+    ensures status { result.0 ≤ 2 }
+    ensures same { IfExit line.now (λ status. result.0 ≡ status) }
+    ensures runs { IfRun line.now (λ config. MayServe D.log (D.log host.entry.served)
         ⟦<FolderStore<D> as Store>⟧.meaning ⟦<FolderSource<D::View> as Source>⟧.meaning config
-        result (N.log net.old.net.net) (N.log net.new.net.net)) }
-    ensures several { IfRun line.now (λ config. MaySupervise P.supervised config result) }
-    ensures reports { net.old.report ≡ None → IfRun line.now (λ config. IfSome net.new.report
+        result.0 (N.log host.entry.net) (N.log result.1.net)) }
+    ensures several { IfRun line.now (λ config. MaySupervise P.supervised config result.0) }
+    ensures reports { IfRun line.now (λ config. IfSome result.1.reporting.report
         (λ report. IsReportOf config report.status)) }
-    ensures none { IfExit line.now (λ _. N.log net.new.net.net ≡ N.log net.old.net.net) }
-    ensures unreported { IfExit line.now (λ _. net.new.report ≡ net.old.report) }
+    ensures none { IfExit line.now (λ _. N.log result.1.net ≡ N.log host.entry.net) }
+    ensures unreported { IfExit line.now (λ _. result.1.reporting.report ≡ None) }
 {
     match line {
-        CommandLine::Run(config) => serve_config(rt, alloc, disk, net, config, input),
-        CommandLine::Exit(status) => *status,
+        CommandLine::Run(config) => serve_config(host, config, input),
+        CommandLine::Exit(status) => (*status, host.into_devices()),
     }
 }
 
 /// Serves by a configuration, reports a fault, and returns the status.
-fn serve_config<P: Print + ErrorLines + Clock + Supervise, D: Disk, N: ServerUdp + Eprint>(
-    rt: &P,
-    alloc: Global,
-    disk: D,
-    net: &mut Counted<HandedUdp<N>, D>,
+fn serve_config<P: Print + ErrorLines + Clock + Supervise, N: ServerUdp + Eprint, D: Disk>(
+    host: Host<'_, P, N, D>,
     config: &DaemonConfig<'_>,
     input: Input,
-) -> u8
+) -> (u8, Devices<N, D>)
     requires { IsConfig config.now.config }
-    ensures status { result ≤ 2 }
-    ensures runs { MayServe D.log (D.log disk) ⟦<FolderStore<D> as Store>⟧.meaning
-        ⟦<FolderSource<D::View> as Source>⟧.meaning config.now result (N.log net.old.net.net)
-        (N.log net.new.net.net) }
-    ensures several { MaySupervise P.supervised config.now result }
-    ensures reports { net.old.report ≡ None → IfSome net.new.report
+    ensures status { result.0 ≤ 2 }
+    ensures runs { MayServe D.log (D.log host.entry.served) ⟦<FolderStore<D> as Store>⟧.meaning
+        ⟦<FolderSource<D::View> as Source>⟧.meaning config.now result.0 (N.log host.entry.net)
+        (N.log result.1.net) }
+    ensures several { MaySupervise P.supervised config.now result.0 }
+    ensures reports { IfSome result.1.reporting.report
         (λ report. IsReportOf config.now report.status) }
 {
-    let served = serve(rt, alloc, disk, net, config, input);
-    report(rt, config, served)
+    let rt = host.rt;
+    let (served, devices) = serve(host, config, input);
+    (report(rt, config, served), devices)
 }
 
 /// Prints the fault, if there is one, and returns the status. A server of several whose supervisor

@@ -1,12 +1,12 @@
 //! The file of a server's counts: where it may be, and when its reports begin.
 
-ghost use Rattle.std.specs.Prelude.{◌≡◌, ◌≢◌, ◌⊎◌, false, true, None, IfOk, IfSome, IsSomeAnd, OnOk};
+ghost use Rattle.std.specs.Prelude.{◌≡◌, ◌≢◌, ◌⊎◌, false, true, IfOk, IfSome, IsSomeAnd, OnOk};
 ghost use Rattle.std.specs.Prelude.{is_some};
 ghost use Rattle.std.specs.String.{string_bytes};
 ghost use Rattle.tftp_status.specs.StatusFile.{draft_of};
 ghost use Rattle.tftp_daemon.specs.Refused.{is_name, name_in, names_file};
-ghost use Rattle.tftp_daemon.specs.Reports.{IsOwnFile, IsReported, LooksApart, LooksApartFrom};
-ghost use Rattle.tftp_daemon.specs.Reports.{LooksOutside, folder_of, or_here};
+ghost use Rattle.tftp_daemon.specs.Reports.{HasLooked, IsOwnFile, LooksApart, LooksApartFrom};
+ghost use Rattle.tftp_daemon.specs.Reports.{LooksOutside, ReportsAt, folder_of, or_here};
 
 use crate::daemon::{DaemonConfig, DaemonFault, StatusFault};
 use std::alloc::{AllocError, Global};
@@ -14,13 +14,68 @@ use std::path::Path;
 use tftp_arguments::VERSION;
 use tftp_disk::{Disk, Looks};
 use tftp_ends::Endpoint;
-use tftp_service::HandedUdp;
 use tftp_sockets::ServerUdp;
-use tftp_status::{Counted, Labels, ReportSettings, file_of_server};
+use tftp_status::{Labels, ReportSettings, StatusPaths, file_of_server};
+
+/// Refuses a status file in the folder of a configuration, and one that is the file of `--drain`,
+/// wherever links lead. Without one it asks nothing.
+pub(crate) fn check_status<D: Disk>(
+    disk: &D,
+    alloc: Global,
+    config: &DaemonConfig<'_>,
+) -> Result<(), DaemonFault>
+    ensures place { OnOk result (IfSome config.now.status (λ file.
+        HasLooked D.View.log (LooksOutside config.now.root.now (folder_of file.now)))) }
+    ensures drain { OnOk result (IfSome config.now.status (λ file. IfSome config.now.drain (λ drain.
+        HasLooked D.View.log (LooksApart config.now.instance.server drain.now file.now)))) }
+{
+    match config.status {
+        Some(file) => check_file(disk, alloc, config, file),
+        None => Ok(()),
+    }
+}
+
+/// As [`check_status`], of a status file with this path.
+fn check_file<D: Disk>(
+    disk: &D,
+    alloc: Global,
+    config: &DaemonConfig<'_>,
+    file: &str,
+) -> Result<(), DaemonFault>
+    ensures place { OnOk result (HasLooked D.View.log
+        (LooksOutside config.now.root.now (folder_of file.now))) }
+    ensures drain { OnOk result (IfSome config.now.drain (λ drain.
+        HasLooked D.View.log (LooksApart config.now.instance.server drain.now file.now))) }
+{
+    let mut looks = disk.view();
+    match check_place(&mut looks, alloc, config.root, file) {
+        Ok(()) => check_file_and_drain(disk, alloc, config, file),
+        Err(fault) => Err(fault),
+    }
+}
+
+/// Refuses a status file that is the file of `--drain`, if there is one.
+fn check_file_and_drain<D: Disk>(
+    disk: &D,
+    alloc: Global,
+    config: &DaemonConfig<'_>,
+    file: &str,
+) -> Result<(), DaemonFault>
+    ensures { OnOk result (IfSome config.now.drain (λ drain.
+        HasLooked D.View.log (LooksApart config.now.instance.server drain.now file.now))) }
+{
+    match config.drain {
+        Some(drain) => {
+            let mut looks = disk.view();
+            check_drain(&mut looks, alloc, config.instance.server, drain, file)
+        }
+        None => Ok(()),
+    }
+}
 
 /// Refuses a status file in the served folder or below it, wherever the links of both lead. A folder
 /// that cannot be resolved is none of a file that can be written by now.
-pub(crate) fn check_place<L: Looks>(
+fn check_place<L: Looks>(
     looks: &mut L,
     alloc: Global,
     root: &str,
@@ -47,7 +102,7 @@ pub(crate) fn check_place<L: Looks>(
 /// Refuses a status file that is the file of `--drain`, as is its temporary file, wherever the links of
 /// both folders lead: of several servers this server's own. A folder that cannot be resolved has no
 /// file by now.
-pub(crate) fn check_drain<L: Looks>(
+fn check_drain<L: Looks>(
     looks: &mut L,
     alloc: Global,
     server: Option<u8>,
@@ -154,43 +209,37 @@ fn is_name(name: &str) -> bool
     !name.is_empty() && name != "." && name != ".."
 }
 
-/// Begins the reports of a server, if its configuration has a file for them: the one that it names, or
-/// of several servers the one with this server's number. Its samples have the address.
-pub(crate) fn begin_reports<D: Disk, N: ServerUdp>(
-    net: &mut Counted<HandedUdp<N>, D>,
+/// The settings of a server's reports, if its configuration has a file for them: the one that it names,
+/// or of several servers the one with this server's number. Its samples have the address.
+pub(crate) fn report_settings<N: ServerUdp>(
+    net: &N,
     alloc: Global,
     config: &DaemonConfig<'_>,
     at: Endpoint,
-) -> Result<(), DaemonFault>
-    ensures net { net.new.net ≡ net.old.net }
-    ensures none { config.now.status ≡ None → net.new ≡ net.old }
-    ensures begun { OnOk result (is_some config.now.status ≡ true → is_some net.old.disk ≡ true
-        → is_some net.new.report ≡ true) }
-    ensures file { net.old.report ≡ None → IfSome net.new.report
-        (λ report. IsReported config.now report.status) }
+) -> Result<Option<ReportSettings>, DaemonFault>
+    ensures begun { IfOk result (λ settings. is_some settings ≡ is_some config.now.status) }
+    ensures file { IfOk result (λ settings. IfSome settings
+        (λ settings. ReportsAt config.now settings.paths)) }
 {
     let Some(file) = config.status else {
-        return Ok(());
+        return Ok(None);
     };
     let own = own_file(alloc, file, config.instance.server)?;
-    let draft = draft_of(alloc, own.as_str())?;
-    if is_drain(config.drain, own.as_str(), draft.as_str()) {
+    let paths = StatusPaths::new(alloc, own)?;
+    if is_drain(config.drain, paths.file(), paths.draft()) {
         return Err(DaemonFault::Status(StatusFault::Drain));
     }
-    let settings = ReportSettings {
-        file: own.as_str(),
+    let version = String::from_str(alloc, VERSION)?;
+    Ok(Some(ReportSettings {
+        paths,
         labels: Labels {
             address: at,
             server: config.instance.server,
         },
-        version: VERSION,
+        version,
         limit: u64::from(config.config.cap),
-        start: start_of(&net.net),
-    };
-    match net.begin_reports(alloc, settings) {
-        Ok(()) => Ok(()),
-        Err(_) => Err(DaemonFault::Memory),
-    }
+        start: start_of(net),
+    }))
 }
 
 /// The time in seconds since 1970 began in UTC; 0 if the clock cannot be read.

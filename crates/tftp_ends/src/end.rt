@@ -1,15 +1,15 @@
 //! An end of a transfer: how it handles datagrams and timeouts.
 
 mod acting;
+mod appending;
 mod opening;
 mod sending;
 mod serving;
 mod sides;
 mod storing;
 
-ghost use Rattle.std.specs.Prelude.{◌≡◌, ◌↔◌, ◌+◌, ◌++◌, ◌≤◌, length, option_map, Option};
+ghost use Rattle.std.specs.Prelude.{◌≡◌, ◌↔◌, ◌≤◌, length, option_map, Option};
 ghost use Rattle.std.specs.Prelude.{Some, false, true, IfOk, IfSome, OnErr, IsErrOf, IsSome, is_some};
-ghost use Rattle.std.specs.Prelude.{vec_len, vec_capacity};
 ghost use Rattle.tftp_wire.specs.Borrowed.{owned};
 ghost use Rattle.tftp_wire.specs.Spelling.{Spells};
 ghost use Rattle.tftp_wire.specs.declared.packet.Packet.{Packet};
@@ -90,14 +90,13 @@ impl End {
     ghost use Rattle.tftp_ends.specs.Backoff.{timeouts_of};
     ghost use Rattle.tftp_ends.specs.Action.{Decodes, HandledBy, datagram_action, packet_action};
     ghost use Rattle.tftp_ends.specs.Action.{garbled_response, is_wrong_peer, timeout_response};
-    ghost use Rattle.tftp_ends.specs.Action.{timeout_action};
     ghost use Rattle.tftp_ends.specs.Fits.{ActionFits, BytesFit, ReplyFits, ResponseFits};
     ghost use Rattle.tftp_ends.specs.Next.{IsBy};
     ghost use Rattle.tftp_ends.specs.Room.{FitsRoom, response_room};
-    ghost use Rattle.tftp_ends.specs.Shortage.{AppendsNothing, HasNoRoom, LacksMemory};
+    ghost use Rattle.tftp_ends.specs.Shortage.{AppendsNothing, LacksMemory};
     ghost use Rattle.tftp_ends.specs.Sound.{IsSound, ResendsAck, longest_sent};
     ghost use Rattle.tftp_ends.specs.Files.{AreFilesOf, KeepsFiles, AreSame};
-    ghost use Rattle.tftp_ends.specs.Step.{Turn, DatagramStep, Carries, Lends, IsAnswered};
+    ghost use Rattle.tftp_ends.specs.Step.{Turn, DatagramStep, Lends};
     ghost use Rattle.tftp_ends.specs.Step.{UsesFile, reported, timeout_turn, lent};
 
     /// The state of the end. A receiver answers a repeated block by the ACK of `number`.
@@ -244,7 +243,7 @@ impl End {
 
     /// How a receiver handles any datagram.
     #[inline(never)]
-    pub(crate) fn any_action(&self, from: Endpoint, bytes: &[u8]) -> Action
+    pub(crate) fn action_as_receiver(&self, from: Endpoint, bytes: &[u8]) -> Action
         requires { is_sender self.now.role.side ≡ false }
         ensures action { (decoded : Option Packet) × Decodes bytes.now decoded
             × (result ≡ datagram_action self.now from bytes.now decoded) }
@@ -252,6 +251,18 @@ impl End {
         ensures bytes { BytesFit self.now bytes.now result }
     {
         self.datagram_action(false, from, bytes)
+    }
+
+    /// How a sender handles any datagram.
+    #[inline(never)]
+    pub(crate) fn action_as_sender(&self, from: Endpoint, bytes: &[u8]) -> Action
+        requires { is_sender self.now.role.side ≡ true }
+        ensures action { (decoded : Option Packet) × Decodes bytes.now decoded
+            × (result ≡ datagram_action self.now from bytes.now decoded) }
+        ensures fits { ActionFits self.now result }
+        ensures bytes { BytesFit self.now bytes.now result }
+    {
+        self.datagram_action(true, from, bytes)
     }
 
     /// What holds of every end.
@@ -386,18 +397,6 @@ impl End {
         }
     }
 
-    /// How a sender handles any datagram.
-    #[inline(never)]
-    pub(crate) fn any_sender_action(&self, from: Endpoint, bytes: &[u8]) -> Action
-        requires { is_sender self.now.role.side ≡ true }
-        ensures action { (decoded : Option Packet) × Decodes bytes.now decoded
-            × (result ≡ datagram_action self.now from bytes.now decoded) }
-        ensures fits { ActionFits self.now result }
-        ensures bytes { BytesFit self.now bytes.now result }
-    {
-        self.datagram_action(true, from, bytes)
-    }
-
     /// How the end handles a timeout (RFC 1350, sections 2 and 6).
     fn timeout_response(&self) -> Response
         ensures response { result ≡ timeout_response self.now.position.retries_left
@@ -493,6 +492,9 @@ impl End {
         ensures closed { IsErrOf result EndFault.Closed
             ↔ IsSome (outcome_of self.old.position.phase) }
         ensures memory { IsErrOf result EndFault.Memory → ⊥ }
+        ensures room { IfOk result (λ answer. length (lent answer.1 self.new)
+            ≤ response_room self.old (timeout_response self.old.position.retries_left
+            self.old.position.phase)) }
         ensures err { OnErr result (self.new ≡ self.old) }
     {
         if self.is_closed() {
@@ -502,80 +504,5 @@ impl End {
         let response = self.timeout_response();
         let (to, outgoing) = self.respond(response, self.last_sent_to);
         Ok((before.step_to(self.phase(), to), outgoing))
-    }
-
-    /// Appends the datagram to send, in reserved capacity.
-    fn append_outgoing(&self, outgoing: Outgoing, out: &mut Vec<u8>)
-        requires { length (lent outgoing self.now) + vec_len out.old ≤ vec_capacity out.old }
-        ensures { out.new.items ≡ out.old.items ++ lent outgoing self.now }
-    {
-        let Ok(()) = out.extend_from_slice(self.bytes_of(outgoing)) else {
-            unreachable!()
-        };
-    }
-
-    /// Handles a datagram that was received from `from` at the end's port.
-    ///
-    /// At most one datagram is appended to `out`; [`Step::to`] is its destination. `files` is the
-    /// source of a sender or the sink of a receiver. After `Closed` and `Memory` nothing has
-    /// changed. `Memory` is possible only if there is a datagram to send.
-    pub fn on_datagram<S: Source, K: Sink>(
-        &mut self,
-        files: &mut Files<S, K>,
-        from: Endpoint,
-        bytes: &[u8],
-        out: &mut Vec<u8>,
-    ) -> Result<Step, EndFault>
-        requires { AreFilesOf self.old.role.side files.old }
-        ensures steps { IfOk result (λ step. (turn : Turn)
-            × DatagramStep S.meaning K.meaning from bytes.now self.old files.old turn files.new
-            × Carries self.old turn self.new step.to out.old.items out.new.items
-            × (step ≡ reported self.old turn)) }
-        ensures closed { IsErrOf result EndFault.Closed
-            ↔ IsSome (outcome_of self.old.position.phase) }
-        ensures unmoved { IsErrOf result EndFault.Closed → files.new ≡ files.old }
-        ensures memory { IsErrOf result EndFault.Memory
-            → HandledBy IsAnswered from bytes.now self.old }
-        ensures why { IsErrOf result EndFault.Memory → LacksMemory S.meaning K.meaning
-            (HasNoRoom (vec_capacity out.old) (vec_len out.old)) from bytes.now self.old
-            files.old files.new }
-        ensures err { OnErr result ((self.new ≡ self.old) × (out.new.items ≡ out.old.items)
-            × KeepsFiles S.meaning K.meaning files.old files.new) }
-        ensures same { AreSame S.is_same K.is_same files.old files.new }
-        ensures files { AreFilesOf self.new.role.side files.new }
-    {
-        match files {
-            Files::Source(source) => self.on_datagram_as_sender(source, from, bytes, out),
-            Files::Sink(sink) => self.on_datagram_as_receiver(sink, from, bytes, out),
-        }
-    }
-
-    /// Delivers a timeout: [`End::interval`] seconds have passed since the opening, the last
-    /// progress or the last timeout. An early or late timeout is allowed; each uses one retry.
-    ///
-    /// At most one datagram is appended to `out`; [`Step::to`] is its destination. After `Closed`
-    /// and `Memory` nothing has changed.
-    pub fn on_timeout(&mut self, out: &mut Vec<u8>) -> Result<Step, EndFault>
-        ensures steps { IfOk result (λ step.
-            Carries self.old (timeout_turn self.old) self.new step.to out.old.items out.new.items
-            × (step ≡ reported self.old (timeout_turn self.old))) }
-        ensures closed { IsErrOf result EndFault.Closed
-            ↔ IsSome (outcome_of self.old.position.phase) }
-        ensures memory { IsErrOf result EndFault.Memory
-            → IsAnswered (timeout_action self.old.position.retries_left self.old.position.phase) }
-        ensures why { IsErrOf result EndFault.Memory
-            → HasNoRoom (vec_capacity out.old) (vec_len out.old) (response_room self.old
-            (timeout_response self.old.position.retries_left self.old.position.phase)) }
-        ensures err { OnErr result ((self.new ≡ self.old) × (out.new.items ≡ out.old.items)) }
-    {
-        if self.is_closed() {
-            return Err(EndFault::Closed);
-        }
-        let before = self.phase();
-        let response = self.timeout_response();
-        out.reserve(self.response_room(response))?;
-        let (to, outgoing) = self.respond(response, self.last_sent_to);
-        self.append_outgoing(outgoing, out);
-        Ok(before.step_to(self.phase(), to))
     }
 }

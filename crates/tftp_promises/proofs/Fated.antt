@@ -1,15 +1,15 @@
 -- Each datagram at the request port is settled. For the law each_request_is_settled.
 use Rattle.tftp_promises.proofs.Common.{◌≡◌, ℕ, List, Option, Some, None, sym, ap, ◌∙◌, subst, inl, inr, ◌⊎◌}
 use Rattle.tftp_promises.proofs.Common.{IsBlockSize, SourceMeaning, StoreMeaning, Config, Run, Start, Then}
-use Rattle.tftp_promises.proofs.Common.{AnswersRequest, LoopState, LoopStep, Waited, Request_received, No_request_found}
-use Rattle.tftp_promises.proofs.Common.{Request_not_received, Request_noted, Request_lost, Clock_read, Store_set}
-use Rattle.tftp_promises.proofs.Common.{Transfer_closed, Drain_begun}
+use Rattle.tftp_promises.proofs.Common.{AnswersRequest, LoopState, LoopStep, Request_received, Request_lost}
 use Rattle.tftp_ends.specs.declared.endpoint.Endpoint.{Endpoint}
-use Rattle.tftp_loop.specs.Steps.LoopStep.{At_port}
 use Rattle.tftp_loop.specs.Steps.LoopStep.{Request_answered}
-use Rattle.tftp_promises.specs.Fates.{IsAnswered, Is_known, Is_refused, Opens, RequestsAreSettled, WasReceived, WasSettled}
-use Rattle.tftp_promises.proofs.PortAnswers.{Begins_to_send, Begins_to_store, PortAnswers, Says_error, Silent, port_answers}
+use Rattle.tftp_promises.specs.Fates.{IsAnswered, Is_known, Is_refused, Opens, RequestsAreSettled, WasReceived}
+use Rattle.tftp_promises.specs.Fates.{WasSettled}
+use Rattle.tftp_promises.proofs.PortAnswers.{Begins_to_send, Begins_to_store, PortAnswers, Says_error, Silent}
+use Rattle.tftp_promises.proofs.PortAnswers.{port_answers}
 use Rattle.tftp_promises.proofs.TransferLives.{run_config}
+use Rattle.tftp_loop.proofs.NewStates.{state_is}
 
 module _ {S F D : Type 0} (stores : StoreMeaning S D) (sources : SourceMeaning F) where
   -- how the port answers
@@ -65,34 +65,12 @@ module _ {S F D : Type 0} (stores : StoreMeaning S D) (sources : SourceMeaning F
           ))
       | inr settled ↦ inr (inr settled)
     ]
-    known (Then run (Request_answered d)) (inl is) = absurd is
     known (Then {middle} run (Request_lost d)) (inr before) = elim (known run before) [
       | inl pending ↦ inr (inl (same_pending d.from from d.bytes bytes middle.pending d.pending pending))
       | inr settled ↦ inr (inr settled)
     ]
-    known (Then run (Request_lost d)) (inl is) = absurd is
-    known (Then run (Waited d)) (inr before) = stays_known run (Waited d) (ap pending_of d.is) (known run before)
-    known (Then run (Waited d)) (inl is) = absurd is
-    known (Then run (At_port d)) (inr before) = stays_known run (At_port d) (ap pending_of d.is) (known run before)
-    known (Then run (At_port d)) (inl is) = absurd is
-    known (Then run (No_request_found d)) (inr before) =
-        stays_known run (No_request_found d) (ap pending_of d.is) (known run before)
-    known (Then run (No_request_found d)) (inl is) = absurd is
-    known (Then run (Request_not_received d)) (inr before) =
-        stays_known run (Request_not_received d) (ap pending_of d.is) (known run before)
-    known (Then run (Request_not_received d)) (inl is) = absurd is
-    known (Then run (Request_noted d)) (inr before) =
-        stays_known run (Request_noted d) (ap pending_of d.is) (known run before)
-    known (Then run (Request_noted d)) (inl is) = absurd is
-    known (Then run (Clock_read d)) (inr before) = stays_known run (Clock_read d) (ap pending_of d.is) (known run before)
-    known (Then run (Clock_read d)) (inl is) = absurd is
-    known (Then run (Store_set d)) (inr before) = stays_known run (Store_set d) (ap pending_of d.is) (known run before)
-    known (Then run (Store_set d)) (inl is) = absurd is
-    known (Then run (Transfer_closed d)) (inr before) =
-        stays_known run (Transfer_closed d) (ap pending_of d.is) (known run before)
-    known (Then run (Transfer_closed d)) (inl is) = absurd is
-    known (Then run (Drain_begun d)) (inr before) = stays_known run (Drain_begun d) (ap pending_of d.is) (known run before)
-    known (Then run (Drain_begun d)) (inl is) = absurd is
+    known (Then run does) (inr before) = stays_known run does (ap pending_of (state_is does)) (known run before)
+    known (Then run does) (inl is) = absurd is
 
   pub requests_settled : RequestsAreSettled stores sources
   requests_settled to server from bytes received = known server.max_block from bytes server.run received

@@ -347,7 +347,7 @@ module _ (ip others : List ℕ) (begin : State) (asked : Asked) (limit : ℕ) wh
 pub tells_took : (port : ℕ) {events : List SocketEvent} {acts : List Act} → Tells port events acts → (from : Endpoint)
     (bytes : List ℕ) → Has (Took from bytes) acts → Has (Received port from bytes) events
 tells_took port Begins_so from bytes h = absurd h
-tells_took port (Passes event t) from bytes h = inr (tells_took port t from bytes h)
+tells_took port (Passes event other t) from bytes h = inr (tells_took port t from bytes h)
 tells_took port (Receives source content t) from bytes (inl h) = inl (same source from content bytes h)
   where
     same : (a b : Endpoint) (x y : List ℕ) → Took a x ≡ Took b y → Received port a x ≡ Received port b y

@@ -6,12 +6,13 @@ use Rattle.tftp_promises.proofs.Common.{StoreMeaning, Endpoint, TransferState, a
 use Rattle.tftp_promises.proofs.Common.{append_cancel_right, SocketEvent, Received, Sent, Run, Start, Then, LoopState}
 use Rattle.tftp_promises.proofs.Common.{LoopStep, Waited, Request_received, No_request_found, Request_not_received}
 use Rattle.tftp_promises.proofs.Common.{Request_noted, Request_lost, Clock_read, Store_set, Transfer_closed}
-use Rattle.tftp_promises.proofs.Common.{Drain_begun, ServesClient, client_end, WasHeld, AreJoined, acts_in, ClientRun}
+use Rattle.tftp_promises.proofs.Common.{Drain_begun, ServesClient, client_end, WasHeld, AreJoined, acts_at, acts_in, ClientRun}
 use Rattle.tftp_promises.proofs.Common.{ClientOpens, To_read, To_write, same_address, Backoff, State, begun, Files}
 use Rattle.tftp_promises.proofs.Common.{true≢false, HasOpened, HasClosed, Noted, Programs, ClientOf, requests_at}
 use Rattle.tftp_promises.proofs.Common.{Removes, client_at}
 use Rattle.tftp_ends.specs.declared.outcome.Outcome.TheVariants as outcomes
 use Rattle.tftp_wire.specs.Spelling.{canonical}
+use Rattle.tftp_server.specs.State.{is_open}
 use Rattle.tftp_lives.specs.Lives.{HasCopies}
 use Rattle.tftp_lives.specs.Unanswered.{AreOpposite}
 use Rattle.tftp_lives.proofs.OpenEnds.{flipped}
@@ -22,6 +23,7 @@ use Rattle.tftp_promises.specs.AnyFiles.{peer_of}
 use Rattle.tftp_promises.specs.GivesUp.{ClientsGiveUpUnanswered, ClientsTimeOutSo, GaveUpUnanswered, GaveUpUnheard}
 use Rattle.tftp_promises.specs.GivesUp.{IsSeenUnanswered}
 use Rattle.tftp_promises.specs.GivesUp.{TransfersGiveUpUnanswered}
+use Rattle.tftp_promises.specs.Lived.{AreNotedWhileOpen}
 use Rattle.tftp_promises.proofs.ClientTraces.{asks_there}
 use Rattle.tftp_promises.proofs.FirstRefused.{still_asks}
 use Rattle.tftp_promises.proofs.OthersTaken.{takes_none}
@@ -30,9 +32,11 @@ use Rattle.tftp_promises.proofs.ClientsServed.{served_by}
 use Rattle.tftp_promises.proofs.JointRuns.{traces_joint}
 use Rattle.tftp_promises.proofs.KeptRuns.{kept_at_last}
 use Rattle.tftp_promises.proofs.KeptSteps.{server_steps_keep}
-use Rattle.tftp_promises.proofs.SeenLives.{SeenSince, client_only, tells_copies, tells_sent, tells_since}
-use Rattle.tftp_promises.proofs.TraceLives.{client_noted, step_adds, transfers_noted}
+use Rattle.tftp_promises.proofs.SeenLives.{SeenSince, tells_copies, tells_received, tells_sent, tells_since}
+use Rattle.tftp_promises.proofs.StepEvents.{step_adds}
+use Rattle.tftp_promises.proofs.TraceLives.{client_noted}
 use Rattle.tftp_promises.proofs.TransferLives.{transfers_live}
+use Rattle.tftp_promises.proofs.TransferTraces.{transfers_noted}
 
 module _ {S F D G K : Type 0} {stores : StoreMeaning S D} {sources : SourceMeaning F} {inputs : SourceMeaning G}
     {outputs : SinkMeaning K} (programs : Programs stores sources inputs outputs) where
@@ -58,7 +62,7 @@ module _ {S F D G K : Type 0} {stores : StoreMeaning S D} {sources : SourceMeani
       WasHeld programs port transfer
   was_closed Start since is port transfer a h = absurd h
   was_closed (Then {middle} run does) since is port transfer a h =
-      let adds = step_adds stores sources does in
+      let adds = step_adds does in
       let all : programs.server.last.events ≡ (since ++ adds.0) ++ middle.events =
       is
       ∙ (ap (λ (es : List SocketEvent). since ++ es) adds.1 ∙ sym (append_assoc since adds.0 middle.events)) in
@@ -80,6 +84,15 @@ module _ {S F D G K : Type 0} {stores : StoreMeaning S D} {sources : SourceMeani
   was_held port transfer a (inl h) =
       record { state = programs.server.last; run = programs.server.run; held = h.0; since = []; is_since = refl }
   was_held port transfer a (inr h) = was_closed programs.server.run [] refl port transfer a h
+
+  -- the trace tells of it until then
+  pub held_noted : (port : ℕ) (transfer : TransferState F D) (was : WasHeld programs port transfer) →
+      AreNotedWhileOpen port programs.server.start.events was.state.events (is_open (Some transfer)) (acts_at port was.run)
+  held_noted port transfer was =
+      subst
+      (λ (o : Option (TransferState F D)).
+      AreNotedWhileOpen port programs.server.start.events was.state.events (is_open o) (acts_at port was.run)) was.held
+      (transfers_noted stores sources programs.server.start programs.server.empty programs.server.max_block port was.run)
 
   module _ (client : ClientOf programs) (p : Endpoint) (peer : peer_of (client_end programs client) ≡ Some p)
       (out : outcome_of client.last.end.position.phase ≡ Some outcomes.TimedOut)
@@ -103,7 +116,7 @@ module _ {S F D G K : Type 0} {stores : StoreMeaning S D} {sources : SourceMeani
               client.last.end _ living.first serves.transfer.end _ (client_opening client.opens)
               (client_lives client.runs) living.begins living.life opposite out incomplete;
           client_noted = client_noted client.before client.runs;
-          server_noted = transfers_noted stores sources programs.server.start was.run serves.port;
+          server_noted = held_noted serves.port serves.transfer was;
         }
 
   -- ---- what of it the traces show
@@ -151,11 +164,9 @@ module _ {S F D G K : Type 0} {stores : StoreMeaning S D} {sources : SourceMeani
       is = seen_since.is;
       timeouts = seen_since.timeouts;
       unreceived = λ packet bytes awaits spelled there.
-          let only = client_only client.before client.runs in
           elim
-          (only.handled p bytes
-          (subst (λ (es : List SocketEvent). Has (Received client.port p bytes) es)
-          (sym (same_noted only.noted only.is)) there)) [
+          (tells_received client.port g.client_noted.tells p bytes
+          (subst (λ (es : List SocketEvent). Has (Received client.port p bytes) es) (sym own_noted) there)) [
             | inl took ↦ absurd (g.unanswered.unheard packet bytes awaits spelled took)
             | inr lost ↦ lost
           ];
@@ -166,7 +177,7 @@ module _ {S F D G K : Type 0} {stores : StoreMeaning S D} {sources : SourceMeani
               a.answer,
               a.awaited,
               a.readable,
-              tells_sent g.serves.port g.server_noted.noted _ g.server_noted.tells (client_at client)
+              tells_sent g.serves.port g.server_noted.own.noted _ g.server_noted.own.tells (client_at client)
                   (canonical a.answer) a.there,
             )
       ];
@@ -223,9 +234,6 @@ module _ {S F D G K : Type 0} (stores : StoreMeaning S D) (sources : SourceMeani
       let told = client_noted client.before client.runs in
       let same : told.noted ≡ client.noted =
       append_cancel_right told.noted client.noted client.before (sym told.is ∙ client.is_noted) in
-      let only = client_only client.before client.runs in
-      let also : only.noted ≡ client.noted =
-      append_cancel_right only.noted client.noted client.before (sym only.is ∙ client.is_noted) in
       let asks = still_asking client.opens client.runs none in
       record {
         unheard = unheard;
@@ -240,8 +248,8 @@ module _ {S F D G K : Type 0} (stores : StoreMeaning S D) (sources : SourceMeani
             (same_said client.last.end.position.last_sent_to (requests_at programs) client.last.end.position.last_sent
             client.first.position.last_sent (asks.1 ∙ asks_there client.opens) asks.0) unheard.tried.copies));
         unreceived = λ from bytes near there.
-            elim (only.handled from bytes
-            (subst (λ (es : List SocketEvent). Has (Received client.port from bytes) es) (sym also) there)) [
+            elim (tells_received client.port told.tells from bytes
+            (subst (λ (es : List SocketEvent). Has (Received client.port from bytes) es) (sym same) there)) [
               | inl took ↦
                   absurd (true≢false
                   (sym (subst (λ (a : Endpoint). same_address a from ≡ true)

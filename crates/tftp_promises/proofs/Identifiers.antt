@@ -82,7 +82,7 @@ module _ {T : Type 0} where
   out_here tid e held more b h once rest = search rules
 
   -- the one that was removed is not found
-  at-without : (tid : ℕ) (held : List (ℕ × T)) → AreKeyedOnce held → at tid (without tid held) ≡ None
+  pub at-without : (tid : ℕ) (held : List (ℕ × T)) → AreKeyedOnce held → at tid (without tid held) ≡ None
   at-without tid [] once = refl
   at-without tid (e ∷ held) once =
       out_here tid e held (without tid held) (is_at (nat_cmp tid) e.0) refl once.0 (at-without tid held once.1)

@@ -76,8 +76,12 @@ pub mod ServersRun
 pub mod ClientLives
 pub mod TransferLives
 pub mod TraceLives
+pub mod WhileOpen
+pub mod StillOpen
+pub mod TransferTraces
 pub mod SeenLives
 pub mod GivingUp
+pub mod ActsInOrder
 pub mod Outlasting
 pub mod Fated
 pub mod Failing

@@ -12,11 +12,7 @@ use Rattle.tftp_promises.proofs.Common.{client_moves, Moved, acts_move, came_if,
 use Rattle.tftp_promises.proofs.Common.{opened_ports}
 use Rattle.std.specs.Prelude.{length, map}
 use Rattle.tftp_ends.specs.declared.endpoint.Endpoint.{Endpoint}
-use Rattle.tftp_loop.specs.Steps.{Waited, Request_received, No_request_found}
-use Rattle.tftp_loop.specs.Steps.{Request_not_received, Request_noted, Request_lost, Clock_read}
-use Rattle.tftp_loop.specs.Steps.{Store_set, Drain_begun, Transfer_closed}
-use Rattle.tftp_loop.specs.Steps.{A_datagram, A_lost_datagram, A_late_datagram}
-use Rattle.tftp_loop.specs.Steps.{Nothing_found, A_failed_receive, A_timeout, A_missed_timeout, Work}
+use Rattle.tftp_loop.specs.Steps.{A_datagram}
 use Rattle.tftp_rules.proofs.Endpoints.{cases_same, same_other}
 use Rattle.tftp_promises.specs.Moved.{handling_moves, opening_moves}
 use Rattle.tftp_promises.specs.Openings.{does_move, opens_at, or_place}
@@ -89,13 +85,7 @@ module _ {S F D : Type 0} {stores : StoreMeaning S D} {sources : SourceMeaning F
   port_more (A_datagram h) moved =
       acts_more sources _ _ h.from h.bytes h.handles.takes.transfer.end _ h.handles.takes.takes.turn _
       h.handles.takes.takes.steps.acts moved
-  port_more (A_lost_datagram h) moved = begins_itself moved.bytes
-  port_more (A_late_datagram h) moved = begins_itself moved.bytes
-  port_more (Nothing_found h) moved = begins_itself moved.bytes
-  port_more (A_failed_receive h) moved = begins_itself moved.bytes
-  port_more (A_timeout h) moved = begins_itself moved.bytes
-  port_more (A_missed_timeout h) moved = begins_itself moved.bytes
-  port_more (Work h) moved = begins_itself moved.bytes
+  port_more does moved = begins_itself moved.bytes
 
 module _ {S F D G K : Type 0} {stores : StoreMeaning S D} {sources : SourceMeaning F} {inputs : SourceMeaning G}
     {outputs : SinkMeaning K}
@@ -104,22 +94,13 @@ module _ {S F D G K : Type 0} {stores : StoreMeaning S D} {sources : SourceMeani
   -- of the server, at a place where it opens no transfer
   pub server_more : (a : Endpoint) (does : LoopStep stores sources old new) (moved : Moved) →
       opens_at programs a run does ≡ None → IsPrefixOf moved.bytes (does_move programs a run does moved).bytes
-  server_more a (Waited h) moved none = begins_itself moved.bytes
   server_more a (At_port serves) moved none =
       either_more (is_same (place_at programs serves.timer.port run) a) moved (port_moves serves.does moved)
       (port_more serves.does moved)
-  server_more a (Request_received h) moved none = begins_itself moved.bytes
-  server_more a (No_request_found h) moved none = begins_itself moved.bytes
-  server_more a (Request_not_received h) moved none = begins_itself moved.bytes
-  server_more a (Request_noted h) moved none = begins_itself moved.bytes
   server_more a (Request_answered answers) moved none =
       opening_more (came_if (is_same (place programs (length (opened_ports run)) answers.from answers.tid) a)
       answers.steps.came) moved none
-  server_more a (Request_lost h) moved none = begins_itself moved.bytes
-  server_more a (Clock_read h) moved none = begins_itself moved.bytes
-  server_more a (Store_set h) moved none = begins_itself moved.bytes
-  server_more a (Transfer_closed h) moved none = begins_itself moved.bytes
-  server_more a (Drain_begun h) moved none = begins_itself moved.bytes
+  server_more a does moved none = begins_itself moved.bytes
 
   -- ---- where a step opens transfers
   -- the port of a transfer that comes
@@ -143,18 +124,8 @@ module _ {S F D G K : Type 0} {stores : StoreMeaning S D} {sources : SourceMeani
   -- a place where a step opens none
   pub opens_none : (does : LoopStep stores sources old new) (a : Endpoint) →
       (Contains (placed_by programs run does) a → ⊥) → opens_at programs a run does ≡ None
-  opens_none (Waited h) a n = refl
-  opens_none (At_port serves) a n = refl
-  opens_none (Request_received h) a n = refl
-  opens_none (No_request_found h) a n = refl
-  opens_none (Request_not_received h) a n = refl
-  opens_none (Request_noted h) a n = refl
   opens_none (Request_answered answers) a n = answer_opens_none answers a n
-  opens_none (Request_lost h) a n = refl
-  opens_none (Clock_read h) a n = refl
-  opens_none (Store_set h) a n = refl
-  opens_none (Transfer_closed h) a n = refl
-  opens_none (Drain_begun h) a n = refl
+  opens_none does a n = refl
 
   -- a request that opens no transfer leaves the transfers where they were
   pub answer_places_none : (answers : AnswersRequest stores sources old new) (port : ℕ) →

@@ -4,14 +4,11 @@ use Rattle.tftp_promises.proofs.Common.{length, map, Option, Some, None, refl, s
 use Rattle.tftp_promises.proofs.Common.{rules, ◌⊎◌, if◌then◌else◌, option_to_list, slice_get, Contains, length-append}
 use Rattle.tftp_promises.proofs.Common.{Contains-append_cases, Contains-append_left, Contains-append_right}
 use Rattle.tftp_promises.proofs.Common.{Contains-push, slice_get_read, SinkMeaning, SourceMeaning, StoreMeaning, Came}
-use Rattle.tftp_promises.proofs.Common.{Left, left_by, SocketEvent, Run, Start, Then, LoopState, LoopStep, At_port}
+use Rattle.tftp_promises.proofs.Common.{Left, left_by, SocketEvent, Run, Start, Then, LoopState, LoopStep}
 use Rattle.tftp_promises.proofs.Common.{Request_answered, AnswersRequest, At_server, Endpoint, above, is_ours}
 use Rattle.tftp_promises.proofs.Common.{our_ports, ours_by, place, Programs, ClientOf, AreDistinct, opened_ports}
 use Rattle.tftp_promises.proofs.Common.{endpoint, client_at, ClientProgram, joined, Snapshot, server_did}
 use Rattle.std.proofs.Common.{◌≢◌}
-use Rattle.tftp_loop.specs.Steps.{Waited, Request_received, No_request_found}
-use Rattle.tftp_loop.specs.Steps.{Request_not_received, Request_noted, Request_lost, Clock_read}
-use Rattle.tftp_loop.specs.Steps.{Store_set, Drain_begun, Transfer_closed}
 use Rattle.tftp_promises.specs.Openings.{total}
 use Rattle.tftp_promises.specs.Ports.{opened_by}
 use Rattle.tftp_promises.proofs.RunPlaces.{placed_by, places}
@@ -86,19 +83,9 @@ module _ {S F D G K : Type 0} {stores : StoreMeaning S D} {sources : SourceMeani
   placed_cases : {first old new : LoopState S F D} (run : Run (LoopStep stores sources) first old)
       (does : LoopStep stores sources old new) (a : Endpoint) → Contains (placed_by programs run does) a →
       OpensOne (length (opened_ports run)) (ours_by programs does) (opened_by does) a
-  placed_cases run (Waited h) a c = absurd (nothing_in a c)
-  placed_cases run (At_port serves) a c = absurd (nothing_in a c)
-  placed_cases run (Request_received h) a c = absurd (nothing_in a c)
-  placed_cases run (No_request_found h) a c = absurd (nothing_in a c)
-  placed_cases run (Request_not_received h) a c = absurd (nothing_in a c)
-  placed_cases run (Request_noted h) a c = absurd (nothing_in a c)
   placed_cases run (Request_answered answers) a c =
       answer_place answers.from (length (opened_ports run)) answers.left.opened.tid a c
-  placed_cases run (Request_lost h) a c = absurd (nothing_in a c)
-  placed_cases run (Clock_read h) a c = absurd (nothing_in a c)
-  placed_cases run (Store_set h) a c = absurd (nothing_in a c)
-  placed_cases run (Transfer_closed h) a c = absurd (nothing_in a c)
-  placed_cases run (Drain_begun h) a c = absurd (nothing_in a c)
+  placed_cases run does a c = absurd (nothing_in a c)
 
   -- of all that a run opened
   pub place_cases : {first last : LoopState S F D} (run : Run (LoopStep stores sources) first last) (a : Endpoint) →
@@ -233,19 +220,9 @@ module _ {S F D G K : Type 0} {stores : StoreMeaning S D} {sources : SourceMeani
 
   ours_opened : {old new : LoopState S F D} (does : LoopStep stores sources old new) (port : ℕ) →
       Contains (ours_by programs does) port → Contains (opened_by does) port
-  ours_opened (Waited h) port c = c
-  ours_opened (At_port serves) port c = c
-  ours_opened (Request_received h) port c = c
-  ours_opened (No_request_found h) port c = c
-  ours_opened (Request_not_received h) port c = c
-  ours_opened (Request_noted h) port c = c
   ours_opened (Request_answered answers) port c =
       ours_here (is_ours programs answers.from) (option_to_list answers.left.opened.tid) port c
-  ours_opened (Request_lost h) port c = c
-  ours_opened (Clock_read h) port c = c
-  ours_opened (Store_set h) port c = c
-  ours_opened (Transfer_closed h) port c = c
-  ours_opened (Drain_begun h) port c = c
+  ours_opened does port c = c
 
   pub ours_among : {first last : LoopState S F D} (run : Run (LoopStep stores sources) first last) (port : ℕ) →
       Contains (our_ports programs run) port → Contains (opened_ports run) port
@@ -278,16 +255,6 @@ module _ {S F D G K : Type 0} {stores : StoreMeaning S D} {sources : SourceMeani
     pub not_again : (does : LoopStep stores sources old.state new) (added : List SocketEvent) →
         IsFreshBy (server_did old does added) → (a : Endpoint) → Contains (places programs old.run) a →
         Contains (placed_by programs old.run does) a → ⊥
-    not_again (Waited h) added fresh a c now = nothing_in a now
-    not_again (At_port serves) added fresh a c now = nothing_in a now
-    not_again (Request_received h) added fresh a c now = nothing_in a now
-    not_again (No_request_found h) added fresh a c now = nothing_in a now
-    not_again (Request_not_received h) added fresh a c now = nothing_in a now
-    not_again (Request_noted h) added fresh a c now = nothing_in a now
     not_again (Request_answered answers) added fresh a c now =
         answered_again answers added fresh a c answers.left.opened.tid refl now
-    not_again (Request_lost h) added fresh a c now = nothing_in a now
-    not_again (Clock_read h) added fresh a c now = nothing_in a now
-    not_again (Store_set h) added fresh a c now = nothing_in a now
-    not_again (Transfer_closed h) added fresh a c now = nothing_in a now
-    not_again (Drain_begun h) added fresh a c now = nothing_in a now
+    not_again does added fresh a c now = nothing_in a now

@@ -7,18 +7,17 @@ use Rattle.tftp_promises.proofs.Common.{StoreMeaning, Opening, drafting_sink, Ca
 use Rattle.tftp_promises.proofs.Common.{Left, left_by, ServerState, TransferState, at, Act, Said, Has, SocketEvent}
 use Rattle.tftp_promises.proofs.Common.{answered, Received, Sent, Watched, Elapsed, Printed, Quiet, Run, Start, Then}
 use Rattle.tftp_promises.proofs.Common.{AnswersRequest, PortState, LoopState, PortStep, LoopStep, after_request}
-use Rattle.tftp_promises.proofs.Common.{port_state, A_datagram, A_lost_datagram, A_late_datagram, Nothing_found}
-use Rattle.tftp_promises.proofs.Common.{A_failed_receive, A_timeout, A_missed_timeout, Work, Waited, Request_received}
-use Rattle.tftp_promises.proofs.Common.{No_request_found, Request_not_received, Request_noted, Request_lost, Clock_read}
-use Rattle.tftp_promises.proofs.Common.{Store_set, Transfer_closed, Drain_begun, StoreOpened, acts_at}
+use Rattle.tftp_promises.proofs.Common.{port_state, A_datagram, A_timeout, Work, Waited, Request_received, Request_lost}
+use Rattle.tftp_promises.proofs.Common.{Store_set, StoreOpened, acts_at}
 use Rattle.tftp_ends.specs.declared.endpoint.Endpoint.{Endpoint}
 use Rattle.tftp_lives.proofs.NewestSaid.{IsPlain, datagram_plain, newest_said, timeout_plain}
-use Rattle.tftp_loop.specs.Steps.LoopStep.{At_port}
-use Rattle.tftp_loop.specs.Steps.LoopStep.{Request_answered}
+use Rattle.tftp_loop.specs.Steps.LoopStep.{At_port, Request_answered}
 use Rattle.tftp_promises.specs.Given.{StoreOpens}
-use Rattle.tftp_promises.proofs.SeenLives.{tells_sent}
-use Rattle.tftp_promises.proofs.TraceLives.{step_adds, transfers_noted}
+use Rattle.tftp_promises.proofs.StepEvents.{step_adds}
 use Rattle.tftp_promises.proofs.TransferLives.{run_config, transfers_live}
+use Rattle.tftp_promises.proofs.TransferTraces.{transfers_noted}
+use Rattle.tftp_promises.proofs.WhileOpen.{all_is, all_of, has_later, sent_in}
+use Rattle.tftp_loop.proofs.NewStates.{state_is, trace_is}
 
 -- nothing is sent
 abbrev IsUnsent : SocketEvent → Type 0
@@ -28,10 +27,6 @@ IsUnsent (Watched watch) = Unit {0}
 IsUnsent (Elapsed port time) = Unit {0}
 IsUnsent (Printed line) = Unit {0}
 IsUnsent (Quiet event) = Unit {0}
-
-has_later : {T : Type 0} (x : T) (more ys : List T) → Has x ys → Has x (more ++ ys)
-has_later x [] ys h = h
-has_later x (y ∷ more) ys h = inr (has_later x more ys h)
 
 -- of each OACK that was noted since the trace was so, this holds
 record AreSo (before : List SocketEvent) (Holds : Endpoint → List ℕ → Type 0) (events : List SocketEvent) : Type 0 where
@@ -93,17 +88,7 @@ module _ {S F D : Type 0} (stores : StoreMeaning S D) (sources : SourceMeaning F
   -- the request port stays
   step_requests : {old new : LoopState S F D} → LoopStep stores sources old new → new.requests ≡ old.requests
   step_requests (Waited d) = ap (λ (s : LoopState S F D). s.requests) d.is
-  step_requests (At_port d) = ap (λ (s : LoopState S F D). s.requests) d.is
-  step_requests (Request_received d) = ap (λ (s : LoopState S F D). s.requests) d.is
-  step_requests (No_request_found d) = ap (λ (s : LoopState S F D). s.requests) d.is
-  step_requests (Request_not_received d) = ap (λ (s : LoopState S F D). s.requests) d.is
-  step_requests (Request_noted d) = ap (λ (s : LoopState S F D). s.requests) d.is
-  step_requests (Request_answered d) = ap (λ (s : LoopState S F D). s.requests) d.is
-  step_requests (Request_lost d) = ap (λ (s : LoopState S F D). s.requests) d.is
-  step_requests (Clock_read d) = ap (λ (s : LoopState S F D). s.requests) d.is
-  step_requests (Store_set d) = ap (λ (s : LoopState S F D). s.requests) d.is
-  step_requests (Transfer_closed d) = ap (λ (s : LoopState S F D). s.requests) d.is
-  step_requests (Drain_begun d) = ap (λ (s : LoopState S F D). s.requests) d.is
+  step_requests does = ap (λ (s : LoopState S F D). s.requests) (state_is does)
 
   -- what is pending is as it was, or was received now
   abbrev Pends : LoopState S F D → LoopState S F D → Type 0
@@ -126,22 +111,14 @@ module _ {S F D : Type 0} (stores : StoreMeaning S D) (sources : SourceMeaning F
       (ap (λ (z : Endpoint × List ℕ). z.0) same, ap (λ (z : Endpoint × List ℕ). z.1) same)
 
   step_pends : {old new : LoopState S F D} → LoopStep stores sources old new → Pends old new
-  step_pends {old} {new} (Waited d) = pends_still old new (ap (λ (s : LoopState S F D). s.pending) d.is)
-  step_pends {old} {new} (At_port d) = pends_still old new (ap (λ (s : LoopState S F D). s.pending) d.is)
   step_pends {old} {new} (Request_received d) = λ from bytes is.
       let parts = both_parts d.from from d.bytes bytes new.pending (ap (λ (s : LoopState S F D). s.pending) d.is) is in
       inr (ap (λ (s : LoopState S F D). s.events) d.is
       ∙ (ap (λ (a : Endpoint). Received old.requests a d.bytes ∷ old.events) parts.0
       ∙ ap (λ (b : List ℕ). Received old.requests from b ∷ old.events) parts.1))
-  step_pends {old} {new} (No_request_found d) = pends_still old new (ap (λ (s : LoopState S F D). s.pending) d.is)
-  step_pends {old} {new} (Request_not_received d) = pends_still old new (ap (λ (s : LoopState S F D). s.pending) d.is)
-  step_pends {old} {new} (Request_noted d) = pends_still old new (ap (λ (s : LoopState S F D). s.pending) d.is)
   step_pends {old} {new} (Request_answered d) = pends_none old new (ap (λ (s : LoopState S F D). s.pending) d.is)
   step_pends {old} {new} (Request_lost d) = pends_none old new (ap (λ (s : LoopState S F D). s.pending) d.is)
-  step_pends {old} {new} (Clock_read d) = pends_still old new (ap (λ (s : LoopState S F D). s.pending) d.is)
-  step_pends {old} {new} (Store_set d) = pends_still old new (ap (λ (s : LoopState S F D). s.pending) d.is)
-  step_pends {old} {new} (Transfer_closed d) = pends_still old new (ap (λ (s : LoopState S F D). s.pending) d.is)
-  step_pends {old} {new} (Drain_begun d) = pends_still old new (ap (λ (s : LoopState S F D). s.pending) d.is)
+  step_pends {old} {new} does = pends_still old new (ap (λ (s : LoopState S F D). s.pending) (state_is does))
 
 module _ {S F D : Type 0} (stores : StoreMeaning S D) (sources : SourceMeaning F) {start : LoopState S F D} where
   -- the server opened a transfer for a request from there, which it had received, and sent this first
@@ -169,7 +146,7 @@ module _ {S F D : Type 0} (stores : StoreMeaning S D) (sources : SourceMeaning F
       (does : LoopStep stores sources old new) (to : Endpoint) (bytes : List ℕ) → IsOpenedBy run to bytes →
       IsOpenedBy (Then run does) to bytes
   opened_still run does to bytes h =
-      let adds = step_adds stores sources does in
+      let adds = step_adds does in
       record {
         old = h.old;
         new = h.new;
@@ -223,13 +200,14 @@ module _ {S F D : Type 0} (stores : StoreMeaning S D) (sources : SourceMeaning F
         by_plain (inl differs) = absurd (true≢false (sym oack ∙ differs))
         by_plain (inr same) =
             let living = transfers_live stores sources run none max port transfer found in
-            let told = transfers_noted stores sources start run port in
+            let told = transfers_noted stores sources start none max port run in
             let said : Has (Said r.to r.bytes) (acts_at port run) =
             subst (λ (act : Act). Has act (acts_at port run)) (sym same)
             (newest_said sources (drafting_sink stores) living.life) in
-            let there = tells_sent port told.noted (acts_at port run) told.tells r.to r.bytes said in
-            let one : told.noted ≡ h.so.noted =
-            append_cancel_right told.noted h.so.noted start.events (sym told.is ∙ h.so.is) in
+            let there = sent_in port start.events told r.to r.bytes said in
+            let noted = all_of port start.events told in
+            let one : noted ≡ h.so.noted =
+            append_cancel_right noted h.so.noted start.events (sym (all_is port start.events told) ∙ h.so.is) in
             opened_still run does r.to r.bytes
             (h.so.sent port r.to r.bytes (subst (λ (es : List SocketEvent). Has (Sent port r.to r.bytes) es) one there)
             oack)
@@ -252,22 +230,6 @@ module _ {S F D : Type 0} (stores : StoreMeaning S D) (sources : SourceMeaning F
       (datagram_plain sources (drafting_sink stores) d.from d.bytes takes.transfer.end takes.takes.turn _ _
       takes.takes.steps))
       (on run does h (Received before.timer.port d.from d.bytes) before.events tt from_old))
-  port_so {old} run does h none max now before after server events (A_lost_datagram d) =
-      so_same start.events (IsOpenedBy (Then run does)) _ after.events d.events
-      (on run does h (Received _ _ _) before.events tt
-      (so_same start.events (IsOpenedBy (Then run does)) old.events before.events events (so_far run does h)))
-  port_so {old} run does h none max now before after server events (A_late_datagram d) =
-      so_same start.events (IsOpenedBy (Then run does)) _ after.events d.events
-      (on run does h (Received _ _ _) before.events tt
-      (so_same start.events (IsOpenedBy (Then run does)) old.events before.events events (so_far run does h)))
-  port_so {old} run does h none max now before after server events (Nothing_found d) =
-      so_same start.events (IsOpenedBy (Then run does)) _ after.events d.events
-      (on run does h (Quiet _) before.events tt
-      (so_same start.events (IsOpenedBy (Then run does)) old.events before.events events (so_far run does h)))
-  port_so {old} run does h none max now before after server events (A_failed_receive d) =
-      so_same start.events (IsOpenedBy (Then run does)) _ after.events d.events
-      (on run does h (Quiet _) before.events tt
-      (so_same start.events (IsOpenedBy (Then run does)) old.events before.events events (so_far run does h)))
   port_so {old} run does h none max now before after server events (A_timeout d) =
       let times_out = d.times_out.times_out in
       let reply = (timeout_turn times_out.transfer.end).reply in
@@ -279,12 +241,12 @@ module _ {S F D : Type 0} (stores : StoreMeaning S D) (sources : SourceMeaning F
       (timeout_plain times_out.transfer.end))
       (on run does h (Elapsed before.timer.port now) before.events tt
       (so_same start.events (IsOpenedBy (Then run does)) old.events before.events events (so_far run does h))))
-  port_so {old} run does h none max now before after server events (A_missed_timeout d) =
-      so_same start.events (IsOpenedBy (Then run does)) _ after.events d.events
-      (on run does h (Elapsed _ _) before.events tt
-      (so_same start.events (IsOpenedBy (Then run does)) old.events before.events events (so_far run does h)))
   port_so {old} run does h none max now before after server events (Work d) =
       so_same start.events (IsOpenedBy (Then run does)) old.events after.events (d.events ∙ events) (so_far run does h)
+  port_so {old} run does h none max now before after server events step =
+      so_same start.events (IsOpenedBy (Then run does)) _ after.events (trace_is step)
+      (on run does h _ before.events tt
+      (so_same start.events (IsOpenedBy (Then run does)) old.events before.events events (so_far run does h)))
 
   -- the answer to a request
   came_so : {old new : LoopState S F D} (run : Run (LoopStep stores sources) start old)
@@ -296,7 +258,7 @@ module _ {S F D : Type 0} (stores : StoreMeaning S D) (sources : SourceMeaning F
       so_says start.events (IsOpenedBy (Then run (Request_answered d))) old.requests d.from (error_bytes reply) old.events
       (λ oack. absurd (true≢false (sym oack))) (so_far run (Request_answered d) h)
   came_so {old} {new} run d h (A_transfer transfer store) is =
-      let adds = step_adds stores sources (Request_answered d) in
+      let adds = step_adds (Request_answered d) in
       let before = h.so in
       so_says start.events (IsOpenedBy (Then run (Request_answered d))) d.tid d.from transfer.end.position.last_sent
       old.events
@@ -334,18 +296,6 @@ module _ {S F D : Type 0} (stores : StoreMeaning S D) (sources : SourceMeaning F
   step_so {old} {new} run (At_port d) h none max =
       so_same start.events _ d.next.events new.events (ap (λ (s : LoopState S F D). s.events) d.is)
       (port_so run (At_port d) h none max old.now (port_state old d.timer) d.next refl refl d.does)
-  step_so {old} {new} run (Request_received d) h none max =
-      so_same start.events _ _ new.events (ap (λ (s : LoopState S F D). s.events) d.is)
-      (on run (Request_received d) h (Received _ _ _) old.events tt (so_far run (Request_received d) h))
-  step_so {old} {new} run (No_request_found d) h none max =
-      so_same start.events _ _ new.events (ap (λ (s : LoopState S F D). s.events) d.is)
-      (on run (No_request_found d) h (Quiet _) old.events tt (so_far run (No_request_found d) h))
-  step_so {old} {new} run (Request_not_received d) h none max =
-      so_same start.events _ _ new.events (ap (λ (s : LoopState S F D). s.events) d.is)
-      (on run (Request_not_received d) h (Quiet _) old.events tt (so_far run (Request_not_received d) h))
-  step_so {old} {new} run (Request_noted d) h none max =
-      so_same start.events _ _ new.events (ap (λ (s : LoopState S F D). s.events) d.is)
-      (on run (Request_noted d) h (Quiet _) old.events tt (so_far run (Request_noted d) h))
   step_so {old} {new} run (Request_answered d) h none max =
       so_same start.events _ _ new.events (ap (λ (s : LoopState S F D). s.events) d.is)
       (subst
@@ -354,25 +304,19 @@ module _ {S F D : Type 0} (stores : StoreMeaning S D) (sources : SourceMeaning F
   step_so {old} {new} run (Request_lost d) h none max =
       so_same start.events _ old.events new.events (ap (λ (s : LoopState S F D). s.events) d.is)
       (so_far run (Request_lost d) h)
-  step_so {old} {new} run (Clock_read d) h none max =
-      so_same start.events _ _ new.events (ap (λ (s : LoopState S F D). s.events) d.is)
-      (on run (Clock_read d) h (Watched _) old.events tt (so_far run (Clock_read d) h))
   step_so {old} {new} run (Store_set d) h none max =
       so_same start.events _ old.events new.events (ap (λ (s : LoopState S F D). s.events) d.is)
       (so_far run (Store_set d) h)
-  step_so {old} {new} run (Transfer_closed d) h none max =
-      so_same start.events _ _ new.events (ap (λ (s : LoopState S F D). s.events) d.is)
-      (on run (Transfer_closed d) h (Printed _) old.events tt (so_far run (Transfer_closed d) h))
-  step_so {old} {new} run (Drain_begun d) h none max =
-      so_same start.events _ _ new.events (ap (λ (s : LoopState S F D). s.events) d.is)
-      (on run (Drain_begun d) h (Quiet _) old.events tt (so_far run (Drain_begun d) h))
+  step_so {old} {new} run does h none max =
+      so_same start.events _ _ new.events (ap (λ (s : LoopState S F D). s.events) (state_is does))
+      (on run does h _ old.events tt (so_far run does h))
 
   known_still : {old new : LoopState S F D} (run : Run (LoopStep stores sources) start old)
       (does : LoopStep stores sources old new) → Known run → start.server.held ≡ [] →
       IsBlockSize start.server.config.limits.max_block → Known (Then run does)
   known_still {old} {new} run does h none max =
       let so = step_so run does h none max in
-      let adds = step_adds stores sources does in
+      let adds = step_adds does in
       let noted_is : so.noted ≡ adds.0 ++ h.so.noted =
       append_cancel_right so.noted (adds.0 ++ h.so.noted) start.events
       (sym so.is

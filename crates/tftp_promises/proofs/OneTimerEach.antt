@@ -5,22 +5,19 @@ use Rattle.tftp_promises.proofs.Common.{slice_index_or, IsSome, Contains, is_at,
 use Rattle.tftp_promises.proofs.Common.{Backoff, StoreMeaning, TransferState, ServerState, at, with_new, without}
 use Rattle.tftp_promises.proofs.Common.{KeepsHeld, Came, Left, Nothing, Error_reply, A_transfer, left_by, WorksAt}
 use Rattle.tftp_promises.proofs.Common.{SocketEvent, Run, Start, Then, Timer, PortState, LoopState, PortStep, LoopStep}
-use Rattle.tftp_promises.proofs.Common.{at_start, A_datagram, A_lost_datagram, A_late_datagram, Nothing_found}
-use Rattle.tftp_promises.proofs.Common.{A_failed_receive, A_timeout, A_missed_timeout, Work, Waited, Request_received}
-use Rattle.tftp_promises.proofs.Common.{No_request_found, Request_not_received, Request_noted, Request_lost, Clock_read}
-use Rattle.tftp_promises.proofs.Common.{Store_set, Transfer_closed, Drain_begun, LoopConfig}
+use Rattle.tftp_promises.proofs.Common.{at_start, A_datagram, A_lost_datagram, A_timeout, Work, Waited, Transfer_closed}
+use Rattle.tftp_promises.proofs.Common.{LoopConfig}
 use Rattle.std.specs.List.{swap_remove}
 use Rattle.tftp_ends.specs.declared.endpoint.Endpoint.{Endpoint}
 use Rattle.tftp_ends.specs.declared.record.Record.{Record}
 use Rattle.tftp_server.specs.State.{taken_of}
-use Rattle.tftp_loop.specs.Steps.{marked_by, set_by, timer_after}
-use Rattle.tftp_loop.specs.Steps.{with_timer, interval_at, started}
-use Rattle.tftp_loop.specs.Steps.LoopStep.{At_port}
-use Rattle.tftp_loop.specs.Steps.LoopStep.{Request_answered}
+use Rattle.tftp_loop.specs.Steps.{marked_by, set_by, timer_after, with_timer, interval_at, started}
+use Rattle.tftp_loop.specs.Steps.LoopStep.{At_port, Request_answered}
 use Rattle.tftp_promises.specs.Timers.{HasOneTimerEach, timer_ports}
 use Rattle.tftp_promises.proofs.PortCounts.{hit, hit_same, hit_other, hits, hits_push, hits_map, hits_swap_removed}
 use Rattle.tftp_promises.proofs.PortCounts.{hits_set, hits_apart, hits_contained, contains_hit, keyed, keyed_absent}
 use Rattle.tftp_promises.proofs.PortCounts.{keyed_present, keyed_found, keyed_inserted, keyed_set, keyed_removed}
+use Rattle.tftp_loop.proofs.NewStates.{state_is, timer_is, server_is}
 
 -- how many timers have the port
 abbrev timed : ℕ → List Timer → ℕ
@@ -122,31 +119,19 @@ module _ {S F D : Type 0} (stores : StoreMeaning S D) (sources : SourceMeaning F
     port = ap (λ (t : Timer). t.port) d.timer;
     keys = keeps_keys old.timer.port (at old.timer.port old.server.held) old.server new.server d.loses.keeps;
   }
-  stays_at now old new (Nothing_found d) = record {
-    port = ap (λ (t : Timer). t.port) d.timer;
-    keys = λ p. ap (λ (s : ServerState S F D). keyed p s.held) d.server;
-  }
-  stays_at now old new (A_late_datagram d) = record {
-    port = ap (λ (t : Timer). t.port) d.timer;
-    keys = λ p. ap (λ (s : ServerState S F D). keyed p s.held) d.server;
-  }
-  stays_at now old new (A_failed_receive d) = record {
-    port = ap (λ (t : Timer). t.port) d.timer;
-    keys = λ p. ap (λ (s : ServerState S F D). keyed p s.held) d.server;
-  }
   stays_at now old new (A_timeout d) = record {
     port = ap (λ (t : Timer). t.port) d.timer;
     keys =
         λ p. ap (keyed p) d.times_out.times_out.held ∙ keyed_set (is_at (nat_cmp old.timer.port)) p
         (record d.times_out.times_out.transfer { end = d.times_out.times_out.end }) old.server.held;
   }
-  stays_at now old new (A_missed_timeout d) = record {
-    port = ap (λ (t : Timer). t.port) d.timer;
-    keys = λ p. ap (λ (s : ServerState S F D). keyed p s.held) d.server;
-  }
   stays_at now old new (Work d) = record {
     port = ap (λ (t : Timer). t.port) d.timer;
     keys = works_keys old.timer.port (at old.timer.port old.server.held) old.server new.server d.works.works;
+  }
+  stays_at now old new does = record {
+    port = ap (λ (t : Timer). t.port) (timer_is does);
+    keys = λ p. ap (λ (s : ServerState S F D). keyed p s.held) (server_is does);
   }
 
   -- what the request port leaves
@@ -180,23 +165,16 @@ module _ {S F D : Type 0} (stores : StoreMeaning S D) (sources : SourceMeaning F
       (stays_matched old.timers (slice_set old.timers d.index d.next.timer) old.server.held d.next.server.held
       (λ port. hits_set (λ (t : Timer). t.port) port old.timers d.index d.timer d.next.timer d.is_timer stays.port)
       stays.keys matched)
-  step_matched old new (Request_received d) matched = subst IsMatched (sym d.is) matched
-  step_matched old new (No_request_found d) matched = subst IsMatched (sym d.is) matched
-  step_matched old new (Request_not_received d) matched = subst IsMatched (sym d.is) matched
-  step_matched old new (Request_noted d) matched = subst IsMatched (sym d.is) matched
   step_matched old new (Request_answered d) matched =
       subst IsMatched (sym d.is)
       (subst (λ (left : Left S F D). AreMatched (with_timer old.now old.longest old.backoff d.from left.opened.tid left.new.held
       old.timers) left.new.held) (sym d.steps.left)
       (answers_matched old.now old.longest old.backoff d.from d.tid old.server old.timers d.steps.came d.free matched))
-  step_matched old new (Request_lost d) matched = subst IsMatched (sym d.is) matched
-  step_matched old new (Clock_read d) matched = subst IsMatched (sym d.is) matched
-  step_matched old new (Store_set d) matched = subst IsMatched (sym d.is) matched
   step_matched old new (Transfer_closed d) matched =
       subst IsMatched (sym d.is)
       (closes_matched old.timers old.server.held d.index d.timer d.within d.is_timer
       (was_there (at d.timer.port old.server.held) d.taken d.is_taken) matched)
-  step_matched old new (Drain_begun d) matched = subst IsMatched (sym d.is) matched
+  step_matched old new does matched = subst IsMatched (sym (state_is does)) matched
 
   run_matched : {first now : LoopState S F D} → Run (LoopStep stores sources) first now → IsMatched first → IsMatched now
   run_matched Start matched = matched

@@ -1,111 +1,27 @@
 -- A client and its transfer outlast bounded loss. For the law a_client_outlasts_loss.
-use Rattle.tftp_promises.proofs.Common.{◌≡◌, ℕ, suc, Bool, true, false, not, List, [], ◌∷◌, ◌++◌, Some, refl, sym, ap}
-use Rattle.tftp_promises.proofs.Common.{◌∙◌, append_assoc, subst, inl, inr, ◌⊎◌, ◌==◌, if◌then◌else◌, slice_get}
-use Rattle.tftp_promises.proofs.Common.{eqb-true, append_cancel_right, SinkMeaning, SourceMeaning, is_complete}
-use Rattle.tftp_promises.proofs.Common.{is_sender, StoreMeaning, drafting_sink, Act, Life, Took, Lost, Said, Timed}
-use Rattle.tftp_promises.proofs.Common.{IsOver, SocketEvent, ServesClient, client_end, WasHeld, AreJoined, Tells}
-use Rattle.tftp_promises.proofs.Common.{Begins_so, Passes, Receives, Misses, Sends, Elapses_then, acts_at, acts_in}
-use Rattle.tftp_promises.proofs.Common.{Noted, Programs, ClientOf, events_of, HasFailed, client_at}
+use Rattle.tftp_promises.proofs.Common.{common_steps, arith, ◌≡◌, ℕ, suc, Bool, true, false, not, List, [], ◌++◌, Some}
+use Rattle.tftp_promises.proofs.Common.{refl, sym, ap, ◌∙◌, subst, inl, inr, slice_get, append_cancel_right}
+use Rattle.tftp_promises.proofs.Common.{SinkMeaning, SourceMeaning, is_complete, is_sender, StoreMeaning, drafting_sink}
+use Rattle.tftp_promises.proofs.Common.{Act, Life, IsOver, SocketEvent, ServesClient, client_end, WasHeld, AreJoined}
+use Rattle.tftp_promises.proofs.Common.{Tells, acts_at, acts_in, Noted, Programs, ClientOf, events_of, HasFailed}
+use Rattle.tftp_promises.proofs.Common.{client_at}
 use Rattle.tftp_ends.specs.declared.endpoint.Endpoint.{Endpoint}
 use Rattle.tftp_ends.specs.Run.{IsOpen}
+use Rattle.tftp_server.specs.State.{is_open}
 use Rattle.tftp_lives.specs.Outlasting.{GaveUp, OneAct}
 use Rattle.tftp_lives.specs.Unanswered.{AreOpposite}
 use Rattle.tftp_lives.proofs.LivesStand.{life_stands}
 use Rattle.tftp_lives.proofs.OpenEnds.{how_it_is}
 use Rattle.tftp_lives.proofs.Outlasts.{ends_outlast_loss}
 use Rattle.tftp_promises.specs.AnyFiles.{peer_of}
-use Rattle.tftp_promises.specs.Lived.{IsLiving}
-use Rattle.tftp_promises.specs.Outlasting.{AreBounded, AreShown, IsEventOf, OutlastLoss, ProgramsOutlastLoss, Shows, Ends_so}
-use Rattle.tftp_promises.specs.Outlasting.{Another, Of_client, Of_server}
+use Rattle.tftp_promises.specs.Lived.{AreNotedWhileOpen, IsLiving}
+use Rattle.tftp_promises.specs.Outlasting.{AreBounded, HasOrder, OutlastLoss, ProgramsOutlastLoss}
+use Rattle.tftp_promises.proofs.ActsInOrder.{in_order}
 use Rattle.tftp_promises.proofs.ClientLives.{client_lives, client_opening}
 use Rattle.tftp_promises.proofs.Failing.{client_complete, client_failed, client_is, transfer_complete, transfer_failed}
-use Rattle.tftp_promises.proofs.GivingUp.{was_held}
-use Rattle.tftp_promises.proofs.TraceLives.{client_noted, transfers_noted}
+use Rattle.tftp_promises.proofs.GivingUp.{held_noted, was_held}
+use Rattle.tftp_promises.proofs.TraceLives.{client_noted}
 use Rattle.tftp_promises.proofs.TransferLives.{transfers_live}
-
--- ---- the acts of two ends in one order
--- the newest event is that act
-record IsNewest (port : ℕ) (e : SocketEvent) (events : List SocketEvent) (acts : List Act) : Type 0 where
-  pub act : Act
-  pub rest : List Act
-  pub is : acts ≡ act ∷ rest
-  pub event : IsEventOf port e act
-  pub tells : Tells port events rest
-
-newest_of : (port : ℕ) {e : SocketEvent} {events : List SocketEvent} {acts : List Act} → Tells port (e ∷ events) acts →
-    Tells port events acts ⊎ IsNewest port e events acts
-newest_of port (Passes e t) = inl t
-newest_of port (Receives from bytes t) =
-    inr (record { act = Took from bytes; rest = _; is = refl; event = refl; tells = t })
-newest_of port (Misses from bytes t) =
-    inr (record { act = Lost from bytes; rest = _; is = refl; event = refl; tells = t })
-newest_of port (Sends to bytes t) = inr (record { act = Said to bytes; rest = _; is = refl; event = refl; tells = t })
-newest_of port (Elapses_then time t) =
-    inr (record { act = Timed; rest = _; is = refl; event = (time, refl); tells = t })
-
--- of this program or of another
-newest_if : (port : ℕ) (b : Bool) {e : SocketEvent} {events : List SocketEvent} {acts : List Act} →
-    Tells port (if b then e ∷ events else events) acts →
-    Tells port events acts ⊎ ((b ≡ true) × IsNewest port e events acts)
-newest_if port false t = inl t
-newest_if port true t = elim (newest_of port t) [
-  | inl u ↦ inl u
-  | inr n ↦ inr (refl, n)
-]
-
-none_of : (port : ℕ) {acts : List Act} → Tells port [] acts → acts ≡ []
-none_of port Begins_so = refl
-
-module _ (k port at : ℕ) where
-  abbrev Merged : List Noted → List Act → List Act → Type 0
-  Merged order client server = (acts : List OneAct) × AreShown k port at order client server acts
-
-  merge : (order : List Noted) (client server : List Act) → Tells port (events_of (suc k) order) client →
-      Tells at (events_of 0 order) server → Merged order client server
-  merge [] client server t u =
-      ([], record { shown = Ends_so; client_acts = sym (none_of port t); server_acts = sym (none_of at u) })
-  merge ((program, event) ∷ order) client server t u = elim (newest_if port (program == suc k) t) [
-    | inl t' ↦ elim (newest_if at (program == 0) u) [
-      | inl u' ↦
-          let m = merge order client server t' u' in (
-            m.0,
-            record {
-              shown = Another (program, event) m.1.shown;
-              client_acts = m.1.client_acts;
-              server_acts = m.1.server_acts;
-            },
-          )
-      | inr n ↦
-          let new = n.1 in
-          let m = merge order client new.rest t' new.tells in (
-            (false, new.act) ∷ m.0,
-            record {
-              shown =
-                  subst (λ (q : ℕ). Shows k port at ((q, event) ∷ order) ((false, new.act) ∷ m.0))
-                  (sym (eqb-true program 0 n.0)) (Of_server event new.act new.event m.1.shown);
-              client_acts = m.1.client_acts;
-              server_acts = ap (λ (acts : List Act). new.act ∷ acts) m.1.server_acts ∙ sym new.is;
-            },
-          )
-    ]
-    | inr n ↦ elim (newest_if at (program == 0) u) [
-      | inl u' ↦
-          let new = n.1 in
-          let m = merge order new.rest server new.tells u' in (
-            (true, new.act) ∷ m.0,
-            record {
-              shown =
-                  subst (λ (q : ℕ). Shows k port at ((q, event) ∷ order) ((true, new.act) ∷ m.0))
-                  (sym (eqb-true program (suc k) n.0)) (Of_client event new.act new.event m.1.shown);
-              client_acts = ap (λ (acts : List Act). new.act ∷ acts) m.1.client_acts ∙ sym new.is;
-              server_acts = m.1.server_acts;
-            },
-          )
-      | inr also ↦ absurd (apart (sym (eqb-true program (suc k) n.0) ∙ eqb-true program 0 also.0))
-    ]
-  ] where
-    apart : suc k ≡ 0 → ⊥
-    apart e = cc
 
 -- ---- of the programs
 module _ {S F D G K : Type 0} (stores : StoreMeaning S D) (sources : SourceMeaning F) (inputs : SourceMeaning G)
@@ -120,36 +36,52 @@ module _ {S F D G K : Type 0} (stores : StoreMeaning S D) (sources : SourceMeani
       (append_cancel_right h.noted client.noted client.before (sym h.is ∙ client.is_noted)
       ∙ sym (joined.is_order.clients k client found)) h.tells
 
-  -- what comes later tells of nothing more
-  passes_all : (port : ℕ) (later events : List SocketEvent) (acts : List Act) → Tells port events acts →
-      Tells port (later ++ events) acts
-  passes_all port [] events acts t = t
-  passes_all port (e ∷ later) events acts t = Passes e (passes_all port later events acts t)
-
   module _ (p : Endpoint) (peer : peer_of (client_end programs client) ≡ Some p)
       (serves : ServesClient programs p client) (was : WasHeld programs serves.port serves.transfer) where
     abbrev its_acts : List Act
     its_acts = acts_at serves.port was.run
 
-    server_tells : Tells serves.port (events_of 0 order) its_acts
-    server_tells =
-        let h = transfers_noted stores sources programs.server.start was.run serves.port in
-        let all : programs.server.last.events ≡ (was.since ++ h.noted) ++ programs.server.start.events =
-        was.is_since
-        ∙ (ap (λ (es : List SocketEvent). was.since ++ es) h.is
-        ∙ sym (append_assoc was.since h.noted programs.server.start.events)) in
-        subst (λ (es : List SocketEvent). Tells serves.port es its_acts)
-        (append_cancel_right (was.since ++ h.noted) programs.server.noted programs.server.start.events
-        (sym all ∙ programs.server.is_noted) ∙ sym joined.is_order.server)
-        (passes_all serves.port was.since h.noted its_acts h.tells)
+    -- that of the server, with what is the transfer's in it
+    noted : AreNotedWhileOpen serves.port programs.server.start.events was.state.events (is_open (Some serves.transfer))
+        its_acts
+    noted = held_noted programs serves.port serves.transfer was
+
+    server_noted : events_of 0 order ≡ (was.since ++ noted.later) ++ (noted.own.noted ++ noted.earlier)
+    server_noted =
+        let before = programs.server.start.events in
+        let own = noted.own.noted in
+        joined.is_order.server
+        ∙ append_cancel_right programs.server.noted ((was.since ++ noted.later) ++ (own ++ noted.earlier)) before
+        (sym programs.server.is_noted
+        ∙ (was.is_since
+        ∙ (ap (λ (es : List SocketEvent). was.since ++ es) noted.is
+        ∙ (ap (λ (es : List SocketEvent). was.since ++ (noted.later ++ es)) noted.own.is
+        ∙ all_in was.since noted.later own noted.earlier before))))
+      where
+        all_in : (since later own earlier before : List SocketEvent) →
+            since ++ (later ++ (own ++ (earlier ++ before))) ≡ ((since ++ later) ++ (own ++ earlier)) ++ before
+        all_in since later own earlier before = grind (arith, common_steps)
 
     living : IsLiving stores sources its_acts serves.transfer
     living =
         transfers_live stores sources was.run programs.server.empty programs.server.max_block serves.port serves.transfer
         was.held
 
-    shown : Merged k client.port serves.port order (acts_in client.runs) its_acts
-    shown = merge k client.port serves.port order (acts_in client.runs) its_acts client_tells server_tells
+    shown : HasOrder k client.port serves.port order (acts_in client.runs) its_acts
+        (IsOpen serves.transfer.end × (was.since ≡ []))
+    shown =
+        let all =
+        in_order k client.port serves.port order (acts_in client.runs) its_acts (was.since ++ noted.later) noted.own.noted
+        noted.earlier client_tells noted.own.tells server_noted in
+        record {
+          active = all.active;
+          acts = all.acts;
+          are = all.are;
+          still = λ h. all.still (none_in was.since noted.later h.1 (noted.still (ap not h.0)));
+        }
+      where
+        none_in : (since later : List SocketEvent) → since ≡ [] → later ≡ [] → since ++ later ≡ []
+        none_in since later none also = ap (λ (es : List SocketEvent). es ++ later) none ∙ also
 
     opposite : AreOpposite (client_at client) p client.last.end serves.transfer.end
     opposite = record { x_peer = peer; y_peer = serves.peer; sides = serves.other }

@@ -1,15 +1,12 @@
 -- What a trace shows that tells of the acts of an end. For GivingUp.
-use Rattle.tftp_promises.proofs.Common.{◌≡◌, ℕ, Bool, ◌+◌, ◌≤◌, zero, suc, List, [], ◌∷◌, ◌++◌, length, refl, ap, ◌∙◌}
-use Rattle.tftp_promises.proofs.Common.{subst, arith, Option, Some, None, inl, inr, ◌⊎◌, ◌==◌, if◌then◌else◌, eq-eqb}
-use Rattle.tftp_promises.proofs.Common.{SinkMeaning, SourceMeaning, Files, EndState, Reply, timeout_turn, Act, Took}
-use Rattle.tftp_promises.proofs.Common.{Lost, Said, Timed, Has, with_reply, SocketEvent, answered, Received, Sent}
-use Rattle.tftp_promises.proofs.Common.{Watched, Elapsed, Printed, Quiet, Slept, State, wait_at, Answers, Loses, Stays}
-use Rattle.tftp_promises.proofs.Common.{Elapses, Backoff, begun, ClientDoes, Receives_one, Reads_clock, Waits_until}
-use Rattle.tftp_promises.proofs.Common.{Times_out, File_works, Prints_line, ClientRun, Starts, Goes_on, Tells}
-use Rattle.tftp_promises.proofs.Common.{Begins_so, Passes, Receives, Misses, Sends, Elapses_then, acts_in, client_acts}
+use Rattle.tftp_promises.proofs.Common.{◌≡◌, ℕ, Bool, ◌+◌, ◌≤◌, zero, suc, List, [], ◌∷◌, ◌++◌, length, refl, ap, subst, arith}
+use Rattle.tftp_promises.proofs.Common.{inl, inr, ◌⊎◌, ◌==◌, if◌then◌else◌, eq-eqb, Act, Took, Lost, Said, Timed, Has}
+use Rattle.tftp_promises.proofs.Common.{SocketEvent, Received, Sent, Watched, Elapsed, Printed, Quiet, Tells}
+use Rattle.tftp_promises.proofs.Common.{Begins_so, Passes, Receives, Misses, Sends, Elapses_then}
 use Rattle.tftp_ends.specs.declared.endpoint.Endpoint.{Endpoint}
 use Rattle.tftp_lives.specs.Lives.{HasCopies, timed}
 use Rattle.tftp_promises.specs.GivesUp.{elapsed}
+use Rattle.tftp_promises.specs.Lived.{IsNoActAt}
 
 module _ (port : ℕ) where
   elapsed_on : (e : SocketEvent) (events : List SocketEvent) → elapsed port events ≤ elapsed port (e ∷ events)
@@ -30,7 +27,7 @@ module _ (port : ℕ) where
       (to : Endpoint) (bytes : List ℕ) → HasCopies n (Said to bytes) acts → HasCopies n (Sent port to bytes) events
   tells_copies Begins_so zero to bytes h = tt
   tells_copies Begins_so (suc n) to bytes h = absurd h
-  tells_copies (Passes {events} {acts} e t) n to bytes h =
+  tells_copies (Passes {events} {acts} e other t) n to bytes h =
       copies_on n e (Sent port to bytes) events (tells_copies t n to bytes h)
   tells_copies (Receives {events} {acts} from content t) zero to bytes h = tt
   tells_copies (Receives {events} {acts} from content t) (suc n) to bytes (inl h) =
@@ -116,7 +113,7 @@ module _ (port : ℕ) where
       (to : Endpoint) (bytes : List ℕ) (earlier : List Act) → acts ≡ later ++ Said to bytes ∷ earlier →
       SeenSince events to bytes (timed later)
   tells_since Begins_so later to bytes earlier e = no_acts later (Said to bytes) earlier e
-  tells_since (Passes {events} {acts} event t) later to bytes earlier e =
+  tells_since (Passes {events} {acts} event other t) later to bytes earlier e =
       seen_on event events to bytes (timed later) (tells_since t later to bytes earlier e)
   tells_since (Receives {events} {acts} from content t) [] to bytes earlier e =
       absurd (let f = (heads (Took from content) (Said to bytes) acts earlier e).0 in cc)
@@ -148,111 +145,37 @@ module _ (port : ℕ) where
       subst (λ (a : Act). SeenSince (Elapsed port time ∷ events) to bytes (timed (a ∷ later))) h.0
       (seen_time time events to bytes (timed later) (tells_since t later to bytes earlier h.1))
 
--- ---- a client handled what it received, or lost it
-pub record ReceivesOnly (port : ℕ) (before events : List SocketEvent) (acts : List Act) : Type 0 where
-  pub noted : List SocketEvent
-  pub is : events ≡ noted ++ before
-  pub handled : (from : Endpoint) (bytes : List ℕ) → Has (Received port from bytes) noted →
-      Has (Took from bytes) acts ⊎ Has (Lost from bytes) acts
+  -- ---- what was received is handled, or lost
+  same_received : (act : Endpoint → List ℕ → Act) (a b : Endpoint) (x y : List ℕ) → Received port a x ≡ Received port b y →
+      act a x ≡ act b y
+  same_received act a b x y e = cc
 
--- an event is no receipt
-abbrev IsOther : SocketEvent → Type 0
-IsOther (Received own from bytes) = ⊥
-IsOther (Sent own to bytes) = Unit {0}
-IsOther (Watched watch) = Unit {0}
-IsOther (Elapsed own time) = Unit {0}
-IsOther (Printed line) = Unit {0}
-IsOther (Quiet event) = Unit {0}
+  either_more : {x y : Act} (act : Act) (acts : List Act) → Has x acts ⊎ Has y acts →
+      Has x (act ∷ acts) ⊎ Has y (act ∷ acts)
+  either_more act acts (inl there) = inl (inr there)
+  either_more act acts (inr there) = inr (inr there)
 
--- it was so before more was done
-either_more : {x y : Act} (act : Act) (acts : List Act) → Has x acts ⊎ Has y acts →
-    Has x (act ∷ acts) ⊎ Has y (act ∷ acts)
-either_more act acts (inl there) = inl (inr there)
-either_more act acts (inr there) = inr (inr there)
+  not_passed : (e : SocketEvent) (from : Endpoint) (bytes : List ℕ) → IsNoActAt port e → e ≡ Received port from bytes → ⊥
+  not_passed e from bytes other is = subst (IsNoActAt port) is other refl
 
-module _ (port : ℕ) (before : List SocketEvent) where
-  only_on : (events : List SocketEvent) (acts : List Act) (e : SocketEvent) → IsOther e →
-      ReceivesOnly port before events acts → ReceivesOnly port before (e ∷ events) acts
-  only_on events acts e other h = record {
-    noted = e ∷ h.noted;
-    is = ap (λ (es : List SocketEvent). e ∷ es) h.is;
-    handled = λ from bytes there. elim there [
-      | inl same ↦ absurd (subst IsOther same other)
-      | inr old ↦ h.handled from bytes old
-    ];
-  }
-
-  only_more : (events : List SocketEvent) (acts : List Act) (act : Act) → ReceivesOnly port before events acts →
-      ReceivesOnly port before events (act ∷ acts)
-  only_more events acts act h =
-      record { noted = h.noted; is = h.is; handled = λ from bytes there. either_more act acts (h.handled from bytes there) }
-
-  -- what it received now is such an act
-  only_gets : (events : List SocketEvent) (acts : List Act) (from : Endpoint) (bytes : List ℕ) (act : Act) →
-      (act ≡ Took from bytes) ⊎ (act ≡ Lost from bytes) → ReceivesOnly port before events acts →
-      ReceivesOnly port before (Received port from bytes ∷ events) (act ∷ acts)
-  only_gets events acts from bytes act way h =
-      record {
-        noted = Received port from bytes ∷ h.noted;
-        is = ap (λ (es : List SocketEvent). Received port from bytes ∷ es) h.is;
-        handled = λ source content there. elim there [
-          | inl same ↦ elim way [
-            | inl took ↦ inl (inl (took ∙ same_took from source bytes content same))
-            | inr lost ↦ inr (inl (lost ∙ same_lost from source bytes content same))
-          ]
-          | inr old ↦ either_more act acts (h.handled source content old)
-        ];
-      }
-    where
-      same_took : (a b : Endpoint) (x y : List ℕ) → Received port a x ≡ Received port b y → Took a x ≡ Took b y
-      same_took a b x y e = cc
-
-      same_lost : (a b : Endpoint) (x y : List ℕ) → Received port a x ≡ Received port b y → Lost a x ≡ Lost b y
-      same_lost a b x y e = cc
-
-  only_reply : (events : List SocketEvent) (acts : List Act) (reply : Option Reply) →
-      ReceivesOnly port before events acts →
-      ReceivesOnly port before (answered port reply events) (with_reply reply acts)
-  only_reply events acts None h = h
-  only_reply events acts (Some reply) h =
-      only_on events (Said reply.to reply.bytes ∷ acts) (Sent port reply.to reply.bytes) tt
-      (only_more events acts (Said reply.to reply.bytes) h)
-
-module _ {G K : Type 0} {inputs : SourceMeaning G} {outputs : SinkMeaning K} {port : ℕ} (before : List SocketEvent) where
-  does_only : {s s' : State} {files files' : Files G K} (acts : List Act)
-      (does : ClientDoes inputs outputs port s files s' files') →
-      ReceivesOnly port before s.events acts → ReceivesOnly port before s'.events (client_acts does acts)
-  does_only {s = s} acts (Receives_one {from = from} {bytes = bytes} {watch = watch} may later (Answers {turn} still step))
-      h =
-      let es = Quiet (Slept (wait_at s)) ∷ s.events in
-      only_reply port before (Watched watch ∷ Received port from bytes ∷ es) (Took from bytes ∷ acts) turn.reply
-      (only_on port before (Received port from bytes ∷ es) (Took from bytes ∷ acts) (Watched watch) tt
-      (only_gets port before es acts from bytes (Took from bytes) (inl refl)
-      (only_on port before s.events acts (Quiet (Slept (wait_at s))) tt h)))
-  does_only {s = s} acts (Receives_one {from = from} {bytes = bytes} {watch = watch} may later (Loses lost keeps)) h =
-      let es = Quiet (Slept (wait_at s)) ∷ s.events in
-      only_on port before (Received port from bytes ∷ es) (Lost from bytes ∷ acts) (Watched watch) tt
-      (only_gets port before es acts from bytes (Lost from bytes) (inr refl)
-      (only_on port before s.events acts (Quiet (Slept (wait_at s))) tt h))
-  does_only {s = s} acts (Reads_clock progress {watch} later) h =
-      only_on port before s.events acts (Watched watch) tt h
-  does_only {s = s} acts (Waits_until {event = event} {watch = watch} may which later) h =
-      let es = Quiet (Slept (wait_at s)) ∷ s.events in
-      only_on port before (Quiet event ∷ es) acts (Watched watch) tt
-      (only_on port before es acts (Quiet event) tt
-      (only_on port before s.events acts (Quiet (Slept (wait_at s))) tt h))
-  does_only acts (Times_out (Stays why)) h = h
-  does_only {s = s} acts (Times_out (Elapses due still)) h =
-      only_reply port before (Elapsed port s.now ∷ s.events) (Timed ∷ acts) (timeout_turn s.end).reply
-      (only_on port before s.events (Timed ∷ acts) (Elapsed port s.now) tt (only_more port before s.events acts Timed h))
-  does_only acts (File_works works) h = h
-  does_only {s = s} acts (Prints_line line) h = only_on port before s.events acts (Printed line) tt h
-
-  pub client_only : {backoff : Backoff} {reading : ℕ} {end : EndState} {file : Files G K} {s : State} {files : Files G K}
-      (run : ClientRun inputs outputs port (begun backoff port reading end before) file s files) →
-      ReceivesOnly port before s.events (acts_in run)
-  client_only {end = end} Starts =
-      only_on port before before (Said end.position.last_sent_to end.position.last_sent ∷ [])
-      (Sent port end.position.last_sent_to end.position.last_sent) tt
-      (record { noted = []; is = refl; handled = λ from bytes there. absurd there })
-  client_only (Goes_on run does) = does_only (acts_in run) does (client_only run)
+  pub tells_received : {events : List SocketEvent} {acts : List Act} → Tells port events acts → (from : Endpoint)
+      (bytes : List ℕ) → Has (Received port from bytes) events → Has (Took from bytes) acts ⊎ Has (Lost from bytes) acts
+  tells_received Begins_so from bytes h = absurd h
+  tells_received (Passes event other t) from bytes (inl h) = absurd (not_passed event from bytes other h)
+  tells_received (Passes event other t) from bytes (inr h) = tells_received t from bytes h
+  tells_received (Receives source content t) from bytes (inl h) =
+      inl (inl (same_received Took source from content bytes h))
+  tells_received (Receives {events} {acts} source content t) from bytes (inr h) =
+      either_more (Took source content) acts (tells_received t from bytes h)
+  tells_received (Misses source content t) from bytes (inl h) =
+      inr (inl (same_received Lost source from content bytes h))
+  tells_received (Misses {events} {acts} source content t) from bytes (inr h) =
+      either_more (Lost source content) acts (tells_received t from bytes h)
+  tells_received (Sends to content t) from bytes (inl h) =
+      absurd (let f : Sent port to content ≡ Received port from bytes = h in cc)
+  tells_received (Sends {events} {acts} to content t) from bytes (inr h) =
+      either_more (Said to content) acts (tells_received t from bytes h)
+  tells_received (Elapses_then time t) from bytes (inl h) =
+      absurd (let f : Elapsed port time ≡ Received port from bytes = h in cc)
+  tells_received (Elapses_then {events} {acts} time t) from bytes (inr h) =
+      either_more Timed acts (tells_received t from bytes h)

@@ -1,20 +1,14 @@
 -- What one step of a program notes: a datagram that it receives is the oldest of its events.
 use Rattle.tftp_promises.proofs.Common.{◌≡◌, ℕ, List, [], ◌∷◌, ◌++◌, Option, Some, None, refl, ap, ◌∙◌, AllByRecursion}
 use Rattle.tftp_promises.proofs.Common.{SinkMeaning, SourceMeaning, Files, Reply, timeout_turn, Endpoint, StoreMeaning}
-use Rattle.tftp_promises.proofs.Common.{SocketEvent, answered, Received, Sent, Watched, Elapsed, Printed, Quiet, Empty}
-use Rattle.tftp_promises.proofs.Common.{Failed, Slept, Woke, LoopState, PortState, LoopStep, PortStep, At_port}
-use Rattle.tftp_promises.proofs.Common.{Request_answered, State, HandlesReceived, MayElapse, wait_at, Answers, Loses}
-use Rattle.tftp_promises.proofs.Common.{Stays, Elapses, ClientDoes, Receives_one, Reads_clock, Waits_until, Times_out}
-use Rattle.tftp_promises.proofs.Common.{File_works, Prints_line}
+use Rattle.tftp_promises.proofs.Common.{SocketEvent, answered, Received, Sent, Watched, Elapsed, Printed, Quiet, Slept}
+use Rattle.tftp_promises.proofs.Common.{Woke, LoopState, PortState, LoopStep, PortStep, At_port, Request_answered}
+use Rattle.tftp_promises.proofs.Common.{State, HandlesReceived, MayElapse, wait_at, Answers, Loses, Stays, Elapses}
+use Rattle.tftp_promises.proofs.Common.{ClientDoes, Receives_one, Reads_clock, Waits_until, Times_out, File_works}
+use Rattle.tftp_promises.proofs.Common.{Prints_line}
 use Rattle.tftp_sockets.specs.Trace.{replied}
-use Rattle.tftp_sockets.specs.Trace.QuietEvent.{Drain_signalled}
-use Rattle.tftp_loop.specs.Steps.{A_datagram, A_lost_datagram}
-use Rattle.tftp_loop.specs.Steps.{A_late_datagram, Nothing_found, A_failed_receive, A_timeout, A_missed_timeout, Work}
-use Rattle.tftp_loop.specs.Steps.{Waited}
-use Rattle.tftp_loop.specs.Steps.{Request_received, No_request_found, Request_not_received, Request_noted}
-use Rattle.tftp_loop.specs.Steps.{Request_lost, Clock_read, Store_set, Drain_begun, Transfer_closed}
-use Rattle.tftp_loop.specs.Steps.{answering_port, note_event}
-use Rattle.tftp_promises.specs.Snapshots.{}
+use Rattle.tftp_loop.specs.Steps.{A_datagram, A_timeout, Work, Waited, Request_lost, Store_set, answering_port}
+use Rattle.tftp_loop.proofs.NewStates.{state_is, trace_is}
 
 -- no datagram received
 abbrev pub IsOther : SocketEvent → Type 0
@@ -75,15 +69,11 @@ module _ {S F D : Type 0} {stores : StoreMeaning S D} {sources : SourceMeaning F
   port_adds {old = old} (A_datagram r) =
       answer_adds old.timer.port r.handles.takes.takes.turn.reply (Received old.timer.port r.from r.bytes) [] tt
       r.handles.events
-  port_adds {old = old} (A_lost_datagram r) = Notes (Received old.timer.port r.from r.bytes) [] tt r.events
-  port_adds {old = old} (A_late_datagram r) = Notes (Received old.timer.port r.from r.bytes) [] tt r.events
-  port_adds {old = old} (Nothing_found r) = Notes (Quiet (Empty old.timer.port)) [] tt r.events
-  port_adds {old = old} (A_failed_receive r) = Notes (Quiet (Failed old.timer.port)) [] tt r.events
   port_adds {now = now} {old = old} (A_timeout r) =
       answer_adds old.timer.port (timeout_turn r.times_out.times_out.transfer.end).reply (Elapsed old.timer.port now) []
       tt r.times_out.events
-  port_adds {now = now} {old = old} (A_missed_timeout r) = Notes (Elapsed old.timer.port now) [] tt r.events
   port_adds (Work r) = Silent r.events
+  port_adds does = Notes _ [] tt (trace_is does)
 
   -- a step of the server
   pub server_adds : {old new : LoopState S F D} → LoopStep stores sources old new → Adds old.events new.events
@@ -91,23 +81,20 @@ module _ {S F D : Type 0} {stores : StoreMeaning S D} {sources : SourceMeaning F
       Notes (Quiet (Woke r.ports)) (Quiet (Slept r.millis) ∷ Watched r.watch ∷ []) (tt, (tt, tt))
       (ap (λ (s : LoopState S F D). s.events) r.is)
   server_adds (At_port r) = then_is (port_adds r.does) (ap (λ (s : LoopState S F D). s.events) r.is)
-  server_adds {old = old} (Request_received r) =
-      Notes (Received old.requests r.from r.bytes) [] tt (ap (λ (s : LoopState S F D). s.events) r.is)
-  server_adds {old = old} (No_request_found r) =
-      Notes (Quiet (Empty old.requests)) [] tt (ap (λ (s : LoopState S F D). s.events) r.is)
-  server_adds {old = old} (Request_not_received r) =
-      Notes (Quiet (Failed old.requests)) [] tt (ap (λ (s : LoopState S F D). s.events) r.is)
-  server_adds (Request_noted r) =
-      Notes (Quiet (note_event r.note)) [] tt (ap (λ (s : LoopState S F D). s.events) r.is)
   server_adds {old = old} (Request_answered r) =
       reply_adds (answering_port old.requests r.left.opened.tid) r.left.opened.to r.left.sent
       (ap (λ (s : LoopState S F D). s.events) r.is)
   server_adds (Request_lost r) = Silent (ap (λ (s : LoopState S F D). s.events) r.is)
-  server_adds (Clock_read r) = Notes (Watched r.watch) [] tt (ap (λ (s : LoopState S F D). s.events) r.is)
   server_adds (Store_set r) = Silent (ap (λ (s : LoopState S F D). s.events) r.is)
-  server_adds {old = old} {new = new} (Transfer_closed r) = Notes _ [] tt (ap (λ (s : LoopState S F D). s.events) r.is)
-  server_adds (Drain_begun r) =
-      Notes (Quiet Drain_signalled) [] tt (ap (λ (s : LoopState S F D). s.events) r.is)
+  server_adds does = Notes _ [] tt (ap (λ (s : LoopState S F D). s.events) (state_is does))
+
+  -- so its trace goes on
+  pub step_adds : {old new : LoopState S F D} → LoopStep stores sources old new →
+      (added : List SocketEvent) × (new.events ≡ added ++ old.events)
+  step_adds does = elim (server_adds does) [
+    | Silent same ↦ ([], same)
+    | Notes e events own is ↦ (e ∷ events, is)
+  ]
 
 elapse_adds : {port : ℕ} {s next : State} → MayElapse port s next → Adds s.events next.events
 elapse_adds (Stays why) = Silent refl

@@ -8,25 +8,24 @@ use Rattle.tftp_promises.proofs.Common.{StoreMeaning, Drafting, drafting_sink, C
 use Rattle.tftp_promises.proofs.Common.{A_transfer, Left, left_by, TransferState, ServerState, at, is_closed, with_next}
 use Rattle.tftp_promises.proofs.Common.{KeepsHeld, WorksAt, Act, Took, Lost, Timed, Life, with_reply, Run, Start, Then}
 use Rattle.tftp_promises.proofs.Common.{PortState, LoopState, PortStep, LoopStep, port_state, A_datagram}
-use Rattle.tftp_promises.proofs.Common.{A_lost_datagram, A_late_datagram, Nothing_found, A_failed_receive, A_timeout}
-use Rattle.tftp_promises.proofs.Common.{A_missed_timeout, Work, Waited, Request_received, No_request_found}
-use Rattle.tftp_promises.proofs.Common.{Request_not_received, Request_noted, Request_lost, Clock_read, Store_set}
-use Rattle.tftp_promises.proofs.Common.{Transfer_closed, Drain_begun, acts_at, came_if}
+use Rattle.tftp_promises.proofs.Common.{A_lost_datagram, A_late_datagram, A_timeout, Work, Transfer_closed, acts_at}
+use Rattle.tftp_promises.proofs.Common.{came_if}
 use Rattle.tftp_ends.specs.declared.endpoint.Endpoint.{Endpoint}
 use Rattle.tftp_rules.specs.EndOpens.{AreGranted}
 use Rattle.tftp_server.specs.State.{is_open}
 use Rattle.tftp_server.specs.Steps.{with_end}
 use Rattle.tftp_lives.specs.Lives.{Opens, Hears, Loses, Times, newest}
 use Rattle.tftp_lives.specs.Unanswered.{Begins, MayAgree, To_serve_read, To_serve_write}
-use Rattle.tftp_loop.specs.Steps.LoopStep.{At_port}
-use Rattle.tftp_loop.specs.Steps.LoopStep.{Request_answered}
+use Rattle.tftp_loop.specs.Steps.LoopStep.{At_port, Request_answered}
 use Rattle.tftp_loop.proofs.PortEnds.{same_config}
 use Rattle.tftp_loop.proofs.Reserving.{carried_config}
 use Rattle.tftp_promises.specs.Lived.{IsLiving, first_act, port_acts}
 use Rattle.tftp_promises.proofs.Identifiers.{at-with_next_cases, at-without_cases, once-with_next, once-without}
 use Rattle.tftp_promises.proofs.Invariant.{AreKeyedOnce}
 use Rattle.tftp_promises.proofs.NewIdentifiers.{at-with_new_cases, once-with_new}
-use Rattle.tftp_promises.proofs.PortAnswers.{Begins_to_send, Begins_to_store, IsFirst, PortAnswers, Says_error, Silent, port_answers}
+use Rattle.tftp_promises.proofs.PortAnswers.{Begins_to_send, Begins_to_store, IsFirst, PortAnswers, Says_error, Silent}
+use Rattle.tftp_promises.proofs.PortAnswers.{port_answers}
+use Rattle.tftp_loop.proofs.NewStates.{state_is, server_is}
 
 module _ {S F D : Type 0} (stores : StoreMeaning S D) (sources : SourceMeaning F) where
   abbrev Lives : List Act → TransferState F D → Type 0
@@ -190,12 +189,6 @@ module _ {S F D : Type 0} (stores : StoreMeaning S D) (sources : SourceMeaning F
   port_lives now old new (A_late_datagram d) acts h =
       comes_late old.timer.port (at old.timer.port old.server.held) old.server.held new.server.held d.from d.bytes refl
       (ap (λ (s : ServerState S F D). s.held) d.server) acts h
-  port_lives now old new (Nothing_found d) acts h =
-      stays_living old.timer.port acts old.server.held new.server.held
-      (ap (λ (s : ServerState S F D). s.held) d.server) h
-  port_lives now old new (A_failed_receive d) acts h =
-      stays_living old.timer.port acts old.server.held new.server.held
-      (ap (λ (s : ServerState S F D). s.held) d.server) h
   port_lives now old new (A_timeout d) acts h =
       let times_out = d.times_out.times_out in
       let transfer = times_out.transfer in
@@ -203,11 +196,11 @@ module _ {S F D : Type 0} (stores : StoreMeaning S D) (sources : SourceMeaning F
       next_lives port acts (λ done. with_reply (timeout_turn transfer.end).reply (Timed ∷ done))
       old.server.held new.server.held transfer (with_end times_out.end transfer) times_out.found times_out.held h
       (times_so (acts port) transfer (with_end times_out.end transfer) times_out.still times_out.carries.state)
-  port_lives now old new (A_missed_timeout d) acts h =
-      stays_living old.timer.port acts old.server.held new.server.held
-      (ap (λ (s : ServerState S F D). s.held) d.server) h
   port_lives now old new (Work d) acts h =
       works_living old.timer.port (at old.timer.port old.server.held) old.server new.server refl d.works.works acts h
+  port_lives now old new does acts h =
+      stays_living old.timer.port acts old.server.held new.server.held
+      (ap (λ (s : ServerState S F D). s.held) (server_is does)) h
 
   -- ---- a transfer that opens
   may_agree : (agreed : List Known) → AreGranted agreed → MayAgree agreed
@@ -284,23 +277,14 @@ module _ {S F D : Type 0} (stores : StoreMeaning S D) (sources : SourceMeaning F
   -- the configuration never changes
   step_config : {old new : LoopState S F D} → LoopStep stores sources old new →
       new.server.config ≡ old.server.config
-  step_config (Waited d) = ap (λ (s : LoopState S F D). s.server.config) d.is
   step_config {old} {new} (At_port d) =
       ap (λ (s : LoopState S F D). s.server.config) d.is
       ∙ same_config stores sources old.now (port_state old d.timer) d.next d.does
-  step_config (Request_received d) = ap (λ (s : LoopState S F D). s.server.config) d.is
-  step_config (No_request_found d) = ap (λ (s : LoopState S F D). s.server.config) d.is
-  step_config (Request_not_received d) = ap (λ (s : LoopState S F D). s.server.config) d.is
-  step_config (Request_noted d) = ap (λ (s : LoopState S F D). s.server.config) d.is
   step_config {old} {new} (Request_answered d) =
       ap (λ (s : LoopState S F D). s.server.config) d.is
       ∙ carried_config stores sources old.server d.from d.bytes _ d.tid d.left
       (record { came = d.steps.came; goes = d.steps.goes; left = d.steps.left })
-  step_config (Request_lost d) = ap (λ (s : LoopState S F D). s.server.config) d.is
-  step_config (Clock_read d) = ap (λ (s : LoopState S F D). s.server.config) d.is
-  step_config (Store_set d) = ap (λ (s : LoopState S F D). s.server.config) d.is
-  step_config (Transfer_closed d) = ap (λ (s : LoopState S F D). s.server.config) d.is
-  step_config (Drain_begun d) = ap (λ (s : LoopState S F D). s.server.config) d.is
+  step_config does = ap (λ (s : LoopState S F D). s.server.config) (state_is does)
 
   module _ {start : LoopState S F D} where
     abbrev LivingBy : {now : LoopState S F D} → Run (LoopStep stores sources) start now → Type 0
@@ -309,16 +293,11 @@ module _ {S F D : Type 0} (stores : StoreMeaning S D) (sources : SourceMeaning F
     step_lives : {old new : LoopState S F D} (run : Run (LoopStep stores sources) start old)
         (does : LoopStep stores sources old new) → IsBlockSize old.server.config.limits.max_block → LivingBy run →
         LivingBy (Then run does)
-    step_lives {old} {new} run (Waited d) max h = held_same (λ q. acts_at q run) old new _ d.is refl h
     step_lives {old} {new} run (At_port d) max h =
         subst
         (λ (s : LoopState S F D).
         Living (λ q. if d.timer.port == q then port_acts d.does (acts_at q run) else acts_at q run) s.server.held)
         (sym d.is) (port_lives old.now (port_state old d.timer) d.next d.does (λ q. acts_at q run) h)
-    step_lives {old} {new} run (Request_received d) max h = held_same (λ q. acts_at q run) old new _ d.is refl h
-    step_lives {old} {new} run (No_request_found d) max h = held_same (λ q. acts_at q run) old new _ d.is refl h
-    step_lives {old} {new} run (Request_not_received d) max h = held_same (λ q. acts_at q run) old new _ d.is refl h
-    step_lives {old} {new} run (Request_noted d) max h = held_same (λ q. acts_at q run) old new _ d.is refl h
     step_lives {old} {new} run (Request_answered d) max h =
         subst
         (λ (s : LoopState S F D).
@@ -330,16 +309,13 @@ module _ {S F D : Type 0} (stores : StoreMeaning S D) (sources : SourceMeaning F
         (λ transfer store is. opened_begins old.server d.from d.bytes d.steps.decoded d.steps.repeated d.steps.came transfer
         store is (port_answers stores sources old.server d.from d.bytes max d.tid d.left d.steps)) d.free
         (λ q. acts_at q run) h))
-    step_lives {old} {new} run (Request_lost d) max h = held_same (λ q. acts_at q run) old new _ d.is refl h
-    step_lives {old} {new} run (Clock_read d) max h = held_same (λ q. acts_at q run) old new _ d.is refl h
-    step_lives {old} {new} run (Store_set d) max h = held_same (λ q. acts_at q run) old new _ d.is refl h
     step_lives {old} {new} run (Transfer_closed d) max h =
         subst (λ (s : LoopState S F D). Living (λ q. acts_at q run) s.server.held) (sym d.is)
         (record {
           once = once-without d.timer.port old.server.held h.once;
           all = λ q t there. h.all q t (at-without_cases d.timer.port q t old.server.held h.once there).1;
         })
-    step_lives {old} {new} run (Drain_begun d) max h = held_same (λ q. acts_at q run) old new _ d.is refl h
+    step_lives {old} {new} run does max h = held_same (λ q. acts_at q run) old new _ (state_is does) refl h
 
     pub run_config : {now : LoopState S F D} → Run (LoopStep stores sources) start now →
         now.server.config ≡ start.server.config
@@ -362,3 +338,8 @@ module _ {S F D : Type 0} (stores : StoreMeaning S D) (sources : SourceMeaning F
         (transfer : TransferState F D) → at port now.server.held ≡ Some transfer →
         IsLiving stores sources (acts_at port run) transfer
     transfers_live run none max port transfer there = (run_lives run none max).all port transfer there
+
+    -- and no port has two of them
+    pub keyed_once : {now : LoopState S F D} (run : Run (LoopStep stores sources) start now) →
+        start.server.held ≡ [] → IsBlockSize start.server.config.limits.max_block → AreKeyedOnce now.server.held
+    keyed_once run none max = (run_lives run none max).once

@@ -12,7 +12,7 @@ use Rattle.tftp_ends.specs.Action.{same_address}
 use Rattle.tftp_ends.specs.End.{is_complete, outcome_of}
 use Rattle.tftp_store.specs.Store.{StoreMeaning}
 use Rattle.tftp_rules.specs.Machine.{Endpoint}
-use Rattle.tftp_server.specs.State.{TransferState, at}
+use Rattle.tftp_server.specs.State.{TransferState, at, is_open}
 use Rattle.tftp_lives.specs.Lives.{Has, HasCopies, Lost, Took}
 use Rattle.tftp_lives.specs.Unanswered.{Awaits, HasSaid, IsOver, IsUnanswered, IsUnheard}
 use Rattle.tftp_sockets.specs.Trace.{SocketEvent}
@@ -21,7 +21,7 @@ use Rattle.tftp_loop.specs.Run.{Run}
 use Rattle.tftp_loop.specs.Steps.{LoopState, LoopStep}
 use Rattle.tftp_promises.specs.AnyFiles.{ServesClient, client_end, peer_of}
 use Rattle.tftp_promises.specs.Joined.{AreJoined}
-use Rattle.tftp_promises.specs.Lived.{AreNoted, IsLiving, acts_at, acts_in}
+use Rattle.tftp_promises.specs.Lived.{AreNoted, AreNotedWhileOpen, IsLiving, acts_at, acts_in}
 use Rattle.tftp_promises.specs.Order.{Noted, Programs, ClientOf, requests_at}
 use Rattle.tftp_promises.specs.Programs.{client_at}
 
@@ -55,10 +55,10 @@ module _ {S F D G K : Type 0} {stores : StoreMeaning S D} {sources : SourceMeani
     pub living : IsLiving stores sources (acts_at serves.port was.run) serves.transfer
     pub unanswered : IsUnanswered (client_at client) p client.last.end (acts_in client.runs)
         serves.transfer.end (acts_at serves.port was.run)
-    -- all that is in the traces
+    -- these acts are just what the traces have of the two
     pub client_noted : AreNoted client.port client.before client.last.events (acts_in client.runs)
-    pub server_noted : AreNoted serves.port programs.server.start.events was.state.events
-        (acts_at serves.port was.run)
+    pub server_noted : AreNotedWhileOpen serves.port programs.server.start.events was.state.events
+        (is_open (Some serves.transfer)) (acts_at serves.port was.run)
 
   -- what of it the traces show
   pub record IsSeenUnanswered (client : ClientOf programs) (p : Endpoint) : Type 0 where
@@ -75,15 +75,14 @@ module _ {S F D G K : Type 0} {stores : StoreMeaning S D} {sources : SourceMeani
     pub unreceived : (packet : Packet) (bytes : List ℕ) → Awaits client.last.end packet
         → Spells packet bytes → Has (Received client.port p bytes) client.noted
         → Has (Lost p bytes) (acts_in client.runs)
-    -- if the transfer handled a copy, then it is over, or the server has sent an answer from its
-    -- port
+    -- if the transfer handled a copy, then it is over, or has sent an answer from its port
     pub answered : (packet : Packet) (bytes : List ℕ) → HasSaid client.last.end packet
         → Spells packet bytes
         → Has (Took (client_at client) bytes) (acts_at gave_up.serves.port gave_up.was.run)
         → IsOver gave_up.serves.transfer.end
         ⊎ ((answer : Packet) × Awaits client.last.end answer × Spells answer (canonical answer)
         × Has (Sent gave_up.serves.port (client_at client) (canonical answer))
-        gave_up.server_noted.noted)
+        gave_up.server_noted.own.noted)
 
   -- a client that has no peer has handled nothing from the address that it asked
   pub record GaveUpUnheard (client : ClientOf programs) : Type 0 where

@@ -1,7 +1,7 @@
 -- What the end of a client has received and sent, by its run, and that of a transfer, by the run of
 -- its server.
-use Rattle.std.specs.Prelude.{ℕ, ◌≡◌, ◌==◌, if◌then◌else◌, List, [], ◌∷◌, ◌++◌, Option}
-use Rattle.std.specs.Prelude.{Some, None}
+use Rattle.std.specs.Prelude.{ℕ, ◌≡◌, ◌≢◌, ◌==◌, Bool, true, if◌then◌else◌, List, [], ◌∷◌, ◌++◌}
+use Rattle.std.specs.Prelude.{Option, Some, None}
 use Rattle.tftp_file.specs.Sink.{SinkMeaning}
 use Rattle.tftp_file.specs.Source.{SourceMeaning}
 use Rattle.tftp_file.specs.declared.files.Files.{Files}
@@ -14,7 +14,7 @@ use Rattle.tftp_server.specs.Draft.{drafting_sink}
 use Rattle.tftp_lives.specs.Lives.{Act, Took, Lost, Said, Timed, Life, newest, with_reply}
 use Rattle.tftp_lives.specs.Unanswered.{Begins}
 use Rattle.tftp_sockets.specs.Trace.{SocketEvent}
-use Rattle.tftp_sockets.specs.Trace.SocketEvent.{Received, Sent, Elapsed}
+use Rattle.tftp_sockets.specs.Trace.SocketEvent.{Received, Sent, Watched, Elapsed, Printed, Quiet}
 use Rattle.tftp_loop.specs.Run.{Run}
 use Rattle.tftp_loop.specs.Run.Run.{Start, Then}
 use Rattle.tftp_loop.specs.Steps.{PortState, LoopState, PortStep, LoopStep}
@@ -90,11 +90,21 @@ module _ {S F D : Type 0} {stores : StoreMeaning S D} {sources : SourceMeaning F
   acts_at port (Then run does) = acts_at port run
 
 -- ---- what the traces have of it
--- the events of this port tell of each act, in its order
+-- the event is no act at this port: no datagram that came there or was sent from there, and no
+-- timeout
+abbrev pub IsNoActAt : ℕ → SocketEvent → Type 0
+IsNoActAt port (Received own from bytes) = own ≢ port
+IsNoActAt port (Sent own to bytes) = own ≢ port
+IsNoActAt port (Elapsed own time) = own ≢ port
+IsNoActAt port (Watched watch) = Unit {0}
+IsNoActAt port (Printed line) = Unit {0}
+IsNoActAt port (Quiet event) = Unit {0}
+
+-- the acts are just the events of this port, in their order
 pub data Tells (port : ℕ) : List SocketEvent → List Act → Type 0 where
   Begins_so : Tells port [] []
   Passes : {events : List SocketEvent} {acts : List Act} (event : SocketEvent)
-      → Tells port events acts → Tells port (event ∷ events) acts
+      → IsNoActAt port event → Tells port events acts → Tells port (event ∷ events) acts
   Receives : {events : List SocketEvent} {acts : List Act} (from : Endpoint) (bytes : List ℕ)
       → Tells port events acts
       → Tells port (Received port from bytes ∷ events) (Took from bytes ∷ acts)
@@ -106,11 +116,25 @@ pub data Tells (port : ℕ) : List SocketEvent → List Act → Type 0 where
   Elapses_then : {events : List SocketEvent} {acts : List Act} (time : ℕ)
       → Tells port events acts → Tells port (Elapsed port time ∷ events) (Timed ∷ acts)
 
--- so do those that were noted since the trace was so
+-- so are those that were noted since the trace was so
 pub record AreNoted (port : ℕ) (before events : List SocketEvent) (acts : List Act) : Type 0 where
   pub noted : List SocketEvent
   pub is : events ≡ noted ++ before
   pub tells : Tells port noted acts
+
+-- the acts of the transfer that was opened last at the port, which is open now, or is not: just the
+-- events there since it was opened, up to now if it is open
+pub record AreNotedWhileOpen (port : ℕ) (before events : List SocketEvent) (active : Bool)
+    (acts : List Act) : Type 0 where
+  -- what was noted before it was opened
+  pub earlier : List SocketEvent
+  -- what the trace was when it closed, or what it is now
+  pub until : List SocketEvent
+  pub own : AreNoted port (earlier ++ before) until acts
+  -- what was noted since it closed
+  pub later : List SocketEvent
+  pub is : events ≡ later ++ until
+  pub still : active ≡ true → later ≡ []
 
 module _ {S F D : Type 0} (stores : StoreMeaning S D) (sources : SourceMeaning F) where
   -- the end of the transfer has done this since it opened

@@ -4,3 +4,5 @@ mod RequestLemmas
 mod RepeatLemmas
 mod ShortageLemmas
 mod CallersLemmas
+mod AppendedLemmas
+pub mod HeldLemmas

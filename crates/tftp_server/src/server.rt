@@ -9,7 +9,7 @@ mod request;
 ghost use Rattle.std.specs.Prelude.{◌≡◌, ◌↔◌, ◌++◌, vec_capacity, vec_len, [], length};
 ghost use Rattle.std.specs.Prelude.{option_copied, option_map, is_some, if◌then◌else◌, false, true};
 ghost use Rattle.std.specs.Prelude.{Option};
-ghost use Rattle.std.specs.Prelude.{IfOk, IfErr, IsErrOf, OnOk, OnErr};
+ghost use Rattle.std.specs.Prelude.{IfOk, IfErr, IsErrOf, IsSome, OnOk, OnErr};
 ghost use Rattle.std.specs.Map.{keys_of};
 ghost use Rattle.std.specs.Borrow.{Lends, sem};
 ghost use Rattle.tftp_ends.specs.End.{record_of};
@@ -169,6 +169,7 @@ impl<S: Store> Server<S> {
         ensures rest { self.new ≡ record self.old { held = self.new.held } }
         ensures no_such_tid { IsErrOf result ServerFault.NoSuchTid
             ↔ (is_open (at tid self.old.held) ≡ false) }
+        ensures held { OnOk result (IsSome (at tid self.new.held)) }
         ensures fault { IfErr result (λ fault. fault ≡ ServerFault.NoSuchTid) }
         ensures err { OnErr result (self.new ≡ self.old) }
     {
@@ -191,6 +192,7 @@ impl<S: Store> Server<S> {
     ) -> Result<(Step, Outgoing), ServerFault>
         ensures takes { IfOk result (λ answer. TakesDatagramLent S.meaning S.Source.meaning
             tid from bytes.now self.old self.new answer.0 answer.1) }
+        ensures held { OnOk result (IsSome (at tid self.new.held)) }
         ensures rest { self.new ≡ record self.old { store = self.new.store; held = self.new.held } }
         ensures no_such_tid { IsErrOf result ServerFault.NoSuchTid
             ↔ (is_open (at tid self.old.held) ≡ false) }

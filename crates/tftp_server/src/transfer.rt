@@ -11,9 +11,9 @@ ghost use Rattle.tftp_ends.specs.Files.{KeepsSource, KeepsSink};
 ghost use Rattle.tftp_ends.specs.OneFile.{ReceiverStep, SenderStep};
 ghost use Rattle.tftp_server.specs.CallersFiles.{is_open_sender, is_open_receiver};
 ghost use Rattle.tftp_server.specs.Steps.{with_end, lends, TakesBy, TakesIn, StaysAs};
-ghost use Rattle.tftp_ends.specs.Action.{Decodes, datagram_action, timeout_action};
+ghost use Rattle.tftp_ends.specs.Action.{Decodes, HandledBy, datagram_action, timeout_action};
 ghost use Rattle.tftp_ends.specs.Action.{timeout_response};
-ghost use Rattle.tftp_ends.specs.Room.{response_room};
+ghost use Rattle.tftp_ends.specs.Room.{FitsRoom, response_room};
 ghost use Rattle.tftp_ends.specs.Shortage.{AppendsNothing, HasNoRoom};
 ghost use Rattle.tftp_server.specs.Shortage.{TransferLacksMemory};
 ghost use Rattle.tftp_ends.specs.Step.{Carries, Lends, IsAnswered, UsesFile, lent, timeout_turn};
@@ -76,6 +76,13 @@ impl<F, D> Transfer<F, D> {
             path,
             request,
         }
+    }
+
+    /// Its end.
+    pub(crate) fn end(&self) -> &End
+        ensures { result.now ≡ self.now.end }
+    {
+        &self.end
     }
 
     /// The record of its end.
@@ -252,20 +259,12 @@ impl<F: Source, D> Transfer<F, D> {
             config.now.overwrite store.old store.new self.old self.new
             × (out.new.items ≡ out.old.items)) }
     {
-        match &mut self.files {
-            Files::Source(source) => self.end.on_datagram_as_sender(source, from, bytes, out),
-            Files::Sink(draft) => {
-                let path = &self.path;
-                let mut sink = DraftSink {
-                    store,
-                    draft,
-                    path,
-                    replace: config.overwrite,
-                };
-                self.end
-                    .on_datagram_as_receiver(&mut sink, from, bytes, out)
-            }
-        }
+        self.end().reserve_answer(from, bytes, out)?;
+        let (step, outgoing) = self.handle_datagram(store, config, from, bytes)?;
+        let Ok(()) = out.extend_from_slice(self.bytes_of(outgoing)) else {
+            unreachable!()
+        };
+        Ok(step)
     }
 
     /// As [`Transfer::on_datagram`], but [`Transfer::bytes_of`] lends the datagram.
@@ -288,6 +287,8 @@ impl<F: Source, D> Transfer<F, D> {
         ensures why { IsErrOf result EndFault.Memory → TransferLacksMemory S.meaning F.meaning
             AppendsNothing
             config.now.overwrite from bytes.now store.old store.new self.old self.new }
+        ensures room { IfOk result (λ answer. HandledBy
+            (FitsRoom self.old.end (lent answer.1 self.new.end)) from bytes.now self.old.end) }
         ensures err { OnErr result (StaysAs S.meaning F.meaning
             config.now.overwrite store.old store.new self.old self.new) }
     {

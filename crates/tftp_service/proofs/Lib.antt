@@ -1,4 +1,1 @@
-pub mod Following
 pub mod Leaving
-pub mod Passing
-pub mod Starting

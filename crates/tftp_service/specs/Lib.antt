@@ -1,9 +1,3 @@
-pub mod EventRef
 pub mod HandedFault
-pub mod Lines
 pub mod Looks
-pub mod Output
-pub mod PassedOn
-pub mod ProcessEvent
 pub mod Share
-pub mod Watching

@@ -1,16 +1,18 @@
 //! When a server's status file is written, and with what.
 
-ghost use Rattle.std.specs.Prelude.{◌≡◌, ◌∷◌, [], IfOk};
+ghost use Rattle.std.specs.Prelude.{◌≡◌, ◌∷◌};
 ghost use Rattle.tftp_status.specs.StatusEvent.{told_in};
 ghost use Rattle.tftp_status.specs.StatusEvent.StatusEvent.{Moved, Told};
-ghost use Rattle.tftp_status.specs.StatusFile.{KeepsCounts, draft_of};
+ghost use Rattle.tftp_status.specs.StatusFile.{IsNewAt, KeepsCounts};
 
 use crate::comments::Comments;
 use crate::datagrams::Way;
 use crate::labels::Labels;
 use crate::status_file::StatusFile;
+use crate::status_paths::StatusPaths;
 use crate::status_text::Facts;
-use std::alloc::{AllocError, Global};
+use crate::unused_disk::UnusedDisk;
+use std::alloc::Global;
 use tftp_disk::Disk;
 use tftp_lines::Reason;
 use tftp_sockets::{Entry, OpenTransfer};
@@ -23,14 +25,14 @@ const PERIOD: u64 = 1_000;
 const LONGEST_AGE: u64 = 60_000;
 
 /// The file of a server's reports, and what they say of the server beside its counts.
-#[derive(Clone, Copy)]
-pub struct ReportSettings<'a> {
-    /// The path of the file.
-    pub file: &'a str,
+#[derive(Drop)]
+pub struct ReportSettings {
+    /// The paths of the file and of its temporary file.
+    pub paths: StatusPaths,
     /// Which server it is of.
     pub labels: Labels,
     /// The version of the program.
-    pub version: &'a str,
+    pub version: String,
     /// The most transfers that may be open.
     pub limit: u64,
     /// When the server started, in seconds since 1970 began in UTC.
@@ -40,7 +42,7 @@ pub struct ReportSettings<'a> {
 /// The reports of a server.
 #[derive(Drop)]
 pub(crate) struct Report<D: Disk> {
-    pub(crate) status: StatusFile<D>,
+    status: StatusFile<D>,
     alloc: Global,
     labels: Labels,
     version: String,
@@ -60,22 +62,14 @@ pub(crate) struct Report<D: Disk> {
 
 impl<D: Disk> Report<D> {
     /// The reports of a server that has done nothing yet. The first is due at once.
-    pub(crate) fn new(
-        alloc: Global,
-        disk: D,
-        settings: &ReportSettings<'_>,
-    ) -> Result<Report<D>, AllocError>
-        requires { D.log disk ≡ [] }
-        ensures file { IfOk result (λ report. report.status.file ≡ settings.now.file.now) }
-        ensures draft { IfOk result (λ report. report.status.draft ≡ draft_of settings.now.file.now) }
-        ensures events { IfOk result (λ report. report.status.events ≡ []) }
-        ensures keeps { IfOk result (λ report. KeepsCounts report.status) }
+    pub(crate) fn new(alloc: Global, disk: UnusedDisk<D>, settings: ReportSettings) -> Report<D>
+        ensures { IsNewAt settings.paths result.status }
     {
-        Ok(Report {
-            status: StatusFile::new(alloc, disk, settings.file)?,
+        Report {
+            status: StatusFile::new(disk.into_disk(), settings.paths),
             alloc,
             labels: settings.labels,
-            version: String::from_str(alloc, settings.version)?,
+            version: settings.version,
             limit: settings.limit,
             start: settings.start,
             lines: Comments::new(alloc),
@@ -83,7 +77,7 @@ impl<D: Disk> Report<D> {
             stale: 0,
             is_changed: true,
             has_failed: false,
-        })
+        }
     }
 
     /// Counts an entry.

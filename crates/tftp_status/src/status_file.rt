@@ -1,12 +1,12 @@
 //! A file that is written anew and renamed, with the counts of what was noted.
 
-ghost use Rattle.std.specs.Prelude.{◌≡◌, ◌∷◌, ◌++◌, [], OnErr, OnOk, IfOk};
+ghost use Rattle.std.specs.Prelude.{◌≡◌, ◌∷◌, ◌++◌, [], IfOk, OnErr, OnOk};
 ghost use Rattle.tftp_disk.specs.DiskTrace.{written};
 ghost use Rattle.tftp_disk.specs.DiskWriter.{calls_of};
 ghost use Rattle.tftp_disk.specs.declared.found.Kind.TheVariants.{Regular};
 ghost use Rattle.tftp_status.specs.StatusEvent.{told_in};
 ghost use Rattle.tftp_status.specs.StatusEvent.StatusEvent.{Handed, Moved, Told};
-ghost use Rattle.tftp_status.specs.StatusFile.{FoundReplaceable, KeepsCounts, KeepsFiles, draft_of};
+ghost use Rattle.tftp_status.specs.StatusFile.{FoundReplaceable, IsNewAt, KeepsCounts, KeepsFiles};
 ghost use Rattle.tftp_status.specs.StatusFile.{IsReplaceable, renamed_in};
 ghost use Rattle.tftp_status.specs.StatusText.{status_text};
 
@@ -14,9 +14,10 @@ use crate::comments::Comments;
 use crate::counts::Counts;
 use crate::datagrams::{Datagrams, Way};
 use crate::event_ref::EventRef;
+use crate::status_paths::StatusPaths;
 use crate::status_text::{Facts, StatusText};
 use crate::trace::{StatusEvents, Trace};
-use std::alloc::{AllocError, Global};
+use std::alloc::Global;
 use std::io::{self, ErrorKind, Write};
 use std::marker::Model;
 use tftp_disk::{Disk, DiskFile, DiskWriter, Found, Kind};
@@ -65,23 +66,19 @@ impl<D: Disk> Model for StatusFile<D> {
 
 impl<D: Disk> StatusFile<D> {
     /// A status file at this path, of which nothing is written yet. Of the disk nothing was asked.
-    pub fn new(alloc: Global, disk: D, file: &str) -> Result<StatusFile<D>, AllocError>
+    pub fn new(disk: D, paths: StatusPaths) -> StatusFile<D>
         requires { D.log disk ≡ [] }
-        ensures file { IfOk result (λ status. status.file ≡ file.now) }
-        ensures draft { IfOk result (λ status. status.draft ≡ draft_of file.now) }
-        ensures events { IfOk result (λ status. status.events ≡ []) }
-        ensures keeps { IfOk result KeepsCounts }
+        ensures { IsNewAt paths result }
     {
-        let draft = format!(in alloc; "{file}~")?;
-        let file = String::from_str(alloc, file)?;
-        Ok(StatusFile {
+        let StatusPaths { file, draft } = paths;
+        StatusFile {
             disk,
             file,
             draft,
             counts: Counts::new(),
             datagrams: Datagrams::new(),
             trace: Trace::new(&StatusEvents),
-        })
+        }
     }
 
     /// Counts an entry.

@@ -7,7 +7,7 @@ use tftp_disk::Disk;
 
 /// A disk of which nothing was asked. Its model is its trace.
 #[derive(Drop)]
-pub(crate) struct UnusedDisk<D: Disk> {
+pub struct UnusedDisk<D: Disk> {
     disk: D,
 }
 
@@ -24,7 +24,7 @@ impl<D: Disk> Model for UnusedDisk<D> {
 
 impl<D: Disk> UnusedDisk<D> {
     /// This disk.
-    pub(crate) fn new(disk: D) -> UnusedDisk<D>
+    pub fn new(disk: D) -> UnusedDisk<D>
         requires { D.log disk ≡ [] }
         ensures { result ≡ [] }
     {

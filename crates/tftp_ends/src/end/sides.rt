@@ -2,7 +2,7 @@
 //! sink.
 
 ghost use Rattle.std.specs.Prelude.{◌≡◌, ◌↔◌, true, false, IfOk, OnErr, Option};
-ghost use Rattle.std.specs.Prelude.{IsErrOf, IsSome, vec_len, vec_capacity};
+ghost use Rattle.std.specs.Prelude.{IsErrOf, IsSome};
 ghost use Rattle.tftp_wire.specs.declared.packet.Packet.{Packet};
 ghost use Rattle.tftp_ends.specs.declared.action.Action.TheVariants.{Send, Store};
 ghost use Rattle.tftp_ends.specs.declared.phase.Phase.TheVariants.{Receiving, Sending};
@@ -13,8 +13,8 @@ ghost use Rattle.tftp_ends.specs.Fits.{ActionFits, BytesFit};
 ghost use Rattle.tftp_ends.specs.OneFile.{SenderStep, SenderLacksMemory};
 ghost use Rattle.tftp_ends.specs.OneFile.{ReceiverStep, ReceiverLacksMemory};
 ghost use Rattle.tftp_ends.specs.Room.{FitsRoom};
-ghost use Rattle.tftp_ends.specs.Shortage.{AppendsNothing, HasNoRoom};
-ghost use Rattle.tftp_ends.specs.Step.{Turn, Carries, Lends, IsAnswered, UsesFile, reported, lent};
+ghost use Rattle.tftp_ends.specs.Shortage.{AppendsNothing};
+ghost use Rattle.tftp_ends.specs.Step.{Turn, Lends, UsesFile, reported, lent};
 
 use crate::end::End;
 use crate::end::acting::piece_of;
@@ -128,7 +128,7 @@ impl End {
             return Err(EndFault::Closed);
         }
         let before = self.phase();
-        let action = self.any_sender_action(from, bytes);
+        let action = self.action_as_sender(from, bytes);
         let (to, outgoing) = self.act_as_sender(action, source, from)?;
         Ok((before.step_to(self.phase(), to), outgoing))
     }
@@ -243,82 +243,8 @@ impl End {
             return Err(EndFault::Closed);
         }
         let before = self.phase();
-        let action = self.any_action(from, bytes);
+        let action = self.action_as_receiver(from, bytes);
         let (to, outgoing) = self.act_as_receiver(action, sink, from, bytes)?;
         Ok((before.step_to(self.phase(), to), outgoing))
-    }
-
-    /// As [`End::on_datagram`], for a sender alone: `source` is its file.
-    pub fn on_datagram_as_sender<S: Source>(
-        &mut self,
-        source: &mut S,
-        from: Endpoint,
-        bytes: &[u8],
-        out: &mut Vec<u8>,
-    ) -> Result<Step, EndFault>
-        requires { is_sender self.old.role.side ≡ true }
-        ensures steps { IfOk result (λ step. (turn : Turn)
-            × SenderStep S.meaning from bytes.now self.old source.old turn source.new
-            × Carries self.old turn self.new step.to out.old.items out.new.items
-            × (step ≡ reported self.old turn)) }
-        ensures closed { IsErrOf result EndFault.Closed
-            ↔ IsSome (outcome_of self.old.position.phase) }
-        ensures unmoved { IsErrOf result EndFault.Closed → source.new ≡ source.old }
-        ensures memory { IsErrOf result EndFault.Memory
-            → HandledBy IsAnswered from bytes.now self.old }
-        ensures why { IsErrOf result EndFault.Memory → SenderLacksMemory S.meaning
-            (HasNoRoom (vec_capacity out.old) (vec_len out.old)) from bytes.now self.old
-            source.old source.new }
-        ensures err { OnErr result ((self.new ≡ self.old) × (out.new.items ≡ out.old.items)
-            × KeepsSource S.meaning source.old source.new) }
-        ensures same { S.is_same source.old source.new }
-        ensures side { is_sender self.new.role.side ≡ true }
-    {
-        if self.is_closed() {
-            return Err(EndFault::Closed);
-        }
-        let before = self.phase();
-        let action = self.datagram_action(true, from, bytes);
-        out.reserve(self.room(action))?;
-        let (to, outgoing) = self.act_as_sender(action, source, from)?;
-        self.append_outgoing(outgoing, out);
-        Ok(before.step_to(self.phase(), to))
-    }
-
-    /// As [`End::on_datagram`], for a receiver alone: `sink` is its file.
-    pub fn on_datagram_as_receiver<K: Sink>(
-        &mut self,
-        sink: &mut K,
-        from: Endpoint,
-        bytes: &[u8],
-        out: &mut Vec<u8>,
-    ) -> Result<Step, EndFault>
-        requires { is_sender self.old.role.side ≡ false }
-        ensures steps { IfOk result (λ step. (turn : Turn)
-            × ReceiverStep K.meaning from bytes.now self.old sink.old turn sink.new
-            × Carries self.old turn self.new step.to out.old.items out.new.items
-            × (step ≡ reported self.old turn)) }
-        ensures closed { IsErrOf result EndFault.Closed
-            ↔ IsSome (outcome_of self.old.position.phase) }
-        ensures unmoved { IsErrOf result EndFault.Closed → sink.new ≡ sink.old }
-        ensures memory { IsErrOf result EndFault.Memory
-            → HandledBy IsAnswered from bytes.now self.old }
-        ensures why { IsErrOf result EndFault.Memory → ReceiverLacksMemory K.meaning
-            (HasNoRoom (vec_capacity out.old) (vec_len out.old)) from bytes.now self.old
-            sink.old sink.new }
-        ensures err { OnErr result ((self.new ≡ self.old) × (out.new.items ≡ out.old.items)
-            × KeepsSink K.meaning sink.old sink.new) }
-        ensures same { K.is_same sink.old sink.new }
-        ensures side { is_sender self.new.role.side ≡ false }
-    {
-        if self.is_closed() {
-            return Err(EndFault::Closed);
-        }
-        let before = self.phase();
-        let action = self.any_action(from, bytes);
-        out.reserve(self.room(action))?;
-        let (to, outgoing) = self.act_as_receiver(action, sink, from, bytes)?;
-        self.append_outgoing(outgoing, out);
-        Ok(before.step_to(self.phase(), to))
     }
 }

@@ -119,14 +119,16 @@ fn store_block<K: Sink>(
 }
 
 /// Replaces the buffer's bytes by the host bytes of a piece of netascii, and returns the decoder
-/// after it.
+/// after it. Out of memory, the buffer is left empty.
 fn decode_into(
     buffer: &mut Vec<u8>,
     decoder: NetDecoder,
     piece: &[u8],
 ) -> Result<NetDecoder, AllocError>
     requires { begins_netascii (decoder ++ piece.now) ≡ true }
-    ensures { IfOk result (λ after. DecodesPiece decoder piece.now buffer.new.items after) }
+    ensures decodes { IfOk result (λ after.
+        DecodesPiece decoder piece.now buffer.new.items after) }
+    ensures err { OnErr result (buffer.new.items ≡ []) }
 {
     let mut after = decoder;
     buffer.clear();
@@ -140,39 +142,7 @@ fn decode_into(
 }
 
 /// Stores the host bytes of a piece, and returns the decoder after it. The buffer is for the
-/// decoded bytes.
-#[inline(always)]
-fn store_through<K: Sink>(
-    sink: &mut K,
-    mode: Mode,
-    decoder: NetDecoder,
-    piece: &[u8],
-    kind: BlockKind,
-    buffer: &mut Vec<u8>,
-) -> Result<(BlockStored, NetDecoder), AllocError>
-    requires { is_readable mode decoder piece.now (is_last kind) ≡ true }
-    ensures takes { IfOk result (λ stored.
-        StoresPiece K.meaning mode decoder piece.now (is_last kind) sink.old sink.new
-        stored.0 stored.1) }
-    ensures err { OnErr result (KeepsSink K.meaning sink.old sink.new) }
-    ensures why { OnErr result
-        (StoreLacksMemory K.meaning mode decoder piece.now sink.old sink.new) }
-    ensures same { K.is_same sink.old sink.new }
-{
-    match mode {
-        Mode::Octet => {
-            let stored = store_block(sink, piece, kind)?;
-            Ok((stored, decoder))
-        }
-        Mode::Netascii => {
-            let after = decode_into(buffer, decoder, piece)?;
-            let stored = store_block(sink, buffer, kind)?;
-            Ok((stored, after))
-        }
-    }
-}
-
-/// Stores the host bytes of a piece, returns the decoder after it, and leaves the buffer empty.
+/// decoded bytes: it is empty before and after.
 #[inline(always)]
 fn store_piece<K: Sink>(
     sink: &mut K,
@@ -182,7 +152,8 @@ fn store_piece<K: Sink>(
     kind: BlockKind,
     buffer: &mut Vec<u8>,
 ) -> Result<(BlockStored, NetDecoder), AllocError>
-    requires { is_readable mode decoder piece.now (is_last kind) ≡ true }
+    requires readable { is_readable mode decoder piece.now (is_last kind) ≡ true }
+    requires empty { buffer.old.items ≡ [] }
     ensures takes { IfOk result (λ stored.
         StoresPiece K.meaning mode decoder piece.now (is_last kind) sink.old sink.new
         stored.0 stored.1) }
@@ -192,9 +163,18 @@ fn store_piece<K: Sink>(
     ensures empty { buffer.new.items ≡ [] }
     ensures same { K.is_same sink.old sink.new }
 {
-    let stored = store_through(sink, mode, decoder, piece, kind, buffer);
-    buffer.clear();
-    stored
+    match mode {
+        Mode::Octet => {
+            let stored = store_block(sink, piece, kind)?;
+            Ok((stored, decoder))
+        }
+        Mode::Netascii => {
+            let after = decode_into(buffer, decoder, piece)?;
+            let stored = store_block(sink, buffer, kind);
+            buffer.clear();
+            Ok((stored?, after))
+        }
+    }
 }
 
 impl End {

@@ -19,5 +19,5 @@ returns-in-Ok-hold-clause-ok c = λ _.
 pub returns-in-Err-clause-fault : goal.returns-in-Err-clause-fault
 returns-in-Err-clause-fault c = λ _.
     hold_fails c.args.tid c.args.from.now c.endpoint.result c.args.request.now c.in-Ok.admission.ask
-    c.args.server.now c.in-Err.fault c.number.result c.number.ensures c.endpoint.ensures
+    c.args.server.now c.in-Err.fault c.table_fault.result c.table_fault.ensures c.endpoint.ensures
     c.in-Ok.ensures.admits c.in-Err.ensures.in_use c.in-Err.ensures.no_such_tid c.in-Err.ensures.memory

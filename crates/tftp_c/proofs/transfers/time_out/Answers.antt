@@ -1,13 +1,7 @@
 -- The transfer that had the timeout is reported.
 use Rattle.tftp_c.proofs.Common.{refl}
-use Rattle.tftp_c.proofs.TransferLemmas.{lent_at, still_held, timed_out_at}
+use Rattle.tftp_c.proofs.TransferLemmas.{lent_at, timed_out_at}
 use Rattle.tftp_c.proofs.transfers.time_out.Goals as goal
-
-pub report_at-requires : goal.report_at-requires
-report_at-requires c =
-    still_held c.args.tid _ _
-    (lent_at c.args.tid c.args.server.now c.handle_timeout.new.self c.in-Ok.step c.in-Ok.outgoing
-    c.in-Ok.ensures.rest c.in-Ok.ensures.steps)
 
 pub returns-in-Ok-clause-ok : goal.returns-in-Ok-clause-ok
 returns-in-Ok-clause-ok c = λ _.

@@ -1,5 +1,6 @@
--- The log is no event.
+-- What the device is made of is no event.
+use Rattle.tftp_daemon.proofs.ConfiguredLemmas.{from_same}
 use Rattle.tftp_daemon.proofs.daemon.serve_alone.Goals as goal
 
-pub returns-clause-runs : goal.returns-clause-runs
-returns-clause-runs g c = rw (← c.set_log.ensures.net) c.serve_where_asked.ensures.runs
+pub returns-in-Ok-clause-runs : goal.returns-in-Ok-clause-runs
+returns-in-Ok-clause-runs g c = from_same c.setup_of.ensures.log c.serve_with.ensures.runs

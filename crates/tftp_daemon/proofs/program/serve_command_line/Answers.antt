@@ -5,4 +5,4 @@ pub returns-in-Run-clause-several : goal.returns-in-Run-clause-several
 returns-in-Run-clause-several g c = rw (c.in-Run.is) c.serve_config.ensures.several
 
 pub returns-in-Run-clause-reports : goal.returns-in-Run-clause-reports
-returns-in-Run-clause-reports g c = λ none. rw (c.in-Run.is) (c.serve_config.ensures.reports none)
+returns-in-Run-clause-reports g c = rw (c.in-Run.is) c.serve_config.ensures.reports

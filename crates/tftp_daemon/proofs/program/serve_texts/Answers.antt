@@ -17,10 +17,9 @@ returns-in-Ok-clause-several g c =
 
 pub returns-in-Ok-clause-reports : goal.returns-in-Ok-clause-reports
 returns-in-Ok-clause-reports g c =
-    λ none.
-    reports_words (map g.S.AsStr.text c.args.words.now) c.in-Ok.line c.args.net.now.report
-    c.serve_command_line.new.net.report (λ report. report.status) c.in-Ok.ensures.names
-    (c.serve_command_line.ensures.reports none) c.serve_command_line.ensures.unreported none
+    reports_words (map g.S.AsStr.text c.args.words.now) c.in-Ok.line c.serve_command_line.result.1.reporting.report
+    (λ report. report.status) c.in-Ok.ensures.names c.serve_command_line.ensures.reports
+    c.serve_command_line.ensures.unreported
 
 pub returns-in-Err-clause-reports : goal.returns-in-Err-clause-reports
-returns-in-Err-clause-reports g c = none_reported _ c.args.net.now.report
+returns-in-Err-clause-reports g c = none_reported _ _ c.into_devices.ensures.none

@@ -1,11 +1,10 @@
--- The datagram that is lent after a timeout is the one that the step appends.
-use Rattle.tftp_ends.proofs.Common.{rules, Lends, timeout_turn}
-use Rattle.tftp_ends.proofs.Lending.{carries_lent}
+-- The step that appends its answer is the one that lends it.
+use Rattle.tftp_ends.proofs.Appending.{carries_appended}
 use Rattle.tftp_ends.proofs.end.End.on_timeout.Goals as goal
 
 pub returns-clause-steps : goal.returns-clause-steps
 returns-clause-steps c =
-    let lends : Lends c.args.self.now
-    (timeout_turn c.args.self.now) c.respond-to.new.self c.respond-to.result.0 c.respond-to.result.1 =
-    search rules in
-    carries_lent c.args.self.now _ _ c.respond-to.result.0 _ _ _ c.step_to.result lends (search rules) (search rules)
+    let steps = c.in_ok-step.ensures.steps in (
+      carries_appended _ _ _ _ _ _ _ _ steps.0 c.append_outgoing.ensures c.reserve.ensures.items,
+      steps.1,
+    )

@@ -1,5 +1,5 @@
 -- A whole block is sent, and a source that changed ends the transfer.
-use Rattle.tftp_ends.proofs.Common.{◌≡◌, Option, Some, ap, rules, Terms, terms_of}
+use Rattle.tftp_ends.proofs.Common.{◌≡◌, Some, ap, rules, terms_of}
 use Rattle.tftp_ends.proofs.Sending.{sent_whole, sent_error}
 use Rattle.tftp_ends.proofs.end.End.send_after.Goals as goal
 

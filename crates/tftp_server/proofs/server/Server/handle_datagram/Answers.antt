@@ -1,6 +1,7 @@
 -- What the transfer at the identifier does is what the server does; its fault is the server's.
 use Rattle.std.proofs.Common.{refl, sym}
 use Rattle.tftp_ends.specs.Step.{UsesFile}
+use Rattle.tftp_server.proofs.HeldLemmas.{still_held}
 use Rattle.tftp_server.proofs.StepsLemmas.{datagram_fault, handled_open, nothing_changed, returned, when_closed, when_memory}
 use Rattle.tftp_server.proofs.server.Server.handle_datagram.Goals as goal
 
@@ -43,3 +44,6 @@ returns-in_err-handle_datagram-clause-why g c =
       lacks = when_memory c.in_err-handle_datagram.field-0.0 c.in_err-handle_datagram.ensures.why e;
       held = refl;
     })
+
+pub returns-clause-held : goal.returns-clause-held
+returns-clause-held g c = still_held c.args.tid _ c.in-Some.transfer.now c.handle_datagram.new.self c.in-Some.ensures.value

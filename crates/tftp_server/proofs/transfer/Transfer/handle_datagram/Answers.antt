@@ -2,9 +2,9 @@
 use Rattle.std.proofs.Common.{refl}
 use Rattle.std.proofs.lemmas.Result.{IfOk-weaker}
 use Rattle.tftp_ends.specs.OneFile.{sender_lacks}
-use Rattle.tftp_ends.specs.Step.{UsesFile}
+use Rattle.tftp_ends.specs.Step.{UsesFile, lent}
 use Rattle.tftp_server.proofs.ShortageLemmas.{draft_lacked, draft_stays}
-use Rattle.tftp_server.proofs.StepsLemmas.{source_taken, draft_taken, drafting_now, handled_alike}
+use Rattle.tftp_server.proofs.StepsLemmas.{source_taken, draft_taken, drafting_now, handled_alike, room_alike}
 use Rattle.tftp_server.proofs.transfer.Transfer.handle_datagram.Goals as goal
 
 pub returns-in-Source-clause-takes : goal.returns-in-Source-clause-takes
@@ -52,3 +52,13 @@ returns-in-Sink-clause-err g c =
     c.handle_datagram_as_receiver.result c.handle_datagram_as_receiver.ensures.unmoved
     c.handle_datagram_as_receiver.ensures.why (λ h. (h.0, h.1)) (λ h stays. stays)
     c.handle_datagram_as_receiver.ensures.err)
+
+pub returns-in-Source-clause-room : goal.returns-in-Source-clause-room
+returns-in-Source-clause-room g c =
+    room_alike c.args.from c.args.bytes.now c.self.view_is _
+    (λ answer. lent answer.1 c.handle_datagram_as_sender.new.self) c.handle_datagram_as_sender.ensures.room
+
+pub returns-in-Sink-clause-room : goal.returns-in-Sink-clause-room
+returns-in-Sink-clause-room g c =
+    room_alike c.args.from c.args.bytes.now c.self.view_is _
+    (λ answer. lent answer.1 c.handle_datagram_as_receiver.new.self) c.handle_datagram_as_receiver.ensures.room

@@ -1,53 +1,54 @@
--- A step over the store and the draft as a sink is the transfer's.
-use Rattle.std.proofs.Common.{refl}
-use Rattle.std.proofs.lemmas.Result.{IfOk-weaker}
-use Rattle.tftp_ends.specs.OneFile.{sender_lacks}
+-- The step that appends its answer is the one that lends it.
+use Rattle.std.proofs.Common.{◌≡◌, ◌++◌, ◌∙◌, ℕ, List, ap, rules, subst}
+use Rattle.std.specs.Prelude.{vec_capacity, vec_len}
+use Rattle.tftp_ends.specs.Action.{HandledBy}
+use Rattle.tftp_ends.specs.End.{EndState}
+use Rattle.tftp_ends.specs.Room.{room_of}
+use Rattle.tftp_ends.specs.Shortage.{HasNoRoom}
 use Rattle.tftp_ends.specs.Step.{IsAnswered}
-use Rattle.tftp_server.proofs.ShortageLemmas.{draft_lacked, draft_stays}
-use Rattle.tftp_server.proofs.StepsLemmas.{source_taken, draft_taken, drafting_now, handled_alike}
+use Rattle.tftp_ends.proofs.Appending.{file_is_answered, lacks_beside, lacks_room, passed}
+use Rattle.tftp_server.specs.Draft.{drafting_sink}
+use Rattle.tftp_server.proofs.AppendedLemmas.{step_appended, stays_unchanged}
+use Rattle.tftp_server.proofs.StepsLemmas.{returned}
 use Rattle.tftp_server.proofs.transfer.Transfer.on_datagram.Goals as goal
 
-pub returns-in-Source-clause-takes : goal.returns-in-Source-clause-takes
-returns-in-Source-clause-takes g c =
-    rw (← c.self.view_is, c.in-Source.is)
-    (IfOk-weaker c.on_datagram_as_sender.result _ _
-    (λ step h. source_taken g.S.Store.meaning g.F.Source.meaning h)
-    c.on_datagram_as_sender.ensures.steps)
+pub returns-clause-takes : goal.returns-clause-takes
+returns-clause-takes g c =
+    let reserved = c.reserve_answer.new.out.items in
+    let added : c.extend_from_slice.new.self.items ≡ reserved ++ c.bytes_of.result.now = search rules in
+    step_appended g.S.Store.meaning g.F.Source.meaning c.in_ok-step.ensures.takes
+    (added ∙ ap (λ (x : List ℕ). reserved ++ x) c.bytes_of.ensures) c.reserve_answer.ensures.items
 
-pub returns-in-Source-clause-memory : goal.returns-in-Source-clause-memory
-returns-in-Source-clause-memory g c = λ memory.
-    handled_alike IsAnswered c.args.from c.args.bytes.now c.self.view_is
-    (c.on_datagram_as_sender.ensures.memory memory)
+pub returns-in_err-reserve_answer-clause-memory : goal.returns-in_err-reserve_answer-clause-memory
+returns-in_err-reserve_answer-clause-memory g c =
+    rw (returned _ _ c.from_residual.ensures.1)
+    (λ e. subst (λ (end : EndState). HandledBy IsAnswered c.args.from c.args.bytes.now end) c.end.ensures
+    (c.in_err-reserve_answer.ensures.memory (passed _ _ e)))
 
-pub returns-in-Source-clause-why : goal.returns-in-Source-clause-why
-returns-in-Source-clause-why g c = λ memory.
-    rw (← c.self.view_is, c.in-Source.is)
-    (sender_lacks _ _ _ _ _ _ _ _ (c.on_datagram_as_sender.ensures.why memory))
+pub returns-in_err-reserve_answer-clause-why : goal.returns-in_err-reserve_answer-clause-why
+returns-in_err-reserve_answer-clause-why g c =
+    let too_full = HasNoRoom (vec_capacity c.args.out.now) (vec_len c.args.out.now) in
+    rw (returned _ _ c.from_residual.ensures.1)
+    (λ e. lacks_room g.F.Source.meaning (drafting_sink g.S.Store.meaning) too_full c.args.from c.args.bytes.now
+    c.args.self.now.end _
+    (subst (λ (end : EndState). HandledBy (λ action. too_full (room_of end action)) c.args.from c.args.bytes.now end)
+    c.end.ensures (c.in_err-reserve_answer.ensures.why (passed _ _ e))))
 
-pub returns-in-Sink-clause-takes : goal.returns-in-Sink-clause-takes
-returns-in-Sink-clause-takes g c =
-    rw (← c.self.view_is, c.in-Sink.is)
-    (IfOk-weaker c.on_datagram_as_receiver.result _ _
-    (λ step h. draft_taken g.S.Store.meaning g.F.Source.meaning _ c.on_datagram_as_receiver.new.sink refl
-    (drafting_now c.on_datagram_as_receiver.new.sink c.store-1.given.1 c.on_datagram_as_receiver.ensures.same)
-    h) c.on_datagram_as_receiver.ensures.steps)
+pub returns-in_err-reserve_answer-clause-err : goal.returns-in_err-reserve_answer-clause-err
+returns-in_err-reserve_answer-clause-err g c =
+    rw (returned _ _ c.from_residual.ensures.1) (
+      stays_unchanged g.S.Store.meaning g.F.Source.meaning g.met.F.Source.unmoved _ c.args.self.now,
+      c.reserve_answer.ensures.items,
+    )
 
-pub returns-in-Sink-clause-memory : goal.returns-in-Sink-clause-memory
-returns-in-Sink-clause-memory g c = λ memory.
-    handled_alike IsAnswered c.args.from c.args.bytes.now c.self.view_is
-    (c.on_datagram_as_receiver.ensures.memory memory)
+pub returns-in_err-step-clause-memory : goal.returns-in_err-step-clause-memory
+returns-in_err-step-clause-memory g c =
+    rw (returned _ _ c.from_residual-in_err-step.ensures.1)
+    (λ e. file_is_answered c.args.from c.args.bytes.now c.args.self.now.end (c.in_err-step.ensures.memory (passed _ _ e)))
 
-pub returns-in-Sink-clause-why : goal.returns-in-Sink-clause-why
-returns-in-Sink-clause-why g c = λ memory.
-    rw (← c.self.view_is, c.in-Sink.is)
-    (draft_lacked g.S.Store.meaning g.F.Source.meaning _ _ c.on_datagram_as_receiver.new.sink refl
-    (drafting_now c.on_datagram_as_receiver.new.sink c.store-1.given.1 c.on_datagram_as_receiver.ensures.same)
-    (c.on_datagram_as_receiver.ensures.why memory))
-
-pub returns-in-Sink-clause-err : goal.returns-in-Sink-clause-err
-returns-in-Sink-clause-err g c =
-    rw (← c.self.view_is, c.in-Sink.is)
-    (draft_stays g.S.Store.meaning g.F.Source.meaning _ _ c.on_datagram_as_receiver.new.sink refl
-    (drafting_now c.on_datagram_as_receiver.new.sink c.store-1.given.1 c.on_datagram_as_receiver.ensures.same)
-    c.on_datagram_as_receiver.result c.on_datagram_as_receiver.ensures.unmoved c.on_datagram_as_receiver.ensures.why
-    (λ h. (h.0, h.2)) (λ h stays. (stays, h.1)) c.on_datagram_as_receiver.ensures.err)
+pub returns-in_err-step-clause-why : goal.returns-in_err-step-clause-why
+returns-in_err-step-clause-why g c =
+    rw (returned _ _ c.from_residual-in_err-step.ensures.1)
+    (λ e. lacks_beside g.F.Source.meaning (drafting_sink g.S.Store.meaning)
+    (HasNoRoom (vec_capacity c.args.out.now) (vec_len c.args.out.now)) _ _ _ _ _
+    (c.in_err-step.ensures.why (passed _ _ e)))

@@ -1,0 +1,17 @@
+-- The output gave bytes, which were passed on, or it is closed.
+use Rattle.std.proofs.Common.{refl}
+use Rattle.tftp_supervisor.specs.Watching.ReadsOutput.{Given}
+use Rattle.tftp_supervisor.specs.Output.{lines_in}
+use Rattle.tftp_supervisor.proofs.Starting.{finished_so}
+use Rattle.tftp_supervisor.proofs.supervisor.read_of.Goals as goal
+
+pub returns-in_default-clause-ok : goal.returns-in_default-clause-ok
+returns-in_default-clause-ok g c =
+    let closed = rw c.in_default.is at c.in-Ok.ensures.closed in
+    finished_so c.finish.result (lines_in c.args.announced.now.items) c.args.server.now c.finish.new.server _ _ _ c.args.out.now.items
+    c.finish.ensures.ok closed c.finish.ensures.output c.requires.out
+
+pub returns-clause-ok : goal.returns-clause-ok
+returns-clause-ok g c =
+    let gave = rw c.in-Some.is at c.in-Ok.ensures.gave in
+    Given c.in-Some.bytes.now gave (c.in_ok-pass_on.ensures c.requires.begun) refl
