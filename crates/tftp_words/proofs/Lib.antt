@@ -8,7 +8,9 @@ pub mod OpenedAt
 pub mod BegunAt
 pub mod FromDiskMade
 pub mod PutFromDiskMade
-pub mod SharedFolderLemmas
+pub mod SharedCalls
+pub mod OneHasTheName
+pub mod NamedPuts
 pub mod SharedDraftsLemmas
 mod NamedServer
 mod WitnessRuns

@@ -1,8 +1,8 @@
 -- While a program holds the temporary file of a put, no other takes it.
-use Rattle.std.proofs.Common.{◌≡◌, ◌∙◌, ℕ, Bool, true, false, List, [], ◌∷◌, ◌++◌, append_assoc, length, Option, Some, Ok, Err, refl}
-use Rattle.std.proofs.Common.{sym, ap, subst, zero, suc, inl, inr, arith, ◌+◌, ◌<◌}
+use Rattle.std.proofs.Common.{◌≡◌, ◌∙◌, ℕ, Bool, true, false, List, [], ◌∷◌, ◌++◌, append_assoc, length, Some, Ok, Err, refl}
+use Rattle.std.proofs.Common.{sym, ap, subst, zero, suc, inl, arith, ◌+◌, ◌<◌}
 use Rattle.std.proofs.lemmas.List.{length-append}
-use Rattle.std.specs.Prelude.{◌≢◌, ◌⊎◌, ◌==◌}
+use Rattle.std.specs.Prelude.{◌≢◌, ◌==◌}
 use Rattle.std.proofs.lemmas.Bool.{eqb-true, eqb-false}
 use Rattle.tftp_disk.specs.DiskTrace.{DiskEvent, Done, FileState}
 use Rattle.tftp_disk.specs.DiskTrace.DiskEvent.{Looked, Followed, Resolved, Opened, Tried, Created, Made, Locked, Linked, Renamed, Removed}
@@ -12,9 +12,9 @@ use Rattle.tftp_disk.specs.Still.{AllLeave, IsStillAt, LeavesPath}
 use Rattle.tftp_folder.specs.Held.{HoldsDraft, KeepDraft, KeepsDraft, StoresKeepDrafts}
 use Rattle.tftp_folder.specs.Placed.{NamesThere}
 use Rattle.tftp_words.specs.SharedFolder.{AllLeaveIt, FolderCall, calls_by}
-use Rattle.tftp_words.specs.SharedDrafts.{AllLeaveTo, HeldIsLeft, Holds, IsHeldAlone, IsItsOwn, IsNaming, LeavesTo, NamesTheirOwn, Uses}
-use Rattle.tftp_words.proofs.SharedFolderLemmas.{Places, calls_after, found, leave_after, left_after, own_call, places}
-use Rattle.tftp_words.proofs.SharedFolderLemmas.Places.{After, Before, One}
+use Rattle.tftp_words.specs.SharedDrafts.{AllLeaveTo, HeldIsLeft, Holds, IsHeldAlone, IsNaming, LeavesTo, NamesTheirOwn, Uses}
+use Rattle.tftp_words.proofs.SharedCalls.{calls_after, found, leave_after, left_after, own_call, places}
+use Rattle.tftp_words.proofs.SharedCalls.Places.{After, Before, One}
 
 -- the calls of all that leave a path to one program leave it
 forget : (path : List ℕ) (p : ℕ) (order : List FolderCall) → AllLeaveTo path p order → AllLeaveIt path order
@@ -43,25 +43,7 @@ keep_after path (x ∷ n) b keep = keep_after path n b keep.1
 names_tail : (event : DiskEvent) (events : List DiskEvent) → NamesThere (event ∷ events) → NamesThere events
 names_tail (Linked file from to answer) events there = there.1
 names_tail (Renamed file from to answer) events there = there.1
-names_tail (Made path answer) events there = there
-names_tail (Locked path answer) events there = there
-names_tail (Removed path answer) events there = there
-names_tail (Folder_opened path answer) events there = there
-names_tail (Folder_synced path answer) events there = there
-names_tail (Looked path answer) events there = there
-names_tail (Followed path answer) events there = there
-names_tail (Resolved path answer) events there = there
-names_tail (Opened path answer) events there = there
-names_tail (Tried path answer) events there = there
-names_tail (Created path calls) events there = there
-names_tail (Examined answer) events there = there
-names_tail (Given bytes) events there = there
-names_tail (Not_given error) events there = there
-names_tail (Sought to answer) events there = there
-names_tail (Written bytes) events there = there
-names_tail (Not_written error) events there = there
-names_tail (Synced answer) events there = there
-names_tail (Mode_set mode answer) events there = there
+names_tail event events there = there
 
 names_after : (n b : List DiskEvent) → NamesThere (n ++ b) → NamesThere b
 names_after [] b there = there

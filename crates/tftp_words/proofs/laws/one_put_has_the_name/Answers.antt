@@ -1,5 +1,6 @@
 -- The lemmas that are the law.
-use Rattle.tftp_words.proofs.SharedFolderLemmas.{one_has_it, puts_are_named, puts_name_their_files}
+use Rattle.tftp_words.proofs.NamedPuts.{puts_are_named, puts_name_their_files}
+use Rattle.tftp_words.proofs.OneHasTheName.{one_has_it}
 use Rattle.tftp_words.proofs.laws.one_put_has_the_name.Goals as goal
 
 pub returns-clause-named : goal.returns-clause-named
