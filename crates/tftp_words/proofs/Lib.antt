@@ -14,3 +14,4 @@ mod NamedServer
 mod WitnessRuns
 mod WitnessSeveral
 pub mod ExplainedMade
+pub mod SharedWitness
