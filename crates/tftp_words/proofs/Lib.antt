@@ -16,3 +16,4 @@ mod NamedServer
 mod WitnessRuns
 mod WitnessSeveral
 pub mod ExplainedMade
+pub mod SharedWitness

@@ -9,4 +9,5 @@ pub mod OverSeveral
 pub mod SeveralFromDisk
 pub mod SharedFolder
 pub mod SharedDrafts
+pub mod SharedWitness
 pub mod Explained

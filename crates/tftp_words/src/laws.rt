@@ -8,6 +8,7 @@ ghost use Rattle.tftp_words.specs.PutFromDisk.{PutsFromDiskToDisk};
 ghost use Rattle.tftp_words.specs.SeveralFromDisk.{SeveralFromDiskToDisk};
 ghost use Rattle.tftp_words.specs.SeveralFromDisk.{SeveralPutsFromDiskToDisk};
 ghost use Rattle.tftp_words.specs.SharedDrafts.{HeldIsLeft, NamesTheirOwn};
+ghost use Rattle.tftp_words.specs.SharedWitness.{ShareAFolder};
 ghost use Rattle.tftp_words.specs.SharedFolder.{OneHasTheName, PutsAreNamed, PutsNameTheirFiles};
 ghost use Rattle.tftp_words.specs.Unblamed.{NoCommandIsBlamed, NoneOfSeveralIsBlamed};
 ghost use Rattle.tftp_words.specs.Witness.{SomeMeetAll};
@@ -179,6 +180,12 @@ pub fn no_put_takes_anothers_file()
 {
     drafts_are_taken_by_their_holders();
 }
+
+/// The premises of [`no_put_takes_anothers_file`] can be met: one program makes its temporary file while
+/// another holds its own in the same folder, which then gets its name.
+pub fn some_puts_share_a_folder()
+    ensures { ShareAFolder }
+{}
 
 /// The premises of the laws from disk to disk can be met, all of them: by a `tftpd` and a `tftp get`,
 /// by another `tftpd` and a `tftp put`, and by all four at one address and port, where each server
