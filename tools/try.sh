@@ -56,7 +56,7 @@ command -v rt > /dev/null || {
 }
 room=$(mktemp -d) || exit 2
 # (what timeout runs ends with it, and rt ends what it began)
-trap 'test "${#pids[@]}" = 0 || kill "${pids[@]}"; wait; rm -rf "$room"' EXIT
+trap 'test "${#pids[@]}" = 0 || kill "${pids[@]}" 2> /dev/null; wait; rm -rf "$room"' EXIT
 trap 'exit 130' HUP INT TERM
 rm -rf "$logs"
 mkdir -p "$logs" "$room/served" "$room/runs"

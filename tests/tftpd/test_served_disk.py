@@ -232,7 +232,7 @@ def test_a_lock_is_left(scene) -> None:
 # between the look at the folder and the link, is removed: the path is looked at once more only behind its link
 @pytest.mark.parametrize("name, exchanged, target, is_linked, why", [
     ("sub/n", "served/sub/n", "other", True, "draft replaced"),
-    ("sub/n", "served/sub", "../out", False, "folder replaced")])
+    ("sub/n", "served/sub", "../out", False, "folder replaced")], ids=["a file", "a folder"])
 def test_a_name_of_another_file(scene, name, exchanged, target, is_linked, why) -> None:
     """It is neither acknowledged nor left."""
     scene.make_all({"out": None, "served/sub/old": b"old"})
@@ -247,7 +247,8 @@ def test_a_name_of_another_file(scene, name, exchanged, target, is_linked, why) 
 
 @pytest.mark.parametrize("orders, request_, why", [
     ({"elsewhere": "/elsewhere"}, wrq("elsewhere/n"), "another device"),
-    ({"exchange": ("/secret", "served/sub", "..")}, rrq("sub/secret"), "leads out of the folder")])
+    ({"exchange": ("/secret", "served/sub", "..")}, rrq("sub/secret"), "leads out of the folder")],
+                         ids=["a device", "a folder"])
 def test_another_place(scene, orders, request_, why) -> None:
     """A write to another device than that of the drafts is refused when it begins, and leaves no draft. A folder that is
     exchanged for a link out, before its file is looked at, gives no file: the path is looked up again, and leads out."""

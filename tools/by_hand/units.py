@@ -271,7 +271,7 @@ class Container:
         journal = f"journalctl --quiet --output=cat --unit={unit}.service --since=@{since}"
         held = self.opened(timeout=255)
         self.run(f"systemctl --no-block restart {unit}")
-        drains = r"(?m)^(server \d: )?draining: 1 transfers open$"
+        drains = r"(?m)^(server \d: )?draining: [1-9]\d* transfers open$"
         until("it drains", lambda: re.search(drains, self.run(journal)))
         expect(self.property(unit, "ActiveState"), "deactivating", f"{unit} while it drains")
         held.gets(self.content)

@@ -11,7 +11,7 @@ returns-in-Ok-clause-runs g c =
 
 pub returns-in-Ok-clause-reports : goal.returns-in-Ok-clause-reports
 returns-in-Ok-clause-reports g c =
-    let report = c.new-device.device.reporting.report in
+    let report = c.new-device.result.reporting.report in
     rw (c.into_devices.ensures.reporting)
     (reports_on c.args.config.now report c.serve_loop-result.new.device.reporting.report (λ report. report.status)
     c.serve_loop-result.ensures.file c.serve_loop-result.ensures.keeps
@@ -19,4 +19,4 @@ returns-in-Ok-clause-reports g c =
     c.new-device.ensures.begun c.requires.file c.new-device.ensures.file))
 
 pub returns-in-Err-clause-reports : goal.returns-in-Err-clause-reports
-returns-in-Err-clause-reports g c = none_reported _ _ c.new.ensures.none
+returns-in-Err-clause-reports g c = none_reported _ _ c.new-reporting.ensures.none
