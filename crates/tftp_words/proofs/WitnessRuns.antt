@@ -1,7 +1,6 @@
 -- The runs of the witness are programs that an honest network joined: a get, and a put.
-use Rattle.std.proofs.Common.{rules, ◌≡◌, refl, sym, ap, ◌∙◌, subst, ℕ, List, [], ◌∷◌, Some, None, Ok, Err, true, arith, inl, reverse, zero, suc}
-use Rattle.std.specs.Prelude.{◌≢◌, codes, get_or, slice_get}
-use Rattle.std.specs.List.{Contains}
+use Rattle.std.proofs.Common.{rules, ◌≡◌, refl, sym, ap, subst, ℕ, List, [], ◌∷◌, Some, Ok, Err, true, arith, reverse, suc}
+use Rattle.std.specs.Prelude.{◌≢◌, codes, get_or}
 use Rattle.std.proofs.lemmas.Option.{same_Some}
 use Rattle.clap.proofs.OnLiterals.{clap_on_literals}
 use Rattle.tftp_wire.specs.declared.mode.Mode.TheVariants.{Octet}
@@ -30,13 +29,13 @@ use Rattle.tftp_daemon.proofs.WitnessFolder as fo
 use Rattle.tftp_daemon.proofs.WitnessServers as sv
 use Rattle.tftp_promises.specs.ClientRuns.{ClientDoes, Goes_on, Prints_line, Reads_clock, Receives_one, Starts}
 use Rattle.tftp_promises.specs.Openings.{ArePortsFresh, our_ports}
-use Rattle.tftp_promises.specs.Order.{CanCome, IsHonest, Noted, Programs, events_of, ips}
-use Rattle.tftp_promises.specs.Ports.{AreDistinct}
+use Rattle.tftp_promises.specs.Order.{IsHonest, IsStranger, Noted, Programs, events_of, ips}
 use Rattle.tftp_promises.specs.Programs.{ClientProgram, ServerProgram, To_read, To_write, endpoint}
 use Rattle.tftp_words.specs.FromDisk.{ClientStored, ran_of}
 use Rattle.tftp_words.specs.PutFromDisk.{ClientSent, run_of}
 use Rattle.tftp_words.specs.Ran.{AllAsk, AreAllRuns, AreRunsOf, IsServerRan}
 use Rattle.tftp_words.specs.Witness.{A_client, A_server, MeetAll}
+use Rattle.tftp_promises.proofs.TwoAlone.{comes_from, each, fresh_of_two, honest_if, two_alone}
 use Rattle.tftp_words.proofs.NamedServer.{names_server, server, word}
 
 -- ---- the commands
@@ -306,52 +305,15 @@ putting_ran = (
 abbrev pub Both : Type 0
 Both = Programs stores sources local_source local_sink
 
-abbrev pub two_alone : ServerProgram stores sources requests → ClientProgram local_source local_sink requests → Both
-two_alone s c = record { ip = server.ip; port = 69; server = s; others = []; clients = c ∷ [] }
-
--- a datagram that a program sent comes to another
-pub comes_to : (programs : Both) (sender program : ℕ) (sip ip : List ℕ) → slice_get (ips programs) sender ≡ Some sip →
-    slice_get (ips programs) program ≡ Some ip → (sport port : ℕ) (bytes : List ℕ) (earlier : List Noted) →
-    Contains earlier (sender, Sent sport (endpoint ip port) bytes) →
-    CanCome programs program (Received port (endpoint sip sport) bytes) earlier
-comes_to programs sender program sip ip there here sport port bytes earlier sent = (
-  endpoint ip port,
-  (ip, here, refl),
-  inl (record { program = sender; port = sport; is_at = (sip, there, refl); sent = sent }),
-)
+abbrev pub with_server : ServerProgram stores sources requests → ClientProgram local_source local_sink requests → Both
+with_server s c = two_alone server.ip 69 s c
 
 pub away : client_ip ≢ server.ip
 away e = let n = ap (λ (ip : List ℕ). get_or ip 0 0) e in absurd (omega (arith, n))
 
-pub two_apart : (p q : ℕ) → p ≢ q → AreDistinct (p ∷ q ∷ [])
-two_apart p q n zero zero port e f = refl
-two_apart p q n zero (suc zero) port e f = absurd (n (same_Some p q (e ∙ sym f)))
-two_apart p q n (suc zero) zero port e f = absurd (n (same_Some p q (f ∙ sym e)))
-two_apart p q n (suc zero) (suc zero) port e f = refl
-two_apart p q n zero (suc (suc k)) port e f = absurd (let g : None ≡ Some port = f in cc)
-two_apart p q n (suc zero) (suc (suc k)) port e f = absurd (let g : None ≡ Some port = f in cc)
-two_apart p q n (suc (suc j)) k port e f = absurd (let g : None ≡ Some port = e in cc)
-
-pub only_one : (c : ClientProgram local_source local_sink requests) (i : ℕ) (x : ClientProgram local_source local_sink requests) →
-    slice_get (c ∷ []) i ≡ Some x → (i ≡ 0) × (x ≡ c)
-only_one c zero x e = (refl, sym (same_Some c x e))
-only_one c (suc i) x e = absurd (let f : None ≡ Some x = e in cc)
-
-pub fresh_of_two : (s : ServerProgram stores sources requests) (c : ClientProgram local_source local_sink requests) →
-    our_ports (two_alone s c) s.run ≡ 1024 ∷ [] → c.ip ≢ server.ip → ArePortsFresh (two_alone s c)
-fresh_of_two s c is elsewhere = record {
-  server = subst (λ (opened : List ℕ). AreDistinct (69 ∷ opened)) (sym is) (two_apart 69 1024 (λ e. absurd (omega (arith, e))));
-  clients = λ i j x y e f same. (only_one c i x e).0 ∙ sym (only_one c j y f).0;
-  apart =
-      λ i q x e known same. elsewhere (ap (λ (w : ClientProgram local_source local_sink requests). w.ip) (sym (only_one c i x e).1)
-      ∙ ap (λ (a : Endpoint). a.ip) same);
-  others = λ port known other. absurd (let few = other.1 in omega (arith, few));
-}
-
-pub each : (c : ClientProgram local_source local_sink requests) (P : ℕ → ClientProgram local_source local_sink requests → Type 0) →
-    P 0 c → (k : ℕ) (x : ClientProgram local_source local_sink requests) → slice_get (c ∷ []) k ≡ Some x → P k x
-each c P is zero x e = subst (λ (z : ClientProgram local_source local_sink requests). P 0 z) (same_Some c x e) is
-each c P is (suc k) x e = absurd (let f : None ≡ Some x = e in cc)
+pub fresh_with : (s : ServerProgram stores sources requests) (c : ClientProgram local_source local_sink requests) →
+    our_ports (with_server s c) s.run ≡ 1024 ∷ [] → c.ip ≢ server.ip → ArePortsFresh (with_server s c)
+fresh_with s c = fresh_of_two server.ip 69 s c 1024 (λ e. absurd (omega (arith, e)))
 
 -- ---- the get
 abbrev pub get_order : List Noted
@@ -363,39 +325,12 @@ get_order = reverse (
     ∷ (0, Received 1024 sv.getter (ack_bytes 1)) ∷ (0, Printed (line_text (Closed 1024 5000 outcomes.Complete))) ∷ [])
 
 abbrev pub got : Both
-got = two_alone gives getting
+got = with_server gives getting
 
 pub get_honest : IsHonest got get_order
-get_honest = (
-  tt,
-  (
-    comes_to got 1 0 client_ip server.ip refl refl 5000 1024 (ack_bytes 1) _ (2, omega arith, refl),
-    (
-      tt,
-      (
-        tt,
-        (
-          tt,
-          (
-            tt,
-            (
-              comes_to got 0 1 server.ip client_ip refl refl 1024 5000 (data_bytes 1 (65 ∷ [])) _ (1, omega arith, refl),
-              (
-                tt,
-                (
-                  tt,
-                  (
-                    comes_to got 1 0 client_ip server.ip refl refl 5000 69 sv.read_request _ (0, omega arith, refl),
-                    (tt, tt),
-                  ),
-                ),
-              ),
-            ),
-          ),
-        ),
-      ),
-    ),
-  ),
+get_honest = honest_if (ips got) (IsStranger got) get_order (
+  comes_from (ips got) (IsStranger got) 1 0 refl refl (2, omega arith, refl),
+  (comes_from (ips got) (IsStranger got) 0 1 refl refl (1, omega arith, refl), (comes_from (ips got) (IsStranger got) 1 0 refl refl (0, omega arith, refl), tt)),
 )
 
 pub get_ports : our_ports got sv.gets ≡ 1024 ∷ []
@@ -414,7 +349,7 @@ get_meets = record {
   order = get_order;
   is_order = record { server = refl; clients = each getting (λ k c. events_of (suc k) get_order ≡ c.noted) refl };
   honest = get_honest;
-  fresh = fresh_of_two gives getting get_ports away;
+  fresh = fresh_with gives getting get_ports away;
 }
 
 -- ---- the put
@@ -428,50 +363,14 @@ put_order = reverse (
     ∷ (1, Printed (end_text (ends.Complete 1))) ∷ [])
 
 abbrev pub put : Both
-put = two_alone keeps putting
+put = with_server keeps putting
 
 pub put_honest : IsHonest put put_order
-put_honest = (
-  tt,
+put_honest = honest_if (ips put) (IsStranger put) put_order (
+  comes_from (ips put) (IsStranger put) 0 1 refl refl (1, omega arith, refl),
   (
-    tt,
-    (
-      tt,
-      (
-        comes_to put 0 1 server.ip client_ip refl refl 1024 5001 (ack_bytes 1) _ (1, omega arith, refl),
-        (
-          tt,
-          (
-            tt,
-            (
-              comes_to put 1 0 client_ip server.ip refl refl 5001 1024 (data_bytes 1 (66 ∷ [])) _ (1, omega arith, refl),
-              (
-                tt,
-                (
-                  tt,
-                  (
-                    tt,
-                    (
-                      comes_to put 0 1 server.ip client_ip refl refl 1024 5001 (ack_bytes 0) _ (1, omega arith, refl),
-                      (
-                        tt,
-                        (
-                          tt,
-                          (
-                            comes_to put 1 0 client_ip server.ip refl refl 5001 69 sv.write_request _ (0, omega arith, refl),
-                            (tt, tt),
-                          ),
-                        ),
-                      ),
-                    ),
-                  ),
-                ),
-              ),
-            ),
-          ),
-        ),
-      ),
-    ),
+    comes_from (ips put) (IsStranger put) 1 0 refl refl (1, omega arith, refl),
+    (comes_from (ips put) (IsStranger put) 0 1 refl refl (1, omega arith, refl), (comes_from (ips put) (IsStranger put) 1 0 refl refl (0, omega arith, refl), tt)),
   ),
 )
 
@@ -491,5 +390,5 @@ put_meets = record {
   order = put_order;
   is_order = record { server = refl; clients = each putting (λ k c. events_of (suc k) put_order ≡ c.noted) refl };
   honest = put_honest;
-  fresh = fresh_of_two keeps putting put_ports away;
+  fresh = fresh_with keeps putting put_ports away;
 }

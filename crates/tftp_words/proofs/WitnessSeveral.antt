@@ -16,16 +16,20 @@ use Rattle.tftp_client.specs.Witness.{local_sink, local_source}
 use Rattle.tftp_client.proofs.Witness as cl
 use Rattle.tftp_daemon.specs.Witness.{sources, stores}
 use Rattle.tftp_daemon.proofs.WitnessServers as sv
-use Rattle.tftp_promises.specs.Alone.{IsServed, alone, there}
-use Rattle.tftp_promises.specs.Openings.{ArePortsFresh}
-use Rattle.tftp_promises.specs.Order.{CanComeOf, IsError, IsStranger, IsStrangerTo, Noted, events_of}
+use Rattle.tftp_promises.specs.Alone.{IsPassedOver, IsServed, alone, there}
+use Rattle.tftp_promises.specs.Openings.{ArePortsFresh, our_ports}
+use Rattle.tftp_promises.specs.Order.{IsError, IsStranger, IsStrangerTo, Noted, events_of}
 use Rattle.tftp_promises.specs.Others.{TakesOwn}
-use Rattle.tftp_promises.specs.Programs.{ClientProgram, ServerProgram, client_at, endpoint}
-use Rattle.tftp_promises.specs.Several.{AreHonest, AreInOrder, Several, ips_of, number_of, other_ports}
+use Rattle.tftp_promises.specs.Programs.{ClientProgram, ServerProgram, client_at}
+use Rattle.tftp_promises.specs.Several.{AreHonest, AreInOrder, Several, ips_of, known_ports, number_of, other_ports}
+use Rattle.tftp_promises.specs.Ports.{AreDistinct}
+use Rattle.tftp_promises.proofs.EachAlone.{sent_in}
+use Rattle.tftp_promises.proofs.Orders.{one_in}
 use Rattle.tftp_promises.proofs.OthersTaken.{takes_none}
+use Rattle.tftp_promises.proofs.TwoAlone.{comes_from, each, honest_if}
 use Rattle.tftp_words.specs.Witness.{SeveralMeetAll, SomeMeetAll}
 use Rattle.tftp_words.proofs.NamedServer.{server}
-use Rattle.tftp_words.proofs.WitnessRuns.{asks_get, asks_put, away, client_ip, fresh_of_two, get_client, get_meets, get_ports, get_ran, get_server, getting, gets_of}
+use Rattle.tftp_words.proofs.WitnessRuns.{asks_get, asks_put, away, fresh_with, get_client, get_meets, get_ports, get_ran, get_server, getting, gets_of}
 use Rattle.tftp_words.proofs.WitnessRuns.{gives, gives_ran, keeps, keeps_ran, put_client, put_meets, put_ports, put_ran, put_server, putting, putting_ran}
 use Rattle.tftp_words.proofs.WitnessRuns.{requests}
 
@@ -49,89 +53,21 @@ order = reverse (
     ∷ (3, Received 5001 cl.answers_from (ack_bytes 1)) ∷ (3, Watched cl.at_20) ∷ (3, Watched cl.at_20)
     ∷ (3, Printed (end_text (ends.Complete 1))) ∷ [])
 
--- a datagram that a program sent comes to another
-comes_to : (sender program : ℕ) (sip ip : List ℕ) → slice_get (ips_of all) sender ≡ Some sip →
-    slice_get (ips_of all) program ≡ Some ip → (sport port : ℕ) (bytes : List ℕ) (earlier : List Noted) →
-    Contains earlier (sender, Sent sport (endpoint ip port) bytes) →
-    CanComeOf (ips_of all) (IsStrangerTo all.ip [] all.clients) program (Received port (endpoint sip sport) bytes) earlier
-comes_to sender program sip ip there here sport port bytes earlier sent = (
-  endpoint ip port,
-  (ip, here, refl),
-  inl (record { program = sender; port = sport; is_at = (sip, there, refl); sent = sent }),
-)
+abbrev Strange : Endpoint → Type 0
+Strange = IsStrangerTo all.ip [] all.clients
 
 honest : AreHonest all order
-honest = (
-  tt,
+honest = honest_if (ips_of all) Strange order (
+  comes_from (ips_of all) Strange 1 3 refl refl (1, omega arith, refl),
   (
-    tt,
+    comes_from (ips_of all) Strange 3 1 refl refl (1, omega arith, refl),
     (
-      tt,
+      comes_from (ips_of all) Strange 1 3 refl refl (1, omega arith, refl),
       (
-        comes_to 1 3 server.ip client_ip refl refl 1024 5001 (ack_bytes 1) _ (1, omega arith, refl),
+        comes_from (ips_of all) Strange 3 1 refl refl (0, omega arith, refl),
         (
-          tt,
-          (
-            tt,
-            (
-              comes_to 3 1 client_ip server.ip refl refl 5001 1024 (data_bytes 1 (66 ∷ [])) _ (1, omega arith, refl),
-              (
-                tt,
-                (
-                  tt,
-                  (
-                    tt,
-                    (
-                      comes_to 1 3 server.ip client_ip refl refl 1024 5001 (ack_bytes 0) _ (1, omega arith, refl),
-                      (
-                        tt,
-                        (
-                          tt,
-                          (
-                            comes_to 3 1 client_ip server.ip refl refl 5001 69 sv.write_request _ (0, omega arith, refl),
-                            (
-                              tt,
-                              (
-                                tt,
-                                (
-                                  comes_to 2 0 client_ip server.ip refl refl 5000 1024 (ack_bytes 1) _ (2, omega arith, refl),
-                                  (
-                                    tt,
-                                    (
-                                      tt,
-                                      (
-                                        tt,
-                                        (
-                                          tt,
-                                          (
-                                            comes_to 0 2 server.ip client_ip refl refl 1024 5000 (data_bytes 1 (65 ∷ [])) _ (1, omega arith, refl),
-                                            (
-                                              tt,
-                                              (
-                                                tt,
-                                                (
-                                                  comes_to 2 0 client_ip server.ip refl refl 5000 69 sv.read_request _ (0, omega arith, refl),
-                                                  (tt, tt),
-                                                ),
-                                              ),
-                                            ),
-                                          ),
-                                        ),
-                                      ),
-                                    ),
-                                  ),
-                                ),
-                              ),
-                            ),
-                          ),
-                        ),
-                      ),
-                    ),
-                  ),
-                ),
-              ),
-            ),
-          ),
+          comes_from (ips_of all) Strange 2 0 refl refl (2, omega arith, refl),
+          (comes_from (ips_of all) Strange 0 2 refl refl (1, omega arith, refl), (comes_from (ips_of all) Strange 2 0 refl refl (0, omega arith, refl), tt)),
         ),
       ),
     ),
@@ -173,26 +109,21 @@ ports_apart : there all getting ≢ there all putting
 ports_apart e = let n = ap (λ (a : Endpoint). a.port) e in absurd (omega (arith, n))
 
 -- a client at another address is a stranger to the other and its server
-only_one : (c : ClientProgram local_source local_sink requests) (i : ℕ) (x : ClientProgram local_source local_sink requests) →
-    slice_get (c ∷ []) i ≡ Some x → c ≡ x
-only_one c zero x e = same_Some c x e
-only_one c (suc i) x e = absurd (let f : None ≡ Some x = e in cc)
-
 strange : (s : ServerProgram stores sources requests) (i : ℕ) (c x : ClientProgram local_source local_sink requests) →
     x.ip ≢ server.ip → client_at c ≢ client_at x → IsStranger (alone all i s c) (there all x)
 strange s i c x elsewhere apart = record {
   server = λ near. absurd (elsewhere near);
   clients =
-      λ k z e same. apart (ap (λ (w : ClientProgram local_source local_sink requests). client_at w) (only_one c k z e) ∙ same);
+      λ k z e same. each c (λ j w. client_at w ≢ client_at x) apart k z e same;
 }
 
 get_fresh : ArePortsFresh (alone all 0 gives getting)
 unfolding sv.asks_to_read sv.opens_read sv.completes_read sv.closes_read sv.handles
-get_fresh = fresh_of_two gives getting get_ports away
+get_fresh = fresh_with gives getting get_ports away
 
 put_fresh : ArePortsFresh (alone all 1 keeps putting)
 unfolding sv.asks_to_write sv.opens_write sv.stores_write sv.handles
-put_fresh = fresh_of_two keeps putting put_ports away
+put_fresh = fresh_with keeps putting put_ports away
 
 -- what the servers sent went to their own clients
 sent_to : {port q : ℕ} {to a : Endpoint} {bytes text : List ℕ} → Sent q a text ≡ Sent port to bytes → a ≡ to
@@ -254,6 +185,61 @@ put_served = record {
       (takes_none server.ip putting.runs);
 }
 
+-- ---- the get is not of the second server
+passed_ports : our_ports (alone all 1 keeps getting) keeps.run ≡ []
+unfolding sv.asks_to_write sv.opens_write sv.stores_write sv.handles
+passed_ports = refl
+
+passed_known : known_ports all keeps getting ≡ 69 ∷ []
+unfolding sv.asks_to_write sv.opens_write sv.stores_write sv.handles
+passed_known = refl
+
+passed_others : other_ports all 1 keeps getting ≡ 1024 ∷ []
+unfolding sv.asks_to_write sv.opens_write sv.stores_write sv.handles
+passed_others = refl
+
+not_69 : (port : ℕ) → Contains (69 ∷ []) port → Contains (1024 ∷ []) port → ⊥
+not_69 port known other = let same = one_in port 69 known ∙ sym (one_in port 1024 other) in omega (arith, same)
+
+-- the second server received nothing of the first client
+received_from : {port q : ℕ} {from a : Endpoint} {bytes text : List ℕ} → Received q a text ≡ Received port from bytes → a ≡ from
+received_from e = cc
+
+keeps_none : (port : ℕ) (bytes : List ℕ) → Contains keeps.noted (Received port (there all getting) bytes) → ⊥
+keeps_none port bytes (zero, within, e) = absurd (cc)
+keeps_none port bytes (suc zero, within, e) = ports_apart (sym (received_from e))
+keeps_none port bytes (suc (suc zero), within, e) = absurd (cc)
+keeps_none port bytes (suc (suc (suc zero)), within, e) = ports_apart (sym (received_from e))
+keeps_none port bytes (suc (suc (suc (suc n))), within, e) = absurd (omega (arith, within))
+
+one_distinct : AreDistinct (69 ∷ [])
+one_distinct zero zero port e f = refl
+one_distinct zero (suc k) port e f = absurd (let g : None ≡ Some port = f in cc)
+one_distinct (suc j) k port e f = absurd (let g : None ≡ Some port = e in cc)
+
+get_passed_over : IsPassedOver all order 1 keeps 0 getting
+get_passed_over = record {
+  among = record {
+    is_order = in_order;
+    honest = honest;
+    others = of_clients (λ j x. j ≢ 0 → IsStranger (alone all 1 keeps getting) (there all x)) (λ n. absurd (n refl))
+        (λ n. strange keeps 1 getting putting away ports_apart);
+    fresh = record {
+      server = subst (λ (own : List ℕ). AreDistinct (69 ∷ own)) (sym passed_ports) one_distinct;
+      clients = λ i j x y e f same. each getting (λ k z. k ≡ 0) refl i x e ∙ sym (each getting (λ k z. k ≡ 0) refl j y f);
+      apart = λ i q x e known same. each getting (λ k z. z.ip ≢ server.ip) away i x e (ap (λ (a : Endpoint). a.ip) same);
+      others = λ q known other. not_69 q (subst (λ (own : List ℕ). Contains (69 ∷ own) q) passed_ports known)
+          (subst (λ (ports : List ℕ). Contains ports q) passed_others other);
+    };
+    apart = λ j x port to bytes found other sent known near.
+        of_servers (λ i s. i ≢ 1 → Contains s.noted (Sent port to bytes) → IsError bytes)
+        (λ n sent. absurd (not_69 port (subst (λ (ports : List ℕ). Contains ports port) passed_known known)
+        (sent_in gives.noted port to bytes sent))) (λ n. absurd (n refl)) j x found other sent;
+    away = λ port known same. away (ap (λ (a : Endpoint). a.ip) same);
+  };
+  refused = λ port bytes received. absurd (keeps_none port bytes received);
+}
+
 pub several_meet_all : SeveralMeetAll get_server put_server get_ran put_ran
 unfolding sv.serves_get sv.serves_put
 several_meet_all = record {
@@ -277,6 +263,7 @@ several_meet_all = record {
   is_put = refl;
   get_served = get_served;
   put_served = put_served;
+  get_passed_over = get_passed_over;
 }
 
 pub some_meet_all : SomeMeetAll

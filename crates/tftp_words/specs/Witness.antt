@@ -3,7 +3,7 @@
 use Rattle.std.specs.Prelude.{ℕ, ◌≡◌, List, [], ◌∷◌, Some, IsSome, slice_get}
 use Rattle.tftp_client.specs.Witness.{local_sink, local_source}
 use Rattle.tftp_daemon.specs.Witness.{its_calls, sources, stores}
-use Rattle.tftp_promises.specs.Alone.{IsServed}
+use Rattle.tftp_promises.specs.Alone.{IsPassedOver, IsServed}
 use Rattle.tftp_promises.specs.Openings.{ArePortsFresh}
 use Rattle.tftp_promises.specs.Order.{IsHonest, IsOrder, Noted, Programs}
 use Rattle.tftp_promises.specs.Programs.{endpoint}
@@ -58,6 +58,8 @@ pub record SeveralMeetAll (first second : A_server) (get put : A_client) : Type 
   pub is_put : slice_get several.clients 1 ≡ Some puts
   pub get_served : IsServed several order 0 first_server 0 gets
   pub put_served : IsServed several order 1 second_server 1 puts
+  -- and the second server is passed over by the first client
+  pub get_passed_over : IsPassedOver several order 1 second_server 0 gets
 
 -- there are such runs
 abbrev pub SomeMeetAll : Type 0

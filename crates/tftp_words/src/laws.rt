@@ -189,7 +189,7 @@ pub fn some_puts_share_a_folder()
 
 /// The premises of the laws from disk to disk can be met, all of them: by a `tftpd` and a `tftp get`,
 /// by another `tftpd` and a `tftp put`, and by all four at one address and port, where each server
-/// serves its client. Each has its arguments, its trace of the network and the calls of its disk, and
+/// serves its client, and the get passes the server of the put over. Each has its arguments, its trace of the network and the calls of its disk, and
 /// an honest network joined them (RFC 1350, section 4).
 pub fn some_commands_meet_all_premises()
     ensures { SomeMeetAll }
