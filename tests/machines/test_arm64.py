@@ -21,6 +21,9 @@ from lib.programs import NAMES, TOP
 from lib.transfers import PEERS, peers, started
 from ported import COMPILER, EMULATOR, TESTS, VERSION, run, run_over, static_programs
 
+# programs and an archive are built behind the first test that takes them
+pytestmark = pytest.mark.timeout(3_000)
+
 LENGTHS = [0, 1, 511, 512, 513, 1_024, 65_463, 65_464, 65_465]
 MAKE = ["make", "--no-print-directory", "ARCH=arm64"]
 

@@ -17,6 +17,9 @@ from lib.needs import needs
 from lib.programs import TOP
 from ported import EMULATOR, run
 
+# programs and an archive are built behind the first test that takes them
+pytestmark = pytest.mark.timeout(3_000)
+
 # what the archive may call
 CALLS = {"memcpy", "memmove", "memset", "tftp_alloc", "tftp_realloc", "tftp_free"}
 MANUAL, MAP = TOP / "man/tftp.3", TOP / "packaging/libtftp.map"

@@ -17,6 +17,9 @@ from lib.scene import Scene
 from lib.transfers import peers, started
 from ported import COMPILER, PARTS, run
 
+# programs and an archive are built behind the first test that takes them
+pytestmark = pytest.mark.timeout(3_000)
+
 LIFE, LENGTH = 240, 1_000_003
 OTHERS = ["in.tftpd", "atftpd"]
 

@@ -16,6 +16,9 @@ from lib.needs import needs
 from lib.programs import NAMES, TOP
 from ported import COMPILER, EMULATOR, TESTS, VERSION, run, run_over
 
+# programs and an archive are built behind the first test that takes them
+pytestmark = pytest.mark.timeout(3_000)
+
 PACKAGES = ["coreutils", "dash", "gcc", "libc6-dev", "make", "musl-tools", "sed", "grep", "diffutils", "tar", "xz-utils"]
 # the processors, and what the nm of their objects is
 PROCESSORS = {"amd64": "nm", "arm64": "aarch64-linux-gnu-nm"}

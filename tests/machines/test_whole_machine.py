@@ -11,11 +11,16 @@ import time
 from concurrent.futures import ThreadPoolExecutor
 from pathlib import Path
 
+import pytest
+
 from lib.ends import free_ports
 from lib.needs import needs
 from lib.process import Failure, Program, Server
 from lib.programs import programs
 from ported import COMPILER, PARTS, run, static_programs
+
+# programs and an archive are built behind the first test that takes them
+pytestmark = pytest.mark.timeout(3_000)
 
 EMULATOR, HOST = "qemu-system-aarch64", "127.0.0.1"
 LIFE, LENGTH, CLIENTS, PUTS = 180, 1_000_003, 8, 3

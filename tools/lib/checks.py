@@ -31,7 +31,7 @@ CHECKS = {
     "tests/behaviours": Check(3, needs="strace trace"),
     "tests/network": Check(4, needs="root ip nft unshare networks mount filter busybox tftp in.tftpd"),
     "tests/soak": Check(6, 2_400, "mount"),
-    "tests/bodies": Check(),
+    "tests/bodies": Check(limit=1_800),
     "tests/machines": Check(1, 5_400, "root mount xz git make gcc musl-gcc objdump aarch64-linux-gnu-gcc qemu-aarch64 "
                             "libc6-dev-arm64-cross qemu-system-aarch64 qemu-system-x86_64 cpio arm64-parts gnu-efi ovmf "
                             "qemu-efi-aarch64 dpkg-deb in.tftpd atftpd dnsmasq curl tftp"),
